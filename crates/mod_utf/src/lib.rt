@@ -1,0 +1,6 @@
+//! Java's modified UTF, and the small lists that the other crates speak in.
+#![tactic(auto)]
+
+pub mod list;
+pub mod number;
+pub mod utf;
