@@ -192,3 +192,32 @@ fn are_same<T: Same>(a: &[T], b: &[T]) -> bool
     }
     true
 }
+
+#[cfg(test)]
+mod tests {
+    use super::*;
+    use std::test::Fail;
+
+    #[test]
+    fn grows_copies_and_compares(rt: HostRuntime) -> Result<(), Fail> {
+        let alloc = rt.alloc();
+        let mut name = Units::new(alloc);
+        assert!(rt; name.is_empty());
+        name.reserve(2)?;
+        name.push(7)?;
+        name.append(&[8, 9])?;
+        assert_eq!(rt; name.as_slice(), [7, 8, 9].as_slice());
+        let mut names = NameList::new(alloc);
+        names.push(name.copy(alloc)?)?;
+        names.push(Units::from_vec(name.into_vec()))?;
+        let copy = names.copy(alloc)?;
+        assert_eq!(rt; copy.len(), 2);
+        assert!(rt; copy.is_same(&names));
+        names.push(Units::new(alloc))?;
+        assert!(rt; !copy.is_same(&names));
+        let flags = BoolList::from_slice(alloc, &[true, false])?;
+        let others = BoolList::from_slice(alloc, &[true, true])?;
+        assert!(rt; flags.copy(alloc)?.is_same(&flags) && !flags.is_same(&others));
+        Ok(())
+    }
+}

@@ -1,12 +1,13 @@
 //! Units as bytes: modified UTF (Java Object Serialization Specification, 6.2).
 ghost use Rattle.std.specs.Prelude.{◌≡◌, ◌++◌, length, List, ℕ, OnOk, OnErr, IfOk};
-ghost use Rattle.mod_utf.specs.Utf.{unit_bytes, utf};
+ghost use Rattle.mod_utf.specs.Utf.{SpellsUnit, Utf, unit_bytes, utf};
 
 use crate::list::{ByteList, Units};
 use std::alloc::{AllocError, Global};
 
 /// The bytes that spell a text. It is refused only for want of memory.
 pub fn encode(alloc: Global, units: &Units) -> Result<ByteList, AllocError>
+    ensures spelled { IfOk result (λ bytes. Utf units.now bytes) }
     ensures value { IfOk result (λ bytes. bytes ≡ utf units.now) }
 {
     let mut out = ByteList::new(alloc);
@@ -18,6 +19,7 @@ pub fn encode(alloc: Global, units: &Units) -> Result<ByteList, AllocError>
 
 /// The number of the bytes that spell a text.
 pub fn encoded_len(units: &Units) -> u64
+    ensures spelled { (bytes : List ℕ) → Utf units.now bytes → result ≡ length bytes }
     ensures value { result ≡ length (utf units.now) }
 {
     let mut sum: u64 = 0;
@@ -29,23 +31,22 @@ pub fn encoded_len(units: &Units) -> u64
 
 /// Appends the bytes that spell a unit.
 fn push_unit(out: &mut ByteList, unit: u16) -> Result<(), AllocError>
+    ensures spelled { SpellsUnit unit (unit_bytes unit) }
     ensures ok { OnOk result (out.new ≡ out.old ++ unit_bytes unit) }
     ensures err { OnErr result (out.new ≡ out.old) }
 {
-    if 0 < unit && unit < 0x80 {
-        out.append(&[unit as u8])
-    } else if unit < 0x800 {
-        out.append(&[0xC0 + (unit / 64) as u8, 0x80 + (unit % 64) as u8])
-    } else {
-        out.append(&[
+    match unit_len(unit) {
+        1 => out.append(&[unit as u8]),
+        2 => out.append(&[0xC0 + (unit / 64) as u8, 0x80 + (unit % 64) as u8]),
+        _ => out.append(&[
             0xE0 + (unit / 4096) as u8,
             0x80 + (unit / 64 % 64) as u8,
             0x80 + (unit % 64) as u8,
-        ])
+        ]),
     }
 }
 
-/// The number of the bytes that spell a unit.
+/// The number of the bytes that spell a unit: 1 for 0001 to 007F, 2 for 0000 and 0080 to 07FF, else 3.
 fn unit_len(unit: u16) -> u64
     ensures { result ≡ length (unit_bytes unit) }
 {
@@ -55,5 +56,35 @@ fn unit_len(unit: u16) -> u64
         2
     } else {
         3
+    }
+}
+
+#[cfg(test)]
+mod tests {
+    use super::*;
+    use std::test::Fail;
+
+    // The vectors are those of Java's DataOutputStream.writeUTF, without its length.
+    #[test]
+    fn spells_each_width_and_each_edge(rt: HostRuntime) -> Result<(), Fail> {
+        let alloc = rt.alloc();
+        let rows: [(&[u16], &[u8]); 5] = [
+            (&[], &[]),
+            (&[0], &[0xC0, 0x80]),
+            (&[0x61, 1], &[0x61, 1]),
+            (
+                &[0x7F, 0x80, 0x7FF, 0x800, 0xFFFF],
+                &[
+                    0x7F, 0xC2, 0x80, 0xDF, 0xBF, 0xE0, 0xA0, 0x80, 0xEF, 0xBF, 0xBF,
+                ],
+            ),
+            (&[0xD83D, 0xDE00], &[0xED, 0xA0, 0xBD, 0xED, 0xB8, 0x80]),
+        ];
+        for (units, bytes) in rows {
+            let units = Units::from_slice(alloc, units)?;
+            assert_eq!(rt; encode(alloc, &units)?.as_slice(), bytes);
+            assert_eq!(rt; encoded_len(&units), bytes.len() as u64);
+        }
+        Ok(())
     }
 }
