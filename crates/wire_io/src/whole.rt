@@ -1,0 +1,89 @@
+//! Taking all that a source has left.
+ghost use Rattle.std.specs.Prelude.{◌≡◌, ◌≤◌, ◌<◌, ◌^◌, ℕ, List, length, IfOk, Err};
+ghost use Rattle.wire_io.specs.Wire.{with_front, NothingLeft, Rose};
+
+use crate::source::Source;
+use mod_utf::list::ByteList;
+use std::alloc::Global;
+
+/// How many bytes are asked for at once.
+const BLOCK: usize = 4096;
+
+/// Why the whole input could not be taken.
+#[derive(Clone, Copy, Debug, PartialEq, Eq)]
+pub enum WholeEnd {
+    /// The source has more bytes than the limit.
+    TooLarge,
+    /// A read failed. The source's count of faults rose.
+    ReadFault,
+    /// There was no memory to keep the bytes.
+    OutOfMemory,
+}
+
+/// Takes all the bytes that the source has left, to the end of input, where they are at most `limit`.
+///
+/// After an error some front of them was taken; after `TooLarge` it is longer than the limit.
+pub fn take_whole<S: Source>(
+    alloc: Global,
+    source: &mut S,
+    limit: usize,
+) -> Result<ByteList, WholeEnd>
+    requires { limit < 2 ^ 32 }
+    ensures ok { IfOk result (λ bytes. (length bytes ≤ limit)
+        × (S.left source.old ≡ with_front bytes (S.left source.new)) × NothingLeft (S.left source.new)) }
+    ensures too_large { result ≡ Err WholeEnd.TooLarge → (bytes : List ℕ) × (limit < length bytes)
+        × (S.left source.old ≡ with_front bytes (S.left source.new)) }
+    ensures err { (front : List ℕ) × (S.left source.old ≡ with_front front (S.left source.new)) }
+    ensures read_fault { result ≡ Err WholeEnd.ReadFault → Rose (S.faults source.old) (S.faults source.new) }
+    ensures faults { S.faults source.old ≤ S.faults source.new }
+{
+    let mut bytes = ByteList::new(alloc);
+    let mut block = [0u8; BLOCK];
+    while bytes.len() <= limit {
+        match source.read(&mut block) {
+            Ok(n) => {
+                if n == 0 {
+                    return Ok(bytes);
+                }
+                if bytes.append(&block[..n]).is_err() {
+                    return Err(WholeEnd::OutOfMemory);
+                }
+            }
+            Err(_) => return Err(WholeEnd::ReadFault),
+        }
+    }
+    Err(WholeEnd::TooLarge)
+}
+
+#[cfg(test)]
+mod tests {
+    use super::*;
+    use crate::mem::MemSource;
+    use mod_utf::list::Kinds;
+    use std::test::Fail;
+
+    #[test]
+    fn takes_all_or_passes_the_limit(rt: HostRuntime) -> Result<(), Fail> {
+        let alloc = rt.alloc();
+        // how many bytes there are, the limit, and whether they are taken
+        for (len, limit, whole) in [
+            (0usize, 0usize, true),
+            (1, 0, false),
+            (5000, 5000, true),
+            (5001, 5000, false),
+        ] {
+            let mut bytes = ByteList::new(alloc);
+            for _ in 0..len {
+                bytes.push(7)?;
+            }
+            let cuts = Kinds::from_slice(alloc, &[3, 0, 4096])?;
+            let mut source = MemSource::new(bytes.copy(alloc)?, cuts, Kinds::new(alloc));
+            let taken = take_whole(alloc, &mut source, limit);
+            assert_eq!(rt; taken.is_ok(), whole);
+            if let Ok(taken) = taken {
+                assert_eq!(rt; taken.as_slice(), bytes.as_slice());
+            }
+        }
+        Ok(())
+    }
+}
