@@ -1,133 +1,287 @@
-//! Sources and sinks in memory.
-ghost use Rattle.wire_io.specs.Mem.{cut_at};
-ghost use Rattle.std.specs.Prelude.{◌≡◌, ℕ, List, [], ◌∷◌, ◌++◌, ◌≤◌, ◌+◌, ◌-◌, length, drop, take, Option, Some, Contains, min};
+//! Sources, sinks and clocks in memory, whose calls are known exactly.
+ghost use Rattle.std.specs.Prelude.{◌≡◌, ◌↔◌, [], ◌++◌, ◌<◌, ◌^◌, ◌∷◌, length, take, drop, min, Some, IfOk, OnOk, OnErr, IsErr, IsTrue, Contains, slice_get};
+ghost use Rattle.wire_io.specs.Wire.{Read, Written, Gave, next_count};
+ghost use Rattle.wire_io.specs.Mem.{most_given, count_given, after_read, after_failed_read, after_write, after_failed_write, moment_at, moments_given, after_call};
 
+use crate::clock::Clock;
 use crate::sink::Sink;
 use crate::source::{Failed, Source};
-use mod_utf::list::{ByteList, Kinds};
+use mod_utf::list::{ByteList, Kinds, MomentList};
 use std::alloc::Global;
+use std::marker::Model;
+
+/// The greatest moment that a clock gives.
+const LAST_MOMENT: u64 = (1 << 62) - 1;
 
 /// A source that gives its bytes in pieces, and fails at chosen reads.
+///
+/// Its reads are counted from 0, up to `u64::MAX`, where the count stands still. A read whose index stands in `failing`
+/// fails and takes nothing; so no read past the index `u32::MAX` fails. Any other read gives at most as many bytes as
+/// stand in `cuts` at its index, and 1 where 0 stands there. Past the end of `cuts` it gives all that it is asked for.
 #[derive(Drop)]
 pub struct MemSource {
-    pub bytes: ByteList,
-    pub cuts: Kinds,
-    pub failing: Kinds,
-    pub at: usize,
-    pub reads: u32,
-    pub count: u64,
-    ghost within: { at ≤ length bytes },
+    bytes: ByteList,
+    taken: usize,
+    cuts: Kinds,
+    failing: Kinds,
+    reads: u64,
+    faults: u64,
+}
+
+impl Model for MemSource {
+    ghost use Rattle.std.specs.Prelude.{◌≤◌, drop, length};
+    ghost use Rattle.wire_io.specs.Mem.{SourceState};
+
+    ghost Value = { SourceState };
+
+    ghost view = { λ s. record { left = drop s.taken s.bytes; cuts = s.cuts; failing = s.failing; reads = s.reads; faults = s.faults } };
+
+    ghost invariant = { λ s. s.taken ≤ length s.bytes };
 }
 
 impl MemSource {
-    /// The i-th read gives at most `cuts[i]` bytes, and 1 where that is 0; a read whose index stands in `failing` fails.
+    /// The source of these bytes, with no read so far. It takes no memory.
     pub fn new(bytes: ByteList, cuts: Kinds, failing: Kinds) -> MemSource
-        ensures bytes { drop result.at result.bytes ≡ bytes }
+        ensures left { result.left ≡ bytes }
         ensures cuts { result.cuts ≡ cuts }
         ensures failing { result.failing ≡ failing }
         ensures reads { result.reads ≡ 0 }
-        ensures count { result.count ≡ 0 }
+        ensures faults { result.faults ≡ 0 }
     {
         MemSource {
             bytes,
+            taken: 0,
             cuts,
             failing,
-            at: 0,
             reads: 0,
-            count: 0,
+            faults: 0,
         }
+    }
+
+    /// The bytes still to come.
+    pub fn left(&self) -> &[u8]
+        ensures { result.now ≡ self.now.left }
+    {
+        &self.bytes.as_slice()[self.taken..]
+    }
+
+    /// How many reads there were, those that failed among them.
+    pub fn reads(&self) -> u64
+        ensures { result ≡ self.now.reads }
+    {
+        self.reads
+    }
+
+    /// How many reads failed.
+    pub fn faults(&self) -> u64
+        ensures { result ≡ self.now.faults }
+    {
+        self.faults
     }
 }
 
 impl Source for MemSource {
-    ghost left = { λ s. Some (drop s.at s.bytes) };
+    ghost left = { λ s. Some s.left };
 
-    ghost faults = { λ s. s.count };
+    ghost faults = { λ s. s.faults };
 
-    fn read(&mut self, buf: &mut [u8]) -> Result<usize, Failed> {
+    /// A read fails exactly where its index stands in `failing`.
+    fn read(&mut self, buf: &mut [u8]) -> Result<usize, Failed>
+        ensures read { Read (Some self.old.left) (Some self.new.left) self.old.faults self.new.faults buf.new result }
+        ensures fails { IsErr result ↔ Contains self.old.failing self.old.reads }
+        ensures count { IfOk result (λ n. n ≡ count_given self.old (length buf.old)) }
+        ensures bytes { IfOk result (λ n. buf.new ≡ take n self.old.left ++ drop n buf.old) }
+        ensures ok { IfOk result (λ n. self.new ≡ after_read self.old n) }
+        ensures untouched { OnErr result (buf.new ≡ buf.old) }
+        ensures err { OnErr result (self.new ≡ after_failed_read self.old) }
+    {
         let index = self.reads;
         self.reads = index.saturating_add(1);
-        if self.failing.as_slice().contains(&index) {
-            self.count = self.count.saturating_add(1);
+        if stands_in(self.failing.as_slice(), index) {
+            self.faults = self.faults.saturating_add(1);
             return Err(Failed);
         }
-        let cut = cut_of(&self.cuts, index);
-        let n = give(self.bytes.as_slice(), self.at, cut, buf);
-        self.at += n;
-        Ok(n)
+        let most = most_for(self.cuts.as_slice(), index, buf.len());
+        let count = give(&self.bytes.as_slice()[self.taken..], most, buf);
+        self.taken += count;
+        Ok(count)
     }
 
-    fn shut(&mut self) {}
+    fn shut(&mut self)
+        ensures { self.new ≡ self.old }
+    {}
 }
 
-/// How many bytes the read of this index gives at most.
-fn cut_of(cuts: &Kinds, index: u32) -> usize
-    ensures { result ≡ cut_at cuts.now index }
+/// Whether this index stands among these.
+fn stands_in(indices: &[u32], index: u64) -> bool
+    ensures { IsTrue result ↔ Contains indices.now index }
 {
-    match cuts.as_slice().get(index as usize) {
-        Some(cut) => (*cut).max(1) as usize,
-        None => usize::MAX,
+    indices.iter().any(|i| u64::from(*i) == index)
+}
+
+/// The most bytes that the read of this index gives into a buffer of this length.
+fn most_for(cuts: &[u32], index: u64, room: usize) -> usize
+    ensures { result ≡ most_given (slice_get cuts.now index) room }
+{
+    match cuts.get(index as usize) {
+        Some(cut) => room.min((*cut).max(1) as usize),
+        None => room,
     }
 }
 
-/// Copies a front of what stands from `at` on, all but none of it.
-fn give(bytes: &[u8], at: usize, cut: usize, buf: &mut [u8]) -> usize
-    requires { at ≤ length bytes.now }
-    ensures count { result ≡ min cut (min (length bytes.now - at) (length buf.old)) }
-    ensures bytes { drop at bytes.now ≡ take result buf.new ++ drop (at + result) bytes.now }
+/// Copies as many bytes as it may into the front of `buf`, and answers how many.
+fn give(bytes: &[u8], most: usize, buf: &mut [u8]) -> usize
+    ensures count { result ≡ min most (min (length bytes.now) (length buf.old)) }
+    ensures buf { buf.new ≡ take result bytes.now ++ drop result buf.old }
 {
-    let rest = &bytes[at..];
-    let n = cut.min(rest.len().min(buf.len()));
-    buf[..n].copy_from_slice(&rest[..n]);
-    n
+    let count = most.min(bytes.len().min(buf.len()));
+    buf[..count].copy_from_slice(&bytes[..count]);
+    count
 }
 
 /// A sink that keeps what is written, and fails at chosen writes.
+///
+/// Its writes are counted from 0, up to `u64::MAX`, where the count stands still. A write whose index stands in
+/// `failing` fails; so no write past the index `u32::MAX` fails for that. Any other write takes its whole piece, or
+/// fails where there is no memory to keep it. A write that fails takes nothing.
 #[derive(Drop)]
 pub struct MemSink {
-    pub bytes: ByteList,
-    pub failing: Kinds,
-    pub writes: u32,
-    pub count: u64,
+    bytes: ByteList,
+    failing: Kinds,
+    writes: u64,
+    faults: u64,
+}
+
+impl Model for MemSink {
+    ghost use Rattle.wire_io.specs.Mem.{SinkState};
+
+    ghost Value = { SinkState };
+
+    ghost view = { λ s. record { held = s.bytes; failing = s.failing; writes = s.writes; faults = s.faults } };
 }
 
 impl MemSink {
-    /// A write whose index stands in `failing` fails.
+    /// The sink that holds nothing, with no write so far. It takes no memory.
     pub fn new(alloc: Global, failing: Kinds) -> MemSink
-        ensures bytes { result.bytes ≡ [] }
+        ensures held { result.held ≡ [] }
         ensures failing { result.failing ≡ failing }
         ensures writes { result.writes ≡ 0 }
-        ensures count { result.count ≡ 0 }
+        ensures faults { result.faults ≡ 0 }
     {
         MemSink {
             bytes: ByteList::new(alloc),
             failing,
             writes: 0,
-            count: 0,
+            faults: 0,
         }
+    }
+
+    /// The bytes that it took.
+    pub fn held(&self) -> &[u8]
+        ensures { result.now ≡ self.now.held }
+    {
+        self.bytes.as_slice()
+    }
+
+    /// How many writes there were, those that failed among them.
+    pub fn writes(&self) -> u64
+        ensures { result ≡ self.now.writes }
+    {
+        self.writes
+    }
+
+    /// How many writes failed.
+    pub fn faults(&self) -> u64
+        ensures { result ≡ self.now.faults }
+    {
+        self.faults
     }
 }
 
 impl Sink for MemSink {
-    ghost held = { λ s. Some s.bytes };
+    ghost held = { λ s. Some s.held };
 
-    ghost faults = { λ s. s.count };
+    ghost faults = { λ s. s.faults };
 
-    fn write(&mut self, piece: &[u8]) -> Result<usize, Failed> {
+    /// A write fails where its index stands in `failing`, and else only for want of memory.
+    fn write(&mut self, piece: &[u8]) -> Result<usize, Failed>
+        ensures written { Written (Some self.old.held) (Some self.new.held) self.old.faults self.new.faults piece.now result }
+        ensures fails { Contains self.old.failing self.old.writes → IsErr result }
+        ensures count { IfOk result (λ n. n ≡ length piece.now) }
+        ensures ok { OnOk result (self.new ≡ after_write self.old piece.now) }
+        ensures err { OnErr result (self.new ≡ after_failed_write self.old) }
+    {
         let index = self.writes;
         self.writes = index.saturating_add(1);
-        if self.failing.as_slice().contains(&index) {
-            self.count = self.count.saturating_add(1);
+        if stands_in(self.failing.as_slice(), index) || self.bytes.append(piece).is_err() {
+            self.faults = self.faults.saturating_add(1);
             return Err(Failed);
         }
-        match self.bytes.append(piece) {
-            Ok(()) => Ok(piece.len()),
-            Err(_) => {
-                self.count = self.count.saturating_add(1);
-                Err(Failed)
-            }
-        }
+        Ok(piece.len())
     }
 
-    fn shut(&mut self) {}
+    fn shut(&mut self)
+        ensures { self.new ≡ self.old }
+    {}
+}
+
+/// A clock that gives the moments of a list, one at each call, and the last one again past its end. It gives 0 where
+/// the list is empty, and 2^62 - 1 in place of a greater moment.
+///
+/// It tells what it gave for the first 2^64 - 2 calls.
+#[derive(Drop)]
+pub struct MemClock {
+    moments: MomentList,
+    calls: u64,
+}
+
+impl Model for MemClock {
+    ghost use Rattle.wire_io.specs.Mem.{ClockState};
+
+    ghost Value = { ClockState };
+
+    ghost view = { λ c. record { moments = c.moments; calls = c.calls } };
+}
+
+impl MemClock {
+    /// The clock of these moments, with no call so far. It takes no memory.
+    pub fn new(moments: MomentList) -> MemClock
+        ensures moments { result.moments ≡ moments }
+        ensures calls { result.calls ≡ 0 }
+    {
+        MemClock { moments, calls: 0 }
+    }
+
+    /// How many moments it gave.
+    pub fn calls(&self) -> u64
+        ensures { result ≡ self.now.calls }
+    {
+        self.calls
+    }
+}
+
+impl Clock for MemClock {
+    ghost given = { moments_given };
+
+    fn now(&mut self) -> u64
+        ensures bound { result < 2 ^ 62 }
+        ensures given { Gave (moments_given self.old) (moments_given self.new) (result ∷ []) }
+        ensures moment { result ≡ moment_at self.old.moments self.old.calls }
+        ensures after { self.new ≡ after_call self.old }
+    {
+        let moment = moment_for(self.moments.as_slice(), self.calls);
+        self.calls = self.calls.saturating_add(1);
+        moment
+    }
+}
+
+/// The moment that the call of this index gives.
+fn moment_for(moments: &[u64], index: u64) -> u64
+    ensures { result ≡ moment_at moments.now index }
+{
+    if moments.is_empty() {
+        return 0;
+    }
+    let last = moments.len() - 1;
+    moments[last.min(index as usize)].min(LAST_MOMENT)
 }

@@ -1,24 +1,35 @@
 //! Taking bytes one after the other, with their positions.
-ghost use Rattle.std.specs.Prelude.{◌≡◌, ◌+◌, ◌≤◌, ◌^◌, ℕ, List, min};
+ghost use Rattle.std.specs.Prelude.{◌≡◌, ◌+◌, ◌<◌, ◌≤◌, ◌^◌, ◌++◌, ℕ, List, length, max, min, replicate, OnOk, OnErr, vec_len, vec_capacity};
 ghost use Rattle.wire_io.specs.Wire.{Rose};
 
 use crate::source::Source;
 use mod_utf::list::ByteList;
-use std::alloc::Global;
+use std::alloc::{AllocError, Global};
 
 /// The greatest position.
 const LAST: u64 = 1 << 62;
 
+/// The most bytes that `take` makes room for ahead of what it read.
+const AHEAD: usize = 4096;
+
 /// Why no byte came.
 #[derive(Clone, Copy, Debug, PartialEq, Eq)]
 pub enum PullEnd {
+    /// The input ends at this position. It comes exactly there, also where a message's limit is reached there.
     End { at: u64 },
+    /// The message already has as many bytes as it may have, or the position is 2^62, and the input goes on. It comes
+    /// exactly there. The byte that shows it was taken from the source and dropped, and the position stayed.
     Limit { at: u64 },
+    /// The source failed. It comes only where the source's count of faults rose.
     ReadFault,
+    /// There was no memory to keep the bytes. Only `take` answers it.
     OutOfMemory,
 }
 
 /// Takes bytes from a source and counts them.
+///
+/// `at` is the position: how many bytes of the connection or input were taken. No byte is taken at `stop`, which is 2^62,
+/// or where the present message's limit ends, if that is earlier.
 #[derive(Drop)]
 pub struct Pull<'s, S> {
     pub source: &'s mut S,
@@ -29,7 +40,7 @@ pub struct Pull<'s, S> {
 }
 
 impl<'s, S: Source> Pull<'s, S> {
-    ghost use Rattle.wire_io.specs.Pulled.{place, GivesByte, GivesBytes};
+    ghost use Rattle.wire_io.specs.Pulled.{place, GivesByte, GivesBytes, GivesFront, AppendsSome};
 
     /// At position 0, with no mark.
     pub fn new(source: &'s mut S) -> Pull<'s, S>
@@ -38,14 +49,33 @@ impl<'s, S: Source> Pull<'s, S> {
         ensures at { result.at ≡ 0 }
         ensures stop { result.stop ≡ 2 ^ 62 }
     {
+        Pull::resume(source, 0)
+    }
+
+    /// At position `at`, with no mark.
+    pub fn resume(source: &'s mut S, at: u64) -> Pull<'s, S>
+        requires { at ≤ 2 ^ 62 }
+        ensures lent { result.source.ghost_name ≡ source.entry.ghost_name }
+        ensures source { result.source.now ≡ source.old }
+        ensures at { result.at ≡ at }
+        ensures stop { result.stop ≡ 2 ^ 62 }
+    {
         Pull {
             source,
-            at: 0,
+            at,
             stop: LAST,
         }
     }
 
-    /// The byte here is the first of a message of at most `limit` bytes.
+    /// The position: how many bytes were taken.
+    pub fn at(&self) -> u64
+        ensures { result ≡ self.now.at }
+    {
+        self.at
+    }
+
+    /// The byte at this position is the first of a message of at most `limit` bytes. It takes no byte. An earlier
+    /// mark is forgotten.
     pub fn mark(&mut self, limit: u64)
         ensures lent { self.new.source.ghost_name ≡ self.old.source.ghost_name }
         ensures source { self.new.source.now ≡ self.old.source.now }
@@ -55,7 +85,9 @@ impl<'s, S: Source> Pull<'s, S> {
         self.stop = self.at.saturating_add(limit).min(LAST);
     }
 
-    /// The next byte.
+    /// The next byte. The source is asked for this byte and for no more.
+    ///
+    /// `End`, `Limit` and `ReadFault` come as [`PullEnd`] says; it takes no memory.
     pub fn byte(&mut self) -> Result<u8, PullEnd>
         ensures gives { GivesByte (place S.left S.faults self.old) (place S.left S.faults self.new) result }
         ensures lent { self.new.source.ghost_name ≡ self.old.source.ghost_name }
@@ -77,21 +109,89 @@ impl<'s, S: Source> Pull<'s, S> {
         }
     }
 
-    /// The next `n` bytes.
+    /// The next `n` bytes. The source is asked for these bytes and for no more, but for the one that shows a limit.
+    ///
+    /// It answers as so many calls of [`Pull::byte`] would, or `OutOfMemory`. After an answer other than `Ok` a front
+    /// of the bytes was taken and is lost, and the position is behind it. At every moment there is room for at most
+    /// 4,096 bytes ahead of those that were read.
     pub fn take(&mut self, alloc: Global, n: u32) -> Result<ByteList, PullEnd>
         ensures gives { GivesBytes (place S.left S.faults self.old) (place S.left S.faults self.new) n result }
         ensures lent { self.new.source.ghost_name ≡ self.old.source.ghost_name }
     {
-        let mut bytes = ByteList::new(alloc);
-        for _i in 0..n {
-            let byte = match self.byte() {
-                Ok(byte) => byte,
+        let wanted = n as usize;
+        let mut bytes = Vec::new(alloc);
+        while bytes.len() < wanted {
+            let is_close = bytes.capacity() <= bytes.len() + AHEAD;
+            prove!(is_close);
+            let more = wanted - bytes.len();
+            match self.append_some(&mut bytes, more) {
+                Ok(()) => {}
                 Err(end) => return Err(end),
-            };
-            if bytes.push(byte).is_err() {
-                return Err(PullEnd::OutOfMemory);
             }
         }
-        Ok(bytes)
+        Ok(ByteList::from_vec(bytes))
     }
+
+    /// Appends what one read gives of the next `wanted` bytes. It makes room for at most 4,096 bytes behind those that
+    /// stand there.
+    fn append_some(&mut self, bytes: &mut Vec<u8>, wanted: usize) -> Result<(), PullEnd>
+        requires { 0 < wanted }
+        ensures gives { AppendsSome (place S.left S.faults self.old) (place S.left S.faults self.new) wanted bytes.old.items bytes.new.items result }
+        ensures room { vec_capacity bytes.new ≤ max (vec_capacity bytes.old) (vec_len bytes.old + 4096) }
+        ensures lent { self.new.source.ghost_name ≡ self.old.source.ghost_name }
+    {
+        if self.at == self.stop {
+            return match self.byte() {
+                Ok(_) => unreachable!(),
+                Err(end) => Err(end),
+            };
+        }
+        let most = wanted.min(AHEAD).min((self.stop - self.at) as usize);
+        let start = bytes.len();
+        if append_zeros(bytes, most).is_err() {
+            return Err(PullEnd::OutOfMemory);
+        }
+        match self.fill(&mut bytes[start..]) {
+            Ok(count) => {
+                bytes.truncate(start + count);
+                Ok(())
+            }
+            Err(end) => {
+                bytes.truncate(start);
+                Err(end)
+            }
+        }
+    }
+
+    /// Takes into the front of `buf` what one read gives, and answers how many bytes that is.
+    fn fill(&mut self, buf: &mut [u8]) -> Result<usize, PullEnd>
+        requires some { 0 < length buf.old }
+        requires room { self.old.at + length buf.old ≤ self.old.stop }
+        ensures gives { GivesFront (place S.left S.faults self.old) (place S.left S.faults self.new) buf.new result }
+        ensures lent { self.new.source.ghost_name ≡ self.old.source.ghost_name }
+    {
+        match self.source.read(buf) {
+            Ok(n) => {
+                if n == 0 {
+                    return Err(PullEnd::End { at: self.at });
+                }
+                self.at += n as u64;
+                Ok(n)
+            }
+            Err(_) => Err(PullEnd::ReadFault),
+        }
+    }
+}
+
+/// Appends so many zeros, and makes room for no more than these.
+fn append_zeros(bytes: &mut Vec<u8>, more: usize) -> Result<(), AllocError>
+    ensures ok { OnOk result (bytes.new.items ≡ bytes.old.items ++ replicate more 0) }
+    ensures err { OnErr result (bytes.new.items ≡ bytes.old.items) }
+    ensures room { vec_capacity bytes.new ≤ max (vec_capacity bytes.old) (vec_len bytes.old + more) }
+{
+    bytes.reserve_exact(more)?;
+    for _i in 0..more {
+        bytes.push_reserved(0);
+    }
+    Ok(())
 }

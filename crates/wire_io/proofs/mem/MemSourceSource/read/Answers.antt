@@ -1,9 +1,12 @@
-use Rattle.std.proofs.Common.{rules, ap, Some, ◌≡◌}
-use Rattle.wire_io.proofs.Pulling.{none_given}
+use Rattle.std.proofs.Common.{arith, ap, ◌≡◌, ◌≤◌}
+use Rattle.wire_io.specs.Mem.{SourceState}
+use Rattle.wire_io.proofs.InMemory.{read_part}
 use Rattle.wire_io.proofs.mem.MemSourceSource.read.Goals as goal
 
-pub returns : goal.returns
-returns c = let h = c.give-n.ensures in
-    let same : c.as_slice-2.result.now ≡ c.args.self.now.bytes = c.as_slice-2.ensures in
-    let count = rw same at h.count in
-    (search rules, ap Some (rw same at h.bytes), none_given _ c.args.buf.now _ _ c.cut_of-cut.result (search rules) count c.give-n.new.buf (search rules), search rules)
+pub returns-clause-read : goal.returns-clause-read
+returns-clause-read c =
+    let same : c.as_slice-3.result.now ≡ c.self.inside.bytes = c.as_slice-3.ensures in
+    let risen : c.args.self.now.faults ≤ c.self.inside.faults = omega (arith, ap (λ (s : SourceState). s.faults) c.self.view_is) in
+    read_part c.self.inside.bytes c.args.buf.now c.give-count.new.buf c.args.self.now.left _ c.self.inside.taken _ _ _ _
+    (ap (λ (s : SourceState). s.left) c.self.view_is) c.most_for-most.ensures
+    (rw same at c.give-count.ensures.count) (rw same at c.give-count.ensures.buf) c.give-count.auto.buf risen
