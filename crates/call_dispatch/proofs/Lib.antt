@@ -1,0 +1,4 @@
+pub mod Steps
+pub mod OpeningSteps
+pub mod MessageSteps
+pub mod OneReading

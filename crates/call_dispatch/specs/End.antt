@@ -1,0 +1,27 @@
+-- The ends of connections.
+use Rattle.std.specs.Prelude.{ℕ}
+use Rattle.call_dispatch.specs.declared.end.ConnEnd.{ConnEnd}
+use Rattle.call_dispatch.specs.declared.end.ConnEnd.TheVariants.{Ended, BadHeader, BadMessage, Truncated, NotBuilt, MessageLimit, ReadFault, WriteFault, OutOfMemory}
+
+-- the status of a process that ends so
+abbrev pub status_of : ConnEnd → ℕ
+status_of Ended = 0
+status_of (BadHeader at) = 2
+status_of (BadMessage byte at) = 2
+status_of (Truncated at) = 2
+status_of (NotBuilt byte at) = 2
+status_of ReadFault = 3
+status_of (WriteFault sent) = 4
+status_of OutOfMemory = 5
+status_of MessageLimit = 6
+
+abbrev pub IsWriteFault : ConnEnd → Type 0
+IsWriteFault (WriteFault sent) = Unit {0}
+IsWriteFault _ = ⊥
+
+-- The input alone brings this end: nothing outside failed.
+abbrev pub IsSettled : ConnEnd → Type 0
+IsSettled ReadFault = ⊥
+IsSettled (WriteFault sent) = ⊥
+IsSettled OutOfMemory = ⊥
+IsSettled _ = Unit {0}

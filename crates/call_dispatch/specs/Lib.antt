@@ -1,0 +1,3 @@
+pub mod End
+pub mod Dialogue
+pub mod Progress

@@ -1,0 +1,80 @@
+-- How far a connection has come, for the functions that serve it step by step.
+use Rattle.std.specs.Prelude.{◌≡◌, ℕ, ◌+◌, ◌<◌, ◌^◌, List, [], ◌∷◌, ◌++◌, length, take, Option, Some, Result, Ok, Err}
+use Rattle.wire_io.specs.Wire.{with_front, with_end}
+use Rattle.wire_io.specs.declared.pull.PullEnd.TheVariants.{End, Limit, ReadFault, OutOfMemory}
+use Rattle.jrmp_frames.specs.declared.fault.FrameFault.{FrameFault}
+use Rattle.jrmp_frames.specs.declared.fault.FrameFault.TheVariants.{BadHeader, UnknownProtocol, BadMessage, Pull}
+use Rattle.call_dispatch.specs.declared.setup.Setup.{Setup}
+use Rattle.call_dispatch.specs.declared.end.ConnEnd.{ConnEnd}
+use Rattle.call_dispatch.specs.declared.end.ConnEnd.TheVariants as ends
+use Rattle.call_dispatch.specs.End.{IsSettled}
+use Rattle.call_dispatch.specs.Dialogue.{Opening, Exchange, Whole, opened, IsWhole, taken_in, written_in, IsAtCode, Dialogue}
+
+-- what a connection's source has left and its sink holds
+pub record Halves : Type 0 where
+  pub left : Option (List ℕ)
+  pub held : Option (List ℕ)
+
+-- the halves of a source and a sink
+abbrev pub halves : {S K : Type 0} → (S → Option (List ℕ)) → (K → Option (List ℕ)) → S → K → Halves
+halves left held source sink = record { left = left source; held = held sink }
+
+-- The connection began at `start` and ended, and what was taken and written since is a dialogue.
+abbrev pub Talks : Setup → Halves → Halves → ConnEnd → Type 0
+Talks setup start now end = (taken output : List ℕ) × (start.left ≡ with_front taken now.left) × (now.held ≡ with_end start.held output)
+    × Dialogue setup taken now.left output end
+
+-- Where a settled dialogue stands for the input that was told, the connection went so, unless something outside failed.
+unfoldable pub Settles : Setup → Halves → Halves → ConnEnd → Type 0
+Settles setup start now result = (taken rest output : List ℕ) (end : ConnEnd)
+    → start.left ≡ Some (taken ++ rest) → Dialogue setup taken (Some rest) output end → IsSettled end → IsSettled result
+    → (result ≡ end) × (now.left ≡ Some rest) × (now.held ≡ with_end start.held output)
+
+-- The connection began at `start`, and now w stands whole: `at` bytes were taken and `sent` bytes written.
+pub record Stands (setup : Setup) (start now : Halves) (at sent : ℕ) (w : Whole) : Type 0 where
+  pub whole : IsWhole w
+  pub taken : start.left ≡ with_front (taken_in w) now.left
+  pub position : at ≡ length (taken_in w)
+  pub written : now.held ≡ with_end start.held (written_in setup w)
+  pub count : sent ≡ length (written_in setup w)
+
+-- The opening was served, and so many bytes were sent; or the connection ended in it.
+abbrev pub Opens : Setup → Halves → Halves → ℕ → Result ℕ ConnEnd → Type 0
+Opens setup start now at (Ok sent) = (opening : Opening) × (at < 2 ^ 17) × (sent < 2 ^ 17) × Stands setup start now at sent (opened opening [])
+Opens setup start now at (Err end) = Talks setup start now end
+
+-- Wherever the connection began, its dialogue goes on from the opening to the end.
+abbrev pub GoesOn : Halves → Halves → ℕ → ℕ → ConnEnd → Type 0
+GoesOn before now at sent end = (setup : Setup) (start : Halves) (opening : Opening)
+    → Stands setup start before at sent (opened opening []) → Talks setup start now end
+
+-- A further exchange stands, or the connection ended.
+abbrev pub StepsTo : Setup → Halves → Halves → ℕ → Opening → List Exchange → Result ℕ ConnEnd → Type 0
+StepsTo setup start now at opening exchanges (Ok sent) = (e : Exchange) × Stands setup start now at sent (opened opening (exchanges ++ e ∷ []))
+StepsTo setup start now at opening exchanges (Err end) = Talks setup start now end
+
+-- Wherever the connection began and so many exchanges stand, one more exchange comes to stand, or the dialogue ends.
+abbrev pub Steps : Halves → Halves → ℕ → ℕ → ℕ → ℕ → Result ℕ ConnEnd → Type 0
+Steps before now at sent served at2 result = (setup : Setup) (start : Halves) (opening : Opening) (exchanges : List Exchange)
+    → length exchanges ≡ served → IsAtCode (opened opening exchanges) → Stands setup start before at sent (opened opening exchanges)
+    → StepsTo setup start now at2 opening exchanges result
+
+-- What writing an answer after `sent` bytes does: it is written whole, or some front of it, and then the sink fails.
+abbrev pub Answers : Option (List ℕ) → Option (List ℕ) → ℕ → List ℕ → Result ℕ ConnEnd → Type 0
+Answers before after sent answer (Ok sent2) = (after ≡ with_end before answer) × (sent2 ≡ sent + length answer)
+Answers before after sent answer (Err end) = (part : ℕ) × (part < length answer) × (end ≡ ends.WriteFault (sent + part)) × (after ≡ with_end before (take part answer))
+
+-- No limit of a mark was met.
+abbrev pub IsNoLimit : FrameFault → Type 0
+IsNoLimit (Pull (Limit at)) = ⊥
+IsNoLimit _ = Unit {0}
+
+-- the end that a fault in reading makes
+abbrev pub end_from : FrameFault → ConnEnd
+end_from (BadHeader at) = ends.BadHeader at
+end_from (UnknownProtocol byte) = ends.NotBuilt byte 6
+end_from (BadMessage byte at) = ends.BadMessage byte at
+end_from (Pull (End at)) = ends.Truncated at
+end_from (Pull (Limit at)) = ends.Truncated at
+end_from (Pull ReadFault) = ends.ReadFault
+end_from (Pull OutOfMemory) = ends.OutOfMemory

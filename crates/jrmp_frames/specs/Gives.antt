@@ -1,0 +1,47 @@
+-- What the readers of the protocol's parts do.
+use Rattle.std.specs.Prelude.{◌≡◌, ◌≢◌, ℕ, ◌+◌, ◌<◌, List, [], ◌∷◌, ◌++◌, length, Option, None, Some, Result, Ok, Err}
+use Rattle.wire_io.specs.Wire.{NothingLeft}
+use Rattle.wire_io.specs.Pulled.{Place, Takes, Stops}
+use Rattle.wire_io.specs.declared.pull.PullEnd.{PullEnd}
+use Rattle.wire_io.specs.declared.pull.PullEnd.TheVariants.{End, OutOfMemory}
+use Rattle.jrmp_frames.specs.Frames.{header_start, header, IsNoProtocol, IsInHeader, BreaksHeader, IsEndpoint, IsInEndpoint, code_byte, IsCode}
+use Rattle.jrmp_frames.specs.declared.fault.FrameFault.{FrameFault}
+use Rattle.jrmp_frames.specs.declared.fault.FrameFault.TheVariants.{BadHeader, UnknownProtocol, BadMessage, Pull}
+use Rattle.jrmp_frames.specs.declared.header.Protocol.{Protocol}
+use Rattle.jrmp_frames.specs.declared.code.Code.{Code}
+
+-- The input stops inside a part of the protocol, after these bytes of it. Want of memory doesn't stop it.
+pub record StopsInside (IsInside : List ℕ → Type 0) (old new : Place) (e : PullEnd) : Type 0 where
+  pub part : List ℕ
+  pub mid : Place
+  pub inside : IsInside part
+  pub takes : Takes old mid part
+  pub stops : Stops mid new e
+  pub memory : e ≢ OutOfMemory
+
+-- What reading the header does.
+abbrev pub GivesHeader : Place → Place → Result Protocol FrameFault → Type 0
+GivesHeader old new (Ok protocol) = Takes old new (header protocol)
+GivesHeader old new (Err (BadHeader at)) = (k : ℕ) × (bytes : List ℕ) × (at ≡ old.at + k) × BreaksHeader k bytes × Takes old new bytes
+GivesHeader old new (Err (UnknownProtocol byte)) = IsNoProtocol byte × Takes old new (header_start ++ byte ∷ [])
+GivesHeader old new (Err (Pull e)) = StopsInside IsInHeader old new e
+GivesHeader old new (Err (BadMessage byte at)) = ⊥
+
+-- What skipping an endpoint does.
+abbrev pub GivesEndpoint : {A : Type 0} → Place → Place → Result A FrameFault → Type 0
+GivesEndpoint old new (Ok _) = (bytes : List ℕ) × IsEndpoint bytes × Takes old new bytes
+GivesEndpoint old new (Err (Pull e)) = StopsInside IsInEndpoint old new e
+GivesEndpoint old new (Err _) = ⊥
+
+-- What skipping n bytes does.
+abbrev pub GivesSkipped : {A : Type 0} → Place → Place → ℕ → Result A PullEnd → Type 0
+GivesSkipped old new n (Ok _) = (bytes : List ℕ) × (length bytes ≡ n) × Takes old new bytes
+GivesSkipped old new n (Err e) = StopsInside (λ part. length part < n) old new e
+
+-- What reading a message's code does.
+abbrev pub GivesCode : Place → Place → Result (Option Code) FrameFault → Type 0
+GivesCode old new (Ok None) = Takes old new [] × NothingLeft new.left
+GivesCode old new (Ok (Some code)) = Takes old new (code_byte code ∷ [])
+GivesCode old new (Err (BadMessage byte at)) = (at ≡ old.at) × ¬ IsCode byte × Takes old new (byte ∷ [])
+GivesCode old new (Err (Pull e)) = ((at : ℕ) → e ≢ End at) × StopsInside (λ part. part ≡ []) old new e
+GivesCode old new (Err _) = ⊥

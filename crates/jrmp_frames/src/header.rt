@@ -1,0 +1,41 @@
+//! The header of a connection.
+ghost use Rattle.std.specs.Prelude.{◌≡◌};
+ghost use Rattle.wire_io.specs.Pulled.{place};
+ghost use Rattle.jrmp_frames.specs.Gives.{GivesHeader};
+
+use crate::fault::FrameFault;
+use wire_io::pull::Pull;
+use wire_io::source::Source;
+
+/// How a client wants to speak (Java RMI Specification, 10.2).
+#[derive(Clone, Copy, Debug, PartialEq, Eq)]
+pub enum Protocol {
+    /// `4B`: messages one after the other, once both sides have said who they are.
+    Stream,
+    /// `4C`: one message.
+    SingleOp,
+}
+
+/// What every header begins with: `JRMI` and the version, which is 2.
+const START: [u8; 6] = [0x4A, 0x52, 0x4D, 0x49, 0, 2];
+
+/// Reads the header, which ends with the protocol that the client wants.
+///
+/// `BadHeader` comes exactly at the first byte that differs from `JRMI` and version 2, `UnknownProtocol` exactly where
+/// the seventh byte is neither `4B` nor `4C`.
+pub fn read_header<S: Source>(pull: &mut Pull<'_, S>) -> Result<Protocol, FrameFault>
+    ensures gives { GivesHeader (place S.left S.faults pull.old) (place S.left S.faults pull.new) result }
+    ensures lent { pull.new.source.ghost_name ≡ pull.old.source.ghost_name }
+{
+    for wanted in START {
+        let at = pull.at;
+        if pull.byte()? != wanted {
+            return Err(FrameFault::BadHeader { at });
+        }
+    }
+    match pull.byte()? {
+        0x4B => Ok(Protocol::Stream),
+        0x4C => Ok(Protocol::SingleOp),
+        byte => Err(FrameFault::UnknownProtocol { byte }),
+    }
+}
