@@ -1,3 +1,4 @@
 pub mod End
 pub mod Dialogue
 pub mod Progress
+pub mod Words

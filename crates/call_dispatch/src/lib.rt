@@ -9,3 +9,4 @@ pub mod serve;
 pub mod setup;
 #[cfg(test)]
 mod tests;
+pub mod words;

@@ -248,7 +248,6 @@ impl MemClock {
     pub fn new(moments: MomentList) -> MemClock
         ensures moments { result.moments ≡ moments }
         ensures calls { result.calls ≡ 0 }
-        ensures given { moments_given result ≡ Some [] }
     {
         MemClock { moments, calls: 0 }
     }

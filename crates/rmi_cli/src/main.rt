@@ -1,0 +1,28 @@
+//! The program `rmi`.
+#![tactic(auto)]
+
+mod end;
+mod host;
+mod run;
+mod words;
+
+use host::Host;
+use run::run;
+use std::process::ExitCode;
+use std::{env, io};
+use wire_io::edge::{StdSink, StdSource};
+use words::Words;
+
+fn main(rt: HostRuntime) -> io::Result<ExitCode> {
+    let alloc = rt.alloc();
+    let words = Words::from_vec(env::args(&rt)?.skip(1).collect(alloc)?);
+    let mut host = Host {
+        input: StdSource::new(alloc, rt.stdin())?,
+        output: StdSink::new(rt.stdout()),
+        errors: StdSink::new(rt.stderr()),
+    };
+    Ok(ExitCode::from(run(alloc, &words, &mut host)))
+}
+
+#[cfg(test)]
+mod tests;

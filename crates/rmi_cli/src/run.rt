@@ -1,0 +1,105 @@
+//! All that the program does.
+ghost use Rattle.std.specs.Prelude.{◌≡◌, ◌↔◌, IfOk};
+ghost use Rattle.wire_io.specs.Wire.{Rose};
+ghost use Rattle.call_dispatch.specs.End.{IsWriteFault};
+ghost use Rattle.call_dispatch.specs.Progress.{Halves, halves, Talks, Settles};
+ghost use Rattle.rmi_cli.specs.Answer.{Answers, AnswersExactly, answer_setup};
+ghost use Rattle.rmi_cli.specs.Command.{AskFor};
+ghost use Rattle.rmi_cli.specs.declared.words.Command.{Command as Commands};
+
+use crate::end::RunEnd;
+use crate::host::Host;
+use crate::words::{Command, Words};
+use call_dispatch::end::ConnEnd;
+use call_dispatch::serve::serve_connection;
+use call_dispatch::setup::Setup;
+use mod_utf::list::Units;
+use std::alloc::{AllocError, Global};
+use wire_io::put::put_all;
+use wire_io::sink::Sink;
+use wire_io::source::Source;
+
+/// Does what the words say, and answers the status of the process:
+///
+/// | status | comes |
+/// |---|---|
+/// | 0 | the command ended well |
+/// | 1 | exactly where the words are no command line; nothing is read or written then |
+/// | 2 | the input is not what the command reads, or is not built yet |
+/// | 3, 4 | only where reading the input, or writing the output, failed |
+/// | 5 | for want of memory |
+/// | 6 | at a limit |
+///
+/// One line on the errors' sink tells the end. That it could not be written changes nothing.
+pub fn run<I: Source, O: Sink, E: Sink>(
+    alloc: Global,
+    words: &Words,
+    host: &mut Host<I, O, E>,
+) -> u8
+    // Other words are no command line.
+    ensures usage { (result ≡ 1) ↔ ((command : Commands) → AskFor words.now command → ⊥) }
+    ensures untouched { result ≡ 1 → (I.left host.new.input ≡ I.left host.old.input)
+        × (O.held host.new.output ≡ O.held host.old.output) }
+
+    // `answer` serves one connection: what was taken and written stands in a dialogue, whose end the status tells.
+    ensures answer { AskFor words.now Command.Answer → Answers
+        (halves I.left O.held host.old.input host.old.output)
+        (halves I.left O.held host.new.input host.new.output) result }
+    ensures exact { AskFor words.now Command.Answer → AnswersExactly
+        (halves I.left O.held host.old.input host.old.output)
+        (halves I.left O.held host.new.input host.new.output) result }
+
+    // The outside's failures.
+    ensures read_fault { result ≡ 3 → Rose (I.faults host.old.input) (I.faults host.new.input) }
+    ensures write_fault { result ≡ 4 → Rose (O.faults host.old.output) (O.faults host.new.output) }
+{
+    match words.command() {
+        Some(Command::Answer) => {
+            let end = answer(alloc, &mut host.input, &mut host.output);
+            if tell(alloc, &mut host.errors, RunEnd::Answered(end)).is_err() {
+                return 5;
+            }
+            end.status()
+        }
+        None => {
+            let _ = put_all(&mut host.errors, b"usage\n");
+            1
+        }
+    }
+}
+
+/// Writes the line of an end, where the sink takes it.
+fn tell<E: Sink>(alloc: Global, errors: &mut E, end: RunEnd) -> Result<(), AllocError> {
+    let line = format!(in alloc; "{end}\n")?;
+    let _ = put_all(errors, line.as_bytes());
+    Ok(())
+}
+
+/// Serves a connection with the peer of `answer`.
+fn answer<S: Source, K: Sink>(alloc: Global, source: &mut S, sink: &mut K) -> ConnEnd
+    ensures dialogue { Talks answer_setup
+        (halves S.left K.held source.old sink.old) (halves S.left K.held source.new sink.new) result }
+    ensures settles { Settles answer_setup
+        (halves S.left K.held source.old sink.old) (halves S.left K.held source.new sink.new) result }
+    ensures read_fault { result ≡ ConnEnd.ReadFault → Rose (S.faults source.old) (S.faults source.new) }
+    ensures write_fault { IsWriteFault result → Rose (K.faults sink.old) (K.faults sink.new) }
+{
+    match setup_of(alloc) {
+        Ok(setup) => serve_connection(alloc, source, sink, &setup),
+        Err(_) => ConnEnd::OutOfMemory,
+    }
+}
+
+/// The peer of `answer`: 127.0.0.1, port 1234.
+pub fn setup_of(alloc: Global) -> Result<Setup, AllocError>
+    ensures { IfOk result (λ setup. setup ≡ answer_setup) }
+{
+    let mut peer_host = Units::new(alloc);
+    for byte in b"127.0.0.1" {
+        peer_host.push(*byte as u16)?;
+    }
+    Ok(Setup {
+        peer_host,
+        peer_port: 1234,
+    })
+}
