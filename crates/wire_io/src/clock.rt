@@ -2,6 +2,9 @@
 ghost use Rattle.std.specs.Prelude.{◌<◌, ◌^◌, ℕ, List, [], ◌∷◌, Option};
 ghost use Rattle.wire_io.specs.Wire.{Gave};
 
+/// The greatest moment, in milliseconds.
+pub const LAST_MOMENT: u64 = (1 << 62) - 1;
+
 /// A clock that is read.
 pub trait Clock {
     // The moments that it gave so far, in their order, where the clock tells them: `Some` of them, or `None`. A clock

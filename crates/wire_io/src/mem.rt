@@ -3,15 +3,12 @@ ghost use Rattle.std.specs.Prelude.{◌≡◌, ◌↔◌, [], ◌++◌, ◌<◌,
 ghost use Rattle.wire_io.specs.Wire.{Read, Written, Gave, next_count};
 ghost use Rattle.wire_io.specs.Mem.{most_given, count_given, after_read, after_failed_read, after_write, after_failed_write, moment_at, moments_given, after_call};
 
-use crate::clock::Clock;
+use crate::clock::{Clock, LAST_MOMENT};
 use crate::sink::Sink;
 use crate::source::{Failed, Source};
 use mod_utf::list::{ByteList, Kinds, MomentList};
 use std::alloc::Global;
 use std::marker::Model;
-
-/// The greatest moment that a clock gives.
-const LAST_MOMENT: u64 = (1 << 62) - 1;
 
 /// A source that gives its bytes in pieces, and fails at chosen reads.
 ///
