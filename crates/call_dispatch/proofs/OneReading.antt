@@ -1,16 +1,16 @@
 -- An input has one settled dialogue: each is what reading the input gives.
-use Rattle.std.proofs.Common.{◌≡◌, ◌≢◌, ℕ, suc, ◌+◌, ◌*◌, ◌^◌, ◌<◌, ◌≤◌, inl, inr, List, [], ◌∷◌, ◌++◌, length, take, drop, slice_index, Option, Some, None, cond, eqb, ltb, true, false, ◌||◌, refl, ap, sym, ◌∙◌, arith, append_assoc, append-nil, length-append, length-take-le, eq-eqb, add-zero, zero-add, drop-cons}
+use Rattle.std.proofs.Common.{◌≡◌, ◌≢◌, ℕ, suc, ◌+◌, ◌*◌, ◌^◌, ◌<◌, ◌≤◌, inl, inr, List, [], ◌∷◌, ◌++◌, length, take, drop, slice_index, Option, Some, None, Bool, cond, eqb, ltb, true, false, ◌||◌, refl, ap, sym, ◌∙◌, arith, append_assoc, append-nil, length-append, length-take-le, eq-eqb, add-zero, zero-add, drop-cons}
 use Rattle.std.proofs.lemmas.List.{drop_at, take-append-drop}
 use Rattle.std.proofs.lemmas.Bool.Decides.{eqb_tells, nat_tests}
 use Rattle.std.specs.List.{flat_map}
 use Rattle.wire_io.specs.Wire.{with_front, with_end}
 use Rattle.jrmp_frames.specs.declared.code.Code.TheVariants.{Call, Ping, DgcAck}
-use Rattle.jrmp_frames.specs.Frames.{header_start, IsInHeader, BreaksHeader, IsEndpoint, IsInEndpoint, protocol_ack, IsCode, ping_ack}
+use Rattle.jrmp_frames.specs.Frames.{header_start, IsInHeader, BreaksHeader, IsEndpoint, IsInEndpoint, protocol_ack, protocol_not_supported, IsCode, ping_ack}
 use Rattle.call_dispatch.specs.declared.setup.Setup.{Setup}
 use Rattle.call_dispatch.specs.declared.end.ConnEnd.{ConnEnd}
-use Rattle.call_dispatch.specs.declared.end.ConnEnd.TheVariants.{Ended, BadHeader, BadMessage, Truncated, NotBuilt, MessageLimit, ReadFault, WriteFault, OutOfMemory}
+use Rattle.call_dispatch.specs.declared.end.ConnEnd.TheVariants.{Ended, BadHeader, UnknownProtocol, BadMessage, Truncated, NotBuilt, MessageLimit, ReadFault, WriteFault, OutOfMemory}
 use Rattle.call_dispatch.specs.End.{IsSettled}
-use Rattle.call_dispatch.specs.Dialogue.{stream, Exchange, ping, taken_by, written_by, Whole, nothing, greeted, opened, IsWhole, taken_in, written_in, Ends, Dialogue}
+use Rattle.call_dispatch.specs.Dialogue.{stream, single_op, Exchange, ping, taken_by, written_by, Whole, nothing, greeted, opened, IsWhole, taken_in, written_in, count_of, IsAtCode, IsDone, IsInside, IsUnbuilt, Ends, Dialogue}
 use Rattle.call_dispatch.specs.Progress.{Halves, Talks, Settles}
 
 -- what reading gives: the end, what is written, and what is left
@@ -21,13 +21,13 @@ Reading = ConnEnd × List ℕ × List ℕ
 abbrev with_written : List ℕ → Reading → Reading
 with_written before (end, written, rest) = (end, before ++ written, rest)
 
--- from a code's place at `at`, where n messages were served
-abbrev codes_next : ℕ → ℕ → List ℕ → Reading
-codes_next n at [] = (Ended, [], [])
-codes_next n at (b ∷ xs) =
+-- from a code's place at `at`, where n messages were served, and many or one may be
+abbrev codes_next : Bool → ℕ → ℕ → List ℕ → Reading
+codes_next many n at [] = (Ended, [], [])
+codes_next many n at (b ∷ xs) =
     cond (eqb b 0x50 || (eqb b 0x52 || eqb b 0x54))
     (cond (eqb n (2 ^ 28)) (MessageLimit, [], xs)
-    (cond (eqb b 0x52) (with_written ping_ack (codes_next (n + 1) (at + 1) xs)) (NotBuilt b at, [], xs)))
+    (cond (eqb b 0x52) (with_written ping_ack (cond many (codes_next many (n + 1) (at + 1) xs) (Ended, [], xs))) (NotBuilt b at, [], xs)))
     (BadMessage b at, [], xs)
 
 -- from the client's endpoint
@@ -36,13 +36,14 @@ endpoint_next [] = (Truncated 7, [], [])
 endpoint_next (high ∷ []) = (Truncated 8, [], [])
 endpoint_next (high ∷ low ∷ xs) =
     cond (ltb (length xs) (256 * high + low + 4)) (Truncated (9 + length xs), [], [])
-    (codes_next 0 (9 + (256 * high + low + 4)) (drop (256 * high + low + 4) xs))
+    (codes_next true 0 (9 + (256 * high + low + 4)) (drop (256 * high + low + 4) xs))
 
 -- from the header, of which this front is still wanted before the protocol
 abbrev header_next : Setup → List ℕ → ℕ → List ℕ → Reading
 header_next setup [] at [] = (Truncated at, [], [])
 header_next setup [] at (b ∷ xs) =
-    cond (eqb b 0x4B) (with_written (protocol_ack setup.peer_host setup.peer_port) (endpoint_next xs)) (NotBuilt b at, [], xs)
+    cond (eqb b 0x4B) (with_written (protocol_ack setup.peer_host setup.peer_port) (endpoint_next xs))
+    (cond (eqb b 0x4C) (codes_next false 0 (at + 1) xs) (UnknownProtocol b, protocol_not_supported, xs))
 header_next setup (m ∷ ms) at [] = (Truncated at, [], [])
 header_next setup (m ∷ ms) at (x ∷ xs) = cond (eqb x m) (header_next setup ms (at + 1) xs) (BadHeader at, [], xs)
 
@@ -54,7 +55,9 @@ reading setup input = header_next setup header_start 0 input
 abbrev next_of : Setup → Whole → List ℕ → Reading
 next_of setup nothing xs = reading setup xs
 next_of setup greeted xs = endpoint_next xs
-next_of setup (opened opening exchanges) xs = codes_next (length exchanges) (length (taken_in (opened opening exchanges))) xs
+next_of setup (opened (stream endpoint) exchanges) xs = codes_next true (length exchanges) (length (taken_in (opened (stream endpoint) exchanges))) xs
+next_of setup (opened single_op []) xs = codes_next false 0 7 xs
+next_of setup (opened single_op (e ∷ exchanges)) xs = (Ended, [], xs)
 
 neq-eqb : (a b : ℕ) → a ≢ b → eqb a b ≡ false
 neq-eqb a b other = elim (eqb_tells a b) [ inl is ↦ absurd (other is.1) | inr not ↦ not.0 ]
@@ -112,7 +115,7 @@ endpoint_truncated (high ∷ low ∷ part) (more, some, is) =
     rw short (ap (λ n. (Truncated n, [], [])) place)
 
 -- An endpoint is passed.
-endpoint_passed : (endpoint xs : List ℕ) → IsEndpoint endpoint → endpoint_next (endpoint ++ xs) ≡ codes_next 0 (7 + length endpoint) xs
+endpoint_passed : (endpoint xs : List ℕ) → IsEndpoint endpoint → endpoint_next (endpoint ++ xs) ≡ codes_next true 0 (7 + length endpoint) xs
 endpoint_passed [] xs is = absurd is
 endpoint_passed (high ∷ []) xs is = absurd is
 endpoint_passed (high ∷ low ∷ more) xs is =
@@ -120,38 +123,41 @@ endpoint_passed (high ∷ low ∷ more) xs is =
     let all : ltb (length (more ++ xs)) n ≡ false = le-ltb (length (more ++ xs)) n (omega (arith, is.2, length-append more xs)) in
     let past : drop n (more ++ xs) ≡ xs = drop_at more xs n is.2 in
     let place : 9 + n ≡ 7 + length (high ∷ low ∷ more) = omega (arith, is.2) in
-    rw all (ap (λ k. codes_next 0 k (drop n (more ++ xs))) place ∙ ap (codes_next 0 (7 + length (high ∷ low ∷ more))) past)
+    rw all (ap (λ k. codes_next true 0 k (drop n (more ++ xs))) place ∙ ap (codes_next true 0 (7 + length (high ∷ low ∷ more))) past)
 
 -- Exchanges are passed.
 exchanges_passed : (n at : ℕ) (exchanges : List Exchange) (xs : List ℕ) → n + length exchanges ≤ 2 ^ 28
-    → codes_next n at (flat_map taken_by exchanges ++ xs)
-    ≡ with_written (flat_map written_by exchanges) (codes_next (n + length exchanges) (at + length (flat_map taken_by exchanges)) xs)
-exchanges_passed n at [] xs few = rw (add-zero, add-zero) (sym (with_nothing (codes_next n at xs)))
+    → codes_next true n at (flat_map taken_by exchanges ++ xs)
+    ≡ with_written (flat_map written_by exchanges) (codes_next true (n + length exchanges) (at + length (flat_map taken_by exchanges)) xs)
+exchanges_passed n at [] xs few = rw (add-zero, add-zero) (sym (with_nothing (codes_next true n at xs)))
 exchanges_passed n at (ping ∷ exchanges) xs few =
     let no : eqb n (2 ^ 28) ≡ false = neq-eqb n (2 ^ 28) (λ is. omega arith) in
     let one : n + 1 + length exchanges ≡ n + length (ping ∷ exchanges) = omega arith in
     let two : at + 1 + length (flat_map taken_by exchanges) ≡ at + length (flat_map taken_by (ping ∷ exchanges)) = omega arith in
     rw no (ap (with_written ping_ack) (exchanges_passed (n + 1) (at + 1) exchanges xs (omega arith)
-    ∙ ap (λ k. with_written (flat_map written_by exchanges) (codes_next k (at + 1 + length (flat_map taken_by exchanges)) xs)) one
-    ∙ ap (λ k. with_written (flat_map written_by exchanges) (codes_next (n + length (ping ∷ exchanges)) k xs)) two)
-    ∙ with_twice ping_ack (flat_map written_by exchanges) (codes_next (n + length (ping ∷ exchanges)) (at + length (flat_map taken_by (ping ∷ exchanges))) xs))
+    ∙ ap (λ k. with_written (flat_map written_by exchanges) (codes_next true k (at + 1 + length (flat_map taken_by exchanges)) xs)) one
+    ∙ ap (λ k. with_written (flat_map written_by exchanges) (codes_next true (n + length (ping ∷ exchanges)) k xs)) two)
+    ∙ with_twice ping_ack (flat_map written_by exchanges) (codes_next true (n + length (ping ∷ exchanges)) (at + length (flat_map taken_by (ping ∷ exchanges))) xs))
 
 -- What stands whole is passed.
 whole_passed : (setup : Setup) (w : Whole) (xs : List ℕ) → IsWhole w → reading setup (taken_in w ++ xs) ≡ with_written (written_in setup w) (next_of setup w xs)
 whole_passed setup nothing xs whole = sym (with_nothing (reading setup xs))
 whole_passed setup greeted xs whole = refl
+whole_passed setup (opened single_op []) xs whole = sym (with_nothing (codes_next false 0 7 xs))
+whole_passed setup (opened single_op (ping ∷ [])) xs whole = refl
+whole_passed setup (opened single_op (e ∷ e2 ∷ exchanges)) xs whole = absurd (omega (arith, whole.1))
 whole_passed setup (opened (stream endpoint) exchanges) xs (is, few) =
     let sent : List ℕ = protocol_ack setup.peer_host setup.peer_port in
     let bytes : List ℕ = flat_map taken_by exchanges in
+    let answers : List ℕ = flat_map written_by exchanges in
     let n : ℕ = length exchanges in
     let place : 7 + length endpoint + length bytes ≡ length (taken_in (opened (stream endpoint) exchanges)) = omega (arith, length-append endpoint bytes) in
-    let after : endpoint_next ((endpoint ++ bytes) ++ xs) ≡ with_written (flat_map written_by exchanges) (codes_next n (length (taken_in (opened (stream endpoint) exchanges))) xs) =
+    let after : endpoint_next ((endpoint ++ bytes) ++ xs) ≡ with_written answers (next_of setup (opened (stream endpoint) exchanges) xs) =
     ap endpoint_next (append_assoc endpoint bytes xs) ∙ endpoint_passed endpoint (bytes ++ xs) is
     ∙ exchanges_passed 0 (7 + length endpoint) exchanges xs (omega (arith, few))
-    ∙ ap (λ k. with_written (flat_map written_by exchanges) (codes_next k (7 + length endpoint + length bytes) xs)) (zero-add n)
-    ∙ ap (λ k. with_written (flat_map written_by exchanges) (codes_next n k xs)) place in
-    ap (with_written sent) after
-    ∙ with_twice sent (flat_map written_by exchanges) (codes_next n (length (taken_in (opened (stream endpoint) exchanges))) xs)
+    ∙ ap (λ k. with_written answers (codes_next true k (7 + length endpoint + length bytes) xs)) (zero-add n)
+    ∙ ap (λ k. with_written answers (codes_next true n k xs)) place in
+    ap (with_written sent) after ∙ with_twice sent answers (next_of setup (opened (stream endpoint) exchanges) xs)
 
 code_told : (b : ℕ) → IsCode b → (eqb b 0x50 || (eqb b 0x52 || eqb b 0x54)) ≡ true
 code_told b (Call, is) = rw is refl
@@ -165,53 +171,85 @@ code_untold b none =
     let z = neq-eqb b 0x54 (λ is. none (DgcAck, is)) in
     rw (x, y, z) refl
 
+-- What comes next at a code's place.
+at_code_next : (setup : Setup) (w : Whole) (xs : List ℕ) → IsAtCode w → (many : Bool) × (next_of setup w xs ≡ codes_next many (count_of w) (length (taken_in w)) xs)
+at_code_next setup nothing xs code = absurd code
+at_code_next setup greeted xs code = absurd code
+at_code_next setup (opened (stream endpoint) exchanges) xs code = (true, refl)
+at_code_next setup (opened single_op []) xs code = (false, refl)
+at_code_next setup (opened single_op (e ∷ exchanges)) xs code = absurd code
+
+no_code_next : (many : Bool) (n at byte : ℕ) (xs : List ℕ) → ¬ IsCode byte → codes_next many n at (byte ∷ xs) ≡ (BadMessage byte at, [], xs)
+no_code_next many n at byte xs none = let told = code_untold byte none in rw told refl
+
+unbuilt_next : (many : Bool) (n at byte : ℕ) (xs : List ℕ) → n < 2 ^ 28 → IsUnbuilt byte → codes_next many n at (byte ∷ xs) ≡ (NotBuilt byte at, [], xs)
+unbuilt_next many n at byte xs few unbuilt =
+    let told = code_told byte (elim unbuilt [ inl a ↦ (Call, a) | inr b ↦ (DgcAck, b) ]) in
+    let before = neq-eqb n (2 ^ 28) (λ same. omega arith) in
+    let other = neq-eqb byte 0x52 (λ same. elim unbuilt [ inl a ↦ omega arith | inr b ↦ omega arith ]) in
+    rw (told, before, other) refl
+
+limit_next : (many : Bool) (n at byte : ℕ) (xs : List ℕ) → n ≡ 2 ^ 28 → IsCode byte → codes_next many n at (byte ∷ xs) ≡ (MessageLimit, [], xs)
+limit_next many n at byte xs full known =
+    let told = code_told byte known in
+    let last = eq-eqb n (2 ^ 28) full in
+    rw (told, last) refl
+
+-- What comes next where nothing more is to come.
+done_next : (setup : Setup) (w : Whole) (xs : List ℕ) → IsDone w → next_of setup w xs ≡ (Ended, [], xs)
+done_next setup nothing xs done = absurd done
+done_next setup greeted xs done = absurd done
+done_next setup (opened (stream endpoint) exchanges) xs done = absurd done
+done_next setup (opened single_op []) xs done = absurd done
+done_next setup (opened single_op (e ∷ exchanges)) xs done = refl
+
+-- The input ends inside what comes next.
+inside_next : (setup : Setup) (w : Whole) (part : List ℕ) → IsInside w part → next_of setup w part ≡ (Truncated (length (taken_in w ++ part)), [], [])
+inside_next setup nothing part inside = header_truncated setup part inside
+inside_next setup greeted part inside = endpoint_truncated part inside ∙ ap (λ n. (Truncated n, [], [])) (omega arith)
+inside_next setup (opened opening exchanges) part inside = absurd inside
+
 -- The end after what stands whole, where nothing more is written.
 ends_after : (setup : Setup) (w : Whole) (more rest output : List ℕ) (end : ConnEnd) → output ≡ written_in setup w
     → next_of setup w (more ++ rest) ≡ (end, [], rest) → with_written (written_in setup w) (next_of setup w (more ++ rest)) ≡ (end, output, rest)
 ends_after setup w more rest output end written next =
     ap (with_written (written_in setup w)) next ∙ ap (λ xs. (end, xs, rest)) (append-nil (written_in setup w) ∙ sym written)
 
+-- The same, where one byte was taken at a code's place.
+ends_at_code : (setup : Setup) (w : Whole) (more rest output : List ℕ) (byte : ℕ) (end : ConnEnd) → IsAtCode w → more ≡ byte ∷ [] → output ≡ written_in setup w
+    → ((many : Bool) → codes_next many (count_of w) (length (taken_in w)) (byte ∷ rest) ≡ (end, [], rest))
+    → with_written (written_in setup w) (next_of setup w (more ++ rest)) ≡ (end, output, rest)
+ends_at_code setup w more rest output byte end code one written next =
+    let (many, is) = at_code_next setup w (byte ∷ rest) code in
+    ends_after setup w more rest output end written (ap (λ xs. next_of setup w (xs ++ rest)) one ∙ is ∙ next many)
+
 -- Each settled end is what comes next after what stands whole.
 ends_read : (setup : Setup) (w : Whole) (more rest output : List ℕ) (end : ConnEnd) → Ends setup w more (Some rest) output end → IsSettled end
     → with_written (written_in setup w) (next_of setup w (more ++ rest)) ≡ (end, output, rest)
-ends_read setup nothing more rest output Ended ends settled = absurd ends.0
-ends_read setup greeted more rest output Ended ends settled = absurd ends.0
-ends_read setup (opened (stream endpoint) exchanges) more rest output Ended (code, none, left, written) settled =
-    ends_after setup (opened (stream endpoint) exchanges) more rest output Ended written (rw (none, left) refl)
+ends_read setup w more rest output Ended (inl (code, left), none, written) settled =
+    let (many, is) = at_code_next setup w [] code in
+    ends_after setup w more rest output Ended written
+    (ap (λ xs. next_of setup w (xs ++ rest)) none ∙ ap (next_of setup w) left ∙ is ∙ ap (λ xs. (Ended, [], xs)) (sym left))
+ends_read setup w more rest output Ended (inr done, none, written) settled =
+    ends_after setup w more rest output Ended written (ap (λ xs. next_of setup w (xs ++ rest)) none ∙ done_next setup w rest done)
 ends_read setup w more rest output (BadHeader at) (none, breaks, written) settled =
     ap (λ v. with_written (written_in setup v) (next_of setup v (more ++ rest))) none
     ∙ ends_after setup nothing more rest output (BadHeader at) written (header_broken setup at more rest breaks)
-ends_read setup nothing more rest output (BadMessage byte at) ends settled = absurd ends.0
-ends_read setup greeted more rest output (BadMessage byte at) ends settled = absurd ends.0
-ends_read setup (opened (stream endpoint) exchanges) more rest output (BadMessage byte at) (code, none, one, place, written) settled =
-    ends_after setup (opened (stream endpoint) exchanges) more rest output (BadMessage byte at) written
-    (let told = code_untold byte none in rw (one, place, told) refl)
-ends_read setup nothing more rest output (Truncated at) (inside, left, place, written) settled =
-    ends_after setup nothing more rest output (Truncated at) written
-    (ap (λ xs. reading setup (more ++ xs)) left ∙ ap (reading setup) (append-nil more) ∙ header_truncated setup more inside
-    ∙ ap (λ n. (Truncated n, [], [])) (sym place) ∙ ap (λ xs. (Truncated at, [], xs)) (sym left))
-ends_read setup greeted more rest output (Truncated at) (inside, left, place, written) settled =
-    ends_after setup greeted more rest output (Truncated at) written
-    (ap (λ xs. endpoint_next (more ++ xs)) left ∙ ap endpoint_next (append-nil more) ∙ endpoint_truncated more inside
-    ∙ ap (λ n. (Truncated n, [], [])) (omega (arith, place)) ∙ ap (λ xs. (Truncated at, [], xs)) (sym left))
-ends_read setup (opened opening exchanges) more rest output (Truncated at) ends settled = absurd ends.0
-ends_read setup w more rest output (NotBuilt byte at) (inl (none, other, one, place, written)) settled =
+ends_read setup w more rest output (UnknownProtocol byte) (none, other, one, written) settled =
     ap (λ v. with_written (written_in setup v) (next_of setup v (more ++ rest))) none
-    ∙ ends_after setup nothing more rest output (NotBuilt byte at) written
-    (let told = neq-eqb byte 0x4B other in rw (one, place) (rw told refl))
-ends_read setup nothing more rest output (NotBuilt byte at) (inr ends) settled = absurd ends.0
-ends_read setup greeted more rest output (NotBuilt byte at) (inr ends) settled = absurd ends.0
-ends_read setup (opened (stream endpoint) exchanges) more rest output (NotBuilt byte at) (inr (code, room, unbuilt, one, place, written)) settled =
-    let told = code_told byte (elim unbuilt [ inl a ↦ (Call, a) | inr b ↦ (DgcAck, b) ]) in
-    let before = neq-eqb (length exchanges) (2 ^ 28) (λ same. omega arith) in
-    let other = neq-eqb byte 0x52 (λ same. elim unbuilt [ inl a ↦ omega arith | inr b ↦ omega arith ]) in
-    ends_after setup (opened (stream endpoint) exchanges) more rest output (NotBuilt byte at) written (rw (one, place, told, before, other) refl)
-ends_read setup nothing more rest output MessageLimit ends settled = absurd ends.0
-ends_read setup greeted more rest output MessageLimit ends settled = absurd ends.0
-ends_read setup (opened (stream endpoint) exchanges) more rest output MessageLimit (code, full, (byte, known, one), written) settled =
-    let told = code_told byte known in
-    let last = eq-eqb (length exchanges) (2 ^ 28) full in
-    ends_after setup (opened (stream endpoint) exchanges) more rest output MessageLimit written (rw (one, told, last) refl)
+    ∙ (let many = neq-eqb byte 0x4B other.0 in let single = neq-eqb byte 0x4C other.1 in rw (one, written) (rw (many, single) refl))
+ends_read setup w more rest output (BadMessage byte at) (code, none, one, place, written) settled =
+    ends_at_code setup w more rest output byte (BadMessage byte at) code one written
+    (λ many. no_code_next many (count_of w) (length (taken_in w)) byte rest none ∙ ap (λ n. (BadMessage byte n, [], rest)) (sym place))
+ends_read setup w more rest output (Truncated at) (inside, left, place, written) settled =
+    ends_after setup w more rest output (Truncated at) written
+    (ap (λ xs. next_of setup w (more ++ xs)) left ∙ ap (next_of setup w) (append-nil more) ∙ inside_next setup w more inside
+    ∙ ap (λ n. (Truncated n, [], [])) (sym place) ∙ ap (λ xs. (Truncated at, [], xs)) (sym left))
+ends_read setup w more rest output (NotBuilt byte at) (code, room, unbuilt, one, place, written) settled =
+    ends_at_code setup w more rest output byte (NotBuilt byte at) code one written
+    (λ many. unbuilt_next many (count_of w) (length (taken_in w)) byte rest room unbuilt ∙ ap (λ n. (NotBuilt byte n, [], rest)) (sym place))
+ends_read setup w more rest output MessageLimit (code, full, (byte, known, one), written) settled =
+    ends_at_code setup w more rest output byte MessageLimit code one written (λ many. limit_next many (count_of w) (length (taken_in w)) byte rest full known)
 ends_read setup w more rest output ReadFault ends settled = absurd settled
 ends_read setup w more rest output (WriteFault sent) ends settled = absurd settled
 ends_read setup w more rest output OutOfMemory ends settled = absurd settled

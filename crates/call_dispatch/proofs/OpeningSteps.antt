@@ -1,19 +1,20 @@
 -- The opening of a dialogue, over plain lists.
-use Rattle.std.proofs.Common.{◌≡◌, ℕ, ◌+◌, ◌^◌, ◌<◌, ◌≤◌, List, [], ◌∷◌, ◌++◌, length, Option, Err, refl, ap, sym, inl, inr, arith, append-nil, length-append, ℤ}
-use Rattle.wire_io.specs.Wire.{with_end, with_front-nothing, with_end-nothing}
+use Rattle.std.proofs.Common.{◌≡◌, ◌≢◌, ℕ, suc, zero, ◌+◌, ◌^◌, ◌<◌, ◌≤◌, List, [], ◌∷◌, ◌++◌, length, take, Option, Ok, Err, refl, ◌∙◌, ap, sym, inl, inr, arith, append-nil, length-append, ℤ}
+use Rattle.wire_io.specs.Wire.{with_front, with_end, with_front-nothing, with_end-nothing}
 use Rattle.wire_io.specs.Pulled.{Place, Takes}
 use Rattle.wire_io.specs.declared.pull.PullEnd.TheVariants.{End, Limit, ReadFault, OutOfMemory}
 use Rattle.mod_utf.specs.Utf.{utf}
 use Rattle.jrmp_frames.specs.declared.header.Protocol.TheVariants.{Stream, SingleOp}
-use Rattle.jrmp_frames.specs.Frames.{header_start, header, IsInHeader, IsEndpoint, IsInEndpoint, protocol_ack}
+use Rattle.jrmp_frames.specs.Frames.{header_start, header, IsInHeader, IsEndpoint, IsInEndpoint, protocol_ack, protocol_not_supported}
 use Rattle.jrmp_frames.specs.Gives.{GivesHeader, GivesEndpoint}
 use Rattle.jrmp_frames.specs.declared.fault.FrameFault.{FrameFault}
 use Rattle.jrmp_frames.specs.declared.fault.FrameFault.TheVariants.{BadHeader, UnknownProtocol, BadMessage, Pull}
 use Rattle.call_dispatch.specs.declared.setup.Setup.{Setup}
+use Rattle.call_dispatch.specs.declared.end.ConnEnd.{ConnEnd}
 use Rattle.call_dispatch.specs.declared.end.ConnEnd.TheVariants as ends
-use Rattle.call_dispatch.specs.Dialogue.{nothing, greeted, opened, stream}
-use Rattle.call_dispatch.specs.Progress.{Halves, Stands, Talks, IsNoLimit, end_from}
-use Rattle.call_dispatch.proofs.Steps.{stands_nothing, stands_on, talks_after, talks_stop}
+use Rattle.call_dispatch.specs.Dialogue.{nothing, greeted, opened, stream, single_op}
+use Rattle.call_dispatch.specs.Progress.{Halves, Stands, Talks, Writes, Refuses, IsNoLimit, end_from}
+use Rattle.call_dispatch.proofs.Steps.{talks_on, talks_cut, stands_nothing, stands_on, talks_after, talks_stop}
 
 -- What begins the header is short.
 in_header_short : (part : List ℕ) → IsInHeader part → length part ≤ 6
@@ -46,27 +47,35 @@ header_in_limit old new (Pull OutOfMemory) first last h = tt
 
 -- The connection ends in the header.
 pub header_ends : (setup : Setup) (old new : Place) (held : Option (List ℕ)) (fault : FrameFault)
-    → old.at ≡ 0 → old.stop ≡ 2 ^ 62 → GivesHeader old new (Err fault)
+    → old.at ≡ 0 → old.stop ≡ 2 ^ 62 → ((byte : ℕ) → fault ≢ UnknownProtocol byte) → GivesHeader old new (Err fault)
     → Talks setup (record { left = old.left; held = held }) (record { left = new.left; held = held }) (end_from fault)
-header_ends setup old new held (BadHeader at) first last (k, bytes, place, breaks, takes) =
+header_ends setup old new held (BadHeader at) first last told (k, bytes, place, breaks, takes) =
     let same : k ≡ at = omega (arith, place, first) in
     talks_after setup _ _ _ old.at 0 nothing bytes (ends.BadHeader at) (stands_nothing setup _ old.at first) takes.left refl
     (refl, rw same at breaks, refl)
-header_ends setup old new held (UnknownProtocol byte) first last h =
-    talks_after setup _ _ _ old.at 0 nothing (header_start ++ byte ∷ []) (ends.NotBuilt byte 6) (stands_nothing setup _ old.at first) h.1.left refl
-    (inl (refl, h.0.0, refl, refl, refl))
-header_ends setup old new held (BadMessage byte at) first last h = absurd h
-header_ends setup old new held (Pull e) first last h =
+header_ends setup old new held (UnknownProtocol byte) first last told h = absurd (told byte refl)
+header_ends setup old new held (BadMessage byte at) first last told h = absurd h
+header_ends setup old new held (Pull e) first last told h =
     talks_stop setup _ old new held 0 nothing IsInHeader e (stands_nothing setup _ old.at first) h
     (omega (arith, in_header_short h.part h.inside, first, last)) (λ at is. h.inside) (inl h.inside)
 
 -- The header of the stream protocol and its acknowledgement stand.
-pub stands_greeted : (setup : Setup) (old new : Place) (held now : Option (List ℕ)) (sent : ℕ)
-    → old.at ≡ 0 → Takes old new (header Stream) → now ≡ with_end held (protocol_ack setup.peer_host setup.peer_port)
-    → sent ≡ 0 + length (protocol_ack setup.peer_host setup.peer_port)
-    → Stands setup (record { left = old.left; held = held }) (record { left = new.left; held = now }) new.at sent greeted
-stands_greeted setup old new held now sent first takes written sents =
-    stands_on setup _ _ _ old.at 0 new.at sent nothing greeted _ _ (stands_nothing setup _ old.at first) tt refl refl takes.left written takes.at sents
+pub stands_greeted : (setup : Setup) (start before now : Halves) (at sent : ℕ)
+    → start.left ≡ with_front (header Stream) before.left → before.held ≡ start.held → at ≡ 7 → now.left ≡ before.left
+    → Writes before.held now.held 0 (protocol_ack setup.peer_host setup.peer_port) (Ok sent) → Stands setup start now at sent greeted
+stands_greeted setup start before now at sent taken held place left (written, sents) =
+    stands_on setup start start now 0 0 at sent nothing greeted (header Stream) (protocol_ack setup.peer_host setup.peer_port) (stands_nothing setup start 0 refl)
+    tt refl refl (taken ∙ ap (with_front (header Stream)) (sym left)) (written ∙ ap (λ told. with_end told (protocol_ack setup.peer_host setup.peer_port)) held)
+    place sents
+
+-- The acknowledgement of the stream protocol was cut.
+pub greeting_cut : (setup : Setup) (start before now : Halves) (end : ConnEnd)
+    → start.left ≡ with_front (header Stream) before.left → before.held ≡ start.held → now.left ≡ before.left
+    → Writes before.held now.held 0 (protocol_ack setup.peer_host setup.peer_port) (Err end) → Talks setup start now end
+greeting_cut setup start before now end taken held left (part, less, is, written) =
+    rw is (talks_cut setup start start now 0 0 part nothing (header Stream) (protocol_ack setup.peer_host setup.peer_port) (stands_nothing setup start 0 refl)
+    (inl (refl, refl, refl)) less (taken ∙ ap (with_front (header Stream)) (sym left))
+    (written ∙ ap (λ told. with_end told (take part (protocol_ack setup.peer_host setup.peer_port))) held))
 
 -- The whole opening of the stream protocol stands.
 pub stands_opened : (setup : Setup) (start : Halves) (old new : Place) (held : Option (List ℕ)) (sent : ℕ) (endpoint : List ℕ)
@@ -105,14 +114,41 @@ memory_at_once setup start =
     talks_after setup start start start 0 0 nothing [] ends.OutOfMemory (stands_nothing setup start 0 refl) (sym (with_front-nothing start.left)) refl (refl, inl refl, refl)
 
 -- No memory was there for the acknowledgement.
-pub memory_ends : (setup : Setup) (old new : Place) (held : Option (List ℕ)) → old.at ≡ 0 → Takes old new (header Stream)
-    → Talks setup (record { left = old.left; held = held }) (record { left = new.left; held = held }) ends.OutOfMemory
-memory_ends setup old new held first takes =
-    talks_after setup _ _ _ old.at 0 nothing (header Stream) ends.OutOfMemory (stands_nothing setup _ old.at first) takes.left refl (refl, inr refl, refl)
+pub memory_ends : (setup : Setup) (start now : Halves) → start.left ≡ with_front (header Stream) now.left → now.held ≡ start.held → Talks setup start now ends.OutOfMemory
+memory_ends setup start now taken held =
+    talks_after setup start start now 0 0 nothing (header Stream) ends.OutOfMemory (stands_nothing setup start 0 refl) taken held (refl, inr refl, refl)
 
--- The connection ends with the header of the single-op protocol.
-pub single_ends : (setup : Setup) (old new : Place) (held : Option (List ℕ)) → old.at ≡ 0 → Takes old new (header SingleOp)
-    → Talks setup (record { left = old.left; held = held }) (record { left = new.left; held = held }) (ends.NotBuilt 0x4C 6)
-single_ends setup old new held first takes =
-    talks_after setup _ _ _ old.at 0 nothing (header SingleOp) (ends.NotBuilt 0x4C 6) (stands_nothing setup _ old.at first) takes.left refl
-    (inl (refl, (λ same. omega arith), refl, refl, refl))
+-- The header of the single-op protocol stands.
+pub stands_single : (setup : Setup) (old new : Place) (held : Option (List ℕ)) → old.at ≡ 0 → Takes old new (header SingleOp)
+    → Stands setup (record { left = old.left; held = held }) (record { left = new.left; held = held }) new.at 0 (opened single_op [])
+stands_single setup old new held first takes =
+    stands_on setup _ _ _ old.at 0 new.at 0 nothing (opened single_op []) (header SingleOp) [] (stands_nothing setup _ old.at first)
+    (tt, omega arith) refl refl takes.left (sym (with_end-nothing held)) takes.at refl
+
+-- The client could not be told of an unknown protocol.
+pub refusal_cut : (byte : ℕ) (before after : Option (List ℕ)) (end : ConnEnd) → Writes before after 0 protocol_not_supported (Err end) → Refuses byte before after end
+refusal_cut byte before after end (zero, less, is, written) = rw is (refl, written ∙ with_end-nothing before)
+refusal_cut byte before after end (suc part, less, is, written) = absurd (omega arith)
+
+-- The connection ends with an unknown protocol.
+pub refusal_ends : (setup : Setup) (old new : Place) (held now : Option (List ℕ)) (byte : ℕ) (end : ConnEnd)
+    → old.at ≡ 0 → GivesHeader old new (Err (UnknownProtocol byte)) → Refuses byte held now end
+    → Talks setup (record { left = old.left; held = held }) (record { left = new.left; held = now }) end
+refusal_ends setup old new held now byte (ends.UnknownProtocol b) first (none, takes) (same, written) =
+    talks_on setup _ _ _ old.at 0 nothing (header_start ++ byte ∷ []) protocol_not_supported (ends.UnknownProtocol b) (stands_nothing setup _ old.at first)
+    takes.left written (rw same (refl, none, refl, refl))
+refusal_ends setup old new held now byte (ends.WriteFault sent) first (none, takes) (same, written) =
+    rw same (talks_cut setup _ _ _ old.at 0 0 nothing (header_start ++ byte ∷ []) protocol_not_supported (stands_nothing setup _ old.at first)
+    (inr (inl (byte, (refl, none, refl, refl)))) (omega arith) takes.left (written ∙ sym (with_end-nothing held)))
+refusal_ends setup old new held now byte ends.Ended first gives refuses = absurd refuses
+refusal_ends setup old new held now byte (ends.BadHeader at) first gives refuses = absurd refuses
+refusal_ends setup old new held now byte (ends.BadMessage b at) first gives refuses = absurd refuses
+refusal_ends setup old new held now byte (ends.Truncated at) first gives refuses = absurd refuses
+refusal_ends setup old new held now byte (ends.NotBuilt b at) first gives refuses = absurd refuses
+refusal_ends setup old new held now byte ends.MessageLimit first gives refuses = absurd refuses
+refusal_ends setup old new held now byte ends.ReadFault first gives refuses = absurd refuses
+refusal_ends setup old new held now byte ends.OutOfMemory first gives refuses = absurd refuses
+
+-- Refusing a protocol is no fault of reading.
+pub refuses_unread : (byte : ℕ) (before after : Option (List ℕ)) (end : ConnEnd) → Refuses byte before after end → end ≢ ends.ReadFault
+refuses_unread byte before after end refuses is = rw is at refuses

@@ -1,12 +1,13 @@
 -- The ends of connections.
 use Rattle.std.specs.Prelude.{ℕ}
 use Rattle.call_dispatch.specs.declared.end.ConnEnd.{ConnEnd}
-use Rattle.call_dispatch.specs.declared.end.ConnEnd.TheVariants.{Ended, BadHeader, BadMessage, Truncated, NotBuilt, MessageLimit, ReadFault, WriteFault, OutOfMemory}
+use Rattle.call_dispatch.specs.declared.end.ConnEnd.TheVariants.{Ended, BadHeader, UnknownProtocol, BadMessage, Truncated, NotBuilt, MessageLimit, ReadFault, WriteFault, OutOfMemory}
 
 -- the status of a process that ends so
 abbrev pub status_of : ConnEnd → ℕ
 status_of Ended = 0
 status_of (BadHeader at) = 2
+status_of (UnknownProtocol byte) = 2
 status_of (BadMessage byte at) = 2
 status_of (Truncated at) = 2
 status_of (NotBuilt byte at) = 2

@@ -2,7 +2,7 @@
 use Rattle.std.specs.Prelude.{ℕ, ◌^◌, ◌-◌, codes, List, [], ◌++◌, false}
 use Rattle.std.specs.Fmt.{decimal, digits, padded_integral, format_spec}
 use Rattle.call_dispatch.specs.declared.end.ConnEnd.{ConnEnd}
-use Rattle.call_dispatch.specs.declared.end.ConnEnd.TheVariants.{Ended, BadHeader, BadMessage, Truncated, NotBuilt, MessageLimit, ReadFault, WriteFault, OutOfMemory}
+use Rattle.call_dispatch.specs.declared.end.ConnEnd.TheVariants.{Ended, BadHeader, UnknownProtocol, BadMessage, Truncated, NotBuilt, MessageLimit, ReadFault, WriteFault, OutOfMemory}
 
 -- a byte as two lower-case hexadecimal digits
 abbrev pub hexadecimal : ℕ → List ℕ
@@ -12,6 +12,7 @@ hexadecimal byte = padded_integral (format_spec 32 0 4 2 (2 ^ 64 - 1)) false [] 
 abbrev pub words_of : ConnEnd → List ℕ
 words_of Ended = codes "ended"
 words_of (BadHeader at) = codes "bad header at " ++ decimal at
+words_of (UnknownProtocol byte) = codes "unknown protocol " ++ hexadecimal byte
 words_of (BadMessage byte at) = codes "bad message " ++ hexadecimal byte ++ codes " at " ++ decimal at
 words_of (Truncated at) = codes "truncated at " ++ decimal at
 words_of (NotBuilt byte at) = codes "not built " ++ hexadecimal byte ++ codes " at " ++ decimal at

@@ -1,16 +1,16 @@
 //! Writing an answer.
 ghost use Rattle.std.specs.Prelude.{◌≡◌, ◌≤◌, ◌<◌, ◌+◌, ◌^◌, length, OnErr};
 ghost use Rattle.wire_io.specs.Wire.{Rose};
-ghost use Rattle.call_dispatch.specs.Progress.{Answers};
+ghost use Rattle.call_dispatch.specs.Progress.{Writes};
 
 use crate::end::ConnEnd;
 use wire_io::put::put_all;
 use wire_io::sink::Sink;
 
 /// Writes an answer after `sent` bytes of the connection. It answers how many were sent by then.
-pub fn answer<K: Sink>(sink: &mut K, bytes: &[u8], sent: u64) -> Result<u64, ConnEnd>
+pub fn write_answer<K: Sink>(sink: &mut K, bytes: &[u8], sent: u64) -> Result<u64, ConnEnd>
     requires { sent + length bytes.now < 2 ^ 64 }
-    ensures answers { Answers (K.held sink.old) (K.held sink.new) sent bytes.now result }
+    ensures writes { Writes (K.held sink.old) (K.held sink.new) sent bytes.now result }
     ensures write_fault { OnErr result (Rose (K.faults sink.old) (K.faults sink.new)) }
     ensures sink_faults { K.faults sink.old ≤ K.faults sink.new }
 {

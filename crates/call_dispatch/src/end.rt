@@ -8,15 +8,17 @@ use wire_io::pull::PullEnd;
 /// How a connection ended. Positions count bytes from 0 at the connection's first byte.
 #[derive(Clone, Copy, Debug, PartialEq, Eq)]
 pub enum ConnEnd {
-    /// The input ended where a message could begin.
+    /// The input ended where a message could begin, or the one message of single-op was served.
     Ended,
     /// The byte at this position is the first that differs from the header's.
     BadHeader { at: u64 },
+    /// The header is followed by the byte of no protocol that is served, and the client was told so.
+    UnknownProtocol { byte: u8 },
     /// The byte at this position, where a message's code is wanted, is none.
     BadMessage { byte: u8, at: u64 },
     /// The input ended inside the opening or a message. The position is the input's length.
     Truncated { at: u64 },
-    /// The byte at this position asks for what isn't served yet.
+    /// The byte at this position is the code of a message that isn't served yet.
     NotBuilt { byte: u8, at: u64 },
     /// So many messages as one connection may have were served, and a further one began.
     MessageLimit,
@@ -38,6 +40,7 @@ impl ConnEnd {
         match self {
             ConnEnd::Ended => 0,
             ConnEnd::BadHeader { at: _ } => 2,
+            ConnEnd::UnknownProtocol { byte: _ } => 2,
             ConnEnd::BadMessage { byte: _, at: _ } => 2,
             ConnEnd::Truncated { at: _ } => 2,
             ConnEnd::NotBuilt { byte: _, at: _ } => 2,
@@ -56,7 +59,7 @@ pub fn end_of(fault: FrameFault) -> ConnEnd
 {
     match fault {
         FrameFault::BadHeader { at } => ConnEnd::BadHeader { at },
-        FrameFault::UnknownProtocol { byte } => ConnEnd::NotBuilt { byte, at: 6 },
+        FrameFault::UnknownProtocol { byte } => ConnEnd::UnknownProtocol { byte },
         FrameFault::BadMessage { byte, at } => ConnEnd::BadMessage { byte, at },
         FrameFault::Pull(end) => match end {
             PullEnd::End { at } => ConnEnd::Truncated { at },

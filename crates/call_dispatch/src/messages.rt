@@ -2,11 +2,14 @@
 ghost use Rattle.std.specs.Prelude.{◌≡◌, ◌<◌, ◌≤◌, ◌+◌, ◌^◌, Err, IfErr, IfOk, OnOk};
 ghost use Rattle.wire_io.specs.Wire.{Rose};
 ghost use Rattle.call_dispatch.specs.End.{IsWriteFault};
-ghost use Rattle.call_dispatch.specs.Progress.{Halves, halves, GoesOn, Steps};
+ghost use Rattle.jrmp_frames.specs.declared.header.Protocol.TheVariants.{Stream, SingleOp};
+ghost use Rattle.call_dispatch.specs.Progress.{halves, GoesOn, Steps};
 
-use crate::answer::answer;
+use crate::answer::write_answer;
 use crate::end::{ConnEnd, end_of};
+use crate::opening::Opened;
 use jrmp_frames::code::{Code, read_code};
+use jrmp_frames::header::Protocol;
 use wire_io::pull::Pull;
 use wire_io::sink::Sink;
 use wire_io::source::Source;
@@ -17,15 +20,51 @@ const MESSAGES: u32 = 1 << 28;
 /// How many bytes a message has at most.
 const MESSAGE_BYTES: u64 = 1 << 24;
 
-/// Serves messages until the connection ends. So many bytes were sent before.
+/// Serves the messages after an opening, until the connection ends.
 pub fn serve_messages<S: Source, K: Sink>(
     pull: &mut Pull<'_, S>,
     sink: &mut K,
-    before: u64,
+    opened: Opened,
 ) -> ConnEnd
     requires at { pull.old.at < 2 ^ 17 }
+    requires sent { opened.sent < 2 ^ 17 }
+    ensures goes_on { GoesOn opened.protocol (halves S.left K.held pull.old.source.now sink.old)
+        (halves S.left K.held pull.new.source.now sink.new) pull.old.at opened.sent result }
+    ensures lent { pull.new.source.ghost_name ≡ pull.old.source.ghost_name }
+    ensures read_fault { result ≡ ConnEnd.ReadFault → Rose (S.faults pull.old.source.now) (S.faults pull.new.source.now) }
+    ensures write_fault { IsWriteFault result → Rose (K.faults sink.old) (K.faults sink.new) }
+    ensures source_faults { S.faults pull.old.source.now ≤ S.faults pull.new.source.now }
+    ensures sink_faults { K.faults sink.old ≤ K.faults sink.new }
+{
+    match opened.protocol {
+        Protocol::Stream => serve_many(pull, sink, opened.sent),
+        Protocol::SingleOp => serve_one(pull, sink, opened.sent),
+    }
+}
+
+/// Serves one message, if there is one. So many bytes were sent before.
+fn serve_one<S: Source, K: Sink>(pull: &mut Pull<'_, S>, sink: &mut K, before: u64) -> ConnEnd
+    requires at { pull.old.at < 2 ^ 17 }
     requires sent { before < 2 ^ 17 }
-    ensures goes_on { GoesOn (halves S.left K.held pull.old.source.now sink.old)
+    ensures goes_on { GoesOn SingleOp (halves S.left K.held pull.old.source.now sink.old)
+        (halves S.left K.held pull.new.source.now sink.new) pull.old.at before result }
+    ensures lent { pull.new.source.ghost_name ≡ pull.old.source.ghost_name }
+    ensures read_fault { result ≡ ConnEnd.ReadFault → Rose (S.faults pull.old.source.now) (S.faults pull.new.source.now) }
+    ensures write_fault { IsWriteFault result → Rose (K.faults sink.old) (K.faults sink.new) }
+    ensures source_faults { S.faults pull.old.source.now ≤ S.faults pull.new.source.now }
+    ensures sink_faults { K.faults sink.old ≤ K.faults sink.new }
+{
+    match serve_message(pull, sink, 0, before) {
+        Ok(_sent) => ConnEnd::Ended,
+        Err(end) => end,
+    }
+}
+
+/// Serves messages until the connection ends. So many bytes were sent before.
+fn serve_many<S: Source, K: Sink>(pull: &mut Pull<'_, S>, sink: &mut K, before: u64) -> ConnEnd
+    requires at { pull.old.at < 2 ^ 17 }
+    requires sent { before < 2 ^ 17 }
+    ensures goes_on { GoesOn Stream (halves S.left K.held pull.old.source.now sink.old)
         (halves S.left K.held pull.new.source.now sink.new) pull.old.at before result }
     ensures lent { pull.new.source.ghost_name ≡ pull.old.source.ghost_name }
     ensures read_fault { result ≡ ConnEnd.ReadFault → Rose (S.faults pull.old.source.now) (S.faults pull.new.source.now) }
@@ -76,7 +115,7 @@ fn serve_message<S: Source, K: Sink>(
         return Err(ConnEnd::MessageLimit);
     }
     match code {
-        Code::Ping => answer(sink, &[0x53], sent),
+        Code::Ping => write_answer(sink, &[0x53], sent),
         Code::Call => Err(ConnEnd::NotBuilt { byte: 0x50, at }),
         Code::DgcAck => Err(ConnEnd::NotBuilt { byte: 0x54, at }),
     }

@@ -3,7 +3,7 @@ ghost use Rattle.std.specs.Prelude.{◌≡◌, ◌≤◌, ◌^◌, length};
 ghost use Rattle.wire_io.specs.Wire.{Rose};
 ghost use Rattle.mod_utf.specs.Utf.{utf};
 ghost use Rattle.call_dispatch.specs.End.{IsWriteFault};
-ghost use Rattle.call_dispatch.specs.Progress.{Halves, halves, Talks, Settles};
+ghost use Rattle.call_dispatch.specs.Progress.{halves, Talks, Settles};
 
 use crate::end::ConnEnd;
 use crate::messages::serve_messages;
@@ -59,7 +59,7 @@ fn talk<S: Source, K: Sink>(
     ensures sink_faults { K.faults sink.old ≤ K.faults sink.new }
 {
     match open_connection(alloc, pull, sink, setup) {
-        Ok(sent) => serve_messages(pull, sink, sent),
+        Ok(opened) => serve_messages(pull, sink, opened),
         Err(end) => end,
     }
 }

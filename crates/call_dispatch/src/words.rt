@@ -13,6 +13,7 @@ impl fmt::Display for ConnEnd {
         match *self {
             ConnEnd::Ended => write!(f, "ended"),
             ConnEnd::BadHeader { at } => write!(f, "bad header at {at}"),
+            ConnEnd::UnknownProtocol { byte } => write!(f, "unknown protocol {byte:02x}"),
             ConnEnd::BadMessage { byte, at } => write!(f, "bad message {byte:02x} at {at}"),
             ConnEnd::Truncated { at } => write!(f, "truncated at {at}"),
             ConnEnd::NotBuilt { byte, at } => write!(f, "not built {byte:02x} at {at}"),

@@ -1,7 +1,7 @@
 -- The status of a connection whose dialogue is told.
 use Rattle.std.proofs.Common.{◌≡◌, ℕ, refl, ap, ◌⊎◌, inl, inr}
 use Rattle.call_dispatch.specs.declared.end.ConnEnd.{ConnEnd}
-use Rattle.call_dispatch.specs.declared.end.ConnEnd.TheVariants.{Ended, BadHeader, BadMessage, Truncated, NotBuilt, MessageLimit, ReadFault, WriteFault, OutOfMemory}
+use Rattle.call_dispatch.specs.declared.end.ConnEnd.TheVariants.{Ended, BadHeader, UnknownProtocol, BadMessage, Truncated, NotBuilt, MessageLimit, ReadFault, WriteFault, OutOfMemory}
 use Rattle.call_dispatch.specs.End.{status_of, IsSettled}
 use Rattle.call_dispatch.specs.Progress.{Halves, Settles}
 use Rattle.rmi_cli.specs.Answer.{answer_setup, AnswersExactly, IsOutside}
@@ -9,6 +9,7 @@ use Rattle.rmi_cli.specs.Answer.{answer_setup, AnswersExactly, IsOutside}
 settled_or_outside : (end : ConnEnd) → IsSettled end ⊎ IsOutside (status_of end)
 settled_or_outside Ended = inl tt
 settled_or_outside (BadHeader at) = inl tt
+settled_or_outside (UnknownProtocol byte) = inl tt
 settled_or_outside (BadMessage byte at) = inl tt
 settled_or_outside (Truncated at) = inl tt
 settled_or_outside (NotBuilt byte at) = inl tt

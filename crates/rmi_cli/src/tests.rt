@@ -81,7 +81,7 @@ fn each_input_has_its_end(rt: HostRuntime) -> Result<(), Fail> {
     let alloc = rt.alloc();
     // the input after so many bytes of the opening; whether the acknowledgement comes, and what comes after it; how many
     // bytes are left; the line; the status
-    let rows: [(usize, &[u8], bool, &[u8], usize, &str, u8); 12] = [
+    let rows: [(usize, &[u8], bool, &[u8], usize, &str, u8); 18] = [
         (13, b"R", true, b"S", 0, "ended\n", 0),
         (13, b"RRR", true, b"SSS", 0, "ended\n", 0),
         (13, b"", true, b"", 0, "ended\n", 0),
@@ -92,8 +92,14 @@ fn each_input_has_its_end(rt: HostRuntime) -> Result<(), Fail> {
         (13, b"RT\x00", true, b"S", 1, "not built 54 at 14\n", 2),
         (13, b"RR\xFFR", true, b"SS", 1, "bad message ff at 15\n", 2),
         (13, b"\x00", true, b"", 0, "bad message 00 at 13\n", 2),
-        (6, b"LR", false, b"", 1, "not built 4c at 6\n", 2),
-        (6, b"M", false, b"", 0, "not built 4d at 6\n", 2),
+        (6, b"LRR", false, b"S", 1, "ended\n", 0),
+        (6, b"LR", false, b"S", 0, "ended\n", 0),
+        (6, b"L", false, b"", 0, "ended\n", 0),
+        (6, b"LT\x00", false, b"", 1, "not built 54 at 7\n", 2),
+        (6, b"LP", false, b"", 0, "not built 50 at 7\n", 2),
+        (6, b"L\x01R", false, b"", 1, "bad message 01 at 7\n", 2),
+        (6, b"MR", false, b"O", 1, "unknown protocol 4d\n", 2),
+        (6, b"\x00", false, b"O", 0, "unknown protocol 00\n", 2),
     ];
     for (whole, more, acked, output, left, line, status) in rows {
         let input = joined(alloc, OPENING.get(..whole).unwrap_or(&[]), more)?;
@@ -173,8 +179,16 @@ fn a_write_fault_counts_what_was_sent(rt: HostRuntime) -> Result<(), Fail> {
     let alloc = rt.alloc();
     let input = joined(alloc, OPENING, b"RR")?;
     let setup = setup_of(alloc)?;
-    for (index, sent) in [(0, 0), (1, 16), (2, 17)] {
-        let mut host = host_of(alloc, input.as_slice(), None, &[], &[index])?;
+    // the input; the index of the write that fails; how many bytes were sent before
+    let rows: [(&[u8], u32, u64); 5] = [
+        (input.as_slice(), 0, 0),
+        (input.as_slice(), 1, 16),
+        (input.as_slice(), 2, 17),
+        (b"JRMI\x00\x02LR", 0, 0),
+        (b"JRMI\x00\x02M", 0, 0),
+    ];
+    for (input, index, sent) in rows {
+        let mut host = host_of(alloc, input, None, &[], &[index])?;
         let end = serve_connection(alloc, &mut host.input, &mut host.output, &setup);
         assert_eq!(rt; end, ConnEnd::WriteFault { sent });
     }

@@ -1,15 +1,15 @@
 use Rattle.std.proofs.Common.{◌+◌, ◌∙◌, sym, ap, refl, arith, [], inl, inr}
-use Rattle.call_dispatch.specs.Dialogue.{opened}
+use Rattle.call_dispatch.specs.Dialogue.{opened, ping}
 use Rattle.call_dispatch.specs.declared.end.ConnEnd.TheVariants as ends
 use Rattle.call_dispatch.proofs.Steps.{talks_after}
-use Rattle.call_dispatch.proofs.MessageSteps.{code_ends, code_in_limit, ping_steps, limit_left}
+use Rattle.call_dispatch.proofs.MessageSteps.{code_ends, code_in_limit, answered_steps}
 use Rattle.call_dispatch.proofs.messages.serve_message.Goals as goal
 
 pub returns-in-Ok-None-clause-steps : goal.returns-in-Ok-None-clause-steps
 returns-in-Ok-None-clause-steps g c setup start opening exchanges count code stands =
     let gives = rw c.in-Ok-None.field-0-is at c.in-Ok-None.ensures.gives in
     talks_after setup start _ _ _ _ (opened opening exchanges) [] ends.Ended stands (ap g.S.Source.left (sym c.mark.ensures.source) ∙ gives.0.left) refl
-    (code, refl, gives.1, refl)
+    (inl (code, gives.1), refl, refl)
 
 pub end_of-requires : goal.end_of-requires
 end_of-requires g c = code_in_limit _ _ c.in-Err.fault (omega (arith, c.mark.ensures.at, c.mark.ensures.stop, c.requires.at)) c.in-Err.ensures.gives
@@ -29,18 +29,18 @@ returns-then-served-eq-MESSAGES-clause-steps g c setup start opening exchanges c
 pub returns-in-Ping-clause-steps : goal.returns-in-Ping-clause-steps
 returns-in-Ping-clause-steps g c setup start opening exchanges count code stands =
     let gives = rw c.in-Ping.is at (rw c.in-Ok-Some.field-0-is at c.in-Ok-Some.ensures.gives) in
-    let room = limit_left opening exchanges code (omega (arith, count, c.requires.served, c.if-served-eq-MESSAGES.false)) in
-    ping_steps setup start _ _ _ _ _ opening exchanges c.answer.result stands code room (ap g.S.Source.left (sym c.mark.ensures.source) ∙ gives.left)
-    (gives.at ∙ ap (λ n. n + 1) c.mark.ensures.at) c.answer.ensures.answers
+    answered_steps setup start _ _ _ _ _ opening exchanges ping c.write_answer.result stands code
+    (omega (arith, count, c.requires.served, c.if-served-eq-MESSAGES.false)) (ap g.S.Source.left (sym c.mark.ensures.source) ∙ gives.left)
+    (gives.at ∙ ap (λ n. n + 1) c.mark.ensures.at) c.write_answer.ensures.writes
 
 pub returns-in-Call-clause-steps : goal.returns-in-Call-clause-steps
 returns-in-Call-clause-steps g c setup start opening exchanges count code stands =
     let gives = rw c.in-Call.is at (rw c.in-Ok-Some.field-0-is at c.in-Ok-Some.ensures.gives) in
     talks_after setup start _ _ _ _ (opened opening exchanges) _ (ends.NotBuilt _ _) stands (ap g.S.Source.left (sym c.mark.ensures.source) ∙ gives.left) refl
-    (inr (code, omega (arith, count, c.requires.served, c.if-served-eq-MESSAGES.false), inl refl, refl, c.mark.ensures.at ∙ stands.position, refl))
+    (code, omega (arith, count, c.requires.served, c.if-served-eq-MESSAGES.false), inl refl, refl, c.mark.ensures.at ∙ stands.position, refl)
 
 pub returns-in-DgcAck-clause-steps : goal.returns-in-DgcAck-clause-steps
 returns-in-DgcAck-clause-steps g c setup start opening exchanges count code stands =
     let gives = rw c.in-DgcAck.is at (rw c.in-Ok-Some.field-0-is at c.in-Ok-Some.ensures.gives) in
     talks_after setup start _ _ _ _ (opened opening exchanges) _ (ends.NotBuilt _ _) stands (ap g.S.Source.left (sym c.mark.ensures.source) ∙ gives.left) refl
-    (inr (code, omega (arith, count, c.requires.served, c.if-served-eq-MESSAGES.false), inr refl, refl, c.mark.ensures.at ∙ stands.position, refl))
+    (code, omega (arith, count, c.requires.served, c.if-served-eq-MESSAGES.false), inr refl, refl, c.mark.ensures.at ∙ stands.position, refl)
