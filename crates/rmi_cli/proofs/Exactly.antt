@@ -1,5 +1,5 @@
 -- The status of a connection whose dialogue is told.
-use Rattle.std.proofs.Common.{◌≡◌, ℕ, refl, ap, ◌⊎◌, inl, inr}
+use Rattle.std.proofs.Common.{refl, ap, ◌⊎◌, inl, inr}
 use Rattle.call_dispatch.specs.declared.end.ConnEnd.{ConnEnd}
 use Rattle.call_dispatch.specs.declared.end.ConnEnd.TheVariants.{Ended, BadHeader, UnknownProtocol, BadMessage, Truncated, NotBuilt, MessageLimit, ReadFault, WriteFault, OutOfMemory}
 use Rattle.call_dispatch.specs.End.{status_of, IsSettled}

@@ -1,5 +1,5 @@
 -- The line that says how a run ended.
-use Rattle.std.specs.Prelude.{ℕ, codes, List, ◌++◌}
+use Rattle.std.specs.Prelude.{ℕ, codes, List}
 use Rattle.call_dispatch.specs.Words.{words_of}
 use Rattle.rmi_cli.specs.declared.end.RunEnd.{RunEnd}
 use Rattle.rmi_cli.specs.declared.end.RunEnd.TheVariants.{Usage, Answered}

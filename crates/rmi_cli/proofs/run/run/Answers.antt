@@ -1,4 +1,3 @@
-use Rattle.std.proofs.Common.{◌≡◌}
 use Rattle.rmi_cli.proofs.Exactly.{status_settles, no_line}
 use Rattle.rmi_cli.specs.declared.words.Command.TheVariants.{Answer}
 use Rattle.rmi_cli.proofs.run.run.Goals as goal
