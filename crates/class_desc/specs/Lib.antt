@@ -1,0 +1,4 @@
+pub mod TypeCode
+pub mod TypeText
+pub mod ClassDesc
+pub mod KnownClass

@@ -1,0 +1,56 @@
+//! The fields of a class.
+ghost use Rattle.std.specs.Prelude.{◌≡◌};
+ghost use Rattle.class_desc.specs.TypeCode.{is_primitive};
+
+use crate::slot::Slot;
+use mod_utf::list::{Sequence, Units};
+
+/// The type of a field or of an array's elements (`prim_typecode` and `obj_typecode`, section 6.4.2).
+#[derive(Clone, Copy, Debug, PartialEq, Eq)]
+pub enum TypeCode {
+    /// `byte`.
+    B,
+    /// `char`.
+    C,
+    /// `double`.
+    D,
+    /// `float`.
+    F,
+    /// `int`.
+    I,
+    /// `long`.
+    J,
+    /// `short`.
+    S,
+    /// `boolean`.
+    Z,
+    /// An array, `[`.
+    Array,
+    /// A class or an interface, `L`.
+    Object,
+}
+
+/// A field of a class.
+#[derive(Debug, Drop)]
+pub struct FieldDesc {
+    /// The field's type.
+    pub code: TypeCode,
+    /// The field's name.
+    pub name: Units,
+    /// The text that names the type of a reference field; null for a primitive one.
+    pub type_text: Slot,
+}
+
+/// A list of fields.
+pub type FieldList = Sequence<FieldDesc>;
+
+/// Whether values of the type are primitive, and no references.
+pub fn is_primitive(code: TypeCode) -> bool
+    ensures { result ≡ is_primitive code }
+{
+    match code {
+        TypeCode::Array => false,
+        TypeCode::Object => false,
+        _ => true,
+    }
+}

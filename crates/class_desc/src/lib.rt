@@ -1,0 +1,24 @@
+//! Class descriptions of Java's serialization stream, and the rules on their flags, fields and type texts
+//! (Java Object Serialization Specification, chapters 4 and 6).
+#![tactic(auto)]
+
+mod check;
+mod copying;
+mod desc;
+mod equality;
+mod field;
+mod known_class;
+mod slot;
+mod type_text;
+
+pub use check::{DescFault, check_desc, check_type_text};
+pub use desc::{
+    BLOCK_DATA, ClassDesc, ENUM, EXTERNALIZABLE, ProxyDesc, SERIALIZABLE, WRITE_METHOD,
+};
+pub use field::{FieldDesc, FieldList, TypeCode, is_primitive};
+pub use known_class::{ClassParts, KnownClass, PartField, PartFields, known};
+pub use slot::{Item, Items, Slot, SlotList};
+pub use type_text::element_code;
+
+#[cfg(test)]
+mod tests;

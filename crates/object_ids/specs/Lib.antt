@@ -1,0 +1,4 @@
+pub mod Bytes
+pub mod Client
+pub mod Draw
+pub mod Same
