@@ -1,0 +1,15 @@
+pub mod Same
+pub mod Fresh
+pub mod Over
+pub mod Places
+pub mod Highest
+pub mod Objects
+pub mod Steps
+pub mod Ordered
+pub mod Tables
+pub mod Distinct
+pub mod Rising
+pub mod Outputs
+pub mod Counting
+pub mod Few
+pub mod Told

@@ -1,0 +1,11 @@
+//! The lease table of the distributed collector (Java RMI Specification, chapter 9): which client holds
+//! which object, and until when.
+#![tactic(auto)]
+
+mod entry;
+mod leases;
+mod numbers;
+mod table;
+
+pub use history::{LeaseList, LeaseRow};
+pub use leases::{LeaseFault, Leases};

@@ -1,0 +1,17 @@
+pub mod AlikeCalls
+pub mod AwaitingLaws
+pub mod Examples
+pub mod LeaseRows
+pub mod GoneLaws
+pub mod LeaseLaws
+pub mod ListLemmas
+pub mod NameLaws
+pub mod NamedCalls
+pub mod NumberLaws
+pub mod Partitions
+pub mod PlainLaws
+pub mod RefusalRows
+pub mod RunningLaws
+pub mod StepLaws
+pub mod TableLaws
+pub mod TurnRows

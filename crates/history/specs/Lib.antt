@@ -1,0 +1,13 @@
+pub mod Awaiting
+pub mod LeaseCalls
+pub mod Leases
+pub mod Limits
+pub mod Lists
+pub mod Names
+pub mod Outline
+pub mod Places
+pub mod Replies
+pub mod Running
+pub mod Steps
+pub mod Table
+pub mod Texts

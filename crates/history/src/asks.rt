@@ -1,0 +1,280 @@
+//! What a space is asked.
+ghost use Rattle.std.specs.Prelude.{◌≡◌, IfOk};
+
+use crate::names::Name;
+use mod_utf::list::{Kinds, Same, Sequence, TryCopy};
+use object_ids::{ObjId, ObjIds, Uid, Vmid};
+use std::alloc::{AllocError, Global};
+
+/// What a space keeps to from its first event on.
+#[derive(Clone, Copy, Debug, PartialEq, Eq)]
+pub struct SpaceConfig {
+    /// The duration of a lease, from 1 to 2^40 milliseconds.
+    pub lease_ms: u64,
+    /// How long a returned reference awaits its acknowledgement, from 1 to 2^40 milliseconds.
+    pub ack_ms: u64,
+    /// The identifier of the object space. Its objects have it beside their number.
+    pub uid: Uid,
+}
+
+/// What a space is asked.
+#[derive(Debug, Drop)]
+pub enum Ask {
+    /// Export an object of this kind. A pinned one is kept for good.
+    Open {
+        kind: u32,
+        pinned: bool,
+    },
+    /// Begin a call of an object.
+    Begin {
+        object: ObjId,
+    },
+    /// End a call of an object with its return. New objects of the kinds `made` are exported; these and
+    /// the objects `listed` stand in the return, and await the acknowledgement of `uid`.
+    Finish {
+        object: ObjId,
+        made: Kinds,
+        listed: ObjIds,
+        uid: Uid,
+    },
+    /// End a call of an object without a return.
+    Abandon {
+        object: ObjId,
+    },
+    /// A dirty call of the collector, which asks for a lease of `asked` milliseconds.
+    Dirty {
+        client: Vmid,
+        number: i64,
+        asked: i64,
+        objects: ObjIds,
+    },
+    /// A clean call of the collector.
+    Clean {
+        client: Vmid,
+        number: i64,
+        objects: ObjIds,
+        strong: bool,
+    },
+    /// Acknowledge a return: its references have arrived.
+    Ack {
+        uid: Uid,
+    },
+    /// Bind a name that stands for nothing.
+    Bind {
+        name: Name,
+        object: ObjId,
+    },
+    /// Bind a name, whatever it stood for.
+    Rebind {
+        name: Name,
+        object: ObjId,
+    },
+    /// Unbind a name.
+    Unbind {
+        name: Name,
+    },
+    /// Look up a name, in a return of this identifier.
+    Lookup {
+        name: Name,
+        uid: Uid,
+    },
+    /// List the names.
+    List,
+    /// Note that time has passed.
+    Tick,
+}
+
+/// An event of a history.
+#[derive(Debug, Drop)]
+pub struct Event {
+    /// The number of the connection that asks.
+    pub by: u32,
+    /// The moment that was handed in, in milliseconds, below 2^62. It may lie before an earlier one.
+    pub moment: u64,
+    /// What is asked.
+    pub ask: Ask,
+}
+
+/// A list of events.
+pub type EventList = Sequence<Event>;
+
+impl Ask {
+    /// A copy, which equals its source. It is refused only for want of memory.
+    pub fn copy(&self, alloc: Global) -> Result<Ask, AllocError>
+        ensures { IfOk result (λ copy. copy ≡ self.now) }
+    {
+        Ok(match self {
+            Ask::Open { kind, pinned } => Ask::Open {
+                kind: *kind,
+                pinned: *pinned,
+            },
+            Ask::Begin { object } => Ask::Begin { object: *object },
+            Ask::Finish {
+                object,
+                made,
+                listed,
+                uid,
+            } => Ask::Finish {
+                object: *object,
+                made: made.copy(alloc)?,
+                listed: listed.copy(alloc)?,
+                uid: *uid,
+            },
+            Ask::Abandon { object } => Ask::Abandon { object: *object },
+            Ask::Dirty {
+                client,
+                number,
+                asked,
+                objects,
+            } => Ask::Dirty {
+                client: client.copy(alloc)?,
+                number: *number,
+                asked: *asked,
+                objects: objects.copy(alloc)?,
+            },
+            Ask::Clean {
+                client,
+                number,
+                objects,
+                strong,
+            } => Ask::Clean {
+                client: client.copy(alloc)?,
+                number: *number,
+                objects: objects.copy(alloc)?,
+                strong: *strong,
+            },
+            Ask::Ack { uid } => Ask::Ack { uid: *uid },
+            Ask::Bind { name, object } => Ask::Bind {
+                name: name.copy(alloc)?,
+                object: *object,
+            },
+            Ask::Rebind { name, object } => Ask::Rebind {
+                name: name.copy(alloc)?,
+                object: *object,
+            },
+            Ask::Unbind { name } => Ask::Unbind {
+                name: name.copy(alloc)?,
+            },
+            Ask::Lookup { name, uid } => Ask::Lookup {
+                name: name.copy(alloc)?,
+                uid: *uid,
+            },
+            Ask::List => Ask::List,
+            Ask::Tick => Ask::Tick,
+        })
+    }
+}
+
+impl TryCopy for Ask {
+    fn try_copy(&self, alloc: Global) -> Result<Ask, AllocError> {
+        self.copy(alloc)
+    }
+}
+
+impl Event {
+    /// A copy, which equals its source. It is refused only for want of memory.
+    pub fn copy(&self, alloc: Global) -> Result<Event, AllocError>
+        ensures { IfOk result (λ copy. copy ≡ self.now) }
+    {
+        Ok(Event {
+            by: self.by,
+            moment: self.moment,
+            ask: self.ask.copy(alloc)?,
+        })
+    }
+}
+
+impl TryCopy for Event {
+    fn try_copy(&self, alloc: Global) -> Result<Event, AllocError> {
+        self.copy(alloc)
+    }
+}
+
+impl Same for Ask {
+    fn is_same(&self, other: &Ask) -> bool {
+        match self {
+            Ask::Open { kind, pinned } => match other {
+                Ask::Open { kind: k, pinned: p } => *kind == *k && *pinned == *p,
+                _ => false,
+            },
+            Ask::Begin { object } => match other {
+                Ask::Begin { object: o } => object.is_same(o),
+                _ => false,
+            },
+            Ask::Finish {
+                object,
+                made,
+                listed,
+                uid,
+            } => match other {
+                Ask::Finish {
+                    object: o,
+                    made: m,
+                    listed: l,
+                    uid: u,
+                } => object.is_same(o) && made.is_same(m) && listed.is_same(l) && uid.is_same(u),
+                _ => false,
+            },
+            Ask::Abandon { object } => match other {
+                Ask::Abandon { object: o } => object.is_same(o),
+                _ => false,
+            },
+            Ask::Dirty {
+                client,
+                number,
+                asked,
+                objects,
+            } => match other {
+                Ask::Dirty {
+                    client: c,
+                    number: n,
+                    asked: a,
+                    objects: o,
+                } => client.is_same(c) && *number == *n && *asked == *a && objects.is_same(o),
+                _ => false,
+            },
+            Ask::Clean {
+                client,
+                number,
+                objects,
+                strong,
+            } => match other {
+                Ask::Clean {
+                    client: c,
+                    number: n,
+                    objects: o,
+                    strong: s,
+                } => client.is_same(c) && *number == *n && objects.is_same(o) && *strong == *s,
+                _ => false,
+            },
+            Ask::Ack { uid } => match other {
+                Ask::Ack { uid: u } => uid.is_same(u),
+                _ => false,
+            },
+            Ask::Bind { name, object } => match other {
+                Ask::Bind { name: n, object: o } => name.is_same(n) && object.is_same(o),
+                _ => false,
+            },
+            Ask::Rebind { name, object } => match other {
+                Ask::Rebind { name: n, object: o } => name.is_same(n) && object.is_same(o),
+                _ => false,
+            },
+            Ask::Unbind { name } => match other {
+                Ask::Unbind { name: n } => name.is_same(n),
+                _ => false,
+            },
+            Ask::Lookup { name, uid } => match other {
+                Ask::Lookup { name: n, uid: u } => name.is_same(n) && uid.is_same(u),
+                _ => false,
+            },
+            Ask::List => matches!(other, Ask::List),
+            Ask::Tick => matches!(other, Ask::Tick),
+        }
+    }
+}
+
+impl Same for Event {
+    fn is_same(&self, other: &Event) -> bool {
+        self.by == other.by && self.moment == other.moment && self.ask.is_same(&other.ask)
+    }
+}

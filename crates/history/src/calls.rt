@@ -1,0 +1,92 @@
+//! Lease calls: what clients send to the collector.
+ghost use Rattle.std.specs.Prelude.{◌≡◌, IfOk};
+
+use mod_utf::list::{Same, Sequence, TryCopy};
+use object_ids::{ObjId, ObjIds, Vmid};
+use std::alloc::{AllocError, Global};
+
+/// The kinds of lease calls (Java RMI Specification, chapter 9: `DGC.dirty` and `DGC.clean`).
+#[derive(Clone, Copy, Debug, PartialEq, Eq)]
+pub enum CallKind {
+    /// A dirty call: the client asks for a lease, and holds the objects.
+    Dirty,
+    /// A clean call: the client lets go of the objects.
+    Weak,
+    /// A strong clean call, whose number is remembered for good.
+    Strong,
+}
+
+/// A lease call, with the moment at which it was taken.
+#[derive(Debug, Drop)]
+pub struct Call {
+    /// The greatest moment up to and with this call, in milliseconds.
+    pub moment: u64,
+    /// The client that sent it.
+    pub client: Vmid,
+    /// The sequence number by which late calls are told: the greater, the later it was sent.
+    pub number: i64,
+    /// The objects that it names after their export.
+    pub objects: ObjIds,
+    /// What it asks for.
+    pub kind: CallKind,
+}
+
+/// A list of lease calls.
+pub type CallList = Sequence<Call>;
+
+impl Call {
+    /// A copy, which equals its source. It is refused only for want of memory.
+    pub fn copy(&self, alloc: Global) -> Result<Call, AllocError>
+        ensures { IfOk result (λ copy. copy ≡ self.now) }
+    {
+        Ok(Call {
+            moment: self.moment,
+            client: self.client.copy(alloc)?,
+            number: self.number,
+            objects: self.objects.copy(alloc)?,
+            kind: self.kind,
+        })
+    }
+}
+
+impl TryCopy for Call {
+    fn try_copy(&self, alloc: Global) -> Result<Call, AllocError> {
+        self.copy(alloc)
+    }
+}
+
+/// A client with time left, and the moment at which its lease ends, in milliseconds.
+#[derive(Debug, Drop)]
+pub struct LeaseRow {
+    pub client: Vmid,
+    pub until: u64,
+}
+
+/// A list of clients with the ends of their leases.
+pub type LeaseList = Sequence<LeaseRow>;
+
+/// A client, and an object that it named.
+#[derive(Debug, Drop)]
+pub struct Pair {
+    pub client: Vmid,
+    pub object: ObjId,
+}
+
+/// A list of pairs of a client and an object.
+pub type PairList = Sequence<Pair>;
+
+impl Same for Pair {
+    fn is_same(&self, other: &Pair) -> bool {
+        self.client.is_same(&other.client) && self.object.is_same(&other.object)
+    }
+}
+
+impl Same for Call {
+    fn is_same(&self, other: &Call) -> bool {
+        self.moment == other.moment
+            && self.client.is_same(&other.client)
+            && self.number == other.number
+            && self.objects.is_same(&other.objects)
+            && self.kind == other.kind
+    }
+}

@@ -1,0 +1,20 @@
+//! The history of a space of exported objects: what it is asked, what it answers, and what the
+//! distributed collector makes of the whole list of events (Java RMI Specification, chapters 6, 9 and 10).
+#![tactic(auto)]
+
+pub mod asks;
+pub mod calls;
+pub mod limits;
+pub mod names;
+pub mod places;
+pub mod plain;
+pub mod replies;
+
+pub use asks::{Ask, Event, EventList, SpaceConfig};
+pub use calls::{Call, CallKind, CallList, LeaseList, LeaseRow, Pair, PairList};
+pub use limits::Limits;
+pub use names::{Name, NameTooLong};
+pub use places::{
+    Exported, ExportedList, Place, PlaceList, Returned, ReturnedList, Withdrawal, WithdrawalList,
+};
+pub use replies::{Refused, Reply, Turn};

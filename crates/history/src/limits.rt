@@ -1,0 +1,50 @@
+//! The limits of a space and of its configuration.
+ghost use Rattle.std.specs.Prelude.{◌≡◌};
+
+/// The most units of a name.
+pub const MAX_NAME_UNITS: usize = 255;
+/// The most exported objects.
+pub const MAX_EXPORTS: u64 = 65_536;
+/// The most references that await their acknowledgement.
+pub const MAX_AWAITING: u64 = 65_536;
+/// The most clients with time left.
+pub const MAX_CLIENTS: u64 = 65_536;
+/// The most remembered pairs of a client and an object.
+pub const MAX_PAIRS: u64 = 262_144;
+/// The most bound names.
+pub const MAX_NAMES: u64 = 4_096;
+/// The most units of a history, those reserved for running calls included.
+pub const MAX_UNITS: u64 = 4_194_304;
+/// The longest lease and the longest time to acknowledge, in milliseconds. The shortest is 1.
+pub const MAX_DURATION: u64 = 1 << 40;
+/// Each event's moment is below this one, in milliseconds.
+pub const END_OF_TIME: u64 = 1 << 62;
+
+/// The most entries of each table, and the most units of a history.
+#[derive(Clone, Copy, Debug, PartialEq, Eq)]
+pub struct Limits {
+    pub exports: u64,
+    pub awaiting: u64,
+    pub clients: u64,
+    pub pairs: u64,
+    pub names: u64,
+    pub units: u64,
+}
+
+impl Limits {
+    ghost use Rattle.history.specs.Limits.{limits};
+
+    /// The limits of a space.
+    pub fn of_space() -> Limits
+        ensures { result ≡ limits }
+    {
+        Limits {
+            exports: MAX_EXPORTS,
+            awaiting: MAX_AWAITING,
+            clients: MAX_CLIENTS,
+            pairs: MAX_PAIRS,
+            names: MAX_NAMES,
+            units: MAX_UNITS,
+        }
+    }
+}

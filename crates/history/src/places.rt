@@ -1,0 +1,92 @@
+//! What is said of the places of a history.
+ghost use Rattle.std.specs.Prelude.{◌≡◌, IfOk};
+
+use crate::asks::Event;
+use mod_utf::list::{Same, Sequence, TryCopy};
+use object_ids::{ObjId, ObjIds, Uid};
+use std::alloc::{AllocError, Global};
+
+/// An object of a space, as it was exported.
+#[derive(Clone, Copy, Debug, PartialEq, Eq)]
+pub struct Exported {
+    /// Its identifier.
+    pub id: ObjId,
+    /// Its kind, a number of its maker's.
+    pub kind: u32,
+    /// Whether it was opened pinned.
+    pub pinned: bool,
+    /// The place of the event that exported it.
+    pub place: u64,
+}
+
+/// A list of exported objects.
+pub type ExportedList = Sequence<Exported>;
+
+impl TryCopy for Exported {
+    fn try_copy(&self, _alloc: Global) -> Result<Exported, AllocError> {
+        Ok(*self)
+    }
+
+    fn try_copy_all(alloc: Global, items: &[Exported]) -> Result<Vec<Exported>, AllocError> {
+        Vec::from_slice(alloc, items)
+    }
+}
+
+impl Same for Exported {
+    fn is_same(&self, other: &Exported) -> bool {
+        self.id.is_same(&other.id)
+            && self.kind == other.kind
+            && self.pinned == other.pinned
+            && self.place == other.place
+    }
+}
+
+/// A place of a history: its event, and what the events before it decide of it.
+#[derive(Debug, Drop)]
+pub struct Place {
+    /// Its number, from 0.
+    pub index: u64,
+    /// The greatest moment up to and with this place, in milliseconds.
+    pub moment: u64,
+    /// Its event.
+    pub event: Event,
+    /// Whether the event is effective.
+    pub effective: bool,
+    /// The objects of the table before it, by rising number.
+    pub before: ExportedList,
+    /// What the name in its ask stands for before it.
+    pub stood: Option<ObjId>,
+    /// The objects that it exports, by rising number.
+    pub adds: ExportedList,
+    /// The objects that it returns, which await an acknowledgement.
+    pub lists: ObjIds,
+}
+
+/// A list of places.
+pub type PlaceList = Sequence<Place>;
+
+/// A returned reference: an object, and the identifier of the return in which it stood.
+#[derive(Clone, Copy, Debug, PartialEq, Eq)]
+pub struct Returned {
+    pub object: ObjId,
+    pub uid: Uid,
+}
+
+/// A list of returned references.
+pub type ReturnedList = Sequence<Returned>;
+
+impl Same for Returned {
+    fn is_same(&self, other: &Returned) -> bool {
+        self.object.is_same(&other.object) && self.uid.is_same(&other.uid)
+    }
+}
+
+/// An object that left the table, and the place at which it did.
+#[derive(Clone, Copy, Debug, PartialEq, Eq)]
+pub struct Withdrawal {
+    pub object: ObjId,
+    pub place: u64,
+}
+
+/// A list of withdrawals.
+pub type WithdrawalList = Sequence<Withdrawal>;

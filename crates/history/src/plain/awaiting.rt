@@ -1,0 +1,207 @@
+//! Returned references that await their acknowledgement.
+ghost use Rattle.std.specs.Prelude.{◌≡◌, ◌+◌, ◌&&◌, nat_lt, not, filter, find, flat_map, map, IfOk};
+ghost use Rattle.std.specs.List.{list_any};
+ghost use Rattle.history.specs.Lists.{distinct, option_any};
+ghost use Rattle.history.specs.Awaiting as words;
+
+use crate::asks::Ask;
+use crate::places::{Place, Returned};
+use crate::plain::same::{equal_ids, equal_uids};
+use object_ids::{ObjId, Uid};
+use std::alloc::{AllocError, Global};
+
+fn equal_returned(a: &Returned, b: &Returned) -> bool
+    ensures { result ≡ words.same_returned a.now b.now }
+{
+    equal_ids(a.object, b.object) && equal_uids(a.uid, b.uid)
+}
+
+fn return_uid(ask: &Ask) -> Option<Uid>
+    ensures { result ≡ words.return_uid ask.now }
+{
+    match ask {
+        Ask::Finish {
+            object: _,
+            made: _,
+            listed: _,
+            uid,
+        } => Some(*uid),
+        Ask::Lookup { name: _, uid } => Some(*uid),
+        _ => None,
+    }
+}
+
+fn references(alloc: Global, uid: Uid, objects: &[ObjId]) -> Result<Vec<Returned>, AllocError>
+    ensures { IfOk result (λ all. all.items ≡ map (λ o. record { object = o; uid = uid }) objects.now) }
+{
+    objects
+        .iter()
+        .map(|o| Returned { object: *o, uid })
+        .collect(alloc)
+}
+
+/// The references that a place returns.
+pub fn returned(alloc: Global, p: &Place) -> Result<Vec<Returned>, AllocError>
+    ensures { IfOk result (λ all. all.items ≡ words.returned p.now) }
+{
+    match return_uid(&p.event.ask) {
+        Some(uid) => references(alloc, uid, p.lists.as_slice()),
+        None => Ok(Vec::new(alloc)),
+    }
+}
+
+/// Whether a place returns a reference.
+fn returns(alloc: Global, r: &Returned, p: &Place) -> Result<bool, AllocError>
+    ensures { IfOk result (λ found. found ≡ words.returns r.now p.now) }
+{
+    let all = returned(alloc, p)?;
+    Ok(all.as_slice().iter().any(|x| equal_returned(r, x)))
+}
+
+fn is_ack_of(uid: Uid, ask: &Ask) -> bool
+    ensures { result ≡ words.is_ack_of uid ask.now }
+{
+    match ask {
+        Ask::Ack { uid: u } => equal_uids(*u, uid),
+        _ => false,
+    }
+}
+
+fn is_acknowledged(places: &[Place], uid: Uid, p: &Place) -> bool
+    ensures { result ≡ words.is_acknowledged places.now uid p.now }
+{
+    places
+        .iter()
+        .any(|q| p.index < q.index && is_ack_of(uid, &q.event.ask))
+}
+
+/// Whether the time to acknowledge lasts at a moment.
+fn lasts(ack: u64, at: u64, p: &Place) -> bool
+    ensures { result ≡ nat_lt at (p.now.moment + ack) }
+{
+    u128::from(at) < u128::from(p.moment) + u128::from(ack)
+}
+
+/// Whether a reference awaits since the last of these places that returns it.
+fn awaits_since(
+    alloc: Global,
+    ack: u64,
+    at: u64,
+    all: &[Place],
+    r: &Returned,
+    places: &[Place],
+) -> Result<bool, AllocError>
+    ensures { IfOk result (λ waits. waits ≡ option_any (λ p. nat_lt at (p.moment + ack) && not (words.is_acknowledged all.now r.now.uid p)) (find (words.returns r.now) places.now)) }
+{
+    match places {
+        [] => Ok(false),
+        [p, before @ ..] => {
+            if returns(alloc, r, p)? {
+                Ok(lasts(ack, at, p) && !is_acknowledged(all, r.uid, p))
+            } else {
+                awaits_since(alloc, ack, at, all, r, before)
+            }
+        }
+    }
+}
+
+/// Whether a reference awaits its acknowledgement at a moment.
+#[tactic(auto, unfolding(crate::specs::Awaiting::awaits))]
+pub fn awaits(
+    alloc: Global,
+    ack: u64,
+    at: u64,
+    places: &[Place],
+    r: &Returned,
+) -> Result<bool, AllocError>
+    ensures { IfOk result (λ waits. waits ≡ words.awaits ack at places.now r.now) }
+{
+    awaits_since(alloc, ack, at, places, r, places)
+}
+
+fn all_returned(alloc: Global, places: &[Place]) -> Result<Vec<Returned>, AllocError>
+    ensures { IfOk result (λ all. all.items ≡ flat_map words.returned places.now) }
+{
+    match places {
+        [] => Ok(Vec::new(alloc)),
+        [p, before @ ..] => {
+            let mut all = returned(alloc, p)?;
+            let mut others = all_returned(alloc, before)?;
+            all.append(&mut others)?;
+            Ok(all)
+        }
+    }
+}
+
+fn those_awaiting(
+    alloc: Global,
+    ack: u64,
+    at: u64,
+    places: &[Place],
+    references: &[Returned],
+) -> Result<Vec<Returned>, AllocError>
+    ensures { IfOk result (λ left. left.items ≡ filter (words.awaits ack at places.now) references.now) }
+{
+    match references {
+        [] => Ok(Vec::new(alloc)),
+        [r, rest @ ..] => {
+            let mut left = those_awaiting(alloc, ack, at, places, rest)?;
+            if awaits(alloc, ack, at, places, r)? {
+                left.insert(0, *r)?;
+            }
+            Ok(left)
+        }
+    }
+}
+
+fn is_among(r: &Returned, references: &[Returned]) -> bool
+    ensures { result ≡ list_any (words.same_returned r.now) references.now }
+{
+    references.iter().any(|x| equal_returned(r, x))
+}
+
+/// Each of some references once.
+pub fn each_once(alloc: Global, references: &[Returned]) -> Result<Vec<Returned>, AllocError>
+    ensures { IfOk result (λ once. once.items ≡ distinct words.same_returned references.now) }
+{
+    match references {
+        [] => Ok(Vec::new(alloc)),
+        [r, rest @ ..] => {
+            let mut once = each_once(alloc, rest)?;
+            if !is_among(r, rest) {
+                once.insert(0, *r)?;
+            }
+            Ok(once)
+        }
+    }
+}
+
+/// The references that await at a moment, each once.
+#[tactic(auto, unfolding(crate::specs::Awaiting::awaiting))]
+pub fn awaiting(
+    alloc: Global,
+    ack: u64,
+    at: u64,
+    places: &[Place],
+) -> Result<Vec<Returned>, AllocError>
+    ensures { IfOk result (λ left. left.items ≡ words.awaiting ack at places.now) }
+{
+    let all = all_returned(alloc, places)?;
+    let left = those_awaiting(alloc, ack, at, places, all.as_slice())?;
+    each_once(alloc, left.as_slice())
+}
+
+/// Whether some reference to an object awaits at a moment.
+#[tactic(auto, unfolding(crate::specs::Awaiting::is_awaited))]
+pub fn is_awaited(
+    alloc: Global,
+    ack: u64,
+    at: u64,
+    places: &[Place],
+    object: ObjId,
+) -> Result<bool, AllocError>
+    ensures { IfOk result (λ waits. waits ≡ words.is_awaited ack at places.now object) }
+{
+    let left = awaiting(alloc, ack, at, places)?;
+    Ok(left.as_slice().iter().any(|r| equal_ids(r.object, object)))
+}

@@ -1,0 +1,460 @@
+//! Units, the entries of the tables, and refusals.
+ghost use Rattle.std.specs.Prelude.{◌≡◌, ◌+◌, ◌*◌, ◌^◌, ◌<◌, ◌≤◌, ◌++◌, ◌∷◌, [], length, map, filter, flat_map, max, nat_lt, option_to_list, if◌then◌else◌, IfOk};
+ghost use Rattle.std.specs.List.{list_any};
+ghost use Rattle.object_ids.specs.Same.{same_bytes, same_client};
+ghost use Rattle.history.specs.LeaseCalls.{lease_calls as calls_in};
+ghost use Rattle.history.specs.Leases as lease_words;
+ghost use Rattle.history.specs.Limits as words;
+ghost use Rattle.history.specs.Lists.{distinct};
+ghost use Rattle.history.specs.Names as name_words;
+
+use crate::asks::{Ask, Event, SpaceConfig};
+use crate::calls::{Call, CallKind, Pair};
+use crate::limits::Limits;
+use crate::places::Place;
+use crate::plain::awaiting::{awaiting, each_once, returned};
+use crate::plain::leases::{clients_with_time_left, new_pairs, pairs_with};
+use crate::plain::names::{name_bound, names};
+use crate::plain::places::{ids, now};
+use crate::plain::same::{equal_clients, equal_ids, equal_units};
+use crate::plain::table::{call_with, lease_calls, place_of, table};
+use crate::replies::Refused;
+use mod_utf::list::Units;
+use object_ids::{FullKind, Vmid};
+use std::alloc::{AllocError, Global};
+
+// ---- units
+
+/// How many units an event has.
+pub fn units_of(ask: &Ask) -> u64
+    ensures value { result ≡ words.units_of ask.now }
+    ensures bound { result ≤ 2 ^ 63 }
+{
+    match ask {
+        Ask::Finish {
+            object: _,
+            made,
+            listed,
+            uid: _,
+        } => 1 + made.as_slice().len() as u64 + listed.as_slice().len() as u64,
+        Ask::Dirty {
+            client: _,
+            number: _,
+            asked: _,
+            objects,
+        } => 1 + objects.as_slice().len() as u64,
+        Ask::Clean {
+            client: _,
+            number: _,
+            objects,
+            strong: _,
+        } => 1 + objects.as_slice().len() as u64,
+        _ => 1,
+    }
+}
+
+/// The units of a history.
+#[tactic(auto, unfolding(crate::specs::Limits::units), using(crate::proofs::PlainLaws::units_steps))]
+pub fn units(places: &[Place]) -> u128
+    ensures value { result ≡ words.units places.now }
+    ensures bound { result ≤ 2 ^ 63 * length places.now }
+{
+    match places {
+        [] => 0,
+        [p, before @ ..] => u128::from(units_of(&p.event.ask)) + units(before),
+    }
+}
+
+fn is_begin(ask: &Ask) -> bool
+    ensures { result ≡ words.is_begin ask.now }
+{
+    match ask {
+        Ask::Begin { object: _ } => true,
+        _ => false,
+    }
+}
+
+fn is_end(ask: &Ask) -> bool
+    ensures { result ≡ words.is_end ask.now }
+{
+    match ask {
+        Ask::Finish {
+            object: _,
+            made: _,
+            listed: _,
+            uid: _,
+        } => true,
+        Ask::Abandon { object: _ } => true,
+        _ => false,
+    }
+}
+
+fn starts(p: &Place) -> bool
+    ensures { result ≡ words.starts p.now }
+{
+    p.effective && is_begin(&p.event.ask)
+}
+
+fn ends(p: &Place) -> bool
+    ensures { result ≡ words.ends p.now }
+{
+    p.effective && is_end(&p.event.ask)
+}
+
+fn started(places: &[Place]) -> usize
+    ensures value { result ≡ length (filter words.starts places.now) }
+    ensures bound { result ≤ length places.now }
+{
+    match places {
+        [] => 0,
+        [p, before @ ..] => {
+            if starts(p) {
+                1 + started(before)
+            } else {
+                started(before)
+            }
+        }
+    }
+}
+
+fn ended(places: &[Place]) -> usize
+    ensures value { result ≡ length (filter words.ends places.now) }
+    ensures bound { result ≤ length places.now }
+{
+    match places {
+        [] => 0,
+        [p, before @ ..] => {
+            if ends(p) {
+                1 + ended(before)
+            } else {
+                ended(before)
+            }
+        }
+    }
+}
+
+/// The units reserved for running calls.
+#[tactic(auto, unfolding(crate::specs::Limits::reserved))]
+pub fn reserved(places: &[Place]) -> usize
+    ensures { result ≡ words.reserved places.now }
+{
+    started(places).saturating_sub(ended(places))
+}
+
+fn one_if(test: bool) -> u128
+    ensures value { result ≡ (if test then 1 else 0) }
+    ensures bound { result ≤ 1 }
+{
+    if test { 1 } else { 0 }
+}
+
+fn is_past(limit: u64, back: bool, used: u128, more: bool) -> bool
+    requires { used < 2 ^ 127 }
+    ensures { result ≡ nat_lt (limit + (if back then 1 else 0)) (used + (if more then 1 else 0)) }
+{
+    u128::from(limit) + one_if(back) < used + one_if(more)
+}
+
+/// Whether the history is full for an event.
+#[tactic(auto, unfolding(crate::specs::Limits::is_full))]
+fn is_full(
+    alloc: Global,
+    limit: u64,
+    config: &SpaceConfig,
+    places: &[Place],
+    event: &Event,
+) -> Result<bool, AllocError>
+    ensures { IfOk result (λ full. full ≡ words.is_full limit config.now places.now event.now) }
+{
+    let p = place_of(alloc, config, places, event)?;
+    let used = units(places) + reserved(places) as u128 + u128::from(units_of(&event.ask));
+    Ok(is_past(limit, ends(&p), used, starts(&p)))
+}
+
+// ---- entries
+
+/// How many exported objects there are with those that an event adds.
+#[tactic(auto, unfolding(crate::specs::Limits::exports_with))]
+fn exports_with(
+    alloc: Global,
+    config: &SpaceConfig,
+    places: &[Place],
+    event: &Event,
+) -> Result<usize, AllocError>
+    ensures { IfOk result (λ count. count ≡ words.exports_with config.now places.now event.now) }
+{
+    let objects = table(alloc, config, places)?;
+    let p = place_of(alloc, config, places, event)?;
+    Ok(objects.as_slice().len() + p.adds.as_slice().len())
+}
+
+/// How many references await with those that an event returns.
+#[tactic(auto, unfolding(crate::specs::Limits::awaiting_with))]
+fn awaiting_with(
+    alloc: Global,
+    config: &SpaceConfig,
+    places: &[Place],
+    event: &Event,
+) -> Result<usize, AllocError>
+    ensures { IfOk result (λ count. count ≡ words.awaiting_with config.now places.now event.now) }
+{
+    let p = place_of(alloc, config, places, event)?;
+    let mut all = awaiting(alloc, config.ack_ms, p.moment, places)?;
+    let mut new = returned(alloc, &p)?;
+    all.append(&mut new)?;
+    let once = each_once(alloc, all.as_slice())?;
+    Ok(once.as_slice().len())
+}
+
+/// The lease call of an event, with those of its objects that are in the table.
+fn lease_call(
+    alloc: Global,
+    config: &SpaceConfig,
+    places: &[Place],
+    event: &Event,
+) -> Result<Option<Call>, AllocError>
+    ensures { IfOk result (λ call. option_to_list call ≡ words.lease_call config.now places.now event.now) }
+{
+    let objects = table(alloc, config, places)?;
+    let moment = event.moment.max(now(places));
+    call_with(alloc, objects.as_slice(), moment, &event.ask)
+}
+
+fn is_client_among(client: &Vmid, clients: &[Vmid]) -> bool
+    ensures { result ≡ list_any (same_client client.now) clients.now }
+{
+    clients.iter().any(|c| equal_clients(client, c))
+}
+
+fn distinct_clients(clients: &[Vmid]) -> usize
+    ensures value { result ≡ length (distinct same_client clients.now) }
+    ensures bound { result ≤ length clients.now }
+{
+    match clients {
+        [] => 0,
+        [client, rest @ ..] => {
+            if is_client_among(client, rest) {
+                distinct_clients(rest)
+            } else {
+                1 + distinct_clients(rest)
+            }
+        }
+    }
+}
+
+/// Clients and the one that a dirty of these calls has.
+fn with_dirty(
+    alloc: Global,
+    clients: Vec<Vmid>,
+    call: Option<Call>,
+) -> Result<Vec<Vmid>, AllocError>
+    ensures { IfOk result (λ more. more.items ≡ clients.items ++ map (λ x. x.client) (filter lease_words.is_dirty (option_to_list call))) }
+{
+    let mut more = clients;
+    match call {
+        None => Ok(more),
+        Some(call) => {
+            if matches!(call.kind, CallKind::Dirty) {
+                more.push(call.client.copy(alloc)?)?;
+                Ok(more)
+            } else {
+                Ok(more)
+            }
+        }
+    }
+}
+
+/// How many clients have time left with the one that an event brings.
+#[tactic(auto, unfolding(crate::specs::Limits::clients_with))]
+fn clients_with(
+    alloc: Global,
+    config: &SpaceConfig,
+    places: &[Place],
+    event: &Event,
+) -> Result<usize, AllocError>
+    ensures { IfOk result (λ count. count ≡ words.clients_with config.now places.now event.now) }
+{
+    let calls = lease_calls(alloc, places)?;
+    let moment = event.moment.max(now(places));
+    let left = clients_with_time_left(alloc, config.lease_ms, moment, calls.as_slice())?;
+    let call = lease_call(alloc, config, places, event)?;
+    let all = with_dirty(alloc, left, call)?;
+    Ok(distinct_clients(all.as_slice()))
+}
+
+fn equal_pairs(a: &Pair, b: &Pair) -> bool
+    ensures { result ≡ lease_words.same_pair a.now b.now }
+{
+    equal_clients(&a.client, &b.client) && equal_ids(a.object, b.object)
+}
+
+fn is_pair_among(pair: &Pair, pairs: &[Pair]) -> bool
+    ensures { result ≡ list_any (lease_words.same_pair pair.now) pairs.now }
+{
+    pairs.iter().any(|p| equal_pairs(pair, p))
+}
+
+fn distinct_pairs(pairs: &[Pair]) -> usize
+    ensures value { result ≡ length (distinct lease_words.same_pair pairs.now) }
+    ensures bound { result ≤ length pairs.now }
+{
+    match pairs {
+        [] => 0,
+        [pair, rest @ ..] => {
+            if is_pair_among(pair, rest) {
+                distinct_pairs(rest)
+            } else {
+                1 + distinct_pairs(rest)
+            }
+        }
+    }
+}
+
+/// The pairs that a call brings, if there is one.
+fn pairs_brought(
+    alloc: Global,
+    lease: u64,
+    calls: &[Call],
+    call: Option<Call>,
+) -> Result<Vec<Pair>, AllocError>
+    ensures { IfOk result (λ pairs. pairs.items ≡ flat_map (lease_words.new_pairs lease calls.now) (option_to_list call)) }
+{
+    match call {
+        None => Ok(Vec::new(alloc)),
+        Some(call) => {
+            let pairs = new_pairs(alloc, lease, calls, &call)?;
+            Ok(pairs)
+        }
+    }
+}
+
+/// How many pairs are remembered with those that an event brings.
+#[tactic(auto, unfolding(crate::specs::Limits::pairs_with_event))]
+fn pairs_with_event(
+    alloc: Global,
+    config: &SpaceConfig,
+    places: &[Place],
+    event: &Event,
+) -> Result<usize, AllocError>
+    ensures { IfOk result (λ count. count ≡ words.pairs_with_event config.now places.now event.now) }
+{
+    let calls = lease_calls(alloc, places)?;
+    let moment = event.moment.max(now(places));
+    let objects = table(alloc, config, places)?;
+    let objects = ids(alloc, objects.as_slice())?;
+    let call = lease_call(alloc, config, places, event)?;
+    let mut all = pairs_with(
+        alloc,
+        config.lease_ms,
+        moment,
+        calls.as_slice(),
+        objects.as_slice(),
+    )?;
+    let mut new = pairs_brought(alloc, config.lease_ms, calls.as_slice(), call)?;
+    all.append(&mut new)?;
+    Ok(distinct_pairs(all.as_slice()))
+}
+
+fn is_name_among(name: &Units, names: &[Units]) -> bool
+    ensures { result ≡ list_any (same_bytes name.now) names.now }
+{
+    names
+        .iter()
+        .any(|n| equal_units(name.as_slice(), n.as_slice()))
+}
+
+fn distinct_names(names: &[Units]) -> usize
+    ensures value { result ≡ length (distinct same_bytes names.now) }
+    ensures bound { result ≤ length names.now }
+{
+    match names {
+        [] => 0,
+        [name, rest @ ..] => {
+            if is_name_among(name, rest) {
+                distinct_names(rest)
+            } else {
+                1 + distinct_names(rest)
+            }
+        }
+    }
+}
+
+fn with_bound(
+    alloc: Global,
+    effective: bool,
+    names: Vec<Units>,
+    ask: &Ask,
+) -> Result<Vec<Units>, AllocError>
+    ensures { IfOk result (λ more. more.items ≡ names.items ++ (if effective then option_to_list (name_words.name_bound ask.now) else [])) }
+{
+    if !effective {
+        return Ok(names);
+    }
+    let mut more = names;
+    if let Some(name) = name_bound(ask) {
+        more.push(name.units().copy(alloc)?)?;
+    }
+    Ok(more)
+}
+
+/// How many names stand for something with the one that an event binds.
+#[tactic(auto, unfolding(crate::specs::Limits::names_with))]
+fn names_with(
+    alloc: Global,
+    config: &SpaceConfig,
+    places: &[Place],
+    event: &Event,
+) -> Result<usize, AllocError>
+    ensures { IfOk result (λ count. count ≡ words.names_with config.now places.now event.now) }
+{
+    let p = place_of(alloc, config, places, event)?;
+    let bound = names(alloc, places)?;
+    let all = with_bound(alloc, p.effective, bound, &event.ask)?;
+    Ok(distinct_names(all.as_slice()))
+}
+
+// ---- refusal
+
+fn is_above(count: usize, limit: u64) -> bool
+    ensures { result ≡ nat_lt limit count }
+{
+    limit < count as u64
+}
+
+/// The first cause for which an event is refused after a history.
+#[tactic(auto, unfolding(crate::specs::Limits::refusal))]
+pub fn refusal(
+    alloc: Global,
+    limits: &Limits,
+    config: &SpaceConfig,
+    places: &[Place],
+    event: &Event,
+) -> Result<Option<Refused>, AllocError>
+    ensures { IfOk result (λ refused. refused ≡ words.refusal limits.now config.now places.now event.now) }
+{
+    if is_full(alloc, limits.units, config, places, event)? {
+        return Ok(Some(Refused::HistoryFull));
+    }
+    if is_above(exports_with(alloc, config, places, event)?, limits.exports) {
+        return Ok(Some(Refused::Full(FullKind::Exports)));
+    }
+    if is_above(
+        awaiting_with(alloc, config, places, event)?,
+        limits.awaiting,
+    ) {
+        return Ok(Some(Refused::Full(FullKind::Awaiting)));
+    }
+    if is_above(clients_with(alloc, config, places, event)?, limits.clients) {
+        return Ok(Some(Refused::Full(FullKind::Clients)));
+    }
+    if is_above(
+        pairs_with_event(alloc, config, places, event)?,
+        limits.pairs,
+    ) {
+        return Ok(Some(Refused::Full(FullKind::Pairs)));
+    }
+    if is_above(names_with(alloc, config, places, event)?, limits.names) {
+        return Ok(Some(Refused::Full(FullKind::Names)));
+    }
+    Ok(None)
+}

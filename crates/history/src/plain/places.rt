@@ -1,0 +1,119 @@
+//! Objects and moments of a history.
+ghost use Rattle.std.specs.Prelude.{◌≡◌, ◌+◌, ◌<◌, ◌^◌, length, filter, IfOk};
+ghost use Rattle.history.specs.Places as words;
+ghost use Rattle.history.specs.Replies.{ids as ids_of};
+
+use crate::places::{Exported, Place};
+use crate::plain::same::equal_ids;
+use object_ids::{ObjId, Uid};
+use std::alloc::{AllocError, Global};
+
+/// Whether an object is among these.
+pub fn has(objects: &[Exported], object: ObjId) -> bool
+    ensures { result ≡ words.has objects.now object }
+{
+    objects.iter().any(|x| equal_ids(x.id, object))
+}
+
+/// The object's kind among these, 0 where it is none of them.
+pub fn kind_of(objects: &[Exported], object: ObjId) -> u32
+    ensures { result ≡ words.kind_of objects.now object }
+{
+    match objects {
+        [] => 0,
+        [x, rest @ ..] => {
+            if equal_ids(x.id, object) {
+                x.kind
+            } else {
+                kind_of(rest, object)
+            }
+        }
+    }
+}
+
+/// The greatest moment of a history, 0 if it is empty.
+#[tactic(auto, unfolding(crate::specs::Places::now))]
+pub fn now(places: &[Place]) -> u64
+    ensures { result ≡ words.now places.now }
+{
+    match places {
+        [] => 0,
+        [p, before @ ..] => p.event.moment.max(now(before)),
+    }
+}
+
+/// All objects that were ever exported, in order.
+#[tactic(auto, unfolding(crate::specs::Places::added))]
+pub fn added(alloc: Global, places: &[Place]) -> Result<Vec<Exported>, AllocError>
+    ensures { IfOk result (λ all. all.items ≡ words.added places.now) }
+{
+    match places {
+        [] => Ok(Vec::new(alloc)),
+        [p, before @ ..] => {
+            let mut all = added(alloc, before)?;
+            all.extend_from_slice(p.adds.as_slice())?;
+            Ok(all)
+        }
+    }
+}
+
+/// The identifier of the k-th object, from 0, that a space exports.
+pub fn id_at(space: Uid, k: u64) -> ObjId
+    requires { k < 2 ^ 62 }
+    ensures { result ≡ words.id_at space k }
+{
+    ObjId {
+        number: (16 + k) as i64,
+        space,
+    }
+}
+
+/// Objects of these kinds, exported at a place, the first of them as the space's k-th.
+pub fn exported_from(
+    alloc: Global,
+    space: Uid,
+    k: u64,
+    place: u64,
+    pinned: bool,
+    kinds: &[u32],
+) -> Result<Vec<Exported>, AllocError>
+    requires { k + length kinds.now < 2 ^ 62 }
+    ensures { IfOk result (λ objects. objects.items ≡ words.exported_from space k place pinned kinds.now) }
+{
+    match kinds {
+        [] => Ok(Vec::new(alloc)),
+        [kind, rest @ ..] => {
+            let mut objects = exported_from(alloc, space, k + 1, place, pinned, rest)?;
+            let first = Exported {
+                id: id_at(space, k),
+                kind: *kind,
+                pinned,
+                place,
+            };
+            objects.insert(0, first)?;
+            Ok(objects)
+        }
+    }
+}
+
+/// The identifiers of some objects.
+pub fn ids(alloc: Global, objects: &[Exported]) -> Result<Vec<ObjId>, AllocError>
+    ensures { IfOk result (λ ids. ids.items ≡ ids_of objects.now) }
+{
+    objects.iter().map(|x| x.id).collect(alloc)
+}
+
+/// Those of some objects that are among the exported ones.
+pub fn known(
+    alloc: Global,
+    exported: &[Exported],
+    objects: &[ObjId],
+) -> Result<Vec<ObjId>, AllocError>
+    ensures { IfOk result (λ kept. kept.items ≡ filter (words.has exported.now) objects.now) }
+{
+    objects
+        .iter()
+        .copied()
+        .filter(|o| has(exported, *o))
+        .collect(alloc)
+}

@@ -1,0 +1,395 @@
+//! The collector's table, and the places of a list of events.
+ghost use Rattle.std.specs.Prelude.{◌≡◌, ◌+◌, ◌<◌, ◌^◌, ◌++◌, ◌∷◌, ◌||◌, ◌&&◌, nat_le, length, map, filter, not, option_to_list, option_and_then, if◌then◌else◌, [], IfOk};
+ghost use Rattle.std.specs.List.{list_all};
+ghost use Rattle.history.specs.LeaseCalls as call_words;
+ghost use Rattle.history.specs.Names as name_words;
+ghost use Rattle.history.specs.Places as place_words;
+ghost use Rattle.history.specs.Table as words;
+
+use crate::asks::{Ask, Event, SpaceConfig};
+use crate::calls::{Call, CallKind};
+use crate::names::Name;
+use crate::places::{Exported, ExportedList, Place};
+use crate::plain::awaiting::is_awaited;
+use crate::plain::leases::is_held;
+use crate::plain::names::{is_named, name_in, stands_for};
+use crate::plain::places::{added, exported_from, has, ids, known, now};
+use crate::plain::running::{is_running, running};
+use mod_utf::list::Sequence;
+use object_ids::{ObjId, ObjIds};
+use std::alloc::{AllocError, Global};
+
+// ---- lease calls
+
+/// The lease call of an ask, with those of its objects that are among the exported ones.
+pub fn call_with(
+    alloc: Global,
+    exported: &[Exported],
+    moment: u64,
+    ask: &Ask,
+) -> Result<Option<Call>, AllocError>
+    ensures { IfOk result (λ call. option_to_list call ≡ call_words.call_with (place_words.has exported.now) moment ask.now) }
+{
+    match ask {
+        Ask::Dirty {
+            client,
+            number,
+            asked: _,
+            objects,
+        } => Ok(Some(Call {
+            moment,
+            client: client.copy(alloc)?,
+            number: *number,
+            objects: ObjIds::from_vec(known(alloc, exported, objects.as_slice())?),
+            kind: CallKind::Dirty,
+        })),
+        Ask::Clean {
+            client,
+            number,
+            objects,
+            strong,
+        } => Ok(Some(Call {
+            moment,
+            client: client.copy(alloc)?,
+            number: *number,
+            objects: ObjIds::from_vec(known(alloc, exported, objects.as_slice())?),
+            kind: if *strong {
+                CallKind::Strong
+            } else {
+                CallKind::Weak
+            },
+        })),
+        _ => Ok(None),
+    }
+}
+
+/// Calls with one in front, if there is one.
+fn in_front(call: Option<Call>, calls: Vec<Call>) -> Result<Vec<Call>, AllocError>
+    ensures { IfOk result (λ more. more.items ≡ option_to_list call ++ calls.items) }
+{
+    let mut more = calls;
+    if let Some(call) = call {
+        more.insert(0, call)?;
+    }
+    Ok(more)
+}
+
+/// The lease calls of a history.
+#[tactic(auto, unfolding(crate::specs::LeaseCalls::lease_calls))]
+pub fn lease_calls(alloc: Global, places: &[Place]) -> Result<Vec<Call>, AllocError>
+    ensures { IfOk result (λ calls. calls.items ≡ call_words.lease_calls places.now) }
+{
+    match places {
+        [] => Ok(Vec::new(alloc)),
+        [p, before @ ..] => {
+            let exported = added(alloc, before)?;
+            let call = call_with(alloc, exported.as_slice(), p.moment, &p.event.ask)?;
+            let calls = lease_calls(alloc, before)?;
+            in_front(call, calls)
+        }
+    }
+}
+
+// ---- the table
+
+/// Whether an object is pinned.
+#[tactic(auto, unfolding(crate::specs::Table::is_pinned))]
+pub fn is_pinned(alloc: Global, places: &[Place], x: &Exported) -> Result<bool, AllocError>
+    ensures { IfOk result (λ pinned. pinned ≡ words.is_pinned places.now x.now) }
+{
+    let named = is_named(alloc, places, x.id)?;
+    let runs = is_running(alloc, places, x.id)?;
+    Ok(x.pinned || named || runs)
+}
+
+/// Whether an object is kept at the end of a history.
+#[tactic(auto, unfolding(crate::specs::Table::is_kept))]
+pub fn is_kept(
+    alloc: Global,
+    config: &SpaceConfig,
+    places: &[Place],
+    x: &Exported,
+) -> Result<bool, AllocError>
+    ensures { IfOk result (λ kept. kept ≡ words.is_kept config.now places.now x.now) }
+{
+    let at = now(places);
+    let calls = lease_calls(alloc, places)?;
+    let pinned = is_pinned(alloc, places, x)?;
+    let waits = is_awaited(alloc, config.ack_ms, at, places, x.id)?;
+    let held = is_held(alloc, config.lease_ms, at, calls.as_slice(), x.id)?;
+    Ok(pinned || waits || held)
+}
+
+/// Whether an object is kept at each prefix from its export on.
+fn is_kept_since_export(
+    alloc: Global,
+    config: &SpaceConfig,
+    places: &[Place],
+    x: &Exported,
+) -> Result<bool, AllocError>
+    ensures { IfOk result (λ kept. kept ≡ words.is_kept_since_export (words.is_kept config.now) places.now x.now) }
+{
+    match places {
+        [] => Ok(true),
+        [_, before @ ..] => {
+            let later = places.len() as u64 <= x.place;
+            let kept = is_kept(alloc, config, places, x)?;
+            let so_far = is_kept_since_export(alloc, config, before, x)?;
+            Ok((later || kept) && so_far)
+        }
+    }
+}
+
+fn kept_of(
+    alloc: Global,
+    config: &SpaceConfig,
+    places: &[Place],
+    objects: &[Exported],
+) -> Result<Vec<Exported>, AllocError>
+    ensures { IfOk result (λ kept. kept.items ≡ filter (words.is_kept_since_export (words.is_kept config.now) places.now) objects.now) }
+{
+    match objects {
+        [] => Ok(Vec::new(alloc)),
+        [x, rest @ ..] => {
+            let mut kept = kept_of(alloc, config, places, rest)?;
+            if is_kept_since_export(alloc, config, places, x)? {
+                kept.insert(0, *x)?;
+            }
+            Ok(kept)
+        }
+    }
+}
+
+/// The table: the objects that were kept ever since their export.
+#[tactic(auto, unfolding(crate::specs::Table::table))]
+pub fn table(
+    alloc: Global,
+    config: &SpaceConfig,
+    places: &[Place],
+) -> Result<Vec<Exported>, AllocError>
+    ensures { IfOk result (λ objects. objects.items ≡ words.table config.now places.now) }
+{
+    let all = added(alloc, places)?;
+    kept_of(alloc, config, places, all.as_slice())
+}
+
+// ---- what an event does
+
+/// What a name stands for after a history.
+pub fn stands(places: &[Place], name: &Name) -> Option<ObjId>
+    ensures { result ≡ name_words.stands_for places.now name.now }
+{
+    stands_for(places, name.units().as_slice())
+}
+
+/// Whether an ask of a connection is effective after a history.
+#[tactic(auto, unfolding(crate::specs::Table::is_effective))]
+pub fn is_effective(
+    alloc: Global,
+    config: &SpaceConfig,
+    places: &[Place],
+    by: u32,
+    ask: &Ask,
+) -> Result<bool, AllocError>
+    ensures { IfOk result (λ effective. effective ≡ words.is_effective config.now places.now by ask.now) }
+{
+    let objects = table(alloc, config, places)?;
+    Ok(match ask {
+        Ask::Begin { object } => has(objects.as_slice(), *object),
+        Ask::Finish {
+            object,
+            made: _,
+            listed: _,
+            uid: _,
+        } => 0 < running(places, by, *object),
+        Ask::Abandon { object } => 0 < running(places, by, *object),
+        Ask::Bind { name, object } => {
+            has(objects.as_slice(), *object) && stands(places, name).is_none()
+        }
+        Ask::Rebind { name: _, object } => has(objects.as_slice(), *object),
+        Ask::Unbind { name } => stands(places, name).is_some(),
+        Ask::Lookup { name, uid: _ } => stands(places, name).is_some(),
+        _ => true,
+    })
+}
+
+/// The objects that an effective ask exports after a history.
+#[tactic(auto, unfolding(crate::specs::Table::exports))]
+pub fn exports(
+    alloc: Global,
+    config: &SpaceConfig,
+    places: &[Place],
+    ask: &Ask,
+) -> Result<Vec<Exported>, AllocError>
+    ensures { IfOk result (λ objects. objects.items ≡ words.exports config.now places.now ask.now) }
+{
+    let all = added(alloc, places)?;
+    let k = all.as_slice().len() as u64;
+    let place = places.len() as u64;
+    match ask {
+        Ask::Open { kind, pinned } => {
+            exported_from(alloc, config.uid, k, place, *pinned, &[*kind])
+        }
+        Ask::Finish {
+            object: _,
+            made,
+            listed: _,
+            uid: _,
+        } => exported_from(alloc, config.uid, k, place, false, made.as_slice()),
+        _ => Ok(Vec::new(alloc)),
+    }
+}
+
+/// The objects to which an effective ask returns references after a history.
+#[tactic(auto, unfolding(crate::specs::Table::lists))]
+pub fn lists(
+    alloc: Global,
+    config: &SpaceConfig,
+    places: &[Place],
+    ask: &Ask,
+) -> Result<Vec<ObjId>, AllocError>
+    ensures { IfOk result (λ objects. objects.items ≡ words.lists config.now places.now ask.now) }
+{
+    match ask {
+        Ask::Finish {
+            object: _,
+            made: _,
+            listed,
+            uid: _,
+        } => {
+            let new = exports(alloc, config, places, ask)?;
+            let objects = table(alloc, config, places)?;
+            let mut all = ids(alloc, new.as_slice())?;
+            let mut known = known(alloc, objects.as_slice(), listed.as_slice())?;
+            all.append(&mut known)?;
+            Ok(all)
+        }
+        Ask::Lookup { name, uid: _ } => {
+            let mut all = Vec::new(alloc);
+            if let Some(object) = stands(places, name) {
+                all.push(object)?;
+            }
+            Ok(all)
+        }
+        _ => Ok(Vec::new(alloc)),
+    }
+}
+
+/// What the name in an ask stands for after a history.
+fn stood(places: &[Place], ask: &Ask) -> Option<ObjId>
+    ensures { result ≡ option_and_then (name_words.stands_for places.now) (name_words.name_in ask.now) }
+{
+    match name_in(ask) {
+        Some(name) => stands(places, name),
+        None => None,
+    }
+}
+
+fn if_effective<T: Drop>(alloc: Global, effective: bool, items: Vec<T>) -> Vec<T>
+    ensures { result.items ≡ (if effective then items.items else []) }
+{
+    if effective { items } else { Vec::new(alloc) }
+}
+
+/// The place of an event after a history.
+#[tactic(auto, unfolding(crate::specs::Table::place_of))]
+pub fn place_of(
+    alloc: Global,
+    config: &SpaceConfig,
+    places: &[Place],
+    event: &Event,
+) -> Result<Place, AllocError>
+    ensures { IfOk result (λ p. p ≡ words.place_of config.now places.now event.now) }
+{
+    let effective = is_effective(alloc, config, places, event.by, &event.ask)?;
+    let adds = exports(alloc, config, places, &event.ask)?;
+    let listed = lists(alloc, config, places, &event.ask)?;
+    Ok(Place {
+        index: places.len() as u64,
+        moment: event.moment.max(now(places)),
+        event: event.copy(alloc)?,
+        effective,
+        before: ExportedList::from_vec(table(alloc, config, places)?),
+        stood: stood(places, &event.ask),
+        adds: Sequence::from_vec(if_effective(alloc, effective, adds)),
+        lists: Sequence::from_vec(if_effective(alloc, effective, listed)),
+    })
+}
+
+/// The places of a history, the newest first. Its events are given oldest first.
+pub fn places(
+    alloc: Global,
+    config: &SpaceConfig,
+    events: &[Event],
+) -> Result<Vec<Place>, AllocError>
+    ensures { IfOk result (λ places. places.items ≡ words.places config.now events.now) }
+{
+    let mut places = Vec::new(alloc);
+    for event in events {
+        let place = place_of(alloc, config, places.as_slice(), event)?;
+        places.insert(0, place)?;
+    }
+    Ok(places)
+}
+
+// ---- withdrawals
+
+fn is_let_go(
+    alloc: Global,
+    config: &SpaceConfig,
+    places: &[Place],
+    x: &Exported,
+) -> Result<bool, AllocError>
+    ensures { IfOk result (λ gone. gone ≡ not (words.is_kept config.now places.now x.now)) }
+{
+    let kept = is_kept(alloc, config, places, x)?;
+    Ok(!kept)
+}
+
+fn before_all(x: Exported, objects: Vec<Exported>) -> Result<Vec<Exported>, AllocError>
+    ensures { IfOk result (λ more. more.items ≡ x ∷ objects.items) }
+{
+    let mut more = objects;
+    more.insert(0, x)?;
+    Ok(more)
+}
+
+fn let_go(
+    alloc: Global,
+    config: &SpaceConfig,
+    places: &[Place],
+    objects: &[Exported],
+) -> Result<Vec<Exported>, AllocError>
+    ensures { IfOk result (λ gone. gone.items ≡ filter (λ x. not (words.is_kept config.now places.now x)) objects.now) }
+{
+    match objects {
+        [] => Ok(Vec::new(alloc)),
+        [x, rest @ ..] => {
+            let gone = let_go(alloc, config, places, rest)?;
+            if is_let_go(alloc, config, places, x)? {
+                before_all(*x, gone)
+            } else {
+                Ok(gone)
+            }
+        }
+    }
+}
+
+/// The objects that a history withdraws at its newest place.
+#[tactic(auto, unfolding(crate::specs::Table::withdrawn))]
+pub fn withdrawn(
+    alloc: Global,
+    config: &SpaceConfig,
+    places: &[Place],
+) -> Result<Vec<Exported>, AllocError>
+    ensures { IfOk result (λ gone. gone.items ≡ words.withdrawn config.now places.now) }
+{
+    match places {
+        [] => Ok(Vec::new(alloc)),
+        [p, ..] => {
+            let mut objects = Vec::from_slice(alloc, p.before.as_slice())?;
+            objects.extend_from_slice(p.adds.as_slice())?;
+            let_go(alloc, config, places, objects.as_slice())
+        }
+    }
+}

@@ -1,0 +1,342 @@
+//! Replies, refusals and whole runs.
+ghost use Rattle.std.specs.Prelude.{◌≡◌, ◌∷◌, nat_le, length, map, filter, if◌then◌else◌, IfOk};
+ghost use Rattle.history.specs.Names as name_words;
+ghost use Rattle.history.specs.Places as place_words;
+ghost use Rattle.history.specs.Replies as reply_words;
+ghost use Rattle.history.specs.Steps.{turn_of, answer_to, history_after, answers as all_answers};
+ghost use Rattle.history.specs.Table as table_words;
+
+use crate::asks::{Ask, Event, SpaceConfig};
+use crate::limits::Limits;
+use crate::places::{Exported, Place, Withdrawal};
+use crate::plain::limits::refusal;
+use crate::plain::names::names;
+use crate::plain::places::{added, has, id_at, ids, kind_of};
+use crate::plain::table::{place_of, places, stands, table, withdrawn};
+use crate::replies::{Refused, Reply, Turn};
+use mod_utf::list::NameList;
+use object_ids::{ObjId, ObjIds};
+use std::alloc::{AllocError, Global};
+
+// ---- replies
+
+/// What an event is replied after a history.
+#[tactic(auto, unfolding(crate::specs::Replies::reply))]
+pub fn reply(
+    alloc: Global,
+    config: &SpaceConfig,
+    places: &[Place],
+    event: &Event,
+) -> Result<Reply, AllocError>
+    ensures { IfOk result (λ reply. reply ≡ reply_words.reply config.now places.now event.now) }
+{
+    let p = place_of(alloc, config, places, event)?;
+    let objects = table(alloc, config, places)?;
+    let answer = reply_to(alloc, config, places, &p, objects.as_slice(), &event.ask)?;
+    Ok(answer)
+}
+
+fn reply_to(
+    alloc: Global,
+    config: &SpaceConfig,
+    places: &[Place],
+    p: &Place,
+    objects: &[Exported],
+    ask: &Ask,
+) -> Result<Reply, AllocError>
+    requires { objects.now ≡ table_words.table config.now places.now }
+    ensures { IfOk result (λ reply. reply ≡ reply_words.reply_to config.now places.now p.now ask.now) }
+{
+    match ask {
+        Ask::Open { kind: _, pinned: _ } => opened(alloc, config, places),
+        Ask::Begin { object } => Ok(started(objects, p.effective, *object)),
+        Ask::Finish {
+            object: _,
+            made: _,
+            listed: _,
+            uid: _,
+        } => finished(alloc, p),
+        Ask::Abandon { object: _ } => Ok(ended(p.effective)),
+        Ask::Dirty {
+            client: _,
+            number: _,
+            asked: _,
+            objects: _,
+        } => Ok(Reply::Granted(config.lease_ms)),
+        Ask::Bind { name: _, object } => Ok(bound(objects, p.effective, *object)),
+        Ask::Rebind { name: _, object: _ } => Ok(rebound(p.effective)),
+        Ask::Unbind { name: _ } => Ok(unbound(p.effective)),
+        Ask::Lookup { name, uid: _ } => Ok(found(objects, stands(places, name))),
+        Ask::List => listed(alloc, places),
+        Ask::Clean {
+            client: _,
+            number: _,
+            objects: _,
+            strong: _,
+        } => Ok(Reply::Done),
+        Ask::Ack { uid: _ } => Ok(Reply::Done),
+        Ask::Tick => Ok(Reply::Done),
+    }
+}
+
+fn opened(alloc: Global, config: &SpaceConfig, places: &[Place]) -> Result<Reply, AllocError>
+    ensures { IfOk result (λ reply. reply ≡ Reply.Opened (place_words.id_at config.now.uid (length (place_words.added places.now)))) }
+{
+    let all = added(alloc, places)?;
+    let new = id_at(config.uid, all.as_slice().len() as u64);
+    Ok(Reply::Opened(new))
+}
+
+fn finished(alloc: Global, p: &Place) -> Result<Reply, AllocError>
+    ensures { IfOk result (λ reply. reply ≡ (if p.now.effective then Reply.Finished (reply_words.ids p.now.adds) else Reply.NotRunning)) }
+{
+    if p.effective {
+        let new = ids(alloc, p.adds.as_slice())?;
+        Ok(Reply::Finished(ObjIds::from_vec(new)))
+    } else {
+        Ok(Reply::NotRunning)
+    }
+}
+
+fn listed(alloc: Global, places: &[Place]) -> Result<Reply, AllocError>
+    ensures { IfOk result (λ reply. reply ≡ Reply.Names (name_words.names places.now)) }
+{
+    let all = names(alloc, places)?;
+    Ok(Reply::Names(NameList::from_vec(all)))
+}
+
+fn started(objects: &[Exported], effective: bool, object: ObjId) -> Reply
+    ensures { result ≡ (if effective then Reply.Started (place_words.kind_of objects.now object) else Reply.NoObject) }
+{
+    if effective {
+        Reply::Started(kind_of(objects, object))
+    } else {
+        Reply::NoObject
+    }
+}
+
+fn ended(effective: bool) -> Reply
+    ensures { result ≡ (if effective then Reply.Done else Reply.NotRunning) }
+{
+    if effective {
+        Reply::Done
+    } else {
+        Reply::NotRunning
+    }
+}
+
+fn bound(objects: &[Exported], effective: bool, object: ObjId) -> Reply
+    ensures { result ≡ (if effective then Reply.Bound else if place_words.has objects.now object then Reply.AlreadyBound else Reply.NoObject) }
+{
+    if effective {
+        Reply::Bound
+    } else if has(objects, object) {
+        Reply::AlreadyBound
+    } else {
+        Reply::NoObject
+    }
+}
+
+fn rebound(effective: bool) -> Reply
+    ensures { result ≡ (if effective then Reply.Bound else Reply.NoObject) }
+{
+    if effective {
+        Reply::Bound
+    } else {
+        Reply::NoObject
+    }
+}
+
+fn unbound(effective: bool) -> Reply
+    ensures { result ≡ (if effective then Reply.Unbound else Reply.NotBound) }
+{
+    if effective {
+        Reply::Unbound
+    } else {
+        Reply::NotBound
+    }
+}
+
+fn found(objects: &[Exported], stood: Option<ObjId>) -> Reply
+    ensures { result ≡ reply_words.reply_found objects.now stood }
+{
+    match stood {
+        Some(object) => Reply::Found(object, kind_of(objects, object)),
+        None => Reply::NotBound,
+    }
+}
+
+// ---- withdrawals
+
+fn withdrawals_at(
+    alloc: Global,
+    place: u64,
+    objects: &[Exported],
+) -> Result<Vec<Withdrawal>, AllocError>
+    ensures { IfOk result (λ all. all.items ≡ map (λ x. record { object = x.id; place = place }) objects.now) }
+{
+    match objects {
+        [] => Ok(Vec::new(alloc)),
+        [x, rest @ ..] => {
+            let mut all = withdrawals_at(alloc, place, rest)?;
+            let first = Withdrawal {
+                object: x.id,
+                place,
+            };
+            all.insert(0, first)?;
+            Ok(all)
+        }
+    }
+}
+
+/// All withdrawals of a history, in order.
+pub fn withdrawals(
+    alloc: Global,
+    config: &SpaceConfig,
+    places: &[Place],
+) -> Result<Vec<Withdrawal>, AllocError>
+    ensures { IfOk result (λ all. all.items ≡ table_words.withdrawals config.now places.now) }
+{
+    match places {
+        [] => Ok(Vec::new(alloc)),
+        [p, before @ ..] => {
+            let mut all = withdrawals(alloc, config, before)?;
+            let gone = withdrawn(alloc, config, places)?;
+            let mut last = withdrawals_at(alloc, p.index, gone.as_slice())?;
+            all.append(&mut last)?;
+            Ok(all)
+        }
+    }
+}
+
+fn is_abandon(ask: &Ask) -> bool
+    ensures { result ≡ reply_words.is_abandon ask.now }
+{
+    match ask {
+        Ask::Abandon { object: _ } => true,
+        _ => false,
+    }
+}
+
+/// The place after the last event that is no Abandon.
+fn first_untold(places: &[Place]) -> u128
+    ensures { result ≡ reply_words.first_untold places.now }
+{
+    match places {
+        [] => 0,
+        [p, before @ ..] => {
+            if is_abandon(&p.event.ask) {
+                first_untold(before)
+            } else {
+                u128::from(p.index) + 1
+            }
+        }
+    }
+}
+
+fn told_from(alloc: Global, first: u128, all: &[Withdrawal]) -> Result<Vec<ObjId>, AllocError>
+    ensures { IfOk result (λ gone. gone.items ≡ map (λ w. w.object) (filter (λ w. nat_le first w.place) all.now)) }
+{
+    match all {
+        [] => Ok(Vec::new(alloc)),
+        [w, rest @ ..] => {
+            let gone = told_from(alloc, first, rest)?;
+            if first <= u128::from(w.place) {
+                before_all(w.object, gone)
+            } else {
+                Ok(gone)
+            }
+        }
+    }
+}
+
+fn before_all(object: ObjId, objects: Vec<ObjId>) -> Result<Vec<ObjId>, AllocError>
+    ensures { IfOk result (λ more. more.items ≡ object ∷ objects.items) }
+{
+    let mut more = objects;
+    more.insert(0, object)?;
+    Ok(more)
+}
+
+/// The objects that a history withdrew from a place on, in order.
+fn gone_from(
+    alloc: Global,
+    config: &SpaceConfig,
+    first: u128,
+    places: &[Place],
+) -> Result<ObjIds, AllocError>
+    ensures { IfOk result (λ gone. gone ≡ map (λ w. w.object) (filter (λ w. nat_le first w.place) (table_words.withdrawals config.now places.now))) }
+{
+    let all = withdrawals(alloc, config, places)?;
+    Ok(ObjIds::from_vec(told_from(alloc, first, all.as_slice())?))
+}
+
+// ---- turns
+
+/// The turn of an event that is taken after these events.
+#[tactic(auto, unfolding(crate::specs::Replies::gone))]
+pub fn turn(
+    alloc: Global,
+    config: &SpaceConfig,
+    events: &[Event],
+    event: &Event,
+) -> Result<Turn, AllocError>
+    ensures { IfOk result (λ turn. turn ≡ turn_of config.now events.now event.now) }
+{
+    let mut history = places(alloc, config, events)?;
+    let reply = reply(alloc, config, history.as_slice(), event)?;
+    let first = first_untold(history.as_slice());
+    let p = place_of(alloc, config, history.as_slice(), event)?;
+    history.insert(0, p)?;
+    let gone = gone_from(alloc, config, first, history.as_slice())?;
+    Ok(Turn {
+        place: events.len() as u64,
+        reply,
+        gone,
+    })
+}
+
+/// The answer to an event after these events, and the events that stand after it.
+pub fn step(
+    alloc: Global,
+    limits: &Limits,
+    config: &SpaceConfig,
+    events: Vec<Event>,
+    event: &Event,
+) -> Result<(Result<Turn, Refused>, Vec<Event>), AllocError>
+    ensures answer { IfOk result (λ step. step.0 ≡ answer_to limits.now config.now events.items event.now) }
+    ensures after { IfOk result (λ step. step.1.items ≡ history_after limits.now config.now events.items event.now) }
+{
+    let history = places(alloc, config, events.as_slice())?;
+    match refusal(alloc, limits, config, history.as_slice(), event)? {
+        Some(refused) => Ok((Err(refused), events)),
+        None => {
+            let turn = turn(alloc, config, events.as_slice(), event)?;
+            let mut after = events;
+            after.push(event.copy(alloc)?)?;
+            Ok((Ok(turn), after))
+        }
+    }
+}
+
+/// The answers to events that are asked one after another after others.
+#[tactic(auto, unfolding(crate::specs::Steps::answers))]
+pub fn answers(
+    alloc: Global,
+    limits: &Limits,
+    config: &SpaceConfig,
+    before: Vec<Event>,
+    events: &[Event],
+) -> Result<Vec<Result<Turn, Refused>>, AllocError>
+    ensures { IfOk result (λ all. all.items ≡ all_answers limits.now config.now before.items events.now) }
+{
+    match events {
+        [] => Ok(Vec::new(alloc)),
+        [event, rest @ ..] => {
+            let (answer, after) = step(alloc, limits, config, before, event)?;
+            let mut all = answers(alloc, limits, config, after, rest)?;
+            all.insert(0, answer)?;
+            Ok(all)
+        }
+    }
+}

@@ -1,0 +1,153 @@
+//! What a space answers.
+ghost use Rattle.std.specs.Prelude.{◌≡◌, IfOk};
+
+use mod_utf::list::{NameList, Same, TryCopy};
+use object_ids::{FullKind, ObjId, ObjIds};
+use std::alloc::{AllocError, Global};
+
+/// What an event is answered.
+#[derive(Debug, Drop)]
+pub enum Reply {
+    /// To an Open: the new object.
+    Opened(ObjId),
+    /// To a Begin: the object's kind.
+    Started(u32),
+    /// To a Begin, a Bind or a Rebind: the object is not exported.
+    NoObject,
+    /// To a Finish: the new objects, in the order of `made`.
+    Finished(ObjIds),
+    /// To a Finish or an Abandon: the connection runs no call of the object.
+    NotRunning,
+    /// To a Dirty: the duration of the lease, in milliseconds.
+    Granted(u64),
+    /// To an Abandon, a Clean, an Ack or a Tick.
+    Done,
+    /// To a Bind or a Rebind.
+    Bound,
+    /// To a Bind: the name stands for something.
+    AlreadyBound,
+    /// To an Unbind.
+    Unbound,
+    /// To an Unbind or a Lookup: the name stands for nothing.
+    NotBound,
+    /// To a Lookup: the object for which the name stands, and its kind.
+    Found(ObjId, u32),
+    /// To a List: the names that stand for something, in the order in which they were first bound.
+    Names(NameList),
+}
+
+/// The answer to an event that was taken.
+#[derive(Debug, Drop)]
+pub struct Turn {
+    /// The event's place in the history, from 0.
+    pub place: u64,
+    /// What the event is answered.
+    pub reply: Reply,
+    /// The objects withdrawn after the last event that is no Abandon, this event included, in order of withdrawal.
+    pub gone: ObjIds,
+}
+
+/// Why an event was not taken. The history is then as it was.
+#[derive(Clone, Copy, Debug, PartialEq, Eq)]
+pub enum Refused {
+    /// The history's units would pass their limit.
+    HistoryFull,
+    /// A table's entries would pass their limit.
+    Full(FullKind),
+    /// There was no memory.
+    OutOfMemory,
+}
+
+impl Reply {
+    /// A copy, which equals its source. It is refused only for want of memory.
+    pub fn copy(&self, alloc: Global) -> Result<Reply, AllocError>
+        ensures { IfOk result (λ copy. copy ≡ self.now) }
+    {
+        Ok(match self {
+            Reply::Opened(object) => Reply::Opened(*object),
+            Reply::Started(kind) => Reply::Started(*kind),
+            Reply::NoObject => Reply::NoObject,
+            Reply::Finished(objects) => Reply::Finished(objects.copy(alloc)?),
+            Reply::NotRunning => Reply::NotRunning,
+            Reply::Granted(duration) => Reply::Granted(*duration),
+            Reply::Done => Reply::Done,
+            Reply::Bound => Reply::Bound,
+            Reply::AlreadyBound => Reply::AlreadyBound,
+            Reply::Unbound => Reply::Unbound,
+            Reply::NotBound => Reply::NotBound,
+            Reply::Found(object, kind) => Reply::Found(*object, *kind),
+            Reply::Names(names) => Reply::Names(names.copy(alloc)?),
+        })
+    }
+}
+
+impl TryCopy for Reply {
+    fn try_copy(&self, alloc: Global) -> Result<Reply, AllocError> {
+        self.copy(alloc)
+    }
+}
+
+impl Turn {
+    /// A copy, which equals its source. It is refused only for want of memory.
+    pub fn copy(&self, alloc: Global) -> Result<Turn, AllocError>
+        ensures { IfOk result (λ copy. copy ≡ self.now) }
+    {
+        Ok(Turn {
+            place: self.place,
+            reply: self.reply.copy(alloc)?,
+            gone: self.gone.copy(alloc)?,
+        })
+    }
+}
+
+impl TryCopy for Turn {
+    fn try_copy(&self, alloc: Global) -> Result<Turn, AllocError> {
+        self.copy(alloc)
+    }
+}
+
+impl Same for Reply {
+    fn is_same(&self, other: &Reply) -> bool {
+        match self {
+            Reply::Opened(object) => match other {
+                Reply::Opened(o) => object.is_same(o),
+                _ => false,
+            },
+            Reply::Started(kind) => match other {
+                Reply::Started(k) => *kind == *k,
+                _ => false,
+            },
+            Reply::NoObject => matches!(other, Reply::NoObject),
+            Reply::Finished(objects) => match other {
+                Reply::Finished(o) => objects.is_same(o),
+                _ => false,
+            },
+            Reply::NotRunning => matches!(other, Reply::NotRunning),
+            Reply::Granted(duration) => match other {
+                Reply::Granted(d) => *duration == *d,
+                _ => false,
+            },
+            Reply::Done => matches!(other, Reply::Done),
+            Reply::Bound => matches!(other, Reply::Bound),
+            Reply::AlreadyBound => matches!(other, Reply::AlreadyBound),
+            Reply::Unbound => matches!(other, Reply::Unbound),
+            Reply::NotBound => matches!(other, Reply::NotBound),
+            Reply::Found(object, kind) => match other {
+                Reply::Found(o, k) => object.is_same(o) && *kind == *k,
+                _ => false,
+            },
+            Reply::Names(names) => match other {
+                Reply::Names(n) => names.is_same(n),
+                _ => false,
+            },
+        }
+    }
+}
+
+impl Same for Turn {
+    fn is_same(&self, other: &Turn) -> bool {
+        self.place == other.place
+            && self.reply.is_same(&other.reply)
+            && self.gone.is_same(&other.gone)
+    }
+}

@@ -1,0 +1,15 @@
+pub mod OnlyAsks
+pub mod Bytes
+pub mod Clients
+pub mod Decimals
+pub mod EventLines
+pub mod Fronts
+pub mod Graphic
+pub mod HexBytes
+pub mod Joined
+pub mod Lists
+pub mod NameUnits
+pub mod Splitting
+pub mod Refusing
+pub mod Unique
+pub mod Laws

@@ -1,0 +1,9 @@
+pub mod Grammar
+pub mod Parts
+pub mod Reading
+pub mod Numbers
+pub mod Hex
+pub mod Units
+pub mod Keywords
+pub mod Putting
+pub mod Rows

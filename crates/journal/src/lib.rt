@@ -1,0 +1,19 @@
+//! The text of a journal: reading its configuration and its events, and writing the lines of an outline.
+#![tactic(auto)]
+
+pub(crate) mod asks;
+pub(crate) mod client;
+pub(crate) mod fields;
+pub(crate) mod hex;
+pub(crate) mod ids;
+pub(crate) mod items;
+pub mod lines;
+pub(crate) mod name;
+pub(crate) mod number;
+pub mod outline;
+pub(crate) mod parts;
+pub mod put;
+pub(crate) mod unread;
+
+pub use lines::{read_event, read_first_line, split_line};
+pub use outline::{ObjectRow, Word};

@@ -1,0 +1,14 @@
+pub mod Lists
+pub mod Shapes
+pub mod Keeps
+pub mod Runs
+pub mod Orders
+pub mod Added
+pub mod Depths
+pub mod Renumbered
+pub mod Numbering
+pub mod Places
+pub mod InPlace
+pub mod Reached
+pub mod Shaped
+pub mod Spelling

@@ -1,0 +1,11 @@
+pub mod Node
+pub mod Shape
+pub mod Numbered
+pub mod Visits
+pub mod Walk
+pub mod Seen
+pub mod Renumber
+pub mod Loose
+pub mod Finished
+pub mod Builder
+pub mod Spelled

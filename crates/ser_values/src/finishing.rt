@@ -1,0 +1,156 @@
+//! Loose nodes become a graph.
+ghost use Rattle.std.specs.Prelude.{◌≡◌, ◌≢◌, ◌<◌, ◌≤◌, ◌^◌, ℕ, List, true, map, length, IfOk, IfErr, nat_le, option_map, slice_get};
+ghost use Rattle.ser_values.specs.Finished.{IsOrder, IsRefusal, parts_or, parts_at};
+ghost use Rattle.ser_values.specs.Renumber.{place_at, node_or_by};
+ghost use Rattle.ser_values.specs.Seen.{Once};
+ghost use Rattle.ser_values.specs.Shape.{is_joined};
+
+use crate::fault::BuildFault;
+use crate::loose::Loose;
+use crate::node::Node;
+use crate::renumber::Renumber;
+use crate::shape::{is_joined, parts_of};
+use crate::walking::walk;
+use class_desc::Item;
+use mod_utf::list::{TryCopy, Units};
+use std::alloc::{AllocError, Global};
+use std::mem;
+
+/// The greatest depth of a graph.
+const LEVELS: u32 = 200;
+/// The greatest number of parts that the objects of a graph have in all.
+const PARTS: usize = 0x10_0000;
+
+/// How many parts a node has, if there is one.
+fn parts_at(node: Option<&Node>) -> usize
+    ensures told { result ≡ parts_or (option_map (λ node. node.now) node.entry) }
+    ensures bound { result < 2 ^ 63 }
+{
+    match node {
+        Some(node) => parts_of(node),
+        None => 0,
+    }
+}
+
+/// Whether the nodes of an order have few enough parts in all.
+#[tactic(auto, unfolding(crate::specs::Finished::parts_at))]
+fn has_few_parts(loose: &Loose, order: &[u32]) -> bool
+    ensures { result ≡ nat_le (parts_at loose.now.nodes.now order.now) 1048576 }
+{
+    let mut total: usize = 0;
+    for number in order {
+        total += parts_at(loose.node(*number));
+        if total > PARTS {
+            return false;
+        }
+    }
+    true
+}
+
+/// Why there is no order within the greatest depth: a broken rule, however deep it lies, or the depth.
+fn fault_of(alloc: Global, loose: &Loose, items: &[Item]) -> Result<BuildFault, AllocError>
+    requires few { length loose.now.nodes.now ≤ 65536 }
+    requires joined { is_joined items.now ≡ true }
+    requires deeper { (order : List ℕ) → ¬ IsOrder loose.now.nodes.now 200 items.now order }
+    ensures { IfOk result (IsRefusal loose.now.nodes.now items.now) }
+{
+    match walk(alloc, loose, items, loose.count() as u32)? {
+        Some(order) => {
+            if has_few_parts(loose, &order) {
+                Ok(BuildFault::TooDeep)
+            } else {
+                Ok(BuildFault::WrongShape)
+            }
+        }
+        None => Ok(BuildFault::WrongShape),
+    }
+}
+
+/// The numbers of the loose nodes that items reach, in the order of their handles.
+pub(crate) fn order_of(
+    alloc: Global,
+    nodes: &[Node],
+    items: &[Item],
+) -> Result<Vec<u32>, BuildFault>
+    requires { length nodes.now ≤ 65536 }
+    ensures ok { IfOk result (λ order. IsOrder nodes.now 200 items.now order.items) }
+    ensures err { IfErr result (IsRefusal nodes.now items.now) }
+{
+    if !is_joined(items) {
+        return Err(BuildFault::WrongShape);
+    }
+    let loose = Loose::new(alloc, nodes)?;
+    match walk(alloc, &loose, items, LEVELS)? {
+        Some(order) => {
+            if has_few_parts(&loose, &order) {
+                Ok(order)
+            } else {
+                Err(BuildFault::WrongShape)
+            }
+        }
+        None => Err(fault_of(alloc, &loose, items)?),
+    }
+}
+
+/// Takes the node of a number out of its place, under its new numbers.
+#[tactic(auto, unfolding(crate::specs::Renumber::node_by))]
+fn take_node(alloc: Global, nodes: &mut [Node], number: u32, places: &[u32]) -> Node
+    ensures taken { result ≡ node_or_by (place_at places.now) (slice_get nodes.old number) }
+    ensures kept { (j : ℕ) → j ≢ number → slice_get nodes.new j ≡ slice_get nodes.old j }
+{
+    let empty = Node::Text(Units::new(alloc));
+    if (number as usize) < nodes.len() {
+        let mut node = mem::replace(&mut nodes[number as usize], empty);
+        node.renumber(alloc, places);
+        node
+    } else {
+        empty
+    }
+}
+
+/// The nodes of an order, taken out of their places, under their new numbers.
+pub(crate) fn take_nodes(
+    alloc: Global,
+    nodes: &mut [Node],
+    order: &[u32],
+    places: &[u32],
+) -> Result<Vec<Node>, AllocError>
+    requires { Once order.now }
+    ensures { IfOk result (λ taken. taken.items ≡ map (λ j. node_or_by (place_at places.now) (slice_get nodes.old j)) order.now) }
+{
+    let mut taken = Vec::with_capacity(alloc, order.len())?;
+    for number in order {
+        taken.push(take_node(alloc, nodes, *number, places))?;
+    }
+    Ok(taken)
+}
+
+/// A copy of the node of a number, under its new numbers.
+fn copy_node(alloc: Global, nodes: &[Node], number: u32, places: &[u32]) -> Result<Node, AllocError>
+    ensures { IfOk result (λ copy. copy ≡ node_or_by (place_at places.now) (slice_get nodes.now number)) }
+{
+    match nodes.get(number as usize) {
+        Some(node) => {
+            let mut copy = node.try_copy(alloc)?;
+            copy.renumber(alloc, places);
+            Ok(copy)
+        }
+        None => Ok(Node::Text(Units::new(alloc))),
+    }
+}
+
+/// Copies of the nodes of an order, under their new numbers.
+pub(crate) fn copy_nodes(
+    alloc: Global,
+    nodes: &[Node],
+    order: &[u32],
+    places: &[u32],
+) -> Result<Vec<Node>, AllocError>
+    ensures { IfOk result (λ copies. copies.items ≡ map (λ j. node_or_by (place_at places.now) (slice_get nodes.now j)) order.now) }
+{
+    let mut copies = Vec::with_capacity(alloc, order.len())?;
+    for number in order {
+        copies.push(copy_node(alloc, nodes, *number, places)?)?;
+    }
+    Ok(copies)
+}

@@ -1,0 +1,59 @@
+//! The nodes of a graph.
+
+use crate::value::{PartList, Values};
+use class_desc::{ClassDesc, ProxyDesc};
+use mod_utf::list::{Sequence, Units};
+
+/// What has a handle in a stream. It names other nodes by their numbers.
+#[derive(Debug, Drop)]
+pub enum Node {
+    /// A string.
+    Text(Units),
+    /// The description of a class.
+    Desc(ClassDesc),
+    /// The description of a dynamic proxy class.
+    Proxy(ProxyDesc),
+    /// An object. It has one part for each description of its class's chain, the highest superclass
+    /// first; an externalizable object has one part, with a note alone.
+    Object {
+        /// The description of the object's class.
+        class: u32,
+        /// The parts of the object.
+        parts: PartList,
+    },
+    /// An array.
+    Array {
+        /// The description of the array's class.
+        class: u32,
+        /// The array's elements.
+        values: Values,
+    },
+    /// A class as a value.
+    Class {
+        /// The description of the class.
+        class: u32,
+    },
+    /// A constant of an enum.
+    Enum {
+        /// The description of the enum's class.
+        class: u32,
+        /// The text that names the constant.
+        name: u32,
+    },
+}
+
+/// A list of nodes.
+pub type NodeList = Sequence<Node>;
+
+/// Where in a stream a reference stands.
+#[derive(Clone, Copy, Debug, PartialEq, Eq)]
+pub enum Place {
+    /// As a value, an element or an item: any node and null may stand there.
+    Reference,
+    /// As the class of an object, an array, a class or an enum: a description.
+    Class,
+    /// As the superclass of a description: a description or null.
+    Parent,
+    /// As the type text of a field or as the name of an enum's constant: a text.
+    Text,
+}

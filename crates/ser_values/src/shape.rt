@@ -1,0 +1,370 @@
+//! The rules on nodes.
+ghost use Rattle.std.specs.Prelude.{◌≡◌, ◌<◌, ◌^◌, Bool, Option, Some, List, length, option_map, slice_get};
+ghost use Rattle.class_desc.specs.declared.slot.Slot.{Slot};
+ghost use Rattle.ser_values.specs.Node.{is_desc, is_text, admits, admits_null, takes};
+ghost use Rattle.ser_values.specs.Shape.{is_short, are_short, joined_from, is_joined, fits_type, are_typed, fits_value, fit_values, fits_part, fits_above, fits_next, or_above, fits_chain, is_external, fits_object, fit_elements, fits_array, is_enum, is_shaped, parts_of};
+
+use crate::loose::Loose;
+use crate::node::{Node, Place};
+use crate::value::{Part, Value, Values};
+use class_desc::{
+    BLOCK_DATA, ENUM, EXTERNALIZABLE, FieldDesc, Item, SERIALIZABLE, Slot, TypeCode, WRITE_METHOD,
+    check_desc, check_type_text, is_primitive,
+};
+use mod_utf::list::Units;
+use mod_utf::utf::encoded_len;
+
+/// Whether a node is a description.
+#[tactic(auto, unfolding(crate::specs::Node::is_desc))]
+pub(crate) fn is_desc(node: &Node) -> bool
+    ensures { result ≡ is_desc node.now }
+{
+    match node {
+        Node::Desc(_) => true,
+        Node::Proxy(_) => true,
+        Node::Text(_) => false,
+        Node::Object { .. } => false,
+        Node::Array { .. } => false,
+        Node::Class { .. } => false,
+        Node::Enum { .. } => false,
+    }
+}
+
+/// Whether a node is a text.
+#[tactic(auto, unfolding(crate::specs::Node::is_text))]
+fn is_text(node: &Node) -> bool
+    ensures { result ≡ is_text node.now }
+{
+    match node {
+        Node::Text(_) => true,
+        Node::Desc(_) => false,
+        Node::Proxy(_) => false,
+        Node::Object { .. } => false,
+        Node::Array { .. } => false,
+        Node::Class { .. } => false,
+        Node::Enum { .. } => false,
+    }
+}
+
+/// Whether a node may be written for the first time in a place.
+#[tactic(auto, unfolding(crate::specs::Node::admits))]
+pub(crate) fn admits(place: Place, node: &Node) -> bool
+    ensures { result ≡ admits place node.now }
+{
+    match place {
+        Place::Reference => true,
+        Place::Class => is_desc(node),
+        Place::Parent => is_desc(node),
+        Place::Text => is_text(node),
+    }
+}
+
+/// Whether null may stand in a place.
+#[tactic(auto, unfolding(crate::specs::Node::admits_null))]
+pub(crate) fn admits_null(place: Place) -> bool
+    ensures { result ≡ admits_null place }
+{
+    match place {
+        Place::Reference => true,
+        Place::Class => false,
+        Place::Parent => true,
+        Place::Text => false,
+    }
+}
+
+/// Whether a node that has a handle may be named in a place.
+#[tactic(auto, unfolding(crate::specs::Node::takes))]
+pub(crate) fn takes(place: Place, unread: bool, node: &Node) -> bool
+    ensures { result ≡ takes place unread node.now }
+{
+    match place {
+        Place::Reference => true,
+        Place::Class => is_desc(node) && !unread,
+        Place::Parent => is_desc(node) && !unread,
+        Place::Text => is_text(node),
+    }
+}
+
+/// Whether a text can be written with a length of 16 bits.
+fn is_short(text: &Units) -> bool
+    ensures { result ≡ is_short text.now }
+{
+    encoded_len(text) < 65536
+}
+
+/// Whether each of some texts can be written so.
+#[tactic(auto, unfolding(crate::specs::Shape::are_short))]
+fn are_short(names: &[Units]) -> bool
+    ensures { result ≡ are_short names.now }
+{
+    for name in names {
+        if !is_short(name) {
+            return false;
+        }
+    }
+    true
+}
+
+/// Whether no bytes among items are empty, and no two stand side by side.
+#[tactic(auto, unfolding(crate::specs::Shape::joined_from))]
+pub(crate) fn is_joined(items: &[Item]) -> bool
+    ensures { result ≡ is_joined items.now }
+{
+    let mut after = false;
+    for item in items {
+        match item {
+            Item::Bytes(bytes) => {
+                if after || bytes.is_empty() {
+                    return false;
+                }
+                after = true;
+            }
+            Item::Ref(_) => after = false,
+        }
+    }
+    true
+}
+
+/// Whether a value has the type of a code.
+fn fits_value(code: TypeCode, value: Value) -> bool
+    ensures { result ≡ fits_value code value }
+{
+    match (code, value) {
+        (TypeCode::B, Value::B(_)) => true,
+        (TypeCode::C, Value::C(_)) => true,
+        (TypeCode::D, Value::D(_)) => true,
+        (TypeCode::F, Value::F(_)) => true,
+        (TypeCode::I, Value::I(_)) => true,
+        (TypeCode::J, Value::J(_)) => true,
+        (TypeCode::S, Value::S(_)) => true,
+        (TypeCode::Z, Value::Z(_)) => true,
+        (TypeCode::Array, Value::Ref(_)) => true,
+        (TypeCode::Object, Value::Ref(_)) => true,
+        _ => false,
+    }
+}
+
+/// Whether each field has a value of its type.
+#[tactic(auto, unfolding(crate::specs::Shape::fit_values), using(crate::proofs::Shapes::fit_len))]
+fn fit_values(fields: &[FieldDesc], values: &[Value]) -> bool
+    ensures { result ≡ fit_values fields.now values.now }
+{
+    if fields.len() != values.len() {
+        return false;
+    }
+    let mut i = 0;
+    while i < fields.len() && i < values.len() {
+        if !fits_value(fields[i].code, values[i]) {
+            return false;
+        }
+        i += 1;
+    }
+    true
+}
+
+/// Whether a part fits a class with these fields, which writes a note or none.
+fn fits_part(fields: &[FieldDesc], writes: bool, part: &Part) -> bool
+    ensures { result ≡ fits_part fields.now writes (Some part.now) }
+{
+    fit_values(fields, part.values.as_slice())
+        && ((writes || part.note.is_empty()) && is_joined(part.note.as_slice()))
+}
+
+/// The superclass of a description that a part fits.
+fn above(node: &Node, part: &Part) -> Option<Slot>
+    ensures { (above : Slot → Bool) → fits_above above (Some part.now) (Some node.now) ≡ or_above above result }
+{
+    match node {
+        Node::Desc(desc) => {
+            let writes = desc.flags & WRITE_METHOD == WRITE_METHOD;
+            if desc.flags & SERIALIZABLE == SERIALIZABLE
+                && fits_part(desc.fields.as_slice(), writes, part)
+            {
+                Some(desc.parent)
+            } else {
+                None
+            }
+        }
+        Node::Proxy(proxy) => {
+            if fits_part(&[], false, part) {
+                Some(proxy.parent)
+            } else {
+                None
+            }
+        }
+        _ => None,
+    }
+}
+
+/// Whether an object has one part, with a note alone.
+fn is_external(parts: &[Part]) -> bool
+    ensures { result ≡ is_external parts.now }
+{
+    match parts {
+        [part] => part.values.is_empty() && is_joined(part.note.as_slice()),
+        _ => false,
+    }
+}
+
+/// Whether elements have the type that a class's name says.
+fn fit_elements(values: &Values, code: Option<TypeCode>) -> bool
+    ensures { result ≡ fit_elements values.now code }
+{
+    let Some(code) = code else {
+        return false;
+    };
+    match (values, code) {
+        (Values::Bytes(_), TypeCode::B) => true,
+        (Values::Chars(_), TypeCode::C) => true,
+        (Values::Doubles(_), TypeCode::D) => true,
+        (Values::Floats(_), TypeCode::F) => true,
+        (Values::Ints(_), TypeCode::I) => true,
+        (Values::Longs(_), TypeCode::J) => true,
+        (Values::Shorts(_), TypeCode::S) => true,
+        (Values::Bools(_), TypeCode::Z) => true,
+        (Values::Refs(_), TypeCode::Array) => true,
+        (Values::Refs(_), TypeCode::Object) => true,
+        _ => false,
+    }
+}
+
+/// How many parts a node has.
+pub(crate) fn parts_of(node: &Node) -> usize
+    ensures told { result ≡ parts_of node.now }
+    ensures bound { result < 2 ^ 63 }
+{
+    match node {
+        Node::Object { parts, .. } => parts.as_slice().len(),
+        _ => 0,
+    }
+}
+
+impl Loose<'_> {
+    /// Whether a field of a code may have such a type text.
+    fn fits_type(&self, code: TypeCode, slot: Slot) -> bool
+        ensures { result ≡ fits_type self.now.nodes.now code slot }
+    {
+        match slot {
+            Slot::Null => is_primitive(code),
+            Slot::Node(number) => match self.node(number) {
+                Some(Node::Text(text)) => match code {
+                    TypeCode::Array => self.elements(number).is_some(),
+                    TypeCode::Object => check_type_text(code, text).is_ok(),
+                    _ => false,
+                },
+                _ => false,
+            },
+        }
+    }
+
+    /// Whether fields have short names and type texts that fit.
+    #[tactic(auto, unfolding(crate::specs::Shape::are_typed))]
+    fn are_typed(&self, fields: &[FieldDesc]) -> bool
+        ensures { result ≡ are_typed self.now.nodes.now fields.now }
+    {
+        for field in fields {
+            if !(is_short(&field.name) && self.fits_type(field.code, field.type_text)) {
+                return false;
+            }
+        }
+        true
+    }
+
+    /// The superclass of a slot's description, where a part fits it.
+    fn next(&self, part: &Part, slot: Slot) -> Option<Slot>
+        ensures { (above : Slot → Bool) → fits_next self.now.nodes.now above (Some part.now) slot ≡ or_above above result }
+    {
+        match slot {
+            Slot::Null => None,
+            Slot::Node(number) => match self.node(number) {
+                None => None,
+                Some(node) => above(node, part),
+            },
+        }
+    }
+
+    /// Whether there is a part for each description of a class's chain, the highest superclass first.
+    #[tactic(auto, unfolding(crate::specs::Shape::fits_chain))]
+    fn fits_chain(&self, parts: &[Part], class: Slot) -> bool
+        ensures { result ≡ fits_chain self.now.nodes.now parts.now (length parts.now) class }
+    {
+        let mut slot = class;
+        let mut i = parts.len();
+        while i > 0 {
+            i -= 1;
+            match self.next(&parts[i], slot) {
+                None => return false,
+                Some(parent) => slot = parent,
+            }
+        }
+        slot == Slot::Null
+    }
+
+    /// Whether an object's class and parts fit each other.
+    fn fits_object(&self, class: u32, parts: &[Part], chained: bool) -> bool
+        ensures { result ≡ fits_object (slice_get self.now.nodes.now class) parts.now chained }
+    {
+        match self.node(class) {
+            Some(Node::Desc(desc)) => {
+                let flags = desc.flags;
+                (flags & ENUM == 0 && self.elements(class).is_none())
+                    && (chained
+                        || ((flags & EXTERNALIZABLE == EXTERNALIZABLE
+                            && flags & BLOCK_DATA == BLOCK_DATA)
+                            && is_external(parts)))
+            }
+            Some(Node::Proxy(_)) => chained,
+            _ => false,
+        }
+    }
+
+    /// Whether an array's class and elements fit each other.
+    fn fits_array(&self, class: u32, values: &Values) -> bool
+        ensures { result ≡ fits_array (slice_get self.now.nodes.now class) values.now }
+    {
+        match self.node(class) {
+            Some(Node::Desc(_)) => {
+                fit_elements(values, self.elements(class)) && values.len() < 0x8000_0000
+            }
+            _ => false,
+        }
+    }
+
+    /// Whether a node is the description of an enum's class.
+    fn is_enum(&self, class: u32) -> bool
+        ensures { result ≡ is_enum (slice_get self.now.nodes.now class) }
+    {
+        match self.node(class) {
+            Some(Node::Desc(desc)) => desc.flags & ENUM == ENUM,
+            _ => false,
+        }
+    }
+
+    /// Whether a node keeps the rules for its kind.
+    #[tactic(auto, unfolding(crate::specs::Shape::is_shaped))]
+    pub(crate) fn is_shaped(&self, node: &Node) -> bool
+        ensures { result ≡ is_shaped self.now.nodes.now node.now }
+    {
+        match node {
+            Node::Text(text) => encoded_len(text) < 0x8000_0000_0000_0000,
+            Node::Desc(desc) => {
+                (is_short(&desc.name) && desc.fields.len() < 32768)
+                    && (check_desc(desc).is_ok()
+                        && (self.are_typed(desc.fields.as_slice())
+                            && is_joined(desc.note.as_slice())))
+            }
+            Node::Proxy(proxy) => {
+                (proxy.names.len() < 0x8000_0000 && are_short(proxy.names.as_slice()))
+                    && is_joined(proxy.note.as_slice())
+            }
+            Node::Object { class, parts } => {
+                let parts = parts.as_slice();
+                let chained = self.fits_chain(parts, Slot::Node(*class));
+                self.fits_object(*class, parts, chained)
+            }
+            Node::Array { class, values } => self.fits_array(*class, values),
+            Node::Class { .. } => true,
+            Node::Enum { class, .. } => self.is_enum(*class),
+        }
+    }
+}

@@ -1,0 +1,94 @@
+//! Values of fields and of arrays.
+ghost use Rattle.std.specs.Prelude.{◌≡◌, ◌↔◌, IsTrue};
+ghost use Rattle.ser_values.specs.Shape.{count_of};
+
+use class_desc::{Items, Slot, SlotList};
+use mod_utf::list::{
+    BoolList, ByteList, I16List, I32List, I64List, Sequence, U16List, U32List, U64List,
+};
+
+/// The value of one field. A float or a double is carried as its bits, unread.
+#[derive(Clone, Copy, Debug, PartialEq, Eq)]
+pub enum Value {
+    /// A `byte`, as its bits.
+    B(u8),
+    /// A `char`.
+    C(u16),
+    /// The bits of a `double`.
+    D(u64),
+    /// The bits of a `float`.
+    F(u32),
+    /// An `int`.
+    I(i32),
+    /// A `long`.
+    J(i64),
+    /// A `short`.
+    S(i16),
+    /// A `boolean`.
+    Z(bool),
+    /// A reference, of a field whose type is an array, a class or an interface.
+    Ref(Slot),
+}
+
+/// The elements of an array. Floats and doubles are carried as their bits, unread.
+#[derive(Debug, Drop)]
+pub enum Values {
+    /// Elements of `byte[]`, as their bits.
+    Bytes(ByteList),
+    /// Elements of `char[]`.
+    Chars(U16List),
+    /// The bits of the elements of `double[]`.
+    Doubles(U64List),
+    /// The bits of the elements of `float[]`.
+    Floats(U32List),
+    /// Elements of `int[]`.
+    Ints(I32List),
+    /// Elements of `long[]`.
+    Longs(I64List),
+    /// Elements of `short[]`.
+    Shorts(I16List),
+    /// Elements of `boolean[]`.
+    Bools(BoolList),
+    /// Elements of an array of references.
+    Refs(SlotList),
+}
+
+/// What an object holds of one class of its chain.
+#[derive(Debug, Drop)]
+pub struct Part {
+    /// The values of the class's fields, in their order.
+    pub values: ValueList,
+    /// What the class's own write method wrote.
+    pub note: Items,
+}
+
+/// A list of fields' values.
+pub type ValueList = Sequence<Value>;
+/// A list of parts.
+pub type PartList = Sequence<Part>;
+
+impl Values {
+    /// How many elements there are.
+    pub fn len(&self) -> usize
+        ensures { result ≡ count_of self.now }
+    {
+        match self {
+            Values::Bytes(values) => values.len(),
+            Values::Chars(values) => values.len(),
+            Values::Doubles(values) => values.len(),
+            Values::Floats(values) => values.len(),
+            Values::Ints(values) => values.len(),
+            Values::Longs(values) => values.len(),
+            Values::Shorts(values) => values.len(),
+            Values::Bools(values) => values.len(),
+            Values::Refs(values) => values.len(),
+        }
+    }
+
+    /// Whether there are none.
+    pub fn is_empty(&self) -> bool
+        ensures { IsTrue result ↔ (count_of self.now ≡ 0) }
+    {
+        self.len() == 0
+    }
+}

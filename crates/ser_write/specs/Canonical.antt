@@ -1,0 +1,185 @@
+-- The bytes that are written: each node is written where it is first wanted, and a handle stands for it from then on.
+use Rattle.std.specs.Prelude.{◌≡◌, ℕ, zero, suc, ◌+◌, Bool, true, false, List, [], ◌∷◌, ◌++◌, length, take, drop, map, Option, Some, None, Result, Ok, Err, nat_eq, nat_lt, slice_get, if◌then◌else◌}
+use Rattle.std.specs.List.{flat_map}
+use Rattle.std.specs.Int.{w16, w32, w64, to_be_bytes, cast_unsigned, from_bool}
+use Rattle.std.specs.declared.alloc.AllocError.{AllocError}
+use Rattle.mod_utf.specs.Utf.{utf}
+use Rattle.class_desc.specs.declared.slot.Slot.{Slot}
+use Rattle.class_desc.specs.declared.slot.Slot.TheVariants as slots
+use Rattle.class_desc.specs.declared.slot.Item.{Item}
+use Rattle.class_desc.specs.declared.slot.Item.TheVariants as items
+use Rattle.class_desc.specs.ClassDesc.{has_flag}
+use Rattle.ser_values.specs.declared.value.Value.{Value}
+use Rattle.ser_values.specs.declared.value.Value.TheVariants as values
+use Rattle.ser_values.specs.declared.value.Part.{Part}
+use Rattle.ser_values.specs.declared.value.Values.{Values}
+use Rattle.ser_values.specs.declared.value.Values.TheVariants as kinds
+use Rattle.ser_values.specs.declared.node.Node.{Node}
+use Rattle.ser_values.specs.declared.node.Node.TheVariants.{Text, Desc, Proxy, Object, Array, Class, Enum}
+use Rattle.ser_values.specs.declared.node.Place.TheVariants as places
+use Rattle.ser_values.specs.Shape.{is_short, count_of}
+use Rattle.ser_values.specs.Spelled.{Token, raw, truth, want, note, short_text, long_text, field_tokens, element_tokens, writers, part_tokens}
+
+-- ---- block data
+
+-- A block of at most 255 bytes has a length of 8 bits, any other one of 32.
+abbrev pub block_of : List ℕ → List ℕ
+block_of p = if nat_lt (length p) 256 then 0x77 ∷ length p ∷ p else 0x7A ∷ (to_be_bytes w32 (length p) ++ p)
+
+-- at most so many pieces of 1,024 bytes, and one shorter rest
+unfoldable pub pieces_in : ℕ → List ℕ → List (List ℕ)
+pieces_in zero b = []
+pieces_in (suc k) [] = []
+pieces_in (suc k) (x ∷ b) = take 1024 (x ∷ b) ∷ pieces_in k (drop 1024 (x ∷ b))
+
+-- Pieces of 1,024 bytes, and one shorter rest.
+unfoldable pub pieces : List ℕ → List (List ℕ)
+pieces b = pieces_in (length b) b
+
+-- Each piece as a block.
+abbrev pub blocks : List ℕ → List ℕ
+blocks b = flat_map block_of (pieces b)
+
+-- ---- values and texts as bytes
+
+abbrev pub short_bytes : List ℕ → List ℕ
+short_bytes t = to_be_bytes w16 (length (utf t)) ++ utf t
+
+abbrev pub long_bytes : List ℕ → List ℕ
+long_bytes t = to_be_bytes w64 (length (utf t)) ++ utf t
+
+-- with a length of 64 bits only where 16 don't do
+abbrev pub text_bytes : List ℕ → List ℕ
+text_bytes t = if is_short t then short_bytes t else long_bytes t
+
+-- a primitive value; a reference has no bytes of its own
+abbrev pub value_bytes : Value → List ℕ
+value_bytes (values.B v) = v ∷ []
+value_bytes (values.C v) = to_be_bytes w16 v
+value_bytes (values.D v) = to_be_bytes w64 v
+value_bytes (values.F v) = to_be_bytes w32 v
+value_bytes (values.I v) = to_be_bytes w32 (cast_unsigned w32 v)
+value_bytes (values.J v) = to_be_bytes w64 (cast_unsigned w64 v)
+value_bytes (values.S v) = to_be_bytes w16 (cast_unsigned w16 v)
+value_bytes (values.Z v) = from_bool v ∷ []
+value_bytes (values.Ref s) = []
+
+abbrev pub primitive_bytes : Values → List ℕ
+primitive_bytes (kinds.Bytes v) = v
+primitive_bytes (kinds.Chars v) = flat_map (to_be_bytes w16) v
+primitive_bytes (kinds.Doubles v) = flat_map (to_be_bytes w64) v
+primitive_bytes (kinds.Floats v) = flat_map (to_be_bytes w32) v
+primitive_bytes (kinds.Ints v) = flat_map (λ x. to_be_bytes w32 (cast_unsigned w32 x)) v
+primitive_bytes (kinds.Longs v) = flat_map (λ x. to_be_bytes w64 (cast_unsigned w64 x)) v
+primitive_bytes (kinds.Shorts v) = flat_map (λ x. to_be_bytes w16 (cast_unsigned w16 x)) v
+primitive_bytes (kinds.Bools v) = flat_map (λ x. from_bool x ∷ []) v
+primitive_bytes (kinds.Refs v) = []
+
+-- ---- tokens as bytes
+
+-- bytes, and how many nodes have handles afterwards
+abbrev pub Written : Type 0
+Written = List ℕ × ℕ
+
+abbrev pub Writing : Type 0
+Writing = ℕ → Slot → Written
+
+-- first these bytes, and then what follows
+abbrev pub before_more : Written → (ℕ → Written) → Written
+before_more w f = (w.0 ++ (f w.1).0, (f w.1).1)
+
+unfoldable pub write_items : Writing → ℕ → List Item → Written
+write_items one n [] = ([], n)
+write_items one n (items.Bytes b ∷ is) = before_more (blocks b, n) (λ m. write_items one m is)
+write_items one n (items.Ref s ∷ is) = before_more (one n s) (λ m. write_items one m is)
+
+abbrev pub write_token : Writing → ℕ → Token → Written
+write_token one n (raw r) = (r, n)
+write_token one n (truth b) = (from_bool b ∷ [], n)
+write_token one n (want w) = one n w.1
+write_token one n (note is) = before_more (write_items one n is) (λ m. (0x78 ∷ [], m))
+
+unfoldable pub write_all : Writing → ℕ → List Token → Written
+write_all one n [] = ([], n)
+write_all one n (t ∷ ts) = before_more (write_token one n t) (λ m. write_all one m ts)
+
+-- ---- nodes as tokens
+
+abbrev pub code_of : Node → ℕ
+code_of (Text t) = if is_short t then 0x74 else 0x7C
+code_of (Desc d) = 0x72
+code_of (Proxy p) = 0x7D
+code_of (Object c ps) = 0x73
+code_of (Array c vs) = 0x75
+code_of (Class c) = 0x76
+code_of (Enum c t) = 0x7E
+
+unfoldable pub tokens_before : Node → List Token
+tokens_before (Text t) = []
+tokens_before (Desc d) = short_text d.name ∷ raw (to_be_bytes w64 (cast_unsigned w64 d.suid)) ∷ []
+tokens_before (Proxy p) = []
+tokens_before (Object c ps) = want (places.Class, slots.Node c) ∷ []
+tokens_before (Array c vs) = want (places.Class, slots.Node c) ∷ []
+tokens_before (Class c) = want (places.Class, slots.Node c) ∷ []
+tokens_before (Enum c t) = want (places.Class, slots.Node c) ∷ []
+
+-- an externalizable class
+abbrev pub is_external_class : Option Node → Bool
+is_external_class (Some (Desc d)) = has_flag d.flags 4
+is_external_class _ = false
+
+abbrev pub external_tokens : List Part → List Token
+external_tokens [] = []
+external_tokens (p ∷ ps) = note p.note ∷ []
+
+-- the note of a part, where its class has a write method
+abbrev pub note_tokens : Bool → List Item → List Token
+note_tokens true is = note is ∷ []
+note_tokens false is = []
+
+abbrev pub object_tokens : List Node → ℕ → List Part → List Token
+object_tokens nodes c ps = if is_external_class (slice_get nodes c) then external_tokens ps else part_tokens (writers nodes (length ps) (slots.Node c)) ps
+
+unfoldable pub tokens_after : List Node → Node → List Token
+tokens_after nodes (Text t) = (if is_short t then short_text t else long_text t) ∷ []
+tokens_after nodes (Desc d) = raw (d.flags ∷ []) ∷ raw (to_be_bytes w16 (length d.fields)) ∷ (field_tokens d.fields ++ (note d.note ∷ want (places.Parent, d.parent) ∷ []))
+tokens_after nodes (Proxy p) = raw (to_be_bytes w32 (length p.names)) ∷ (map short_text p.names ++ (note p.note ∷ want (places.Parent, p.parent) ∷ []))
+tokens_after nodes (Object c ps) = object_tokens nodes c ps
+tokens_after nodes (Array c vs) = raw (to_be_bytes w32 (count_of vs)) ∷ element_tokens vs
+tokens_after nodes (Class c) = []
+tokens_after nodes (Enum c t) = want (places.Text, slots.Node t) ∷ []
+
+-- ---- references as bytes
+
+-- a node that has no handle: its code, what stands before its handle, and what stands after it
+abbrev pub write_new : List Node → Writing → ℕ → ℕ → Option Node → Written
+write_new nodes inner n k None = ([], n)
+write_new nodes inner n k (Some i) = before_more (code_of i ∷ (write_all inner n (tokens_before i)).0, k + 1) (λ m. write_all inner m (tokens_after nodes i))
+
+unfoldable pub write_one : ℕ → List Node → Writing → Writing
+write_one left nodes inner n slots.Null = (0x70 ∷ [], n)
+write_one left nodes inner n (slots.Node k) =
+    if nat_lt k n then (0x71 ∷ to_be_bytes w32 (0x7E0000 + k), n)
+    else (if nat_eq left 0 then ([], n) else write_new nodes inner n k (slice_get nodes k))
+
+abbrev pub nothing : Writing
+nothing n s = ([], n)
+
+-- a reference, at most so many levels deep
+unfoldable pub write_at : ℕ → List Node → Writing
+write_at zero nodes n s = write_one zero nodes nothing n s
+write_at (suc d) nodes n s = write_one (suc d) nodes (write_at d nodes) n s
+
+-- The bytes of a stream: the magic number, the version, and the items.
+unfoldable pub canonical : List Node → List Item → List ℕ
+canonical nodes items = 0xAC ∷ 0xED ∷ 0x00 ∷ 0x05 ∷ (write_items (write_at 200 nodes) 0 items).0
+
+-- what was written stands at the end, unless memory ran out
+abbrev pub Adds : List ℕ → List ℕ → Result ℕ AllocError → Written → Type 0
+Adds old new (Ok m) w = (new ≡ old ++ w.0) × (m ≡ w.1)
+Adds old new (Err e) w = Unit {0}
+
+-- the same, one description further up
+abbrev pub writers_by : (Slot → List Bool) → Option (Bool × Slot) → List Bool
+writers_by above None = []
+writers_by above (Some w) = above w.1 ++ w.0 ∷ []

@@ -1,0 +1,8 @@
+//! The canonical writer of serialization streams (Java Object Serialization Specification, 6.4).
+#![tactic(auto)]
+
+mod numbers;
+mod pieces;
+mod writing;
+
+pub use writing::write_stream;

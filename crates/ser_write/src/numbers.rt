@@ -1,0 +1,137 @@
+//! Numbers, truth values and texts as bytes.
+ghost use Rattle.std.specs.Prelude.{◌≡◌, ◌∷◌, ◌++◌, [], ℕ, List, length, OnOk};
+ghost use Rattle.std.specs.Int.{w16, w32, w64, to_be_bytes, cast_unsigned, from_bool};
+ghost use Rattle.std.specs.List.{flat_map};
+ghost use Rattle.mod_utf.specs.Utf.{utf};
+
+use mod_utf::list::{ByteList, Units};
+use mod_utf::utf::encode;
+use std::alloc::{AllocError, Global};
+
+/// Appends a byte.
+pub(crate) fn put_byte(out: &mut ByteList, byte: u8) -> Result<(), AllocError>
+    ensures { OnOk result (out.new ≡ out.old ++ byte ∷ []) }
+{
+    out.push(byte)
+}
+
+/// Appends the lowest 16 bits of a number, the highest byte first.
+pub(crate) fn put_16(out: &mut ByteList, number: usize) -> Result<(), AllocError>
+    ensures { OnOk result (out.new ≡ out.old ++ to_be_bytes w16 number) }
+{
+    out.append(&[(number / 256 % 256) as u8, (number % 256) as u8])
+}
+
+/// Appends the lowest 32 bits of a number, the highest byte first.
+pub(crate) fn put_32(out: &mut ByteList, number: usize) -> Result<(), AllocError>
+    ensures { OnOk result (out.new ≡ out.old ++ to_be_bytes w32 number) }
+{
+    out.append(&[
+        (number / 0x100_0000 % 256) as u8,
+        (number / 0x1_0000 % 256) as u8,
+        (number / 256 % 256) as u8,
+        (number % 256) as u8,
+    ])
+}
+
+/// What has one spelling in bytes.
+pub(crate) trait Spelled {
+    /// The bytes.
+    ghost bytes: { Self → List ℕ };
+
+    /// Appends the bytes.
+    fn put(&self, out: &mut ByteList) -> Result<(), AllocError>
+        ensures { OnOk result (out.new ≡ out.old ++ bytes self.now) };
+}
+
+/// Appends the bytes of each value in order.
+pub(crate) fn put_each<T: Spelled>(out: &mut ByteList, values: &[T]) -> Result<(), AllocError>
+    ensures { OnOk result (out.new ≡ out.old ++ flat_map T.bytes values.now) }
+{
+    for value in values {
+        value.put(out)?;
+    }
+    Ok(())
+}
+
+impl Spelled for u16 {
+    ghost bytes = { to_be_bytes w16 };
+
+    fn put(&self, out: &mut ByteList) -> Result<(), AllocError> {
+        out.append(&self.to_be_bytes())
+    }
+}
+
+impl Spelled for u32 {
+    ghost bytes = { to_be_bytes w32 };
+
+    fn put(&self, out: &mut ByteList) -> Result<(), AllocError> {
+        out.append(&self.to_be_bytes())
+    }
+}
+
+impl Spelled for u64 {
+    ghost bytes = { to_be_bytes w64 };
+
+    fn put(&self, out: &mut ByteList) -> Result<(), AllocError> {
+        out.append(&self.to_be_bytes())
+    }
+}
+
+impl Spelled for i16 {
+    ghost bytes = { λ v. to_be_bytes w16 (cast_unsigned w16 v) };
+
+    fn put(&self, out: &mut ByteList) -> Result<(), AllocError> {
+        out.append(&self.to_be_bytes())
+    }
+}
+
+impl Spelled for i32 {
+    ghost bytes = { λ v. to_be_bytes w32 (cast_unsigned w32 v) };
+
+    fn put(&self, out: &mut ByteList) -> Result<(), AllocError> {
+        out.append(&self.to_be_bytes())
+    }
+}
+
+impl Spelled for i64 {
+    ghost bytes = { λ v. to_be_bytes w64 (cast_unsigned w64 v) };
+
+    fn put(&self, out: &mut ByteList) -> Result<(), AllocError> {
+        out.append(&self.to_be_bytes())
+    }
+}
+
+impl Spelled for bool {
+    ghost bytes = { λ v. from_bool v ∷ [] };
+
+    fn put(&self, out: &mut ByteList) -> Result<(), AllocError> {
+        out.push(u8::from(*self))
+    }
+}
+
+/// Appends a text with a length of 16 bits.
+pub(crate) fn put_short_text(
+    alloc: Global,
+    out: &mut ByteList,
+    text: &Units,
+) -> Result<(), AllocError>
+    ensures { OnOk result (out.new ≡ out.old ++ (to_be_bytes w16 (length (utf text.now)) ++ utf text.now)) }
+{
+    let bytes = encode(alloc, text)?;
+    put_16(out, bytes.len())?;
+    out.append(bytes.as_slice())
+}
+
+/// Appends a text with a length of 64 bits.
+pub(crate) fn put_long_text(
+    alloc: Global,
+    out: &mut ByteList,
+    text: &Units,
+) -> Result<(), AllocError>
+    ensures { OnOk result (out.new ≡ out.old ++ (to_be_bytes w64 (length (utf text.now)) ++ utf text.now)) }
+{
+    let bytes = encode(alloc, text)?;
+    (bytes.len() as u64).put(out)?;
+    out.append(bytes.as_slice())
+}

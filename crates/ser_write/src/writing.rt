@@ -1,0 +1,348 @@
+//! Nodes are written where they are first wanted.
+ghost use Rattle.std.specs.Prelude.{◌≡◌, IfOk, map, slice_get};
+ghost use Rattle.ser_values.specs.Spelled.{field_tokens, value_token, reference, part_tokens};
+ghost use Rattle.ser_values.specs.Spelled.{IsStream};
+ghost use Rattle.ser_write.specs.Canonical.{write_items, write_all, tokens_before, object_tokens, note_tokens, tokens_after, write_new, write_at, canonical, Adds};
+
+use crate::numbers::{Spelled, put_16, put_32, put_byte, put_short_text};
+use crate::pieces::{
+    code_of, is_external_class, node_at, put_blocks, put_names, put_primitive, put_primitives,
+    put_text, writers_of,
+};
+use class_desc::{FieldDesc, Item, Slot, is_primitive};
+use mod_utf::list::ByteList;
+use ser_values::{Graph, Node, Part, Value, Values};
+use std::alloc::{AllocError, Global};
+
+/// The greatest depth of a graph.
+const LEVELS: u32 = 200;
+/// The handle of the first node.
+const FIRST_HANDLE: usize = 0x7E_0000;
+
+/// Writes a reference, at most so many levels deep: null, a handle, or a node whole. `next` nodes have handles; the answer
+/// is how many have one afterwards.
+#[cycle(writing)]
+#[tactic(auto, unfolding(crate::specs::Canonical::write_one), using(crate::proofs::Writes::write_at_is))]
+fn put_slot(
+    alloc: Global,
+    out: &mut ByteList,
+    nodes: &[Node],
+    next: u64,
+    slot: Slot,
+    left: u32,
+) -> Result<u64, AllocError>
+    ensures { Adds out.old out.new result (write_at left nodes.now next slot) }
+{
+    match slot {
+        Slot::Null => {
+            put_byte(out, 0x70)?;
+            Ok(next)
+        }
+        Slot::Node(number) => {
+            if u64::from(number) < next {
+                put_byte(out, 0x71)?;
+                put_32(out, FIRST_HANDLE + number as usize)?;
+                Ok(next)
+            } else if left == 0 {
+                Ok(next)
+            } else {
+                put_new(alloc, out, nodes, next, number, left - 1)
+            }
+        }
+    }
+}
+
+/// Writes a node that has no handle.
+#[cycle(writing)]
+fn put_new(
+    alloc: Global,
+    out: &mut ByteList,
+    nodes: &[Node],
+    next: u64,
+    number: u32,
+    left: u32,
+) -> Result<u64, AllocError>
+    ensures { Adds out.old out.new result (write_new nodes.now (write_at left nodes.now) next number (slice_get nodes.now number)) }
+{
+    match node_at(nodes, number) {
+        None => Ok(next),
+        Some(node) => {
+            put_byte(out, code_of(node))?;
+            let _before = put_before(alloc, out, nodes, next, node, left)?;
+            put_after(alloc, out, nodes, u64::from(number) + 1, node, left)
+        }
+    }
+}
+
+/// Writes what stands before a node's handle.
+#[cycle(writing)]
+#[tactic(auto, unfolding(crate::specs::Canonical::tokens_before, crate::specs::Canonical::write_all))]
+fn put_before(
+    alloc: Global,
+    out: &mut ByteList,
+    nodes: &[Node],
+    next: u64,
+    node: &Node,
+    left: u32,
+) -> Result<u64, AllocError>
+    ensures { Adds out.old out.new result (write_all (write_at left nodes.now) next (tokens_before node.now)) }
+{
+    match node {
+        Node::Text(_) => Ok(next),
+        Node::Proxy(_) => Ok(next),
+        Node::Desc(desc) => {
+            put_short_text(alloc, out, &desc.name)?;
+            desc.suid.put(out)?;
+            Ok(next)
+        }
+        Node::Object { class, .. } => put_slot(alloc, out, nodes, next, Slot::Node(*class), left),
+        Node::Array { class, .. } => put_slot(alloc, out, nodes, next, Slot::Node(*class), left),
+        Node::Class { class } => put_slot(alloc, out, nodes, next, Slot::Node(*class), left),
+        Node::Enum { class, .. } => put_slot(alloc, out, nodes, next, Slot::Node(*class), left),
+    }
+}
+
+/// Writes what stands after a node's handle.
+#[cycle(writing)]
+#[tactic(auto, unfolding(crate::specs::Canonical::write_all, crate::specs::Canonical::tokens_after))]
+fn put_after(
+    alloc: Global,
+    out: &mut ByteList,
+    nodes: &[Node],
+    next: u64,
+    node: &Node,
+    left: u32,
+) -> Result<u64, AllocError>
+    ensures { Adds out.old out.new result (write_all (write_at left nodes.now) next (tokens_after nodes.now node.now)) }
+{
+    match node {
+        Node::Text(text) => {
+            put_text(alloc, out, text)?;
+            Ok(next)
+        }
+        Node::Desc(desc) => {
+            put_byte(out, desc.flags)?;
+            put_16(out, desc.fields.len())?;
+            let next = put_fields(alloc, out, nodes, next, desc.fields.as_slice(), left)?;
+            let next = put_items(alloc, out, nodes, next, desc.note.as_slice(), left)?;
+            put_byte(out, 0x78)?;
+            put_slot(alloc, out, nodes, next, desc.parent, left)
+        }
+        Node::Proxy(proxy) => {
+            put_32(out, proxy.names.len())?;
+            put_names(alloc, out, proxy.names.as_slice())?;
+            let next = put_items(alloc, out, nodes, next, proxy.note.as_slice(), left)?;
+            put_byte(out, 0x78)?;
+            put_slot(alloc, out, nodes, next, proxy.parent, left)
+        }
+        Node::Object { class, parts } => {
+            put_object(alloc, out, nodes, next, *class, parts.as_slice(), left)
+        }
+        Node::Array { values, .. } => {
+            put_32(out, values.len())?;
+            match values {
+                Values::Refs(slots) => put_slots(alloc, out, nodes, next, slots.as_slice(), left),
+                _ => {
+                    put_primitives(out, values)?;
+                    Ok(next)
+                }
+            }
+        }
+        Node::Class { .. } => Ok(next),
+        Node::Enum { name, .. } => put_slot(alloc, out, nodes, next, Slot::Node(*name), left),
+    }
+}
+
+/// Writes an object's parts, or the note of an externalizable one.
+#[cycle(writing)]
+#[tactic(auto, unfolding(crate::specs::Canonical::write_all))]
+fn put_object(
+    alloc: Global,
+    out: &mut ByteList,
+    nodes: &[Node],
+    next: u64,
+    class: u32,
+    parts: &[Part],
+    left: u32,
+) -> Result<u64, AllocError>
+    ensures { Adds out.old out.new result (write_all (write_at left nodes.now) next (object_tokens nodes.now class parts.now)) }
+{
+    if is_external_class(node_at(nodes, class)) {
+        match parts {
+            [] => Ok(next),
+            [part, ..] => {
+                let next = put_items(alloc, out, nodes, next, part.note.as_slice(), left)?;
+                put_byte(out, 0x78)?;
+                Ok(next)
+            }
+        }
+    } else {
+        let writes = writers_of(alloc, nodes, Slot::Node(class), parts.len())?;
+        put_parts(alloc, out, nodes, next, &writes, parts, left)
+    }
+}
+
+/// Writes fields: each one's code and name, and a reference field's type text.
+#[cycle(writing)]
+#[tactic(auto, unfolding(crate::specs::Canonical::write_all))]
+fn put_fields(
+    alloc: Global,
+    out: &mut ByteList,
+    nodes: &[Node],
+    next: u64,
+    fields: &[FieldDesc],
+    left: u32,
+) -> Result<u64, AllocError>
+    ensures { Adds out.old out.new result (write_all (write_at left nodes.now) next (field_tokens fields.now)) }
+{
+    let mut next = next;
+    for field in fields {
+        put_byte(out, field.code.letter())?;
+        put_short_text(alloc, out, &field.name)?;
+        if !is_primitive(field.code) {
+            next = put_slot(alloc, out, nodes, next, field.type_text, left)?;
+        }
+    }
+    Ok(next)
+}
+
+/// Writes items.
+#[cycle(writing)]
+#[tactic(auto, unfolding(crate::specs::Canonical::write_items))]
+fn put_items(
+    alloc: Global,
+    out: &mut ByteList,
+    nodes: &[Node],
+    next: u64,
+    items: &[Item],
+    left: u32,
+) -> Result<u64, AllocError>
+    ensures { Adds out.old out.new result (write_items (write_at left nodes.now) next items.now) }
+{
+    let mut next = next;
+    for item in items {
+        match item {
+            Item::Bytes(bytes) => put_blocks(out, bytes.as_slice())?,
+            Item::Ref(slot) => next = put_slot(alloc, out, nodes, next, *slot, left)?,
+        }
+    }
+    Ok(next)
+}
+
+/// Writes values.
+#[cycle(writing)]
+#[tactic(auto, unfolding(crate::specs::Canonical::write_all))]
+fn put_values(
+    alloc: Global,
+    out: &mut ByteList,
+    nodes: &[Node],
+    next: u64,
+    values: &[Value],
+    left: u32,
+) -> Result<u64, AllocError>
+    ensures { Adds out.old out.new result (write_all (write_at left nodes.now) next (map value_token values.now)) }
+{
+    let mut next = next;
+    for value in values {
+        match value {
+            Value::Ref(slot) => next = put_slot(alloc, out, nodes, next, *slot, left)?,
+            _ => put_primitive(out, *value)?,
+        }
+    }
+    Ok(next)
+}
+
+/// Writes parts: the values of each, and its note where the class has a write method.
+#[cycle(writing)]
+#[tactic(auto, unfolding(crate::specs::Canonical::write_all, ser_values::specs::Spelled::part_tokens))]
+fn put_parts(
+    alloc: Global,
+    out: &mut ByteList,
+    nodes: &[Node],
+    next: u64,
+    writes: &[bool],
+    parts: &[Part],
+    left: u32,
+) -> Result<u64, AllocError>
+    ensures { Adds out.old out.new result (write_all (write_at left nodes.now) next (part_tokens writes.now parts.now)) }
+{
+    let mut next = next;
+    let mut i = 0;
+    while i < parts.len() && i < writes.len() {
+        let part = &parts[i];
+        next = put_values(alloc, out, nodes, next, part.values.as_slice(), left)?;
+        next = put_note(
+            alloc,
+            out,
+            nodes,
+            next,
+            writes[i],
+            part.note.as_slice(),
+            left,
+        )?;
+        i += 1;
+    }
+    Ok(next)
+}
+
+/// Writes the note of a part, where its class has a write method.
+#[cycle(writing)]
+#[tactic(auto, unfolding(crate::specs::Canonical::write_all))]
+fn put_note(
+    alloc: Global,
+    out: &mut ByteList,
+    nodes: &[Node],
+    next: u64,
+    writes: bool,
+    note: &[Item],
+    left: u32,
+) -> Result<u64, AllocError>
+    ensures { Adds out.old out.new result (write_all (write_at left nodes.now) next (note_tokens writes note.now)) }
+{
+    if writes {
+        let next = put_items(alloc, out, nodes, next, note, left)?;
+        put_byte(out, 0x78)?;
+        Ok(next)
+    } else {
+        Ok(next)
+    }
+}
+
+/// Writes references.
+#[cycle(writing)]
+#[tactic(auto, unfolding(crate::specs::Canonical::write_all))]
+fn put_slots(
+    alloc: Global,
+    out: &mut ByteList,
+    nodes: &[Node],
+    next: u64,
+    slots: &[Slot],
+    left: u32,
+) -> Result<u64, AllocError>
+    ensures { Adds out.old out.new result (write_all (write_at left nodes.now) next (map reference slots.now)) }
+{
+    let mut next = next;
+    for slot in slots {
+        next = put_slot(alloc, out, nodes, next, *slot, left)?;
+    }
+    Ok(next)
+}
+
+/// The bytes of a graph: the stream's head, and its items. Blocks have 1,024 bytes and one shorter rest; a handle stands
+/// for each node that was written before. It is refused only for want of memory.
+pub fn write_stream(alloc: Global, graph: &Graph) -> Result<ByteList, AllocError>
+    ensures spelled { IfOk result (λ bytes. ∥ IsStream graph.now.nodes graph.now.items bytes ∥₁) }
+    ensures canonical { IfOk result (λ bytes. bytes ≡ canonical graph.now.nodes graph.now.items) }
+{
+    let mut out = ByteList::new(alloc);
+    out.append(&[0xAC, 0xED, 0x00, 0x05])?;
+    let _count = put_items(
+        alloc,
+        &mut out,
+        graph.nodes().as_slice(),
+        0,
+        graph.items().as_slice(),
+        LEVELS,
+    )?;
+    Ok(out)
+}
