@@ -1,5 +1,5 @@
 //! Lists over `Vec`, which contracts see as lists.
-ghost use Rattle.std.specs.Prelude.{◌≡◌, [], ◌∷◌, ◌++◌, length, OnOk, OnErr, IfOk, IsTrue, ◌↔◌};
+ghost use Rattle.std.specs.Prelude.{◌≡◌, [], ◌∷◌, ◌++◌, length, take, OnOk, OnErr, IfOk, IsTrue, ◌↔◌};
 
 use std::alloc::{AllocError, Global};
 use std::marker::Model;
@@ -124,6 +124,15 @@ impl<T> Sequence<T> {
     {
         self.items.push(item)?;
         Ok(())
+    }
+
+    /// Keeps the first `len` items, or all where there are no more.
+    pub fn truncate(&mut self, len: usize)
+    where
+        T: Drop,
+        ensures { self.new ≡ take len self.old }
+    {
+        self.items.truncate(len);
     }
 
     /// Makes room for `more` further items, so that appending them takes no memory.
