@@ -1,13 +1,13 @@
 -- The words that spell numbers.
-use Rattle.std.proofs.Common.{◌≡◌, ◌≢◌, ℕ, suc, ◌+◌, ◌^◌, ◌<◌, ◌≤◌, ◌⊎◌, inl, inr, List, [], ◌∷◌, length, get_or, drop, Result, Ok, Err, refl, ap, sym, ◌∙◌, arith, ℤ, pos, negsuc, w64}
+use Rattle.std.proofs.Common.{◌≡◌, ◌≢◌, ℕ, suc, ◌^◌, ◌<◌, ◌≤◌, ◌⊎◌, inl, inr, List, ◌∷◌, length, get_or, drop, Result, Ok, Err, refl, ap, sym, ◌∙◌, arith, ℤ, pos, negsuc, w64}
 use Rattle.std.specs.Str.{IsUtf8}
 use Rattle.std.specs.Str.Parse.{AllDigits, digits_value, ParsesUnsigned}
 use Rattle.std.specs.Fmt.{decimal, signed_decimal}
 use Rattle.std.specs.Int.Signed.{mag}
 use Rattle.std.proofs.lemmas.Str.{IsUtf8-from_ascii}
 use Rattle.std.proofs.lemmas.Str.Parse.{IsNumeralModel, numerals_by_value, tells_digits, not_in_digits, parse_plain}
-use Rattle.std.proofs.lemmas.Fmt.{IsAscii-decimal, decimal_nonempty, decimal_digit, first_decimal, decimal_injective, signed_decimal_injective, digits_decimal, digits_value-decimal, decimal-digits_value, parse-decimal}
-use Rattle.std.proofs.lemmas.Result.{OkIff-at_ok, OkIff-at_err}
+use Rattle.std.proofs.lemmas.Fmt.{IsAscii-decimal, decimal_nonempty, decimal_digit, first_decimal, decimal_injective, signed_decimal_injective, digits_decimal, decimal-digits_value, parse-decimal}
+use Rattle.std.proofs.lemmas.Result.{OkIff-at_ok}
 use Rattle.std.proofs.str.Laws.{order}
 use Rattle.journal.specs.Numbers.{BeginsPlainly}
 use Rattle.journal.specs.Grammar.{SpellsBelow, SpellsSigned}

@@ -1,10 +1,10 @@
 -- Lines, by their words.
 use Rattle.std.proofs.Common.{◌≡◌, ℕ, List, [], ◌∷◌, ap, sym, subst, ◌∙◌, arith}
-use Rattle.std.specs.List.{AllByRecursion, join_with_byte}
+use Rattle.std.specs.List.{join_with_byte}
 use Rattle.object_ids.specs.declared.ids.Uid.{Uid}
 use Rattle.history.specs.declared.asks.SpaceConfig.{SpaceConfig}
 use Rattle.history.specs.declared.asks.Event.{Event}
-use Rattle.journal.specs.Parts.{parts, Lacks}
+use Rattle.journal.specs.Parts.{parts}
 use Rattle.journal.specs.Grammar.{EventWords, SpellsEvent, ConfigWords, SpellsConfig}
 use Rattle.journal.proofs.Splitting.{parts_join, join_parts}
 use Rattle.journal.proofs.Graphic.{AreGraphic, event_words, config_words, words_lack}

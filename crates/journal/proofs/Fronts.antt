@@ -1,5 +1,5 @@
 -- What writers leave that write one text after another.
-use Rattle.std.proofs.Common.{◌≡◌, ℕ, List, [], ◌∷◌, ◌++◌, Result, Ok, Err, OnErr, refl, ap, sym, ◌∙◌, append_assoc, append-nil, flat_map, take, drop, take-append-drop, drop-cons, add-one, get_or, length, map, suc, ◌+◌, ◌<◌}
+use Rattle.std.proofs.Common.{◌≡◌, ℕ, List, [], ◌∷◌, ◌++◌, Result, Ok, Err, OnErr, ap, sym, ◌∙◌, append_assoc, append-nil, flat_map, take, drop, take-append-drop, drop-cons, add-one, get_or, length, map, suc, ◌+◌, ◌<◌}
 use Rattle.std.specs.List.{join_with_byte}
 use Rattle.std.proofs.lemmas.List.Concat.{flat_map-append}
 use Rattle.std.proofs.Common.{ℤ, T, leb, w64, to_z, of_z}

@@ -1,11 +1,9 @@
 -- The words of a line have no blanks and no LF: each byte is from 21 to 7E.
-use Rattle.std.proofs.Common.{◌≡◌, ℕ, ◌^◌, ◌<◌, ◌≤◌, ◌⊎◌, inl, inr, Bool, true, false, ◌&&◌, List, [], ◌∷◌, ◌++◌, refl, sym, ap, ◌∙◌, subst, arith, codes, ℤ, w32, w64, leb, leb-true, flat_map, ◌/◌, ◌%◌}
-use Rattle.std.specs.Prelude.{FitsSigned}
-use Rattle.std.specs.Int.{w16}
+use Rattle.std.proofs.Common.{◌≡◌, ℕ, ◌^◌, ◌<◌, ◌≤◌, inl, Bool, true, false, ◌&&◌, List, [], ◌∷◌, refl, sym, subst, arith, codes, ℤ, w32, w64, leb, leb-true, flat_map, ◌/◌, ◌%◌}
 use Rattle.std.specs.Int.Signed.{mag}
 use Rattle.std.proofs.Math.Pow.{pow_mono}
 use Rattle.std.specs.List.{AllByRecursion, AllZip, list_all, join_with_byte}
-use Rattle.std.specs.Fmt.{signed_decimal, digit_glyph}
+use Rattle.std.specs.Fmt.{signed_decimal}
 use mir.Syntax.{Width}
 use mir.Val.{hbits}
 use Rattle.object_ids.specs.declared.ids.Uid.{Uid}
@@ -19,10 +17,10 @@ use Rattle.history.specs.declared.asks.Event.{Event}
 use Rattle.history.specs.declared.asks.Ask.{Ask}
 use Rattle.history.specs.declared.asks.Ask.TheVariants.{Open, Begin, Finish, Abandon, Dirty, Clean, Ack, Bind, Rebind, Unbind, Lookup, Tick}
 use Rattle.history.specs.declared.asks.Ask.TheVariants.{List as ListNames}
-use Rattle.history.specs.Texts.{hex_byte, is_plain_unit, unit_text, name_text}
+use Rattle.history.specs.Texts.{hex_byte, is_plain_unit, unit_text}
 use Rattle.journal.specs.Parts.{Lacks}
-use Rattle.journal.specs.Grammar.{◌▸◌, End, Is, SpellsBelow, SpellsSigned, SpellsNumber, SpellsMoment, SpellsDuration, SpellsUid, SpellsObject, SpellsClient, IsName, SpellsName, SpellsList, SpellsKinds, SpellsObjects, SpellsPinned, SpellsStrong, SpellsAsk, EventWords, ConfigWords}
-use Rattle.journal.proofs.Bytes.{Within, within_append, within_wider, within_lacks, lacks_append, decimal_within, signed_within, number_within}
+use Rattle.journal.specs.Grammar.{◌▸◌, End, Is, SpellsSigned, SpellsNumber, SpellsMoment, SpellsDuration, SpellsUid, SpellsObject, SpellsClient, SpellsName, SpellsList, SpellsKinds, SpellsObjects, SpellsPinned, SpellsStrong, SpellsAsk, EventWords, ConfigWords}
+use Rattle.journal.proofs.Bytes.{Within, within_append, within_wider, within_lacks, lacks_append, signed_within, number_within}
 use Rattle.journal.proofs.Joined.{uid_within, object_within}
 use Rattle.journal.proofs.Clients.{client_within, glyph_within}
 use Rattle.journal.proofs.NameUnits.{plain_unit, escaped_unit}

@@ -1,5 +1,5 @@
 -- Digits that spell bytes.
-use Rattle.std.proofs.Common.{◌≡◌, ℕ, ◌+◌, ◌^◌, ◌<◌, ◌≤◌, List, [], ◌∷◌, ◌++◌, length, drop, refl, ap, sym, ◌∙◌, arith, flat_map}
+use Rattle.std.proofs.Common.{◌≡◌, ℕ, ◌^◌, ◌<◌, List, [], ◌∷◌, ◌++◌, length, drop, ap, sym, ◌∙◌, arith, flat_map}
 use Rattle.std.specs.List.{AllByRecursion}
 use Rattle.history.specs.Texts.{hex_byte}
 use Rattle.journal.specs.Hex.{BeginsWithByte, SpellsBytes}

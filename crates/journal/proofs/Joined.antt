@@ -1,10 +1,9 @@
 -- Identifiers, by the parts of their texts.
-use Rattle.std.proofs.Common.{◌≡◌, ◌≢◌, ℕ, suc, ◌+◌, ◌^◌, ◌<◌, ◌≤◌, ◌⊎◌, inl, inr, List, [], ◌∷◌, ◌++◌, refl, ap, sym, subst, ◌∙◌, arith, ℤ, w32, w64, append_assoc, eqb, Some, None, drop}
+use Rattle.std.proofs.Common.{◌≡◌, ℕ, ◌+◌, ◌^◌, ◌<◌, inl, inr, List, [], ◌∷◌, ◌++◌, refl, ap, sym, subst, ◌∙◌, arith, ℤ, w32, w64, append_assoc, eqb, Some, None, drop}
 use Rattle.std.specs.Int.{w16}
-use Rattle.std.specs.List.{AllByRecursion, join_with_byte, position}
+use Rattle.std.specs.List.{join_with_byte, position}
 use Rattle.std.specs.Fmt.{signed_decimal}
 use Rattle.std.specs.Int.Signed.{mag}
-use Rattle.std.proofs.Math.Facts.{sfits_widen}
 use Rattle.object_ids.specs.declared.ids.Uid.{Uid}
 use Rattle.object_ids.specs.declared.ids.ObjId.{ObjId}
 use Rattle.std.specs.Prelude.{Bool, true, false, if◌then◌else◌, FitsSigned}

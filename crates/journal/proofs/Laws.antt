@@ -1,10 +1,7 @@
 -- Laws of the grammar: a line spells at most one event, a first line at most one configuration, and a journal's bytes spell one
 -- configuration and one list of events.
-use Rattle.std.proofs.Common.{◌≡◌, ◌≢◌, ℕ, ◌+◌, ◌^◌, ◌<◌, ◌≤◌, Bool, List, [], ◌∷◌, ◌++◌, refl, ap, sym, subst, ◌∙◌, arith, codes, ℤ, pos, w32, w64}
-use Rattle.std.specs.List.{AllByRecursion, join_with_byte}
+use Rattle.std.proofs.Common.{◌≡◌, ◌≢◌, ℕ, ◌^◌, List, [], ◌∷◌, ◌++◌, refl, ap, sym, subst, ◌∙◌, arith, codes, ℤ, w32, w64}
 use Rattle.object_ids.specs.declared.ids.Uid.{Uid}
-use Rattle.object_ids.specs.declared.ids.ObjId.{ObjId}
-use Rattle.object_ids.specs.Client.{Client}
 use Rattle.history.specs.declared.asks.SpaceConfig.{SpaceConfig}
 use Rattle.history.specs.declared.asks.Event.{Event}
 use Rattle.history.specs.declared.asks.Ask.{Ask}
@@ -12,7 +9,7 @@ use Rattle.history.specs.declared.asks.Ask.TheVariants.{Open, Begin, Finish, Aba
 use Rattle.history.specs.declared.asks.Ask.TheVariants.{List as ListNames}
 use Rattle.std.proofs.lemmas.Bool.{false≢true}
 use Rattle.journal.specs.Parts.{parts, Lacks}
-use Rattle.journal.specs.Grammar.{◌▸◌, End, Is, SpellsBelow, SpellsNumber, SpellsMoment, SpellsDuration, SpellsSigned, SpellsPinned, SpellsStrong, SpellsUid, SpellsObject, SpellsKinds, SpellsObjects, SpellsClient, SpellsName, SpellsAsk, EventWords, SpellsEvent, ConfigWords, SpellsConfig, SpellsFront, SpellsEvents, BeginsBadly, JournalText}
+use Rattle.journal.specs.Grammar.{◌▸◌, End, Is, SpellsNumber, SpellsMoment, SpellsDuration, SpellsSigned, SpellsPinned, SpellsStrong, SpellsUid, SpellsObject, SpellsKinds, SpellsObjects, SpellsClient, SpellsName, SpellsAsk, SpellsEvent, SpellsConfig, SpellsFront, SpellsEvents, BeginsBadly, JournalText}
 use Rattle.journal.proofs.Splitting.{line_injective}
 use Rattle.journal.proofs.Graphic.{event_words, config_words, line_lacks}
 use Rattle.journal.proofs.EventLines.{event_to_parts, config_to_parts}

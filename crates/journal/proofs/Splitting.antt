@@ -1,6 +1,6 @@
 -- Bytes that are split at a separator, and parts that are joined by one.
-use Rattle.std.proofs.Common.{◌≡◌, ℕ, ◌+◌, ◌<◌, ◌≤◌, Bool, true, false, List, [], ◌∷◌, ◌++◌, length, take, drop, get_or, Option, Some, None, refl, ap, sym, ◌∙◌, arith, All, cond, eqb, eq-eqb, ltb, length-take, get_or-take}
-use Rattle.std.specs.List.{AllByRecursion, position, position_or_len, slice_split, onto_first, join_with_byte, before_first, after_first}
+use Rattle.std.proofs.Common.{◌≡◌, ℕ, ◌+◌, ◌<◌, ◌≤◌, Bool, true, false, List, [], ◌∷◌, ◌++◌, length, take, drop, get_or, Some, None, refl, ap, sym, ◌∙◌, arith, All, cond, eqb, eq-eqb, ltb, length-take, get_or-take}
+use Rattle.std.specs.List.{AllByRecursion, position, position_or_len, slice_split, onto_first, join_with_byte}
 use Rattle.std.proofs.lemmas.List.Elements.{All-from_recursion, recursion_from_All, All-from_get_or}
 use Rattle.std.proofs.lemmas.List.Sums.{fails_before_first, passes_at_first, split_at_first}
 use Rattle.std.proofs.lemmas.List.Splits.{slice_split_first, slice_split_none, slice_split_at, join_with_byte-slice_split}

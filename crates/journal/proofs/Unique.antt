@@ -1,8 +1,7 @@
 -- A word spells at most one value of a kind.
-use Rattle.std.proofs.Common.{◌≡◌, ◌≢◌, ℕ, suc, ◌+◌, ◌*◌, ◌/◌, ◌%◌, ◌^◌, ◌<◌, ◌≤◌, ◌⊎◌, inl, inr, Bool, true, false, List, [], ◌∷◌, ◌++◌, length, drop, refl, ap, sym, subst, ◌∙◌, arith, flat_map, codes, ℤ, pos, negsuc, w32, w64, get_or}
-use Rattle.std.specs.Int.{w16}
-use Rattle.std.specs.List.{AllByRecursion, AllZip, join_with_byte}
-use Rattle.std.specs.Fmt.{decimal, signed_decimal}
+use Rattle.std.proofs.Common.{◌≡◌, ℕ, suc, ◌^◌, ◌<◌, ◌≤◌, inl, inr, Bool, true, false, List, [], ◌∷◌, ◌++◌, length, drop, refl, ap, sym, subst, ◌∙◌, arith, flat_map, codes, ℤ, pos, negsuc, w64, get_or}
+use Rattle.std.specs.List.{AllByRecursion, AllZip}
+use Rattle.std.specs.Fmt.{signed_decimal}
 use Rattle.std.specs.Int.Signed.{mag}
 use Rattle.std.specs.Str.{bytes_eq}
 use Rattle.std.proofs.lemmas.Bool.{false≢true}
@@ -15,12 +14,10 @@ use mir.Val.{hbits}
 use Rattle.object_ids.specs.declared.ids.Uid.{Uid}
 use Rattle.object_ids.specs.declared.ids.ObjId.{ObjId}
 use Rattle.object_ids.specs.Client.{Client}
-use Rattle.history.specs.Texts.{hex_byte, unit_text, uid_text, address_text, client_text}
+use Rattle.history.specs.Texts.{hex_byte, unit_text, uid_text, address_text}
 use Rattle.journal.specs.Parts.{parts, Lacks}
-use Rattle.journal.specs.Hex.{SpellsBytes}
-use Rattle.journal.specs.Grammar.{SpellsBelow, SpellsSigned, SpellsNumber, SpellsMoment, SpellsDuration, IsUid, SpellsUid, SpellsLong, SpellsObject, long_text, IsAddress, SpellsAddress, IsClient, SpellsClient, IsName, SpellsName, SpellsList, SpellsKinds, SpellsObjects, SpellsPinned, SpellsStrong}
+use Rattle.journal.specs.Grammar.{SpellsBelow, SpellsSigned, SpellsNumber, SpellsDuration, SpellsUid, SpellsLong, SpellsObject, SpellsAddress, SpellsClient, SpellsName, SpellsList, SpellsKinds, SpellsObjects, SpellsPinned, SpellsStrong}
 use Rattle.journal.proofs.Decimals.{same_number, same_signed, no_minus}
-use Rattle.journal.proofs.Splitting.{parts_join}
 use Rattle.journal.proofs.Bytes.{number_lacks_comma}
 use Rattle.journal.proofs.Joined.{uid_parts, unique_small, time_small, count_small, long_parts, number_alone, no_long, object_lacks_comma}
 use Rattle.journal.proofs.Lists.{list_parts}

@@ -13,6 +13,8 @@ pub(crate) mod number;
 pub mod outline;
 pub(crate) mod parts;
 pub mod put;
+#[cfg(test)]
+mod tests;
 pub(crate) mod unread;
 
 pub use lines::{read_event, read_first_line, split_line};

@@ -54,7 +54,7 @@ fn put_after_slash(out: &mut ByteList, n: i64) -> Result<(), AllocError>
 }
 
 /// Appends bytes as two hexadecimal digits each.
-fn put_hex(out: &mut ByteList, bytes: &[u8]) -> Result<(), AllocError>
+pub fn put_hex(out: &mut ByteList, bytes: &[u8]) -> Result<(), AllocError>
     ensures ok { OnOk result (out.new ≡ out.old ++ flat_map hex_byte bytes.now) }
     ensures err { OnErr result (AppendsFront out.old (flat_map hex_byte bytes.now) out.new) }
 {
@@ -149,7 +149,7 @@ fn put_unit(out: &mut ByteList, unit: u16) -> Result<(), AllocError>
 }
 
 /// Appends the units of a name.
-fn put_units(out: &mut ByteList, units: &[u16]) -> Result<(), AllocError>
+pub fn put_units(out: &mut ByteList, units: &[u16]) -> Result<(), AllocError>
     ensures ok { OnOk result (out.new ≡ out.old ++ flat_map unit_text units.now) }
     ensures err { OnErr result (AppendsFront out.old (flat_map unit_text units.now) out.new) }
 {

@@ -1,4 +1,3 @@
-use Rattle.std.proofs.Common.{◌≡◌}
 use Rattle.std.proofs.lemmas.Result.{err_from_is_err_and}
 use Rattle.journal.specs.Grammar.{◌▸◌, SpellsNumber, SpellsMoment, SpellsAsk}
 use Rattle.journal.proofs.Refusing.{first_fails, rest_fails}

@@ -1,4 +1,3 @@
-use Rattle.std.proofs.Common.{◌≡◌}
 use Rattle.journal.proofs.EventLines.{event_to_parts, event_from_parts}
 use Rattle.journal.proofs.lines.read_event.Goals as goal
 

@@ -1,4 +1,3 @@
-use Rattle.std.proofs.Common.{◌≡◌}
 use Rattle.journal.specs.Grammar.{SpellsConfig, ConfigWords}
 use Rattle.journal.proofs.Refusing.{finds_same}
 use Rattle.journal.proofs.EventLines.{config_to_parts, config_from_parts}

@@ -1,4 +1,4 @@
-use Rattle.std.proofs.Common.{◌≡◌, arith}
+use Rattle.std.proofs.Common.{arith}
 use Rattle.journal.proofs.Decimals.{same_number}
 use Rattle.journal.proofs.number.read_duration.Goals as goal
 

@@ -1,4 +1,4 @@
-use Rattle.std.proofs.Common.{◌≡◌, suc, ◌^◌, ◌<◌, arith, sym, ◌∙◌}
+use Rattle.std.proofs.Common.{suc, arith, sym, ◌∙◌}
 use Rattle.std.proofs.lemmas.Fmt.{decimal_injective}
 use Rattle.journal.proofs.Decimals.{negative_word}
 use Rattle.journal.proofs.number.read_negative.Goals as goal

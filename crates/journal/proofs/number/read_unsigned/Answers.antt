@@ -1,4 +1,4 @@
-use Rattle.std.proofs.Common.{◌≡◌, sym, ◌∙◌}
+use Rattle.std.proofs.Common.{◌≡◌}
 use Rattle.journal.specs.Numbers.{BeginsPlainly}
 use Rattle.journal.proofs.Decimals.{begins_plainly, parsed, unparsed, is_text}
 use Rattle.journal.proofs.number.read_unsigned.Goals as goal

@@ -1,8 +1,7 @@
-use Rattle.std.proofs.Common.{◌≡◌, ◌∷◌, [], List, ℕ, ◌++◌, refl, ap, sym, ◌∙◌, append_assoc}
+use Rattle.std.proofs.Common.{◌∷◌, [], List, ℕ, ◌++◌, ap, sym, ◌∙◌, append_assoc}
 use Rattle.std.proofs.lemmas.Result.{on_err_weaker}
 use Rattle.object_ids.specs.declared.ids.Uid.{Uid}
 use Rattle.history.specs.Texts.{address_text, uid_text, client_text}
-use Rattle.journal.specs.Putting.{AppendsFront}
 use Rattle.journal.proofs.Fronts.{on_err, front_first, front_last, then_more}
 use Rattle.journal.proofs.put.put_client.Goals as goal
 

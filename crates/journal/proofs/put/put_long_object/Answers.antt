@@ -1,4 +1,4 @@
-use Rattle.std.proofs.Common.{◌≡◌, ℤ, ◌∷◌, [], List, ℕ, ◌++◌, refl, ap, ◌∙◌, append_assoc, w64, rules}
+use Rattle.std.proofs.Common.{ℤ, ◌∷◌, [], ◌++◌, refl, ap, ◌∙◌, append_assoc, w64, rules}
 use Rattle.std.specs.Prelude.{FitsSigned}
 use Rattle.std.specs.Fmt.{signed_decimal}
 use Rattle.std.proofs.lemmas.Int.{to_z-of_z}

@@ -1,6 +1,4 @@
-use Rattle.std.proofs.Common.{◌≡◌, ap, sym, subst, List, ℕ}
 use Rattle.std.proofs.lemmas.Result.{on_err_weaker}
-use Rattle.journal.specs.Putting.{AppendsFront}
 use Rattle.journal.proofs.Joined.{other_space}
 use Rattle.journal.proofs.put.put_object.Goals as goal
 

@@ -1,4 +1,4 @@
-use Rattle.std.proofs.Common.{◌≡◌, inr, sym}
+use Rattle.std.proofs.Common.{inr, sym}
 use Rattle.journal.specs.Grammar.{SpellsObject, SpellsLong}
 use Rattle.journal.proofs.Refusing.{reads_same}
 use Rattle.journal.proofs.Joined.{in_full, by_number}

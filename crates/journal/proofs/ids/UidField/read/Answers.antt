@@ -1,9 +1,7 @@
-use Rattle.std.proofs.Common.{◌≡◌, w32, w64}
+use Rattle.std.proofs.Common.{w32, w64}
 use Rattle.std.specs.Int.{w16}
 use Rattle.std.proofs.lemmas.Int.{to_z-of_z}
 use Rattle.std.proofs.lemmas.Result.{err_from_is_err_and}
-use Rattle.journal.specs.Parts.{parts}
-use Rattle.journal.specs.Grammar.{SpellsSigned}
 use Rattle.journal.proofs.Joined.{uid_to_parts, uid_from_parts}
 use Rattle.journal.proofs.ids.UidField.read.Goals as goal
 
