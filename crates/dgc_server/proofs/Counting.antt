@@ -23,11 +23,11 @@ use Rattle.dgc_server.specs.Entry.{Entry, numbers_of, has_object, counts_lem, ha
 use Rattle.dgc_server.specs.Table.{entry_of, remembered, clients_after, pairs_after}
 use Rattle.dgc_server.specs.Counts.{new_call, clients_with, pairs_with_call}
 use Rattle.dgc_server.specs.Stands.{LeaseTable, EntryStands, StandsFor, is_in_order, each_once, top, is_dirty_for, is_clean_for, is_strong_for}
-use Rattle.dgc_server.proofs.Distinct.{Decides, turned, all_once, absent_is, not_is, any-filtered, any-distinct, once-filter, once-distinct, once-append, length-distinct, length-distinct-push}
+use Rattle.dgc_server.proofs.Distinct.{Decides, turned, all_once, absent_is, not_is, any-filtered, any-distinct, once-filter, once-distinct, once-append, length-same, length-distinct, length-distinct-push}
 use Rattle.dgc_server.proofs.Highest.{remembered-top}
 use Rattle.dgc_server.proofs.Ordered.{all_after, has_client, absent, after-absent, order-filter}
 use Rattle.dgc_server.proofs.Outputs.{no_time, time-entries, each-own}
-use Rattle.dgc_server.proofs.Rising.{decides-client, rising-once, rising-entries, any-entry}
+use Rattle.dgc_server.proofs.Rising.{decides-client, rising-once, rising-clients, rising-entries, any-entry}
 use Rattle.dgc_server.proofs.Steps.{earlier, time-left}
 
 length-map : {X Y : Type 0} (f : X → Y) (xs : List X) → length (map f xs) ≡ length xs
@@ -48,7 +48,7 @@ clients-counted lease m now table calls c le s order =
 
 -- ---- pairs
 
-decides-object : Decides same_id
+pub decides-object : Decides same_id
 decides-object = record { equal = same_id-equal; self = same_id-self }
 
 decides-pair : Decides same_pair
@@ -83,18 +83,18 @@ any-flat p f (c ∷ cs) =
     ∙ ap (λ v. (same_client p.client c && list_any (same_id p.object) (f c)) || v) (any-flat p f cs)
 
 -- The objects that make a remembered pair with an entry's client.
-abbrev kept_of : ℕ → Entry → List ObjId
+abbrev pub kept_of : ℕ → Entry → List ObjId
 kept_of t e = map (λ (o : ObjectEntry). o.object) (filter (λ o. is_remembered (nat_lt t e.until) o.numbers) e.objects)
 
 -- The remembered pairs of entries.
-abbrev kept_pairs : ℕ → List Entry → List Pair
+abbrev pub kept_pairs : ℕ → List Entry → List Pair
 kept_pairs t es = flat_map (λ e. pairs_of e.client (kept_of t e)) es
 
 none-remembered : (left : Bool) → is_remembered left no_numbers ≡ false
 none-remembered true = refl
 none-remembered false = refl
 
-object-turned : (o : ObjId) (es : List ObjectEntry) → list_any (same_id o) (map (λ (e : ObjectEntry). e.object) es) ≡ has_object es o
+pub object-turned : (o : ObjId) (es : List ObjectEntry) → list_any (same_id o) (map (λ (e : ObjectEntry). e.object) es) ≡ has_object es o
 object-turned o es = list_any-map (same_id o) (λ (e : ObjectEntry). e.object) es ∙ list_any-same (λ e. same_id o e.object) (λ e. same_id e.object o) (λ e. turned decides-object o e.object) es
 
 filter-absent : (q : ObjectEntry → Bool) (es : List ObjectEntry) (o : ObjId) → has_object es o ≡ false → has_object (filter q es) o ≡ false
@@ -107,7 +107,7 @@ filter-absent q (e ∷ es) o h = go (q e) (same_id e.object o) refl h (filter-ab
     go false false x f rest = rest f
 
 -- An object is kept exactly where its numbers say so.
-any-kept : (left : Bool) (es : List ObjectEntry) (o : ObjId) → each_once es ≡ true → has_object (filter (λ e. is_remembered left e.numbers) es) o ≡ is_remembered left (numbers_of es o)
+pub any-kept : (left : Bool) (es : List ObjectEntry) (o : ObjId) → each_once es ≡ true → has_object (filter (λ e. is_remembered left e.numbers) es) o ≡ is_remembered left (numbers_of es o)
 any-kept left [] o h = sym (none-remembered left)
 any-kept left (e ∷ es) o h =
     let two = and_parts (not (has_object es e.object)) (each_once es) h in
@@ -120,7 +120,7 @@ any-kept left (e ∷ es) o h =
     go false false x y z rest = rest
     go false true x y z rest = filter-absent (λ d. is_remembered left d.numbers) es o (ap (has_object es) (sym (same_id-equal e.object o y)) ∙ z) ∙ sym x
 
-once-kept_of : (t : ℕ) (e : Entry) → each_once e.objects ≡ true → all_once same_id (kept_of t e) ≡ true
+pub once-kept_of : (t : ℕ) (e : Entry) → each_once e.objects ≡ true → all_once same_id (kept_of t e) ≡ true
 once-kept_of t e h = go (λ o. is_remembered (nat_lt t e.until) o.numbers) e.objects h
   where
     go : (q : ObjectEntry → Bool) (es : List ObjectEntry) → each_once es ≡ true → all_once same_id (map (λ (o : ObjectEntry). o.object) (filter q es)) ≡ true
@@ -136,7 +136,7 @@ once-kept_of t e h = go (λ o. is_remembered (nat_lt t e.until) o.numbers) e.obj
         one false x rest = rest
 
 -- A pair is kept exactly where the numbers of its client's entry say so.
-any-kept_pairs : (t : ℕ) (p : Pair) (es : List Entry) → is_in_order es ≡ true → Every (λ e. each_once e.objects ≡ true) es →
+pub any-kept_pairs : (t : ℕ) (p : Pair) (es : List Entry) → is_in_order es ≡ true → Every (λ e. each_once e.objects ≡ true) es →
     list_any (same_pair p) (kept_pairs t es) ≡ entry_remembers t p.object (entry_of es p.client)
 any-kept_pairs t p [] order once = sym (none-remembered (nat_lt t 0))
 any-kept_pairs t p (e ∷ es) order once =
@@ -245,7 +245,7 @@ unfolding calls_of
 calls-named lease t c calls o h = named-own lease t (filter (λ x. same_client x.client c) calls) o h
 
 -- A pair is among the remembered ones exactly where it is remembered.
-any-remembered : (lease t : ℕ) (calls : List Call) (p : Pair) → list_any (same_pair p) (pairs lease t calls) ≡ is_remembered_pair lease t (calls_of p.client calls) p.object
+pub any-remembered : (lease t : ℕ) (calls : List Call) (p : Pair) → list_any (same_pair p) (pairs lease t calls) ≡ is_remembered_pair lease t (calls_of p.client calls) p.object
 unfolding pairs pairs_with
 any-remembered lease t calls p =
     any-flat p (λ c. filter (is_remembered_pair lease t (calls_of c calls)) (objects_named calls)) (clients calls)
@@ -300,13 +300,13 @@ remembered-entry lease m t e own o le s =
         ap (λ v. is_some v || is_some (top (is_clean_for o) (tenure lease own))) (sym (s.dirties left o)) ∙ ap (λ v. is_some (numbers_of e.objects o).dirty || is_some v) (sym (s.cleans left o))
 
 -- Each entry of a table has each object once.
-entries-once : (lease m : ℕ) (table : LeaseTable) (calls : List Call) → StandsFor lease table m calls → is_in_order table.entries ≡ true → Every (λ e. each_once e.objects ≡ true) table.entries
+pub entries-once : (lease m : ℕ) (table : LeaseTable) (calls : List Call) → StandsFor lease table m calls → is_in_order table.entries ≡ true → Every (λ e. each_once e.objects ≡ true) table.entries
 entries-once lease m table calls s order =
     Every-weaker (λ e. entry_of table.entries e.client ≡ e) (λ e. each_once e.objects ≡ true)
     (λ e own. ap (λ (d : Entry). each_once d.objects) (sym own) ∙ (s.each e.client).once) table.entries (each-own table.entries order)
 
 -- The objects that bring new pairs.
-abbrev fresh : ℕ → Entry → List ObjId → List ObjId
+abbrev pub fresh : ℕ → Entry → List ObjId → List ObjId
 fresh t e os = filter (λ o. not (entry_remembers t o e)) (distinct same_id os)
 
 -- A pair of a client is new exactly where its object is named and it wasn't kept.
@@ -370,7 +370,7 @@ pairs-with t es c os before order once same =
     news = filter (λ o. not (entry_remembers t o (entry_of es c))) (distinct same_id os)
 
 -- How many pairs there are with no others.
-pairs-alone : (t : ℕ) (es : List Entry) (before : List Pair) → is_in_order es ≡ true → Every (λ e. each_once e.objects ≡ true) es →
+pub pairs-alone : (t : ℕ) (es : List Entry) (before : List Pair) → is_in_order es ≡ true → Every (λ e. each_once e.objects ≡ true) es →
     ((p : Pair) → list_any (same_pair p) before ≡ list_any (same_pair p) (kept_pairs t es)) → length (distinct same_pair (before ++ [])) ≡ remembered t es + 0
 pairs-alone t es before order once same =
     length-distinct decides-pair (before ++ []) (kept_pairs t es) (once-kept_pairs t es order once)
@@ -405,3 +405,39 @@ pairs-counted lease m table calls kind now c n os le s order =
     go : (b : Bool) → length (distinct same_pair (pairs lease now calls ++ (if b then pairs_of c os else []))) ≡ remembered now table.entries + (if b then fresh_of now (entry_of table.entries c) os else 0)
     go true = pairs-with now table.entries c os (pairs lease now calls) order once same
     go false = pairs-alone now table.entries (pairs lease now calls) order once same
+
+-- ---- the remembered pairs, each once
+
+any-narrower : {X : Type 0} (p q : X → Bool) (xs : List X) → list_any p xs ≡ false → list_any (λ x. p x && q x) xs ≡ false
+any-narrower p q [] h = refl
+any-narrower p q (x ∷ xs) h = go (p x) h (any-narrower p q xs)
+  where
+    go : (b : Bool) → (b || list_any p xs) ≡ false → (list_any p xs ≡ false → list_any (λ y. p y && q y) xs ≡ false) → ((b && q x) || list_any (λ y. p y && q y) xs) ≡ false
+    go true e rest = absurd (cc)
+    go false e rest = rest e
+
+once-flat : (f : Client → List ObjId) → ((c : Client) → all_once same_id (f c) ≡ true) → (cs : List Client) → all_once same_client cs ≡ true → all_once same_pair (flat_map (λ c. pairs_of c (f c)) cs) ≡ true
+once-flat f k [] h = refl
+once-flat f k (c ∷ cs) h =
+    let two = and_parts (not (list_any (same_client c) cs)) (all_once same_client cs) h in
+    once-append decides-pair (pairs_of c (f c)) (flat_map (λ d. pairs_of d (f d)) cs) (once-pairs c (f c) (k c)) (once-flat f k cs two.1)
+    (every-pair (λ p. list_any (same_pair p) (flat_map (λ d. pairs_of d (f d)) cs) ≡ false) c (f c)
+    (λ o. any-flat (record { client = c; object = o }) f cs ∙ any-narrower (same_client c) (λ d. list_any (same_id o) (f d)) cs (absent_is (list_any (same_client c) cs) two.0)))
+
+once-remembered : (lease t : ℕ) (calls : List Call) → all_once same_pair (pairs lease t calls) ≡ true
+unfolding pairs pairs_with objects_named
+once-remembered lease t calls =
+    once-flat (λ c. filter (is_remembered_pair lease t (calls_of c calls)) (distinct same_id (flat_map (λ x. x.objects) calls)))
+    (λ c. once-filter decides-object (is_remembered_pair lease t (calls_of c calls)) (distinct same_id (flat_map (λ x. x.objects) calls)) (once-distinct decides-object (flat_map (λ x. x.objects) calls)))
+    (clients calls) (rising-once (clients calls) (rising-clients calls))
+
+-- THE PAIRS THAT ARE REMEMBERED are counted.
+pub pairs-remembered : (lease m t : ℕ) (table : LeaseTable) (calls : List Call) → m ≤ t → StandsFor lease table m calls → is_in_order table.entries ≡ true →
+    length (pairs lease t calls) ≡ remembered t table.entries
+pairs-remembered lease m t table calls le s order =
+    let once = entries-once lease m table calls s order in
+    length-same decides-pair (pairs lease t calls) (kept_pairs t table.entries) (once-remembered lease t calls) (once-kept_pairs t table.entries order once)
+    (λ p. any-remembered lease t calls p
+    ∙ remembered-entry lease m t (entry_of table.entries p.client) (calls_of p.client calls) p.object le (s.each p.client)
+    ∙ sym (any-kept_pairs t p table.entries order once))
+    ∙ length-kept_pairs t table.entries

@@ -13,7 +13,7 @@ use Rattle.object_ids.proofs.Order.{client_cmp-equal, client_cmp-self}
 use Rattle.history.specs.declared.calls.CallKind.{CallKind}
 use Rattle.history.specs.declared.calls.CallKind.TheVariants.{Dirty, Weak, Strong}
 use Rattle.history.specs.Leases.{is_dirty_kind}
-use Rattle.dgc_server.specs.Entry.{Entry, lapsed, is_kept, tenure_forgotten, has_time_left, entry_holds}
+use Rattle.dgc_server.specs.Entry.{Entry, lapsed, is_kept, tenure_forgotten, has_time_left, entry_holds, entry_without}
 use Rattle.dgc_server.specs.Table.{no_entry, entry_of, with_entry, after_lapse, clients_after}
 use Rattle.dgc_server.specs.Stands.{is_in_order, entry_after}
 use Rattle.dgc_server.proofs.Ordered.{all_after, absent, after-absent, after-earlier, client-of}
@@ -64,6 +64,9 @@ few-lapse m k es most le h =
     let b = same-map (has_time_left k) (lapsed k) (lapsed-time k) es in
     let c = fewer (has_time_left k) (has_time_left m) (λ e x. earlier m k e.until le x) es in
     omega (arith, a, b, c, h)
+
+pub few-without : (m : ℕ) (o : ObjId) (es : List Entry) (most : ℕ) → length (filter (has_time_left m) es) ≤ most → length (filter (has_time_left m) (map (entry_without o) es)) ≤ most
+few-without m o es most h = let a = same-map (has_time_left m) (entry_without o) (λ e. refl) es in omega (arith, a, h)
 
 -- One client's entry in place of its own, or one more.
 few-with : (q : Entry → Bool) → ((c : Client) → q (no_entry c) ≡ false) → (e : Entry) (es : List Entry) → is_in_order es ≡ true →

@@ -13,3 +13,5 @@ pub mod Outputs
 pub mod Counting
 pub mod Few
 pub mod Told
+pub mod Without
+pub mod Kept

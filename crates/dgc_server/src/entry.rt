@@ -3,7 +3,7 @@ ghost use Rattle.std.specs.Prelude.{◌≡◌, ◌&&◌, not, [], length, filter
 ghost use Rattle.object_ids.specs.Same.{same_id, same_client};
 ghost use Rattle.history.specs.Lists.{distinct};
 ghost use Rattle.dgc_server.specs.Numbers.{is_dirty_highest, is_remembered};
-ghost use Rattle.dgc_server.specs.Entry.{has_time_left, entry_holds, remembered_of, fresh_of, fresh_in, numbers_of, is_in, has_object, objects_noted, entry_noted, with_missing, tenure_forgotten, has_strong, strong_only, objects_after, lapsed, is_kept, counts_lem};
+ghost use Rattle.dgc_server.specs.Entry.{has_time_left, entry_holds, remembered_of, fresh_of, fresh_in, numbers_of, is_in, has_object, objects_noted, entry_noted, with_missing, tenure_forgotten, has_strong, strong_only, objects_after, lapsed, entry_without, is_kept, counts_lem};
 
 use crate::numbers::Numbers;
 use history::CallKind;
@@ -175,6 +175,13 @@ impl ClientEntry {
         }
     }
 
+    /// Forgets the numbers of an object.
+    pub fn drop_object(&mut self, object: &ObjId)
+        ensures { self.new ≡ entry_without object.now self.old }
+    {
+        forget_object(&mut self.objects, object);
+    }
+
     /// Whether there is something to keep at this moment: time left, or an object.
     pub fn is_kept(&self, now: u64) -> bool
         ensures { result ≡ is_kept now self.now }
@@ -280,6 +287,13 @@ fn add_missing(
         }
     }
     Ok(())
+}
+
+/// Keeps the objects but this one.
+fn forget_object(objects: &mut Vec<ObjectEntry>, object: &ObjId)
+    ensures { objects.new.items ≡ filter (λ x. not (same_id x.object object.now)) objects.old.items }
+{
+    objects.retain(|entry| !entry.is_of(object));
 }
 
 /// Forgets the numbers of a tenure, and the objects that have no others.

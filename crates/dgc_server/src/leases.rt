@@ -1,9 +1,9 @@
 //! The lease table.
-ghost use Rattle.std.specs.Prelude.{◌≡◌, ◌≢◌, ◌<◌, ◌≤◌, ◌^◌, ◌↔◌, ℕ, List, [], ◌∷◌, length, max, IsTrue, OnOk, OnErr, IfOk, if◌then◌else◌};
+ghost use Rattle.std.specs.Prelude.{◌≡◌, ◌≢◌, ◌<◌, ◌≤◌, ◌^◌, ◌↔◌, ℕ, List, [], ◌∷◌, length, map, max, IsTrue, OnOk, OnErr, IfOk, if◌then◌else◌};
 ghost use Rattle.history.specs.declared.calls.Call.{Call};
 ghost use Rattle.history.specs.declared.limits.TheConstants.{MAX_CLIENTS, MAX_PAIRS};
-ghost use Rattle.history.specs.Leases.{is_dirty_kind, is_held, holders, lease_rows};
-ghost use Rattle.dgc_server.specs.Counts.{dirty_call, clean_call, clean_kind, clients_with, pairs_with_call};
+ghost use Rattle.history.specs.Leases.{is_dirty_kind, is_held, holders, pairs, lease_rows};
+ghost use Rattle.dgc_server.specs.Counts.{dirty_call, clean_call, clean_kind, without, clients_with, pairs_with_call};
 ghost use Rattle.dgc_server.specs.Stands.{IsSound, StandsFor, ForEachLog, ForEachLogBy, entry_after, table_after};
 ghost use Rattle.dgc_server.specs.Table.{entry_of, clients_after, pairs_after};
 
@@ -149,6 +149,24 @@ impl Leases {
             result ≡ length (holders lease (max now moment) calls object)) }
     {
         table::holders(&self.entries, &object, self.at(now)) as u32
+    }
+
+    /// Forgets that calls named this object: it is as if no call so far had. An object counts from its last
+    /// `drop_object` on. The calls themselves stay, so that each lease ends when it did. It takes no memory.
+    pub fn drop_object(&mut self, object: ObjId)
+        ensures { ForEachLog self.old (λ lease moment calls.
+            StandsFor lease self.new moment (map (without object) calls)) }
+    {
+        table::drop_object(&mut self.entries, &object);
+    }
+
+    /// How many pairs of a client and an object are remembered at this moment: those of clients with time
+    /// left, and those of strong cleans. A moment before the greatest one is read as the greatest.
+    pub fn pairs(&self, now: u64) -> u32
+        ensures { ForEachLog self.now (λ lease moment calls.
+            result ≡ length (pairs lease (max now moment) calls)) }
+    {
+        table::remembered_pairs(&self.entries, self.at(now)) as u32
     }
 
     /// The clients that have time left at this moment, in the order of clients, with the ends of their

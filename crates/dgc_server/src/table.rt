@@ -4,7 +4,7 @@ ghost use Rattle.std.specs.List.{list_any};
 ghost use Rattle.std.specs.Option.{option_copied};
 ghost use Rattle.object_ids.specs.Client.{Client};
 ghost use Rattle.dgc_server.specs.Numbers.{is_dirty_highest, is_remembered};
-ghost use Rattle.dgc_server.specs.Entry.{Entry, numbers_of, lapsed, is_kept, has_time_left, entry_holds, remembered_of, row_of};
+ghost use Rattle.dgc_server.specs.Entry.{Entry, numbers_of, lapsed, entry_without, is_kept, has_time_left, entry_holds, remembered_of, row_of};
 ghost use Rattle.dgc_server.specs.Table.{entry_of, no_entry, IsPlaceOf, with_entry, after_lapse, remembered, clients_after, fresh_pairs, pairs_after};
 
 use crate::entry::{ClientEntry, counts, fresh_count};
@@ -71,6 +71,22 @@ fn lapse_each(entries: &mut [ClientEntry], now: u64)
     }
 }
 
+/// Forgets what is kept of an object.
+pub fn drop_object(entries: &mut Vec<ClientEntry>, object: &ObjId)
+    ensures { entries.new.items ≡ map (entry_without object.now) entries.old.items }
+{
+    drop_from_each(entries, object);
+}
+
+/// Forgets what is kept of an object.
+fn drop_from_each(entries: &mut [ClientEntry], object: &ObjId)
+    ensures { entries.new ≡ map (entry_without object.now) entries.old }
+{
+    for entry in entries.iter_mut() {
+        entry.drop_object(object);
+    }
+}
+
 /// Keeps the clients of which something is left.
 fn keep(entries: &mut Vec<ClientEntry>, now: u64)
     ensures { entries.new.items ≡ filter (is_kept now) entries.old.items }
@@ -129,7 +145,7 @@ pub fn clients_after(entries: &[ClientEntry], client: &Vmid, at: u64) -> usize
 }
 
 /// How many pairs of a client and an object are remembered.
-fn remembered_pairs(entries: &[ClientEntry], at: u64) -> u128
+pub fn remembered_pairs(entries: &[ClientEntry], at: u64) -> u128
     ensures value { result ≡ remembered at entries.now }
     ensures small { result < 2 ^ 127 }
 {

@@ -3,6 +3,7 @@ use Rattle.std.specs.Prelude.{max}
 use Rattle.dgc_server.specs.Table.{after_lapse}
 use Rattle.dgc_server.specs.Stands.{LeaseTable, is_in_order}
 use Rattle.dgc_server.proofs.Few.{few-lapse}
+use Rattle.dgc_server.proofs.Kept.{once-lapse, remembered-lapse}
 use Rattle.dgc_server.proofs.Tables.{order-lapse, table-lapsed}
 use Rattle.dgc_server.proofs.leases.Leases.lapse.Goals as goal
 
@@ -16,6 +17,8 @@ invariant_of-self c =
       early = omega arith;
       ordered = order-lapse c.max-self-inside.result c.self.inside.entries.items c.self.invariant.ordered;
       few = few-lapse c.self.inside.moment c.max-self-inside.result c.self.inside.entries.items _ (omega arith) c.self.invariant.few;
+      once = once-lapse c.max-self-inside.result c.self.inside.entries.items c.self.invariant.once;
+      small = (let fewer = remembered-lapse c.self.inside.moment c.max-self-inside.result c.self.inside.entries.items (omega arith) in let small = c.self.invariant.small in omega arith);
     }
 
 pub returns : goal.returns

@@ -1,10 +1,11 @@
-use Rattle.std.proofs.Common.{◌≡◌, ◌≤◌, ap, sym, subst, ◌∙◌}
+use Rattle.std.proofs.Common.{◌≡◌, ◌≤◌, ap, sym, subst, ◌∙◌, arith}
 use Rattle.std.specs.Prelude.{IsTrue}
 use Rattle.history.specs.declared.limits.TheConstants.{MAX_CLIENTS}
 use Rattle.history.specs.Leases.{is_dirty_kind}
-use Rattle.dgc_server.specs.Table.{entry_of, with_entry, after_lapse, clients_after}
+use Rattle.dgc_server.specs.Table.{entry_of, with_entry, after_lapse, clients_after, pairs_after}
 use Rattle.dgc_server.specs.Stands.{LeaseTable, entry_after}
 use Rattle.dgc_server.proofs.Few.{few-noted}
+use Rattle.dgc_server.proofs.Kept.{once-noted, remembered-noted}
 use Rattle.dgc_server.proofs.Ordered.{order-with}
 use Rattle.dgc_server.proofs.Tables.{order-lapse}
 use Rattle.dgc_server.proofs.leases.Leases.note.Goals as goal
@@ -23,4 +24,8 @@ invariant_of-self-2 c =
       early = c.requires.early;
       ordered = order-lapse c.args.at (with_entry next es) (order-with next es c.self.invariant.ordered);
       few = few-noted c.self.inside.moment c.args.at c.self.inside.lease c.args.kind c.args.client.now c.args.number.now c.as_slice-named.result.now es MAX_CLIENTS late c.self.invariant.ordered c.self.invariant.few room;
+      once = once-noted c.args.at c.self.inside.lease c.args.kind c.args.client.now c.args.number.now c.as_slice-named.result.now es c.self.invariant.once;
+      small = (let fewer = remembered-noted c.args.at c.self.inside.lease c.args.kind c.args.client.now c.args.number.now c.as_slice-named.result.now es c.self.invariant.ordered c.self.invariant.once in
+          let few = c.if-pairs_after.false in
+          let counted : c.pairs_after.result ≡ pairs_after c.args.at es c.args.client.now c.args.kind c.as_slice-named.result.now = c.pairs_after.ensures ∙ ap (λ l. pairs_after c.args.at l c.args.client.now c.args.kind c.as_slice-named.result.now) c.deref.ensures.value in omega arith);
     }

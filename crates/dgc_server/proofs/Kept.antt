@@ -1,0 +1,294 @@
+-- How many pairs are remembered, as time passes, after a call, and without an object; and that each client has its objects once.
+use Rattle.std.proofs.Common.{◌≡◌, ℕ, ◌+◌, ◌≤◌, List, [], ◌∷◌, ◌++◌, length, refl, ap, sym, ◌∙◌, arith, cond, map, suc, length-append}
+use Rattle.std.specs.Prelude.{ℤ, Bool, true, false, ◌&&◌, ◌||◌, not, filter, is_some, nat_lt, sum_by, if◌then◌else◌}
+use Rattle.std.specs.List.{list_any, list_all}
+use Rattle.std.specs.Ordering.{is_lt, is_eq}
+use Rattle.std.specs.declared.cmp.Ordering.{Ordering}
+use Rattle.std.specs.declared.cmp.Ordering.TheVariants.{Less, Equal, Greater}
+use Rattle.std.proofs.lemmas.Bool.{and_parts, and_from}
+use Rattle.std.proofs.lemmas.List.Folds.{list_any-append}
+use Rattle.std.proofs.lemmas.List.Sums.{sum_by-cons}
+use Rattle.object_ids.specs.declared.ids.ObjId.{ObjId}
+use Rattle.object_ids.specs.Client.{Client, client_cmp}
+use Rattle.object_ids.specs.Same.{same_client, same_id}
+use Rattle.object_ids.proofs.Exact.{same_client-equal, same_client-true, same_id-self, same_id-equal}
+use Rattle.object_ids.proofs.Order.{client_cmp-equal, client_cmp-self}
+use Rattle.history.specs.declared.calls.CallKind.{CallKind}
+use Rattle.history.specs.declared.calls.CallKind.TheVariants.{Dirty, Weak, Strong}
+use Rattle.history.specs.Lists.{distinct}
+use Rattle.history.proofs.ListLemmas.{AllOnce, length-fewer, or_true}
+use Rattle.dgc_server.specs.declared.numbers.Numbers.{Numbers}
+use Rattle.dgc_server.specs.declared.entry.ObjectEntry.{ObjectEntry}
+use Rattle.dgc_server.specs.Numbers.{is_remembered}
+use Rattle.dgc_server.specs.Entry.{Entry, numbers_of, is_in, counts_lem, has_strong, strong_only, tenure_forgotten, lapsed, is_kept, has_time_left, remembered_of, entry_remembers, fresh_of, entry_without}
+use Rattle.dgc_server.specs.Table.{no_entry, entry_of, with_entry, after_lapse, remembered, pairs_after}
+use Rattle.dgc_server.specs.Stands.{is_in_order, each_once, entry_after}
+use Rattle.dgc_server.proofs.Counting.{decides-object, object-turned, kept_of, any-kept, once-kept_of, fresh}
+use Rattle.dgc_server.proofs.Distinct.{all_once, absent_is, any-filtered, any-distinct, turned}
+use Rattle.dgc_server.proofs.Objects.{numbers_after, numbers-after, once-after, once-filter, once-forgotten}
+use Rattle.dgc_server.proofs.Ordered.{all_after, absent, after-absent, after-earlier, client-of}
+use Rattle.dgc_server.proofs.Steps.{earlier}
+
+-- ---- each object once
+
+abbrev pub all_objects_once : List Entry → Bool
+all_objects_once es = list_all (λ e. each_once e.objects) es
+
+once-map : (f : Entry → Entry) → ((e : Entry) → each_once e.objects ≡ true → each_once (f e).objects ≡ true) → (es : List Entry) → all_objects_once es ≡ true → all_objects_once (map f es) ≡ true
+once-map f k [] h = refl
+once-map f k (e ∷ es) h =
+    let two = and_parts (each_once e.objects) (all_objects_once es) h in
+    and_from (each_once (f e).objects) (all_objects_once (map f es)) (k e two.0) (once-map f k es two.1)
+
+once-filtered : (p : Entry → Bool) (es : List Entry) → all_objects_once es ≡ true → all_objects_once (filter p es) ≡ true
+once-filtered p [] h = refl
+once-filtered p (e ∷ es) h = let two = and_parts (each_once e.objects) (all_objects_once es) h in go (p e) two.0 (once-filtered p es two.1)
+  where
+    go : (b : Bool) → each_once e.objects ≡ true → all_objects_once (filter p es) ≡ true → all_objects_once (cond b (e ∷ filter p es) (filter p es)) ≡ true
+    go true x rest = and_from (each_once e.objects) (all_objects_once (filter p es)) x rest
+    go false x rest = rest
+
+once-lapsed : (k : ℕ) (e : Entry) → each_once e.objects ≡ true → each_once (lapsed k e).objects ≡ true
+once-lapsed k e h = go (nat_lt k e.until)
+  where
+    go : (b : Bool) → each_once (if b then e else record e { objects = tenure_forgotten e.objects }).objects ≡ true
+    go true = h
+    go false = once-forgotten e.objects h
+
+pub once-lapse : (k : ℕ) (es : List Entry) → all_objects_once es ≡ true → all_objects_once (after_lapse k es) ≡ true
+once-lapse k es h = once-filtered (is_kept k) (map (lapsed k) es) (once-map (lapsed k) (once-lapsed k) es h)
+
+pub once-without : (o : ObjId) (es : List Entry) → all_objects_once es ≡ true → all_objects_once (map (entry_without o) es) ≡ true
+once-without o es h = once-map (entry_without o) (λ e x. once-filter (λ y. not (same_id y.object o)) e.objects x) es h
+
+once-with : (e : Entry) (es : List Entry) → each_once e.objects ≡ true → all_objects_once es ≡ true → all_objects_once (with_entry e es) ≡ true
+once-with e [] a h = and_from (each_once e.objects) true a refl
+once-with e (d ∷ es) a h =
+    let two = and_parts (each_once d.objects) (all_objects_once es) h in go (client_cmp e.client d.client) two.0 two.1 (once-with e es a two.1)
+  where
+    go : (o : Ordering) → each_once d.objects ≡ true → all_objects_once es ≡ true → all_objects_once (with_entry e es) ≡ true →
+        all_objects_once (if is_lt o then e ∷ d ∷ es else if is_eq o then e ∷ es else d ∷ with_entry e es) ≡ true
+    go Less x y rest = rw (a, x, y) refl
+    go Equal x y rest = rw (a, y) refl
+    go Greater x y rest = rw (x, rest) refl
+
+once-entry : (es : List Entry) (c : Client) → all_objects_once es ≡ true → each_once (entry_of es c).objects ≡ true
+once-entry [] c h = refl
+once-entry (e ∷ es) c h = let two = and_parts (each_once e.objects) (all_objects_once es) h in go (same_client e.client c) two.0 (once-entry es c two.1)
+  where
+    go : (b : Bool) → each_once e.objects ≡ true → each_once (entry_of es c).objects ≡ true → each_once (if b then e else entry_of es c).objects ≡ true
+    go true x rest = x
+    go false x rest = rest
+
+pub once-noted : (at lease : ℕ) (kind : CallKind) (c : Client) (n : ℤ) (os : List ObjId) (es : List Entry) → all_objects_once es ≡ true →
+    all_objects_once (after_lapse at (with_entry (entry_after lease kind n os at (entry_of es c)) es)) ≡ true
+once-noted at lease kind c n os es h =
+    once-lapse at (with_entry (entry_after lease kind n os at (entry_of es c)) es)
+    (once-with (entry_after lease kind n os at (entry_of es c)) es (once-after (has_time_left at (entry_of es c)) kind n os (entry_of es c).objects (once-entry es c h)) h)
+
+-- ---- fewer pairs
+
+sum-fewer : (f g : Entry → ℕ) (h : Entry → Entry) → ((e : Entry) → f (h e) ≤ g e) → (es : List Entry) → sum_by f (map h es) ≤ sum_by g es
+sum-fewer f g h k [] = omega arith
+sum-fewer f g h k (e ∷ es) =
+    let one = k e in let rest = sum-fewer f g h k es in let a = sum_by-cons f (h e) (map h es) in let b = sum_by-cons g e es in omega arith
+
+sum-filter : (f : Entry → ℕ) (p : Entry → Bool) (es : List Entry) → sum_by f (filter p es) ≤ sum_by f es
+sum-filter f p [] = omega arith
+sum-filter f p (e ∷ es) = go (p e) (sum-filter f p es)
+  where
+    go : (b : Bool) → sum_by f (filter p es) ≤ sum_by f es → sum_by f (cond b (e ∷ filter p es) (filter p es)) ≤ sum_by f (e ∷ es)
+    go true r = let a = sum_by-cons f e (filter p es) in let b = sum_by-cons f e es in omega arith
+    go false r = let b = sum_by-cons f e es in omega arith
+
+-- A test that is narrower, on fewer objects.
+fewer-objects : (q r p : ObjectEntry → Bool) → ((e : ObjectEntry) → q e ≡ true → r e ≡ true) → (es : List ObjectEntry) → length (filter q (filter p es)) ≤ length (filter r es)
+fewer-objects q r p f [] = omega arith
+fewer-objects q r p f (e ∷ es) = go (p e) (q e) (r e) refl refl (fewer-objects q r p f es)
+  where
+    go : (a b c : Bool) → q e ≡ b → r e ≡ c → length (filter q (filter p es)) ≤ length (filter r es) →
+        length (filter q (cond a (e ∷ filter p es) (filter p es))) ≤ length (cond c (e ∷ filter r es) (filter r es))
+    go true true true x y h = rw x (omega arith)
+    go true true false x y h = absurd (let z = f e x in cc)
+    go true false true x y h = rw x (omega arith)
+    go true false false x y h = rw x h
+    go false b true x y h = omega arith
+    go false b false x y h = h
+
+-- Once a tenure is forgotten, the objects of strong cleans are remembered.
+fewer-forgotten : (left : Bool) (es : List ObjectEntry) → length (filter (λ x. is_remembered false x.numbers) (tenure_forgotten es)) ≤ length (filter (λ x. is_remembered left x.numbers) es)
+fewer-forgotten left [] = omega arith
+fewer-forgotten left (e ∷ es) = go (has_strong e) (is_remembered left e.numbers) refl refl (fewer-forgotten left es)
+  where
+    strong : (x : Bool) → (x || true) ≡ true
+    strong x = or_true x
+
+    go : (a b : Bool) → has_strong e ≡ a → is_remembered left e.numbers ≡ b → length (filter (λ x. is_remembered false x.numbers) (tenure_forgotten es)) ≤ length (filter (λ x. is_remembered left x.numbers) es) →
+        length (filter (λ x. is_remembered false x.numbers) (map strong_only (cond a (e ∷ filter has_strong es) (filter has_strong es)))) ≤ length (cond b (e ∷ filter (λ x. is_remembered left x.numbers) es) (filter (λ x. is_remembered left x.numbers) es))
+    go true true x y h = rw x (omega arith)
+    go true false x y h = absurd (let z : is_remembered left e.numbers ≡ true = ap (λ v. (left && (is_some e.numbers.dirty || is_some e.numbers.clean)) || v) x ∙ or_true (left && (is_some e.numbers.dirty || is_some e.numbers.clean)) in cc)
+    go false true x y h = omega arith
+    go false false x y h = h
+
+fewer-lapsed : (m k : ℕ) (e : Entry) → m ≤ k → remembered_of k (lapsed k e) ≤ remembered_of m e
+fewer-lapsed m k e le = go (nat_lt k e.until) refl
+  where
+    go : (b : Bool) → nat_lt k e.until ≡ b → remembered_of k (if b then e else record e { objects = tenure_forgotten e.objects }) ≤ remembered_of m e
+    go true x = rw (x, earlier m k e.until le x) (omega arith)
+    go false x = rw x (fewer-forgotten (nat_lt m e.until) e.objects)
+
+pub remembered-lapse : (m k : ℕ) (es : List Entry) → m ≤ k → remembered k (after_lapse k es) ≤ remembered m es
+remembered-lapse m k es le =
+    let a = sum-filter (remembered_of k) (is_kept k) (map (lapsed k) es) in
+    let b = sum-fewer (remembered_of k) (remembered_of m) (lapsed k) (λ e. fewer-lapsed m k e le) es in omega arith
+
+pub remembered-without : (m : ℕ) (o : ObjId) (es : List Entry) → remembered m (map (entry_without o) es) ≤ remembered m es
+remembered-without m o es =
+    sum-fewer (remembered_of m) (remembered_of m) (entry_without o)
+    (λ e. fewer-objects (λ x. is_remembered (nat_lt m e.until) x.numbers) (λ x. is_remembered (nat_lt m e.until) x.numbers) (λ x. not (same_id x.object o)) (λ x h. h) e.objects) es
+
+longer-time : (m k : ℕ) (e : Entry) → m ≤ k → remembered_of k e ≤ remembered_of m e
+longer-time m k e le = fewer-all (λ x. is_remembered (nat_lt k e.until) x.numbers) (λ x. is_remembered (nat_lt m e.until) x.numbers) (λ x h. wider (nat_lt k e.until) (nat_lt m e.until) x.numbers (λ y. earlier m k e.until le y) h) e.objects
+  where
+    wider : (a b : Bool) (n : Numbers) → (a ≡ true → b ≡ true) → is_remembered a n ≡ true → is_remembered b n ≡ true
+    wider true true n f h = h
+    wider true false n f h = absurd (let z = f refl in cc)
+    wider false true n f h = ap (λ v. (is_some n.dirty || is_some n.clean) || v) h ∙ or_true (is_some n.dirty || is_some n.clean)
+    wider false false n f h = h
+
+    fewer-all : (q r : ObjectEntry → Bool) → ((x : ObjectEntry) → q x ≡ true → r x ≡ true) → (es : List ObjectEntry) → length (filter q es) ≤ length (filter r es)
+    fewer-all q r f [] = omega arith
+    fewer-all q r f (x ∷ es) = go (q x) (r x) refl refl (fewer-all q r f es)
+      where
+        go : (a b : Bool) → q x ≡ a → r x ≡ b → length (filter q es) ≤ length (filter r es) → length (cond a (x ∷ filter q es) (filter q es)) ≤ length (cond b (x ∷ filter r es) (filter r es))
+        go true true y z h = omega arith
+        go true false y z h = absurd (let w = f x y in cc)
+        go false true y z h = omega arith
+        go false false y z h = h
+
+pub remembered-later : (m k : ℕ) (es : List Entry) → m ≤ k → remembered k es ≤ remembered m es
+remembered-later m k [] le = omega arith
+remembered-later m k (e ∷ es) le =
+    let one = longer-time m k e le in let rest = remembered-later m k es le in
+    let a = sum_by-cons (remembered_of k) e es in let b = sum_by-cons (remembered_of m) e es in omega arith
+
+-- ---- after a call
+
+-- What is remembered after a call was remembered before it, or the call counts and names it.
+remembered-then : (after left : Bool) (kind : CallKind) (n : ℤ) (named : Bool) (numbers : Numbers) → is_remembered after (numbers_after left kind n named numbers) ≡ true →
+    (is_remembered left numbers || (counts_lem kind left && named)) ≡ true
+remembered-then after true kind n true numbers h = rw (always kind) (or_true (is_remembered true numbers))
+  where
+    always : (k : CallKind) → counts_lem k true ≡ true
+    always Dirty = refl
+    always Weak = refl
+    always Strong = refl
+remembered-then after true kind n false numbers h = first (is_remembered true numbers) (counts_lem kind true && false) (wider after (before kind h))
+  where
+    first : (a b : Bool) → a ≡ true → (a || b) ≡ true
+    first true b e = refl
+    first false b e = absurd (cc)
+
+    before : (k : CallKind) → is_remembered after (numbers_after true k n false numbers) ≡ true → is_remembered after numbers ≡ true
+    before Dirty e = e
+    before Weak e = e
+    before Strong e = e
+
+    wider : (a : Bool) → is_remembered a numbers ≡ true → is_remembered true numbers ≡ true
+    wider true e = e
+    wider false e = ap (λ v. (is_some numbers.dirty || is_some numbers.clean) || v) e ∙ or_true (is_some numbers.dirty || is_some numbers.clean)
+remembered-then after false Dirty n true numbers h = or_true (is_some numbers.strong)
+remembered-then after false Strong n true numbers h = or_true (is_some numbers.strong)
+remembered-then true false Weak n named numbers h = ap (λ v. v || false) h
+remembered-then false false Weak n named numbers h = ap (λ v. v || false) h
+remembered-then true false Dirty n false numbers h = ap (λ v. v || false) h
+remembered-then false false Dirty n false numbers h = ap (λ v. v || false) h
+remembered-then true false Strong n false numbers h = ap (λ v. v || false) h
+remembered-then false false Strong n false numbers h = ap (λ v. v || false) h
+
+length-map : {X Y : Type 0} (f : X → Y) (xs : List X) → length (map f xs) ≡ length xs
+length-map f [] = refl
+length-map f (x ∷ xs) = ap suc (length-map f xs)
+
+once-all : (os : List ObjId) → all_once same_id os ≡ true → AllOnce same_id os
+once-all [] h = tt
+once-all (o ∷ os) h = let two = and_parts (not (list_any (same_id o) os)) (all_once same_id os) h in (absent_is (list_any (same_id o) os) two.0, once-all os two.1)
+
+any-kept_of : (t : ℕ) (e : Entry) (o : ObjId) → each_once e.objects ≡ true → list_any (same_id o) (kept_of t e) ≡ entry_remembers t o e
+any-kept_of t e o h = object-turned o (filter (λ x. is_remembered (nat_lt t e.until) x.numbers) e.objects) ∙ any-kept (nat_lt t e.until) e.objects o h
+
+any-fresh : (t : ℕ) (e : Entry) (o : ObjId) (os : List ObjId) → list_any (same_id o) (fresh t e os) ≡ (list_any (same_id o) os && not (entry_remembers t o e))
+any-fresh t e o os =
+    any-filtered decides-object (λ x. not (entry_remembers t x e)) o (distinct same_id os) ∙ ap (λ v. v && not (entry_remembers t o e)) (any-distinct decides-object o os)
+
+named-turned : (o : ObjId) (os : List ObjId) → is_in o os ≡ list_any (same_id o) os
+named-turned o [] = refl
+named-turned o (x ∷ os) = rw (named-turned o os) (ap (λ v. v || list_any (same_id o) os) (turned decides-object x o))
+
+length-kept_of : (t : ℕ) (e : Entry) → length (kept_of t e) ≡ remembered_of t e
+length-kept_of t e = length-map (λ (x : ObjectEntry). x.object) (filter (λ x. is_remembered (nat_lt t e.until) x.numbers) e.objects)
+
+-- What a call brings to what is remembered of its client.
+remembered-entry : (lease t : ℕ) (kind : CallKind) (n : ℤ) (os : List ObjId) (e : Entry) → each_once e.objects ≡ true →
+    remembered_of t (entry_after lease kind n os t e) ≤ remembered_of t e + (if counts_lem kind (has_time_left t e) then fresh_of t e os else 0)
+remembered-entry lease t kind n os e once =
+    let next = entry_after lease kind n os t e in
+    let next_once = once-after (has_time_left t e) kind n os e.objects once in
+    let both = kept_of t e ++ (if counts_lem kind (has_time_left t e) then fresh t e os else []) in
+    let few : length (kept_of t next) ≤ length both =
+    length-fewer same_id (record { self = same_id-self; equal = same_id-equal }) (kept_of t next) both (once-all (kept_of t next) (once-kept_of t next next_once))
+    (λ o h. list_any-append (same_id o) (kept_of t e) (if counts_lem kind (has_time_left t e) then fresh t e os else [])
+    ∙ ap (λ v. v || list_any (same_id o) (if counts_lem kind (has_time_left t e) then fresh t e os else [])) (any-kept_of t e o once)
+    ∙ member o (entry_remembers t o e) (counts_lem kind (has_time_left t e)) refl
+    (ap (λ v. entry_remembers t o e || (counts_lem kind (has_time_left t e) && v)) (sym (named-turned o os))
+    ∙ remembered-then (has_time_left t next) (has_time_left t e) kind n (is_in o os) (numbers_of e.objects o)
+    (ap (is_remembered (has_time_left t next)) (sym (numbers-after (has_time_left t e) kind n os e.objects o once)) ∙ sym (any-kept_of t next o next_once) ∙ h))) in
+    let a = length-kept_of t next in let b = length-kept_of t e in
+    let c = length-append (kept_of t e) (if counts_lem kind (has_time_left t e) then fresh t e os else []) in
+    let d = size (counts_lem kind (has_time_left t e)) in omega arith
+  where
+    size : (b : Bool) → length (if b then fresh t e os else []) ≡ (if b then fresh_of t e os else 0)
+    size true = refl
+    size false = refl
+
+    member : (o : ObjId) (r b : Bool) → entry_remembers t o e ≡ r → (r || (b && list_any (same_id o) os)) ≡ true → (r || list_any (same_id o) (if b then fresh t e os else [])) ≡ true
+    member o true b x h = refl
+    member o false true x h = any-fresh t e o os ∙ ap (λ v. list_any (same_id o) os && not v) x ∙ ap (λ v. v && true) h
+    member o false false x h = h
+
+-- One client's entry in place of its own, or one more.
+sum-with : (f : Entry → ℕ) → ((c : Client) → f (no_entry c) ≡ 0) → (e : Entry) (es : List Entry) → is_in_order es ≡ true →
+    sum_by f (with_entry e es) + f (entry_of es e.client) ≡ sum_by f es + f e
+sum-with f none e [] order = let a = none e.client in let b = sum_by-cons f e [] in omega arith
+sum-with f none e (d ∷ es) order =
+    let two = and_parts (all_after d.client es) (is_in_order es) order in
+    go (client_cmp e.client d.client) refl two.0 (sum-with f none e es two.1)
+  where
+    go : (o : Ordering) → client_cmp e.client d.client ≡ o → all_after d.client es ≡ true →
+        sum_by f (with_entry e es) + f (entry_of es e.client) ≡ sum_by f es + f e →
+        sum_by f (if is_lt o then e ∷ d ∷ es else if is_eq o then e ∷ es else d ∷ with_entry e es) + f (if same_client d.client e.client then d else entry_of es e.client)
+        ≡ sum_by f (d ∷ es) + f e
+    go Less x after h =
+        let gone : entry_of (d ∷ es) e.client ≡ no_entry e.client = absent (d ∷ es) e.client (after-absent e.client (d ∷ es) (rw x (after-earlier e.client d.client es x after))) in
+        let zero_of = ap f gone in let a = none e.client in let b = sum_by-cons f e (d ∷ es) in omega arith
+    go Equal x after h =
+        let same : same_client d.client e.client ≡ true = same_client-true d.client e.client (sym (client_cmp-equal e.client d.client x)) in
+        let b = sum_by-cons f e es in let c = sum_by-cons f d es in
+        rw same (omega arith)
+    go Greater x after h =
+        let b = sum_by-cons f d (with_entry e es) in let c = sum_by-cons f d es in
+        rw (other (same_client d.client e.client) refl) (omega arith)
+      where
+        other : (b : Bool) → same_client d.client e.client ≡ b → b ≡ false
+        other false y = refl
+        other true y = absurd (let s : client_cmp e.client d.client ≡ Equal = ap (client_cmp e.client) (same_client-equal d.client e.client y) ∙ client_cmp-self e.client in cc)
+
+-- THE PAIRS AFTER A CALL are no more than are counted before it.
+pub remembered-noted : (at lease : ℕ) (kind : CallKind) (c : Client) (n : ℤ) (os : List ObjId) (es : List Entry) → is_in_order es ≡ true → all_objects_once es ≡ true →
+    remembered at (after_lapse at (with_entry (entry_after lease kind n os at (entry_of es c)) es)) ≤ pairs_after at es c kind os
+remembered-noted at lease kind c n os es order once =
+    let next = entry_after lease kind n os at (entry_of es c) in
+    let own : remembered at (with_entry next es) + remembered_of at (entry_of es c) ≡ remembered at es + remembered_of at next =
+    ap (λ d. remembered at (with_entry next es) + remembered_of at (entry_of es d)) (sym (client-of es c)) ∙ sum-with (remembered_of at) (λ d. refl) next es order in
+    let more = remembered-entry lease at kind n os (entry_of es c) (once-entry es c once) in
+    let fewer = remembered-lapse at at (with_entry next es) (omega arith) in omega arith

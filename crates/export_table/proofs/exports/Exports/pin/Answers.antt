@@ -1,0 +1,8 @@
+use Rattle.std.proofs.Common.{refl}
+use Rattle.export_table.specs.Rows.{pinned_once}
+use Rattle.export_table.proofs.Sound.{sound-changed}
+use Rattle.export_table.proofs.exports.Exports.pin.Goals as goal
+
+pub invariant_of-self : goal.invariant_of-self
+invariant_of-self c =
+    rw c.pin.ensures.items (sound-changed c.self.inside.space c.self.inside.ack c.self.inside.added c.self.inside.rows.items c.self.inside.waits.items pinned_once c.args.id (λ x. refl) c.self.invariant)

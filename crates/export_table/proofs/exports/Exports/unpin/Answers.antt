@@ -1,0 +1,8 @@
+use Rattle.std.proofs.Common.{refl}
+use Rattle.export_table.specs.Rows.{unpinned_once}
+use Rattle.export_table.proofs.Sound.{sound-changed}
+use Rattle.export_table.proofs.exports.Exports.unpin.Goals as goal
+
+pub invariant_of-self : goal.invariant_of-self
+invariant_of-self c =
+    rw c.unpin.ensures.items (sound-changed c.self.inside.space c.self.inside.ack c.self.inside.added c.self.inside.rows.items c.self.inside.waits.items unpinned_once c.args.id (λ x. refl) c.self.invariant)

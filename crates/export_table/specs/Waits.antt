@@ -1,0 +1,51 @@
+-- References that were returned and await their acknowledgement: each is of an object and of the return that had it.
+use Rattle.std.specs.Prelude.{ℕ, ◌+◌, max, Bool, true, not, ◌&&◌, List, [], ◌∷◌, ◌++◌, filter, find, nat_lt, option_map, unwrap_or}
+use Rattle.std.specs.List.{list_any}
+use Rattle.object_ids.specs.declared.ids.Uid.{Uid}
+use Rattle.object_ids.specs.declared.ids.ObjId.{ObjId}
+use Rattle.object_ids.specs.Same.{same_id, same_uid}
+use Rattle.export_table.specs.declared.waits.Wait.{Wait}
+
+-- It is the wait of this object and return.
+abbrev pub is_wait_of : ObjId → Uid → Wait → Bool
+is_wait_of o u w = same_id w.object o && same_uid w.uid u
+
+-- It goes on after the moment t.
+abbrev pub goes_on : ℕ → Wait → Bool
+goes_on t w = nat_lt t w.until
+
+-- Those that wait at the moment t.
+abbrev pub waiting : ℕ → List Wait → List Wait
+waiting t waits = filter (goes_on t) waits
+
+-- This object and return wait at the moment t.
+abbrev pub is_waiting : ℕ → ObjId → Uid → List Wait → Bool
+is_waiting t o u waits = list_any (λ w. goes_on t w && is_wait_of o u w) waits
+
+-- Those of an object that wait at the moment t.
+abbrev pub awaiting_of : ℕ → ObjId → List Wait → List Wait
+awaiting_of t o waits = filter (λ w. goes_on t w && same_id w.object o) waits
+
+-- Some of an object waits at the moment t.
+abbrev pub is_awaited : ℕ → ObjId → List Wait → Bool
+is_awaited t o waits = list_any (λ w. goes_on t w && same_id w.object o) waits
+
+-- The moment until which this object and return wait, 0 where they are not there.
+abbrev pub until_of : ObjId → Uid → List Wait → ℕ
+until_of o u waits = unwrap_or (option_map (λ w. w.until) (find (is_wait_of o u) waits)) 0
+
+-- The waits once an object is listed in a return at the moment t, the last listed last: it waits for `ack` from t on, and no shorter than
+-- it did before. Those that ended are gone.
+abbrev pub listed : ℕ → ℕ → ObjId → Uid → List Wait → List Wait
+listed ack t o u waits =
+    filter (λ w. not (is_wait_of o u w)) (waiting t waits)
+    ++ record { object = o; uid = u; until = max (t + ack) (until_of o u waits) } ∷ []
+
+-- The waits once a return is acknowledged.
+abbrev pub acknowledged : Uid → List Wait → List Wait
+acknowledged u waits = filter (λ w. not (same_uid w.uid u)) waits
+
+-- Each object and return wait once.
+abbrev pub each_once : List Wait → Bool
+each_once [] = true
+each_once (w ∷ waits) = not (list_any (is_wait_of w.object w.uid) waits) && each_once waits

@@ -1,0 +1,281 @@
+//! The export table.
+ghost use Rattle.std.specs.Prelude.{◌≡◌, ◌≢◌, ◌⊎◌, ◌<◌, ◌≤◌, ◌+◌, ◌^◌, ◌↔◌, ◌++◌, ◌∷◌, [], ℕ, List, Bool, true, false, max, length, map, filter, not, IsTrue, OnOk, OnErr, IfOk, IfErr, vec_len, vec_capacity};
+ghost use Rattle.history.specs.declared.limits.TheConstants.{MAX_EXPORTS, MAX_AWAITING};
+ghost use Rattle.history.specs.Places.{id_at};
+ghost use Rattle.object_ids.specs.declared.ids.FullKind.TheVariants.{Exports as FullExports, Awaiting as FullAwaiting};
+ghost use Rattle.dgc_server.specs.Stands.{StandsFor, ForEachLog};
+ghost use Rattle.export_table.specs.Waits.{waiting, is_waiting, listed, acknowledged};
+ghost use Rattle.export_table.specs.Rows.{is_exported, kind_of, running_of, pins_of, ids, is_rising, new_row, changed, begun, ended, pinned_once, unpinned_once, is_kept, held_by, withdrawn, without_all, row_at};
+ghost use Rattle.export_table.specs.Table.{IsSound, no_room};
+
+use crate::rows::{self, Export, RowList};
+use crate::waits::{self, Wait};
+use dgc_server::Leases;
+use history::limits::{MAX_AWAITING, MAX_EXPORTS};
+use object_ids::{FullKind, ObjId, Uid};
+use std::alloc::{AllocError, Global};
+use std::marker::Model;
+
+/// Why an entry is refused.
+#[derive(Clone, Copy, Debug, PartialEq, Eq)]
+pub enum ExportFault {
+    /// As many entries as can be are there.
+    Full(FullKind),
+    /// There is no memory.
+    OutOfMemory,
+}
+
+impl From<AllocError> for ExportFault {
+    ghost use Rattle.export_table.specs.declared.exports.ExportFault.TheVariants.{OutOfMemory};
+
+    ghost from_gives = { λ _ e. e ≡ OutOfMemory };
+
+    fn from(_refused: AllocError) -> ExportFault {
+        ExportFault::OutOfMemory
+    }
+}
+
+/// The objects that a space has exported, with what keeps each of them: that it was added pinned, pins, calls that run,
+/// and returned references that await their acknowledgement. Contracts see it as an `ExportTable`.
+#[derive(Debug, Drop)]
+pub struct Exports {
+    space: Uid,
+    ack: u64,
+    added: u64,
+    rows: Vec<Export>,
+    waits: Vec<Wait>,
+}
+
+impl Model for Exports {
+    ghost use Rattle.std.specs.Prelude.{◌-◌, vec_len, vec_capacity};
+    ghost use Rattle.export_table.specs.Table.{ExportTable, IsSound};
+
+    ghost Value = { ExportTable };
+
+    ghost view = { λ e. record {
+      space = e.space;
+      ack = e.ack;
+      added = e.added;
+      rows = e.rows.items;
+      waits = e.waits.items;
+      room = record {
+        exports = vec_capacity e.rows - vec_len e.rows;
+        waits = vec_capacity e.waits - vec_len e.waits;
+      };
+    } };
+
+    ghost invariant = { λ e. IsSound e.space e.ack e.added e.rows.items e.waits.items };
+}
+
+impl Exports {
+    /// The table of a space that has exported nothing. A returned reference awaits its acknowledgement for
+    /// `ack_ms` milliseconds.
+    pub fn fresh(alloc: Global, uid: Uid, ack_ms: u64) -> Exports
+        requires some { 1 ≤ ack_ms }
+        requires short { ack_ms ≤ 2 ^ 40 }
+        ensures { result ≡ record { space = uid; ack = ack_ms; added = 0; rows = []; waits = []; room = no_room } }
+    {
+        Exports {
+            space: uid,
+            ack: ack_ms,
+            added: 0,
+            rows: Vec::new(alloc),
+            waits: Vec::new(alloc),
+        }
+    }
+
+    /// Adds an object of this kind. The k-th addition of a table, from 0, has the number 16 + k, also where earlier
+    /// objects were withdrawn. Full(Exports) comes exactly where 65,536 objects are exported; after a refusal all is as it was.
+    pub fn add(&mut self, kind: u32, pinned: bool) -> Result<ObjId, ExportFault>
+        requires { self.old.added < 2 ^ 62 }
+        ensures id { IfOk result (λ id. id ≡ id_at self.old.space self.old.added) }
+        ensures ok { OnOk result (let rows = self.old.rows ++ new_row (id_at self.old.space self.old.added) kind pinned ∷ [] in
+            self.new ≡ record self.old { added = self.old.added + 1; rows = rows; room = self.new.room }) }
+        ensures full { (result ≡ Err (ExportFault.Full FullExports)) ↔ (MAX_EXPORTS ≤ length self.old.rows) }
+        ensures memory { 0 < self.old.room.exports → result ≢ Err ExportFault.OutOfMemory }
+        ensures faults { IfErr result (λ fault. (fault ≡ ExportFault.Full FullExports) ⊎ (fault ≡ ExportFault.OutOfMemory)) }
+        ensures err { OnErr result (self.new ≡ self.old) }
+
+        // It takes at most one place of the room.
+        ensures exports_room { self.old.room.exports ≤ self.new.room.exports + 1 }
+        ensures waits_room { self.new.room.waits ≡ self.old.room.waits }
+    {
+        if self.rows.len() as u64 >= MAX_EXPORTS {
+            return Err(ExportFault::Full(FullKind::Exports));
+        }
+        self.rows.reserve(1)?;
+        let id = id_at(&self.space, self.added);
+        rows::put(&mut self.rows, Export::new(&id, kind, pinned));
+        self.added += 1;
+        Ok(id)
+    }
+
+    /// The kind of an exported object.
+    pub fn find(&self, id: ObjId) -> Option<u32>
+        ensures { result ≡ kind_of self.now.rows id }
+    {
+        rows::kind_of(&self.rows, &id)
+    }
+
+    /// Makes room, so that the next so many calls of `add` and of `wait_for` need no memory.
+    pub fn reserve(&mut self, objects: u32, waits: u32) -> Result<(), AllocError>
+        ensures exports { OnOk result (objects ≤ self.new.room.exports) }
+        ensures waits { OnOk result (waits ≤ self.new.room.waits) }
+        ensures rest { self.new ≡ record self.old { room = self.new.room } }
+        ensures exports_room { self.old.room.exports ≤ self.new.room.exports }
+        ensures waits_room { self.old.room.waits ≤ self.new.room.waits }
+    {
+        self.rows.reserve(objects as usize)?;
+        self.waits.reserve(waits as usize)
+    }
+
+    /// How many references await their acknowledgement at this moment.
+    pub fn waiting(&self, now: u64) -> u32
+        ensures { result ≡ length (waiting now self.now.waits) }
+    {
+        waits::count(&self.waits, now) as u32
+    }
+
+    /// Whether a reference to this object, in this return, awaits its acknowledgement at this moment.
+    pub fn is_waiting(&self, id: ObjId, uid: Uid, now: u64) -> bool
+        ensures { result ≡ is_waiting now id uid self.now.waits }
+    {
+        waits::is_waiting(&self.waits, &id, &uid, now)
+    }
+
+    /// How many objects are exported.
+    pub fn count(&self) -> u32
+        ensures value { result ≡ length self.now.rows }
+        ensures sound { IsSound self.now.space self.now.ack self.now.added self.now.rows self.now.waits }
+    {
+        self.rows.len() as u32
+    }
+
+    /// The exported objects as they are at this moment, by rising number.
+    pub fn rows(&self, alloc: Global, now: u64) -> Result<RowList, AllocError>
+        ensures { IfOk result (λ rows. rows ≡ map (row_at now self.now.waits) self.now.rows) }
+    {
+        rows::list(alloc, &self.rows, &self.waits, now)
+    }
+
+    /// Begins a call of an object. It answers false exactly where the object isn't exported, and then nothing
+    /// changes.
+    pub fn begin(&mut self, id: ObjId) -> bool
+        requires { running_of self.old.rows id < 2 ^ 31 }
+        ensures value { result ≡ is_exported self.old.rows id }
+        ensures begun { self.new ≡ record self.old { rows = changed begun id self.old.rows } }
+        ensures absent { result ≡ false → self.new ≡ self.old }
+    {
+        rows::begin(&mut self.rows, &id)
+    }
+
+    /// Ends a call of an object.
+    pub fn end(&mut self, id: ObjId)
+        requires { 0 < running_of self.old.rows id }
+        ensures { self.new ≡ record self.old { rows = changed ended id self.old.rows } }
+    {
+        rows::end(&mut self.rows, &id);
+    }
+
+    /// Notes that a return has a reference to an exported object, which awaits its acknowledgement from now on, and no shorter than it did
+    /// before (Java RMI Specification, chapter 10: `DgcAck`). Waits that ended are forgotten. Full(Awaiting) comes exactly where 65,536
+    /// references await at this moment and this one isn't among them; after a refusal all is as it was.
+    pub fn wait_for(&mut self, id: ObjId, uid: Uid, now: u64) -> Result<(), ExportFault>
+        requires exported { IsTrue (is_exported self.old.rows id) }
+        requires early { now < 2 ^ 62 }
+        ensures ok { OnOk result (let waits = listed self.old.ack now id uid self.old.waits in
+            self.new ≡ record self.old { waits = waits; room = self.new.room }) }
+        ensures full { (result ≡ Err (ExportFault.Full FullAwaiting))
+            ↔ ((MAX_AWAITING ≤ length (waiting now self.old.waits)) × (is_waiting now id uid self.old.waits ≡ false)) }
+        ensures memory { 0 < self.old.room.waits → result ≢ Err ExportFault.OutOfMemory }
+        ensures faults { IfErr result (λ fault. (fault ≡ ExportFault.Full FullAwaiting) ⊎ (fault ≡ ExportFault.OutOfMemory)) }
+        ensures err { OnErr result (self.new ≡ self.old) }
+
+        // It takes at most one place of the room.
+        ensures exports_room { self.new.room.exports ≡ self.old.room.exports }
+        ensures waits_room { self.old.room.waits ≤ self.new.room.waits + 1 }
+    {
+        if waits::is_full(&self.waits, &id, &uid, now) {
+            return Err(ExportFault::Full(FullKind::Awaiting));
+        }
+        self.waits.reserve(1)?;
+        waits::list(&mut self.waits, &id, &uid, self.ack, now);
+        Ok(())
+    }
+
+    /// Notes the acknowledgement of a return: none of its references awaits any more.
+    pub fn ack(&mut self, uid: Uid)
+        ensures value { let waits = acknowledged uid self.old.waits in
+            self.new ≡ record self.old { waits = waits; room = self.new.room } }
+        ensures exports_room { self.new.room.exports ≡ self.old.room.exports }
+        ensures waits_room { self.old.room.waits ≤ self.new.room.waits }
+    {
+        waits::acknowledge(&mut self.waits, &uid);
+    }
+
+    /// Pins an exported object once more.
+    pub fn pin(&mut self, id: ObjId)
+        requires exported { IsTrue (is_exported self.old.rows id) }
+        requires few { pins_of self.old.rows id < 2 ^ 31 }
+        ensures { self.new ≡ record self.old { rows = changed pinned_once id self.old.rows } }
+    {
+        rows::pin(&mut self.rows, &id);
+    }
+
+    /// Takes a pin off an exported object. An object that was added pinned stays so.
+    pub fn unpin(&mut self, id: ObjId)
+        requires exported { IsTrue (is_exported self.old.rows id) }
+        requires stands { 0 < pins_of self.old.rows id }
+        ensures { self.new ≡ record self.old { rows = changed unpinned_once id self.old.rows } }
+    {
+        rows::unpin(&mut self.rows, &id);
+    }
+
+    /// Withdraws each object that isn't kept at this moment, appends its identifier to `gone`, by rising number, and drops it from the
+    /// leases. An object is kept where it was added pinned, a pin stands, a call of it runs, a reference to it awaits its acknowledgement, or
+    /// a client holds it. Waits that ended are forgotten. It takes no memory.
+    pub fn withdraw(&mut self, now: u64, leases: &mut Leases, gone: &mut Vec<ObjId>)
+        requires { vec_len gone.old + length self.old.rows ≤ vec_capacity gone.old }
+        ensures kept { ForEachLog leases.old (λ lease moment calls.
+            let held = held_by lease (max now moment) calls in
+            let rows = filter (is_kept now held self.old.waits) self.old.rows in
+            let waits = waiting now self.old.waits in
+            self.new ≡ record self.old { rows = rows; waits = waits; room = self.new.room }) }
+        ensures gone { ForEachLog leases.old (λ lease moment calls.
+            let held = held_by lease (max now moment) calls in
+            gone.new.items ≡ gone.old.items ++ withdrawn now held self.old.waits self.old.rows) }
+        ensures dropped { ForEachLog leases.old (λ lease moment calls.
+            let held = held_by lease (max now moment) calls in
+            let dropped = withdrawn now held self.old.waits self.old.rows in
+            StandsFor lease leases.new moment (map (without_all dropped) calls)) }
+        ensures exports_room { self.old.room.exports ≤ self.new.room.exports }
+        ensures waits_room { self.old.room.waits ≤ self.new.room.waits }
+        ensures capacity { vec_capacity gone.old ≤ vec_capacity gone.new }
+    {
+        let before = gone.len();
+        rows::keep(&mut self.rows, &self.waits, leases, now, gone);
+        waits::forget(&mut self.waits, now);
+        drop_all(leases, &gone[before..]);
+    }
+}
+
+/// The identifier of the k-th object, from 0, that a space adds.
+fn id_at(space: &Uid, added: u64) -> ObjId
+    requires { added < 2 ^ 62 }
+    ensures { result ≡ id_at space.now added }
+{
+    ObjId {
+        number: (16 + added) as i64,
+        space: *space,
+    }
+}
+
+/// Drops objects from the leases.
+fn drop_all(leases: &mut Leases, objects: &[ObjId])
+    ensures { ForEachLog leases.old (λ lease moment calls.
+        StandsFor lease leases.new moment (map (without_all objects.now) calls)) }
+{
+    for object in objects {
+        leases.drop_object(*object);
+    }
+}

@@ -1,0 +1,12 @@
+//! The export table: which objects a space has exported, what keeps each of them, and when each is
+//! withdrawn (Java RMI Specification, chapter 9).
+#![tactic(auto)]
+
+mod exports;
+mod rows;
+#[cfg(test)]
+mod tests;
+mod waits;
+
+pub use exports::{ExportFault, Exports};
+pub use rows::{ExportRow, RowList};
