@@ -1,5 +1,5 @@
 -- Lists of numbers, and places of lists.
-use Rattle.std.proofs.Common.{◌≡◌, ◌≢◌, ◌||◌, ℕ, zero, suc, ◌≤◌, ◌<◌, Bool, true, false, eqb, List, [], ◌∷◌, ◌++◌, length, get_or, Some, slice_get, slice_set, refl, sym, ap, ◌∙◌, append_assoc, arith}
+use Rattle.std.proofs.Common.{◌≡◌, ◌≢◌, ◌||◌, ℕ, zero, suc, ◌≤◌, ◌<◌, Bool, true, false, cond, eqb, List, [], ◌∷◌, ◌++◌, length, get_or, Some, slice_get, slice_set, refl, sym, ap, ◌∙◌, append_assoc, arith}
 use Rattle.std.proofs.lemmas.Bool.{eqb-true, eqb-false}
 use Rattle.std.proofs.Math.Seq.{set-append_seam}
 use Rattle.ser_values.specs.Node.{has}
@@ -72,3 +72,16 @@ pub slice_get-or : {X : Type 0} (xs : List X) (k : ℕ) (x : X) → k < length x
 slice_get-or [] k x lt e = absurd (omega arith)
 slice_get-or (y ∷ xs) zero x lt e = ap (λ z. Some z) (sym e)
 slice_get-or (y ∷ xs) (suc k) x lt e = slice_get-or xs k x (omega arith) e
+
+pub some_same : {X : Type 0} (x y : X) → Some x ≡ Some y → x ≡ y
+some_same x y e = cc
+
+pub found_at : {X : Type 0} (xs : List X) (k : ℕ) → k < length xs → (x : X) × (slice_get xs k ≡ Some x)
+found_at [] k h = absurd (omega arith)
+found_at (x ∷ xs) zero h = (x, refl)
+found_at (x ∷ xs) (suc k) h = found_at xs k (omega arith)
+
+-- one number more in the list, or none
+pub still_not : (xs : List ℕ) (k j : ℕ) (d : Bool) → has xs j ≡ false → j ≢ k → has (cond d (xs ++ k ∷ []) xs) j ≡ false
+still_not xs k j true h ne = has-append_other xs k j h ne
+still_not xs k j false h ne = h

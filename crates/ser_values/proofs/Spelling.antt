@@ -98,7 +98,7 @@ silent_push [] (q ∷ ps) w p h one = absurd h
 silent_push (v ∷ ws) [] w p h one = absurd h
 silent_push (v ∷ ws) (q ∷ ps) w p h one = (h.0, h.1, silent_push ws ps w p h.2 one)
 
-take-push : {A : Type 0} (xs : List A) (n : ℕ) (x : A) → slice_get xs n ≡ Some x → take (suc n) xs ≡ take n xs ++ x ∷ []
+pub take-push : {A : Type 0} (xs : List A) (n : ℕ) (x : A) → slice_get xs n ≡ Some x → take (suc n) xs ≡ take n xs ++ x ∷ []
 take-push [] n x e = absurd cc
 take-push (y ∷ xs) zero x e = let same : y ≡ x = cc in ap (λ z. z ∷ []) same
 take-push (y ∷ xs) (suc n) x e = ap (λ l. y ∷ l) (take-push xs n x e)
@@ -107,7 +107,7 @@ pub both : (a b : Bool) → (a && b) ≡ true → (a ≡ true) × (b ≡ true)
 both true b h = (refl, h)
 both false b h = absurd cc
 
-nil_is : {A : Type 0} (xs : List A) → is_nil xs ≡ true → xs ≡ []
+pub nil_is : {A : Type 0} (xs : List A) → is_nil xs ≡ true → xs ≡ []
 nil_is [] h = refl
 nil_is (x ∷ xs) h = absurd cc
 
@@ -145,7 +145,7 @@ chain_silent nodes ps zero s h = tt
 chain_silent nodes ps (suc n) slots.Null h = absurd cc
 chain_silent nodes ps (suc n) (slots.Node k) h = silent_above nodes ps n (chain_silent nodes ps n) (slice_get ps n) (slice_get nodes k) refl h
 
-take-all : {A : Type 0} (xs : List A) → take (length xs) xs ≡ xs
+pub take-all : {A : Type 0} (xs : List A) → take (length xs) xs ≡ xs
 take-all [] = refl
 take-all (x ∷ xs) = ap (λ l. x ∷ l) (take-all xs)
 

@@ -9,3 +9,5 @@ pub mod Loose
 pub mod Finished
 pub mod Builder
 pub mod Spelled
+pub mod Ranges
+pub mod Reading
