@@ -1,9 +1,9 @@
 -- What is written of a graph is a stream of its items.
-use Rattle.std.proofs.Common.{◌≡◌, ◌||◌, ◌&&◌, not, ℕ, zero, suc, ◌+◌, ◌<◌, ◌≤◌, ◌^◌, Bool, true, false, cond, ltb, List, [], ◌∷◌, ◌++◌, map, length, take, drop, Option, Some, None, slice_get, bit_and, refl, sym, ap, subst, ◌∙◌, append_assoc, add-one, arith, inl, inr}
+use Rattle.std.proofs.Common.{◌≡◌, ◌||◌, ◌&&◌, not, ℕ, zero, suc, ◌+◌, ◌<◌, ◌≤◌, ◌^◌, Bool, true, false, cond, ltb, List, [], ◌∷◌, ◌++◌, map, length, take, drop, Option, Some, None, slice_get, refl, sym, ap, subst, ◌∙◌, append_assoc, add-one, arith, inl, inr}
 use Rattle.std.specs.Prelude.{is_some}
 use Rattle.std.specs.List.{flat_map}
 use Rattle.std.specs.Int.{w32, to_be_bytes}
-use Rattle.std.proofs.lemmas.Bool.{ltb-true, lt-ltb, le-ltb, eqb-true}
+use Rattle.std.proofs.lemmas.Bool.{ltb-true, lt-ltb, le-ltb}
 use Rattle.std.proofs.lemmas.List.{append-nil}
 use Rattle.std.proofs.lemmas.Option.{slice_get_within}
 use Rattle.std.proofs.Math.Dec.{eqb-suc-zero}
@@ -16,7 +16,7 @@ use Rattle.class_desc.specs.declared.field.FieldDesc.{FieldDesc}
 use Rattle.class_desc.specs.declared.desc.ClassDesc.{ClassDesc}
 use Rattle.class_desc.specs.TypeCode.{is_primitive}
 use Rattle.class_desc.specs.TypeText.{is_nil, element_of}
-use Rattle.class_desc.specs.ClassDesc.{has_flag, lacks_flag, is_good_desc, fit_flags, are_ordered}
+use Rattle.class_desc.specs.ClassDesc.{has_flag, lacks_flag, is_good_desc}
 use Rattle.ser_values.specs.declared.value.Value.{Value}
 use Rattle.ser_values.specs.declared.value.Value.TheVariants as values
 use Rattle.ser_values.specs.declared.value.Values.{Values}
@@ -26,13 +26,16 @@ use Rattle.ser_values.specs.declared.node.Node.{Node}
 use Rattle.ser_values.specs.declared.node.Node.TheVariants.{Text, Desc, Proxy, Object, Array, Class, Enum}
 use Rattle.ser_values.specs.declared.node.Place.TheVariants as places
 use Rattle.ser_values.specs.Node.{Want, item_wants, after, inside}
-use Rattle.ser_values.specs.Shape.{is_short, joined_from, is_joined, are_typed, are_short, fits_above, fits_chain, is_external, fits_object, is_shaped}
+use Rattle.ser_values.specs.Shape.{is_short, joined_from, is_joined, are_typed, are_short, fits_chain, is_external, fits_object, is_shaped}
 use Rattle.ser_values.specs.Numbered.{Numbering, NumberAll, Numbers, no_numbers, Numbered, IsGraph}
 use Rattle.ser_values.specs.Numbered as numbers
 use Rattle.ser_values.specs.Spelled.{Token, raw, truth, want, note, short_text, long_text, reference, field_tokens, value_token, element_tokens, writers, part_tokens, Form, a_text, a_long_text, a_desc, a_proxy, an_object, an_external, an_array, a_class, an_enum, IsBlock, put_block, joined, One, SpellsBlocks, SpellsItems, SpellsAll, Spelling, Spell, a_null, again, fresh, never, Spells, IsStream}
-use Rattle.ser_values.proofs.Spelling.{token_wants, form_wants, Silent, parts_silent, both}
+use Rattle.ser_values.proofs.Spelling.{token_wants, form_wants, Silent, parts_silent, both, nil_is}
 use Rattle.ser_values.proofs.Shaped.{graph_shaped}
-use Rattle.class_desc.proofs.Fields.{flags_are}
+use Rattle.ser_values.proofs.OneReading.{one_reading}
+use Rattle.ser_values.specs.Ranges.{NumbersFit}
+use Rattle.std.proofs.Math.Logic.{∥∥₁_map, ∥∥₁_elim, ∥∥₁_prop}
+use Rattle.ser_values.proofs.Chains.{not_both, chained_flag}
 use Rattle.ser_write.specs.Canonical.{Written, Writing, block_of, pieces_in, pieces, blocks, write_items, write_all, code_of, tokens_before, is_external_class, external_tokens, object_tokens, tokens_after, write_new, write_one, nothing, write_at, canonical}
 
 -- ---- blocks
@@ -220,29 +223,6 @@ tokens_written one N S written unread (note is ∷ ts) n m j h =
     )
 
 -- ---- each node has the form that is written
-
-not_both : (d : ClassDesc) → is_good_desc d ≡ true → has_flag d.flags 2 ≡ true → has_flag d.flags 4 ≡ true → ⊥
-unfolding is_good_desc
-not_both d good two four =
-    let g = flags_are d (both (fit_flags d) (are_ordered d.fields) good).0 in
-    let e2 : bit_and d.flags 2 ≡ 2 = eqb-true _ _ two in
-    let e4 : bit_and d.flags 4 ≡ 4 = eqb-true _ _ four in
-    elim g.one_kind [
-      | inl none ↦ absurd (omega arith)
-      | inr none ↦ absurd (omega arith)
-    ]
-
--- the description of an object's class is serializable, where the parts fit its chain
-chained_flag : (nodes : List Node) (ps : List Part) (c : ℕ) (d : ClassDesc) → slice_get nodes c ≡ Some (Desc d) → fits_chain nodes ps (length ps) (slots.Node c) ≡ true → has_flag d.flags 2 ≡ true
-unfolding fits_chain
-chained_flag nodes [] c d is h = absurd cc
-chained_flag nodes (p ∷ ps) c d is h =
-    let e : fits_above (fits_chain nodes (p ∷ ps) (length ps)) (slice_get (p ∷ ps) (length ps)) (Some (Desc d)) ≡ true = rw is at h in
-    (both (has_flag d.flags 2) _ e).0
-
-nil_is : {A : Type 0} (xs : List A) → is_nil xs ≡ true → xs ≡ []
-nil_is [] h = refl
-nil_is (x ∷ xs) h = absurd cc
 
 external_form : (nodes : List Node) (c : ℕ) (ps : List Part) (d : ClassDesc) → slice_get nodes c ≡ Some (Desc d) → has_flag d.flags 4 ≡ true → is_external ps ≡ true
     → Form nodes (Object c ps) 0x73 (want (places.Class, slots.Node c) ∷ []) (external_tokens ps)
@@ -455,3 +435,10 @@ canonical_stream F is g =
     let w = write_items (write_at 200 F) 0 is in
     let blocks : SpellsBlocks (Spells F 200 []) (cut is) 0 w.0 [] (length F) = subst (λ (b : List ℕ). SpellsBlocks (Spells F 200 []) (cut is) 0 b [] (length F)) (append-nil w.0) (v.1 []) in
     record { contents = w.0; headed = refl; spelled = (cut is, blocks, sym (joined_cut is g.joined)) }
+
+-- Two graphs have the same canonical bytes only where they are equal.
+pub canonical_alone : (F E : List Node) (is js : List Item) → NumbersFit F → NumbersFit E → ∥ IsGraph F is ∥₁ → ∥ IsGraph E js ∥₁ → canonical E js ≡ canonical F is → ∥ (E ≡ F) × (js ≡ is) ∥₁
+canonical_alone F E is js fits others g h e =
+    ∥∥₁_elim g ∥∥₁_prop (λ a. ∥∥₁_map h (λ b. (
+    let stream : IsStream E js (canonical F is) = subst (λ (bytes : List ℕ). IsStream E js bytes) e (canonical_stream E js b) in
+    one_reading E F js is (canonical F is) others fits stream (canonical_stream F is a))))

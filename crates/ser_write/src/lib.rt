@@ -6,3 +6,6 @@ mod pieces;
 mod writing;
 
 pub use writing::write_stream;
+
+#[cfg(test)]
+mod tests;

@@ -2,7 +2,7 @@
 ghost use Rattle.std.specs.Prelude.{◌≡◌, IfOk, map, slice_get};
 ghost use Rattle.ser_values.specs.Spelled.{field_tokens, value_token, reference, part_tokens};
 ghost use Rattle.ser_values.specs.Spelled.{IsStream};
-ghost use Rattle.ser_write.specs.Canonical.{write_items, write_all, tokens_before, object_tokens, note_tokens, tokens_after, write_new, write_at, canonical, Adds};
+ghost use Rattle.ser_write.specs.Canonical.{write_items, write_all, tokens_before, object_tokens, note_tokens, tokens_after, write_new, write_at, canonical, AreOfNoOther, Adds};
 
 use crate::numbers::{Spelled, put_16, put_32, put_byte, put_short_text};
 use crate::pieces::{
@@ -329,10 +329,12 @@ fn put_slots(
 }
 
 /// The bytes of a graph: the stream's head, and its items. Blocks have 1,024 bytes and one shorter rest; a handle stands
-/// for each node that was written before. It is refused only for want of memory.
+/// for each node that was written before. Two graphs have the same bytes only where they are equal. It is refused only for want of
+/// memory.
 pub fn write_stream(alloc: Global, graph: &Graph) -> Result<ByteList, AllocError>
     ensures spelled { IfOk result (λ bytes. ∥ IsStream graph.now.nodes graph.now.items bytes ∥₁) }
     ensures canonical { IfOk result (λ bytes. bytes ≡ canonical graph.now.nodes graph.now.items) }
+    ensures alone { IfOk result (AreOfNoOther graph.now.nodes graph.now.items) }
 {
     let mut out = ByteList::new(alloc);
     out.append(&[0xAC, 0xED, 0x00, 0x05])?;
