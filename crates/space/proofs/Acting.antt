@@ -1,0 +1,318 @@
+-- What an ask does to the export table and to the running calls is what its event does to the history.
+use Rattle.std.proofs.Common.{◌≡◌, ℕ, ◌+◌, ◌-◌, ◌<◌, ◌≤◌, List, [], ◌∷◌, ◌++◌, length, refl, ap, sym, subst, ◌∙◌, cond, map, max, arith, Option, Some, None, append-nil}
+use Rattle.std.specs.Prelude.{Bool, true, false, ◌&&◌, ◌||◌, ◌==◌, filter, find, nat_lt, if◌then◌else◌, option_map, unwrap_or}
+use Rattle.std.specs.List.{list_any}
+use Rattle.std.proofs.lemmas.List.{map-append}
+use Rattle.object_ids.specs.declared.ids.Uid.{Uid}
+use Rattle.object_ids.specs.declared.ids.ObjId.{ObjId}
+use Rattle.object_ids.specs.Same.{same_id}
+use Rattle.object_ids.proofs.Exact.{same_id-equal, same_id-self}
+use Rattle.history.specs.declared.asks.SpaceConfig.{SpaceConfig}
+use Rattle.history.specs.declared.asks.Event.{Event}
+use Rattle.history.specs.declared.asks.Ask.{Ask}
+use Rattle.history.specs.declared.asks.Ask.TheVariants.{Open, Begin, Finish, Abandon, Dirty, Clean, Ack, Bind, Rebind, Unbind, Lookup, List as ListNames, Tick}
+use Rattle.history.specs.declared.places.Place.{Place}
+use Rattle.history.specs.declared.places.Exported.{Exported}
+use Rattle.history.specs.declared.places.Returned.{Returned}
+use Rattle.history.specs.Awaiting.{returned, is_ack_of}
+use Rattle.history.specs.Limits.{is_begin, is_end}
+use Rattle.history.specs.Places.{has, now, added, id_at}
+use Rattle.history.specs.Running.{is_begin_of, is_end_of, running, running_calls}
+use Rattle.history.specs.Table.{is_effective, table, place_of, places}
+use Rattle.history.proofs.ListLemmas.{Every, Every-weaker, list_any-map, list_any-length, and_false}
+use Rattle.history.proofs.NumberLaws.{has-self}
+use Rattle.history.proofs.Partitions.{one_if}
+use Rattle.history.proofs.RunningLaws.{running_calls-push}
+use Rattle.history.proofs.TableLaws.{ask-place_of}
+use Rattle.dgc_server.proofs.Distinct.{Decides, turned}
+use Rattle.export_table.specs.declared.rows.Export.{Export}
+use Rattle.export_table.specs.declared.waits.Wait.{Wait}
+use Rattle.export_table.specs.Rows.{is_of, is_exported, kind_of, running_of, new_row, changed, begun, ended}
+use Rattle.export_table.specs.Table.{ExportTable}
+use Rattle.space.specs.declared.runs.Run.{Run}
+use Rattle.space.specs.Acts.{effective_by, acted, acted_runs, opens}
+use Rattle.space.specs.Built.{IsBuilt}
+use Rattle.space.specs.Kept.{row_of, rows_of}
+use Rattle.space.specs.Runs.{without_first, is_run_of, is_run_on, RunsStand, caller_of, object_of, is_run}
+use Rattle.space.specs.Waits.{WaitsStand, reference_of, end_of}
+use Rattle.space.proofs.NextLaws.{new-not-old, not-exported-nowhere, not-there-runs-none}
+use Rattle.space.proofs.Quiet.{opened_by, adds-built, returned-built}
+use Rattle.space.proofs.RunSteps.{runs-begin, runs-end, runs-other, abandon-ends}
+use Rattle.std.proofs.lemmas.Bool.{ltb-true}
+use Rattle.space.proofs.WaitSteps.{listed_all, waits-push, waits-push-ack}
+
+-- ---- the rows
+
+-- An exported object with this many running calls.
+abbrev row_with : (ObjId → ℕ) → Exported → Export
+row_with count x = record { id = x.id; kind = x.kind; pinned = x.pinned; running = count x.id; pins = 0 }
+
+-- An object is exported by the rows exactly where it is in the table.
+pub exported-has : (h : List Place) (objects : List Exported) (o : ObjId) → is_exported (rows_of h objects) o ≡ has objects o
+exported-has h objects o = list_any-map (is_of o) (row_of h) objects
+
+pub kind-is : (h : List Place) (objects : List Exported) (o : ObjId) → kind_of (rows_of h objects) o ≡ option_map (λ (x : Exported). x.kind) (find (λ x. same_id x.id o) objects)
+kind-is h [] o = refl
+kind-is h (x ∷ objects) o = go (same_id x.id o) (kind-is h objects o)
+  where
+    go : (b : Bool) → kind_of (rows_of h objects) o ≡ option_map (λ (y : Exported). y.kind) (find (λ y. same_id y.id o) objects) →
+        option_map (λ (y : Export). y.kind) (cond b (Some (row_of h x)) (find (is_of o) (rows_of h objects))) ≡ option_map (λ (y : Exported). y.kind) (cond b (Some x) (find (λ y. same_id y.id o) objects))
+    go true e = refl
+    go false e = e
+
+-- How many calls run of an object that is exported, and of any.
+pub running-there : (h : List Place) (objects : List Exported) (o : ObjId) → has objects o ≡ true → running_of (rows_of h objects) o ≡ running_calls h o
+running-there h [] o t = absurd (cc)
+running-there h (x ∷ objects) o t = go (same_id x.id o) refl t (running-there h objects o)
+  where
+    go : (b : Bool) → same_id x.id o ≡ b → (b || has objects o) ≡ true → (has objects o ≡ true → running_of (rows_of h objects) o ≡ running_calls h o) →
+        unwrap_or (option_map (λ (y : Export). y.running) (cond b (Some (row_of h x)) (find (is_of o) (rows_of h objects)))) 0 ≡ running_calls h o
+    go true e t rest = ap (running_calls h) (same_id-equal x.id o e)
+    go false e t rest = rest t
+
+pub running-few : (h : List Place) (objects : List Exported) (o : ObjId) → running_of (rows_of h objects) o ≤ running_calls h o
+running-few h [] o = omega arith
+running-few h (x ∷ objects) o = go (same_id x.id o) refl (running-few h objects o)
+  where
+    go : (b : Bool) → same_id x.id o ≡ b → running_of (rows_of h objects) o ≤ running_calls h o →
+        unwrap_or (option_map (λ (y : Export). y.running) (cond b (Some (row_of h x)) (find (is_of o) (rows_of h objects)))) 0 ≤ running_calls h o
+    go true e rest = let same = ap (running_calls h) (same_id-equal x.id o e) in omega (arith, same)
+    go false e rest = rest
+
+count-push : (config : SpaceConfig) (events : List Event) (e : Event) (o : ObjId) →
+    running_calls (place_of config (places config events) e ∷ places config events) o + one_if (is_effective config (places config events) e.by e.ask && is_end_of o e.ask)
+    ≡ running_calls (places config events) o + one_if (is_effective config (places config events) e.by e.ask && is_begin_of o e.ask)
+unfolding place_of
+count-push config events e o = running_calls-push config events e o
+
+id-turned : (a b : ObjId) → same_id a b ≡ same_id b a
+id-turned a b = turned (record { equal = same_id-equal; self = same_id-self }) a b
+
+-- The rows, where the counts of running calls are the old and the new ones.
+row-same : (old new : ObjId → ℕ) → ((o : ObjId) → new o ≡ old o) → (objects : List Exported) → map (row_with old) objects ≡ map (row_with new) objects
+row-same old new same [] = refl
+row-same old new same (x ∷ objects) = rw (same x.id, row-same old new same objects) refl
+
+row-changed : (old new : ObjId → ℕ) (f : Export → Export) (o : ObjId) → ((x : Exported) → (if same_id x.id o then f (row_with old x) else row_with old x) ≡ row_with new x) → (objects : List Exported) →
+    changed f o (map (row_with old) objects) ≡ map (row_with new) objects
+row-changed old new f o same [] = refl
+row-changed old new f o same (x ∷ objects) = rw (same x, row-changed old new f o same objects) refl
+
+begun-row : (old new : ObjId → ℕ) (o : ObjId) (x : Exported) (b : Bool) → new x.id ≡ old x.id + one_if b → (if b then begun (row_with old x) else row_with old x) ≡ row_with new x
+unfolding one_if
+begun-row old new o x true e = rw e refl
+begun-row old new o x false e = (let same : new x.id ≡ old x.id = omega (arith, e) in rw same refl)
+
+ended-row : (old new : ObjId → ℕ) (o : ObjId) (x : Exported) (b : Bool) → new x.id + one_if b ≡ old x.id → (if b then ended (row_with old x) else row_with old x) ≡ row_with new x
+unfolding one_if
+ended-row old new o x true e = (let same : old x.id - 1 ≡ new x.id = omega (arith, e) in rw same refl)
+ended-row old new o x false e = (let same : old x.id ≡ new x.id = omega (arith, e) in rw same refl)
+
+-- THE ROWS after an ask.
+acted-rows : (config : SpaceConfig) (old new : ObjId → ℕ) (objects : List Exported) (t : ExportTable) (place : ℕ) (effective : Bool) (a : Ask) → IsBuilt a →
+    ((o : ObjId) → new o + one_if (effective && is_end_of o a) ≡ old o + one_if (effective && is_begin_of o a)) →
+    t.space ≡ config.uid → t.rows ≡ map (row_with old) objects → Every (λ (x : Exported). new x.id ≡ 0) (opened_by config t.added place a) →
+    (acted effective a t).rows ≡ map (row_with new) (objects ++ opened_by config t.added place a)
+unfolding one_if
+acted-rows config old new objects t place effective a b step space rows none = go a b effective step none
+  where
+    whole : (f : Exported → Export) → map f objects ≡ map f (objects ++ [])
+    whole f = ap (map f) (rw append-nil refl)
+
+    same : ((o : ObjId) → new o ≡ old o) → t.rows ≡ map (row_with new) (objects ++ [])
+    same s = rows ∙ row-same old new s objects ∙ whole (row_with new)
+
+    still : (effective : Bool) (n m : ℕ) → n + one_if (effective && false) ≡ m + one_if (effective && false) → n ≡ m
+    still true n m e = omega (arith, e)
+    still false n m e = omega (arith, e)
+
+    go : (a : Ask) → IsBuilt a → (effective : Bool) → ((o : ObjId) → new o + one_if (effective && is_end_of o a) ≡ old o + one_if (effective && is_begin_of o a)) →
+        Every (λ (x : Exported). new x.id ≡ 0) (opened_by config t.added place a) →
+        (acted effective a t).rows ≡ map (row_with new) (objects ++ opened_by config t.added place a)
+    go (Open kind pinned) b effective s none =
+        ap (λ l. l ++ new_row (id_at t.space t.added) kind pinned ∷ []) (rows ∙ row-same old new (λ o. still effective (new o) (old o) (s o)) objects)
+        ∙ ap (λ u. map (row_with new) objects ++ new_row (id_at u t.added) kind pinned ∷ []) space
+        ∙ ap (λ (n : ℕ). map (row_with new) objects ++ record { id = id_at config.uid t.added; kind = kind; pinned = pinned; running = n; pins = 0 } ∷ []) (sym none.0)
+        ∙ sym (map-append (row_with new) objects (opened_by config t.added place (Open kind pinned)))
+    go (Begin o) b true s none = ap (changed begun o) rows ∙ row-changed old new begun o (λ x. begun-row old new o x (same_id x.id o) (more x)) objects ∙ whole (row_with new)
+      where
+        more : (x : Exported) → new x.id ≡ old x.id + one_if (same_id x.id o)
+        more x = let step = s x.id in let turn = ap one_if (id-turned x.id o) in omega (arith, step, turn)
+    go (Begin o) b false s none = same (λ x. let step = s x in omega (arith, step))
+    go (Abandon o) b true s none = ap (changed ended o) rows ∙ row-changed old new ended o (λ x. ended-row old new o x (same_id x.id o) (less x)) objects ∙ whole (row_with new)
+      where
+        less : (x : Exported) → new x.id + one_if (same_id x.id o) ≡ old x.id
+        less x = let step = s x.id in let turn = ap one_if (id-turned x.id o) in omega (arith, step, turn)
+    go (Abandon o) b false s none = same (λ x. let step = s x in omega (arith, step))
+    go (Dirty x y z w) b effective s none = same (λ o. still effective (new o) (old o) (s o))
+    go (Clean x y z w) b effective s none = same (λ o. still effective (new o) (old o) (s o))
+    go (Ack u) b effective s none = same (λ o. still effective (new o) (old o) (s o))
+    go Tick b effective s none = same (λ o. still effective (new o) (old o) (s o))
+    go (Finish x y z w) b effective s none = absurd b
+    go (Bind x y) b effective s none = absurd b
+    go (Rebind x y) b effective s none = absurd b
+    go (Unbind x) b effective s none = absurd b
+    go (Lookup x y) b effective s none = absurd b
+    go ListNames b effective s none = absurd b
+
+opened-ends-none : (o : ObjId) (a : Ask) (x : Exported) (more : List Exported) (config : SpaceConfig) (k place : ℕ) → opened_by config k place a ≡ x ∷ more → (is_begin_of o a ≡ false) × (is_end_of o a ≡ false)
+opened-ends-none o (Open kind pinned) x more config k place e = (refl, refl)
+opened-ends-none o (Begin y) x more config k place e = absurd (cc)
+opened-ends-none o (Abandon y) x more config k place e = absurd (cc)
+opened-ends-none o (Finish y z w v) x more config k place e = absurd (cc)
+opened-ends-none o _ x more config k place e = absurd (cc)
+
+-- No call of a new object runs.
+new-runs-none : (config : SpaceConfig) (events : List Event) (e : Event) → IsBuilt e.ask →
+    Every (λ (x : Exported). running_calls (place_of config (places config events) e ∷ places config events) x.id ≡ 0) (place_of config (places config events) e).adds
+unfolding one_if
+new-runs-none config events e b =
+    Every-weaker (λ (x : Exported). has (place_of config (places config events) e).adds x.id ≡ true) _
+    (λ x there. (let old = not-there-runs-none config events x.id (not-exported-nowhere config events x.id (new-not-old config events e x.id there)) in
+    let step = count-push config events e x.id in one x.id (opened e.ask refl x.id there) old step))
+    (place_of config (places config events) e).adds (has-self (place_of config (places config events) e).adds)
+  where
+    opened : (a : Ask) → e.ask ≡ a → (o : ObjId) → has (place_of config (places config events) e).adds o ≡ true → is_begin_of o e.ask ≡ false
+    opened a s o there = go (opened_by config (length (added (places config events))) (length (places config events)) e.ask) refl
+      where
+        go : (xs : List Exported) → opened_by config (length (added (places config events))) (length (places config events)) e.ask ≡ xs → is_begin_of o e.ask ≡ false
+        go [] n = absurd (let never : has (place_of config (places config events) e).adds o ≡ false = ap (λ l. has l o) (adds-built config (places config events) e b ∙ n) in cc)
+        go (x ∷ more) n = (opened-ends-none o e.ask x more config (length (added (places config events))) (length (places config events)) n).0
+
+    one : (o : ObjId) → is_begin_of o e.ask ≡ false → running_calls (places config events) o ≡ 0 →
+        running_calls (place_of config (places config events) e ∷ places config events) o + one_if (is_effective config (places config events) e.by e.ask && is_end_of o e.ask)
+        ≡ running_calls (places config events) o + one_if (is_effective config (places config events) e.by e.ask && is_begin_of o e.ask) →
+        running_calls (place_of config (places config events) e ∷ places config events) o ≡ 0
+    one o begins none s =
+        let never : one_if (is_effective config (places config events) e.by e.ask && is_begin_of o e.ask) ≡ 0 = ap (λ v. one_if (is_effective config (places config events) e.by e.ask && v)) begins ∙ ap one_if (and_false (is_effective config (places config events) e.by e.ask)) in
+        omega (arith, s, never, none)
+
+pub rows-act : (config : SpaceConfig) (events : List Event) (e : Event) (t : ExportTable) → IsBuilt e.ask → t.space ≡ config.uid → t.added ≡ length (added (places config events)) →
+    t.rows ≡ rows_of (places config events) (table config (places config events)) →
+    (acted (is_effective config (places config events) e.by e.ask) e.ask t).rows
+    ≡ rows_of (place_of config (places config events) e ∷ places config events) (table config (places config events) ++ (place_of config (places config events) e).adds)
+rows-act config events e t b space count rows =
+    let adds : opened_by config t.added (length (places config events)) e.ask ≡ (place_of config (places config events) e).adds = ap (λ n. opened_by config n (length (places config events)) e.ask) count ∙ sym (adds-built config (places config events) e b) in
+    let P : List Exported → Type 0 = λ l. Every (λ (x : Exported). running_calls (place_of config (places config events) e ∷ places config events) x.id ≡ 0) l in
+    acted-rows config (running_calls (places config events)) (running_calls (place_of config (places config events) e ∷ places config events)) (table config (places config events)) t (length (places config events))
+    (is_effective config (places config events) e.by e.ask) e.ask b (count-push config events e) space rows (subst P (sym adds) (new-runs-none config events e b))
+    ∙ ap (λ l. rows_of (place_of config (places config events) e ∷ places config events) (table config (places config events) ++ l)) adds
+
+-- ---- the waits
+
+abbrev wait_of : Returned → ℕ → Wait
+wait_of r n = record { object = r.object; uid = r.uid; until = n }
+
+pub waits-act : (config : SpaceConfig) (events : List Event) (e : Event) (t : ExportTable) (effective : Bool) → IsBuilt e.ask →
+    WaitsStand reference_of end_of config.ack_ms (now (places config events)) (places config events) t.waits →
+    WaitsStand reference_of end_of config.ack_ms (max e.moment (now (places config events))) (place_of config (places config events) e ∷ places config events) (acted effective e.ask t).waits
+waits-act config events e t effective b w = go e.ask refl effective
+  where
+    Goal : List Wait → Type 0
+    Goal ws = WaitsStand reference_of end_of config.ack_ms (max e.moment (now (places config events))) (place_of config (places config events) e ∷ places config events) ws
+
+    quiet : ((u : Uid) → is_ack_of u e.ask ≡ false) → Goal t.waits
+    quiet n = rest (returned (place_of config (places config events) e)) (returned-built config (places config events) e b)
+        (waits-push reference_of end_of wait_of config events e t.waits (λ s k. refl) (λ s k. refl) (λ u. other u) w)
+      where
+        other : (u : Uid) → is_ack_of u (place_of config (places config events) e).event.ask ≡ false
+        other u = ap (is_ack_of u) (ask-place_of config (places config events) e) ∙ n u
+
+        rest : (rs : List Returned) → rs ≡ [] → WaitsStand reference_of end_of config.ack_ms (max e.moment (now (places config events))) (place_of config (places config events) e ∷ places config events)
+            (listed_all reference_of end_of wait_of config.ack_ms (max e.moment (now (places config events))) rs t.waits) → Goal t.waits
+        rest [] n s = s
+        rest (r ∷ rs) n s = absurd (cc)
+
+    go : (a : Ask) → e.ask ≡ a → (effective : Bool) → Goal (acted effective a t).waits
+    go (Ack u) s effective = waits-push-ack reference_of end_of config events e u t.waits s w
+    go (Open kind pinned) s effective = quiet (λ u. ap (is_ack_of u) s)
+    go (Begin o) s true = quiet (λ u. ap (is_ack_of u) s)
+    go (Begin o) s false = quiet (λ u. ap (is_ack_of u) s)
+    go (Abandon o) s true = quiet (λ u. ap (is_ack_of u) s)
+    go (Abandon o) s false = quiet (λ u. ap (is_ack_of u) s)
+    go (Finish x y z v) s effective = quiet (λ u. ap (is_ack_of u) s)
+    go (Dirty x y z v) s effective = quiet (λ u. ap (is_ack_of u) s)
+    go (Clean x y z v) s effective = quiet (λ u. ap (is_ack_of u) s)
+    go (Bind x y) s effective = quiet (λ u. ap (is_ack_of u) s)
+    go (Rebind x y) s effective = quiet (λ u. ap (is_ack_of u) s)
+    go (Unbind x) s effective = quiet (λ u. ap (is_ack_of u) s)
+    go (Lookup x y) s effective = quiet (λ u. ap (is_ack_of u) s)
+    go ListNames s effective = quiet (λ u. ap (is_ack_of u) s)
+    go Tick s effective = quiet (λ u. ap (is_ack_of u) s)
+
+-- ---- the running calls
+
+runs-quiet : (config : SpaceConfig) (events : List Event) (e : Event) (runs : List Run) → ((o : ObjId) → is_begin_of o e.ask ≡ false) → ((o : ObjId) → is_end_of o e.ask ≡ false) → is_begin e.ask ≡ false → is_end e.ask ≡ false →
+    RunsStand caller_of object_of (places config events) runs → RunsStand caller_of object_of (place_of config (places config events) e ∷ places config events) runs
+unfolding place_of
+runs-quiet config events e runs bo eo bn en r =
+    runs-other caller_of object_of config events e runs
+    (λ b o. rw (bo o) (and_false (is_effective config (places config events) e.by e.ask && e.by == b))) (λ b o. rw (eo o) (and_false (is_effective config (places config events) e.by e.ask && e.by == b)))
+    (λ o. rw (bo o) (and_false (is_effective config (places config events) e.by e.ask))) (λ o. rw (eo o) (and_false (is_effective config (places config events) e.by e.ask)))
+    (rw bn (and_false (is_effective config (places config events) e.by e.ask))) (rw en (and_false (is_effective config (places config events) e.by e.ask))) r
+
+runs-still : (config : SpaceConfig) (events : List Event) (e : Event) (runs : List Run) → is_effective config (places config events) e.by e.ask ≡ false →
+    RunsStand caller_of object_of (places config events) runs → RunsStand caller_of object_of (place_of config (places config events) e ∷ places config events) runs
+unfolding place_of
+runs-still config events e runs n r =
+    runs-other caller_of object_of config events e runs (λ b o. rw n refl) (λ b o. rw n refl) (λ o. rw n refl) (λ o. rw n refl) (rw n refl) (rw n refl) r
+
+begin-there : (config : SpaceConfig) (h : List Place) (by : ℕ) (o : ObjId) → is_effective config h by (Begin o) ≡ true → has (table config h) o ≡ true
+unfolding is_effective
+begin-there config h by o e = e
+
+abandon-runs : (config : SpaceConfig) (h : List Place) (by : ℕ) (o : ObjId) → is_effective config h by (Abandon o) ≡ true → 0 < running h by o
+unfolding is_effective
+abandon-runs config h by o e = ltb-true 0 (running h by o) e
+
+pub runs-act : (config : SpaceConfig) (events : List Event) (e : Event) (runs : List Run) → IsBuilt e.ask → RunsStand caller_of object_of (places config events) runs →
+    RunsStand caller_of object_of (place_of config (places config events) e ∷ places config events) (acted_runs (is_effective config (places config events) e.by e.ask) e.by e.ask runs)
+runs-act config events e runs b r = go e.ask refl b (is_effective config (places config events) e.by e.ask) refl
+  where
+    Goal : List Run → Type 0
+    Goal rs = RunsStand caller_of object_of (place_of config (places config events) e ∷ places config events) rs
+
+    quiet : ((o : ObjId) → is_begin_of o e.ask ≡ false) → ((o : ObjId) → is_end_of o e.ask ≡ false) → is_begin e.ask ≡ false → is_end e.ask ≡ false → Goal runs
+    quiet bo eo bn en = runs-quiet config events e runs bo eo bn en r
+
+    go : (a : Ask) → e.ask ≡ a → IsBuilt a → (effective : Bool) → is_effective config (places config events) e.by e.ask ≡ effective → Goal (acted_runs effective e.by a runs)
+    go (Begin o) s b true f =
+        runs-begin caller_of object_of config events e o runs (record { by = e.by; object = o }) s
+        (begin-there config (places config events) e.by o (ap (is_effective config (places config events) e.by) (sym s) ∙ f)) refl refl r
+    go (Begin o) s b false f = runs-still config events e runs f r
+    go (Abandon o) s b true f =
+        runs-end caller_of object_of config events e o runs (abandon-ends o e.ask s) (abandon-runs config (places config events) e.by o (ap (is_effective config (places config events) e.by) (sym s) ∙ f)) f r
+    go (Abandon o) s b false f = runs-still config events e runs f r
+    go (Open kind pinned) s b effective f = quiet (λ o. ap (is_begin_of o) s) (λ o. ap (is_end_of o) s) (ap is_begin s) (ap is_end s)
+    go (Dirty x y z v) s b effective f = quiet (λ o. ap (is_begin_of o) s) (λ o. ap (is_end_of o) s) (ap is_begin s) (ap is_end s)
+    go (Clean x y z v) s b effective f = quiet (λ o. ap (is_begin_of o) s) (λ o. ap (is_end_of o) s) (ap is_begin s) (ap is_end s)
+    go (Ack u) s b effective f = quiet (λ o. ap (is_begin_of o) s) (λ o. ap (is_end_of o) s) (ap is_begin s) (ap is_end s)
+    go Tick s b effective f = quiet (λ o. ap (is_begin_of o) s) (λ o. ap (is_end_of o) s) (ap is_begin s) (ap is_end s)
+    go (Finish x y z v) s b effective f = absurd b
+    go (Bind x y) s b effective f = absurd b
+    go (Rebind x y) s b effective f = absurd b
+    go (Unbind x) s b effective f = absurd b
+    go (Lookup x y) s b effective f = absurd b
+    go ListNames s b effective f = absurd b
+
+-- ---- whether it is effective
+
+pub effective-is : (config : SpaceConfig) (events : List Event) (by : ℕ) (a : Ask) (rows : List Export) (runs : List Run) → IsBuilt a → rows ≡ rows_of (places config events) (table config (places config events)) →
+    RunsStand caller_of object_of (places config events) runs → effective_by rows runs by a ≡ is_effective config (places config events) by a
+unfolding is_effective
+effective-is config events by a rows runs b rs r = go a b
+  where
+    go : (a : Ask) → IsBuilt a → effective_by rows runs by a ≡ is_effective config (places config events) by a
+    go (Begin o) b = ap (λ l. is_exported l o) rs ∙ exported-has (places config events) (table config (places config events)) o
+    go (Abandon o) b = list_any-length (is_run by o) runs ∙ ap (nat_lt 0) (r.lines by o)
+    go (Open kind pinned) b = refl
+    go (Dirty x y z v) b = refl
+    go (Clean x y z v) b = refl
+    go (Ack u) b = refl
+    go Tick b = refl
+    go (Finish x y z v) b = absurd b
+    go (Bind x y) b = absurd b
+    go (Rebind x y) b = absurd b
+    go (Unbind x) b = absurd b
+    go (Lookup x y) b = absurd b
+    go ListNames b = absurd b

@@ -1,0 +1,70 @@
+-- The end of a turn, by what its parts answered.
+use Rattle.std.proofs.Common.{◌≡◌, ℕ, ◌+◌, ◌<◌, ◌≤◌, ◌^◌, List, [], ◌∷◌, ◌++◌, length, refl, ap, sym, subst, ◌∙◌, map, max, drop, arith, Option, None, length-append}
+use Rattle.std.specs.Prelude.{Bool, filter}
+use Rattle.std.proofs.Math.Seq.{drop-append_seam}
+use Rattle.object_ids.specs.declared.ids.ObjId.{ObjId}
+use Rattle.history.specs.declared.asks.SpaceConfig.{SpaceConfig}
+use Rattle.history.specs.declared.asks.Event.{Event}
+use Rattle.history.specs.declared.places.Withdrawal.{Withdrawal}
+use Rattle.history.specs.declared.replies.Refused.{Refused}
+use Rattle.history.specs.LeaseCalls.{call_with}
+use Rattle.history.specs.Places.{now}
+use Rattle.history.specs.Table.{places}
+use Rattle.dgc_server.specs.Stands.{LeaseTable, StandsFor, ForEachLog, ForEachLogBy}
+use Rattle.export_table.specs.Rows.{is_exported, is_kept as row_kept, held_by, without_all, withdrawn as rows_withdrawn}
+use Rattle.export_table.specs.Table.{ExportTable}
+use Rattle.export_table.specs.Waits.{waiting}
+use Rattle.space.specs.declared.runs.Run.{Run}
+use Rattle.space.specs.Acts.{effective_by, acted, withdrawal_at, room_refusal, lease_refusal}
+use Rattle.space.specs.Built.{IsBuilt}
+use Rattle.space.specs.Kept.{Keeps}
+use Rattle.space.proofs.Keeping.{told_calls, going_now}
+use Rattle.space.proofs.TurnLaws.{HasActed, HasWithdrawn, goes-now}
+use Rattle.space.proofs.AskLaws.{asked, room-as, gone-few}
+
+-- What is known once an ask has acted.
+pub has-acted : (config : SpaceConfig) (events : List Event) (e : Event) (leases leases1 : LeaseTable) (x y : ExportTable) (runs seen : List Run) (withdrawn : List Withdrawal) (told opened used moment time running count : ℕ) (effective : Bool) (room : Option Refused) →
+    Keeps config events leases x runs withdrawn told opened used moment → IsBuilt e.ask → e.moment < 2 ^ 62 → effective ≡ effective_by x.rows seen e.by e.ask → seen ≡ runs → y ≡ record x { room = y.room } →
+    room ≡ room_refusal used running count effective e.ask → running ≡ length runs → count ≡ length x.rows → room ≡ None → time ≡ max e.moment moment →
+    ForEachLogBy time leases (λ lease calls. lease_refusal lease time calls (call_with (is_exported y.rows) time e.ask) ≡ None) →
+    ForEachLogBy time leases (λ lease calls. StandsFor lease leases1 time (call_with (is_exported y.rows) time e.ask ++ calls)) →
+    HasActed config events e leases leases1 y (acted effective e.ask y) runs withdrawn told opened used moment effective
+has-acted config events e leases leases1 x y runs seen withdrawn told opened used moment time running count effective room k b early f s r re n m none t refusal ok =
+    let R : ℕ → Type 0 = λ i. ForEachLogBy i leases (λ lease calls. lease_refusal lease i calls (call_with (is_exported y.rows) i e.ask) ≡ None) in
+    let O : ℕ → Type 0 = λ i. ForEachLogBy i leases (λ lease calls. StandsFor lease leases1 i (call_with (is_exported y.rows) i e.ask ++ calls)) in
+    record {
+      asked = asked config events e leases x y runs seen withdrawn told opened used moment effective k b f s r;
+      early = early;
+      room = room-as used running count effective e.ask runs x y room None re n m r none;
+      unrefused = subst R t refusal;
+      told_leases = subst O t ok;
+      act = refl;
+    }
+
+-- What the withdrawal answered, of a table but for its room.
+pub has-withdrawn : (leases1 leases2 : LeaseTable) (t y z : ExportTable) (time : ℕ) (told_gone all_gone : List ObjId) → y ≡ record t { room = y.room } →
+    ForEachLog leases1 (λ lease moment calls. z ≡ record y { rows = filter (row_kept time (held_by lease (max time moment) calls) y.waits) y.rows; waits = waiting time y.waits; room = z.room }) →
+    ForEachLog leases1 (λ lease moment calls. all_gone ≡ told_gone ++ rows_withdrawn time (held_by lease (max time moment) calls) y.waits y.rows) →
+    ForEachLog leases1 (λ lease moment calls. StandsFor lease leases2 moment (map (without_all (rows_withdrawn time (held_by lease (max time moment) calls) y.waits y.rows)) calls)) →
+    HasWithdrawn leases1 leases2 t z time told_gone all_gone
+has-withdrawn leases1 leases2 t y z time told_gone all_gone e kept gone dropped =
+    let K : ExportTable → Type 0 = λ x. ForEachLog leases1 (λ lease moment calls. z ≡ record x { rows = filter (row_kept time (held_by lease (max time moment) calls) x.waits) x.rows; waits = waiting time x.waits; room = z.room }) in
+    let G : ExportTable → Type 0 = λ x. ForEachLog leases1 (λ lease moment calls. all_gone ≡ told_gone ++ rows_withdrawn time (held_by lease (max time moment) calls) x.waits x.rows) in
+    let D : ExportTable → Type 0 = λ x. ForEachLog leases1 (λ lease moment calls. StandsFor lease leases2 moment (map (without_all (rows_withdrawn time (held_by lease (max time moment) calls) x.waits x.rows)) calls)) in
+    record { kept = subst K e kept; gone = subst G e gone; dropped = subst D e dropped }
+
+-- What goes stands after what was still to be told.
+pub goes-after : (config : SpaceConfig) (events : List Event) (e : Event) (leases leases1 leases2 : LeaseTable) (exports t x3 : ExportTable) (runs : List Run) (withdrawn : List Withdrawal) (told opened used moment time : ℕ) (effective : Bool) (told_gone all_gone : List ObjId) →
+    HasActed config events e leases leases1 exports t runs withdrawn told opened used moment effective → time ≡ max e.moment moment → HasWithdrawn leases1 leases2 t x3 time told_gone all_gone → length told_gone ≤ length all_gone
+goes-after config events e leases leases1 leases2 exports t x3 runs withdrawn told opened used moment time effective told_gone all_gone a m w =
+    let all = ap length (goes-now config events e leases leases1 leases2 exports t x3 runs withdrawn told opened used moment time effective told_gone all_gone a m w) in
+    let both = length-append told_gone (going_now config events e t) in omega (arith, all, both)
+
+-- No more objects go than there are.
+pub goes-few : (config : SpaceConfig) (events : List Event) (e : Event) (leases leases1 leases2 : LeaseTable) (exports t x3 : ExportTable) (runs : List Run) (withdrawn : List Withdrawal) (told opened used moment time : ℕ) (effective : Bool) (told_gone all_gone : List ObjId) →
+    HasActed config events e leases leases1 exports t runs withdrawn told opened used moment effective → time ≡ max e.moment moment → HasWithdrawn leases1 leases2 t x3 time told_gone all_gone → length (drop (length told_gone) all_gone) ≤ length t.rows
+goes-few config events e leases leases1 leases2 exports t x3 runs withdrawn told opened used moment time effective told_gone all_gone a m w =
+    let rest = ap (λ l. length (drop (length told_gone) l)) (goes-now config events e leases leases1 leases2 exports t x3 runs withdrawn told opened used moment time effective told_gone all_gone a m w) in
+    let seam = ap length (drop-append_seam told_gone (going_now config events e t)) in
+    let few = gone-few (max e.moment (now (places config events))) (held_by config.lease_ms (max e.moment (now (places config events))) (told_calls config events e)) t.waits t.rows in
+    omega (arith, rest, seam, few)

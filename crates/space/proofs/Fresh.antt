@@ -1,0 +1,71 @@
+-- What is kept of no events.
+use Rattle.std.proofs.Common.{◌≡◌, ℕ, List, [], length, refl, ap, sym, subst, ◌∙◌, arith, map}
+use Rattle.std.specs.Prelude.{filter, drop, nat_le}
+use Rattle.history.specs.declared.asks.SpaceConfig.{SpaceConfig}
+use Rattle.history.specs.declared.asks.Event.{Event}
+use Rattle.history.specs.declared.places.Place.{Place}
+use Rattle.history.specs.declared.places.Exported.{Exported}
+use Rattle.history.specs.declared.places.Withdrawal.{Withdrawal}
+use Rattle.history.specs.declared.places.Returned.{Returned}
+use Rattle.history.specs.Awaiting.{awaiting}
+use Rattle.history.specs.LeaseCalls.{lease_calls}
+use Rattle.history.specs.Leases.{clients, clients_with_time_left, pairs_with}
+use Rattle.history.specs.Limits.{units, reserved}
+use Rattle.history.specs.Names.{names}
+use Rattle.history.specs.Places.{now, added}
+use Rattle.history.specs.Replies.{first_untold}
+use Rattle.history.specs.Table.{table, places, withdrawals}
+use Rattle.history.proofs.GoneLaws.{withdrawals-none}
+use Rattle.history.proofs.TableLaws.{places-none, table-none, units-none}
+use Rattle.dgc_server.specs.Stands.{LeaseTable, StandsFor}
+use Rattle.export_table.specs.Table.{ExportTable, no_room}
+use Rattle.space.specs.declared.runs.Run.{Run}
+use Rattle.space.specs.Kept.{live_calls, HasDurations, IsWithin, rows_of, to_tell, Stands, Keeps}
+use Rattle.space.specs.Runs.{RunsStand, caller_of, object_of}
+use Rattle.space.specs.Waits.{reference_of, end_of}
+use Rattle.space.proofs.RunSteps.{runs-none}
+use Rattle.space.proofs.WaitLaws.{until-none}
+
+abbrev pub nothing_exported : SpaceConfig → ExportTable
+nothing_exported config = record { space = config.uid; ack = config.ack_ms; added = 0; rows = []; waits = []; room = no_room }
+
+within-nothing : (config : SpaceConfig) → IsWithin config []
+unfolding now reserved lease_calls clients_with_time_left clients pairs_with awaiting names
+within-nothing config =
+    record { history = (let none = units-none in omega arith); exports = (let none = ap length (table-none config) in omega arith); awaits = omega arith; clients = omega arith; pairs = omega arith; names = omega arith }
+
+stands-nothing : (config : SpaceConfig) (leases : LeaseTable) → StandsFor config.lease_ms leases 0 [] → Stands config [] leases (nothing_exported config) [] [] 0 0 0 0
+unfolding now added lease_calls
+stands-nothing config leases s = record {
+  leases_stand = s;
+  space_is = refl;
+  ack_is = refl;
+  added_is = refl;
+  opened_is = refl;
+  rows_are = sym (ap (rows_of []) (table-none config));
+  waits_stand = record { once = tt; each = λ r. rw (until-none config.ack_ms r) refl };
+  runs_stand = runs-none caller_of object_of;
+  withdrawn_are = sym (withdrawals-none config);
+  told_are = sym (ap (λ ws. map (λ (w : Withdrawal). w.object) (filter (λ w. nat_le (first_untold []) w.place) ws)) (withdrawals-none config));
+  told_within = omega arith;
+  used_is = sym units-none;
+  moment_is = refl;
+  within = within-nothing config;
+}
+
+pub keeps-nothing : (config : SpaceConfig) (leases : LeaseTable) (exports : ExportTable) (events : List Event) (runs : List Run) (withdrawn : List Withdrawal) → HasDurations config → StandsFor config.lease_ms leases 0 [] →
+    exports ≡ nothing_exported config → runs ≡ [] → events ≡ [] → withdrawn ≡ [] → Keeps config events leases exports runs withdrawn 0 0 0 0
+keeps-nothing config leases exports events runs withdrawn d s x r v w =
+    let P : List Event → Type 0 = λ es. Keeps config es leases exports runs withdrawn 0 0 0 0 in
+    let X : ExportTable → Type 0 = λ t. Keeps config [] leases t runs withdrawn 0 0 0 0 in
+    let R : List Run → Type 0 = λ rs. Keeps config [] leases (nothing_exported config) rs withdrawn 0 0 0 0 in
+    let W : List Withdrawal → Type 0 = λ ws. Keeps config [] leases (nothing_exported config) [] ws 0 0 0 0 in
+    let S : List Place → Type 0 = λ g. Stands config g leases (nothing_exported config) [] [] 0 0 0 0 in
+    subst P (sym v) (subst X (sym x) (subst R (sym r) (subst W (sym w) (record {
+      durations = d;
+      stands = subst S (sym (places-none config)) (stands-nothing config leases s);
+      early = omega arith;
+      few_events = omega arith;
+      few_opened = omega arith;
+      built = tt;
+    }))))

@@ -1,0 +1,218 @@
+-- The table, the live calls and what is kept, from one event to the next, generic in the ask.
+use Rattle.std.proofs.Common.{◌≡◌, ℕ, ◌+◌, ◌<◌, inl, inr, List, [], ◌∷◌, ◌++◌, length, refl, ap, sym, subst, ◌∙◌, map, max, arith}
+use Rattle.std.specs.Prelude.{Bool, true, false, ◌||◌, nat_lt}
+use Rattle.std.specs.List.{list_any}
+use Rattle.std.proofs.str.Laws.{order}
+use Rattle.std.proofs.lemmas.Bool.{or_left, or_right, or_cases}
+use Rattle.std.proofs.lemmas.List.Folds.{list_any-append}
+use Rattle.object_ids.specs.declared.ids.Uid.{Uid}
+use Rattle.object_ids.specs.declared.ids.ObjId.{ObjId}
+use Rattle.object_ids.specs.Same.{same_id}
+use Rattle.object_ids.proofs.Exact.{same_id-equal, same_id-self}
+use Rattle.history.specs.declared.asks.SpaceConfig.{SpaceConfig}
+use Rattle.history.specs.declared.asks.Event.{Event}
+use Rattle.history.specs.declared.calls.Call.{Call}
+use Rattle.history.specs.declared.places.Place.{Place}
+use Rattle.history.specs.declared.places.Exported.{Exported}
+use Rattle.history.specs.declared.places.Returned.{Returned}
+use Rattle.history.specs.Awaiting.{same_returned, awaits, is_awaited}
+use Rattle.history.specs.LeaseCalls.{call_with, lease_calls}
+use Rattle.history.specs.Leases.{is_naming, is_held}
+use Rattle.history.specs.Names.{is_named}
+use Rattle.history.specs.Places.{has, now, added, id_at}
+use Rattle.history.specs.Replies.{ids, gone}
+use Rattle.history.specs.Running.{running_calls}
+use Rattle.history.specs.Table.{is_pinned, is_kept, is_kept_since_export, table, place_of, places, withdrawn}
+use Rattle.history.proofs.AlikeCalls.{AllAlike, is_held-alike}
+use Rattle.history.proofs.AwaitingLaws.{is_awaited-members}
+use Rattle.history.proofs.GoneLaws.{pending, gone-push}
+use Rattle.history.proofs.ListLemmas.{Every, Every-append, Every-weaker}
+use Rattle.history.proofs.NumberLaws.{NumberedFrom, NumberedFrom-apart, adds-numbered, added-numbered, has-smaller, has-filter, has-self, AllApart, AllApart-filter}
+use Rattle.history.proofs.RunningLaws.{is_running-calls}
+use Rattle.history.proofs.TableLaws.{places-numbered, table-place, now-push, withdrawn-place}
+use Rattle.space.specs.Kept.{live_calls}
+use Rattle.space.proofs.LiveLaws.{IsNext, gone_of, without_all, live-push, told-alike}
+use Rattle.space.proofs.Named.{calls-names, naming-has, lease_calls-push}
+use Rattle.space.proofs.ObjectLaws.{running-there, named-there, awaited-there}
+
+-- ---- the table is the next one
+
+-- An object of a numbered list is one of its numbers.
+numbered-has : (space : Uid) (k : ℕ) (xs : List Exported) (y : ObjId) → NumberedFrom space k xs → has xs y ≡ true → (m : ℕ) × (y ≡ id_at space m) × (m < k + length xs)
+numbered-has space k [] y n h = absurd (cc)
+numbered-has space k (x ∷ xs) y n h = elim (or_cases (same_id x.id y) (has xs y) h) [
+  | inl here ↦ (k, sym (same_id-equal x.id y here) ∙ n.0, omega arith)
+  | inr there ↦ (let rest = numbered-has space (k + 1) xs y n.1 there in (rest.0, rest.1, (let l = rest.2 in omega arith)))
+]
+
+-- What was exported before is not new.
+pub old-not-new : (config : SpaceConfig) (events : List Event) (e : Event) (y : ObjId) → has (added (places config events)) y ≡ true → has (place_of config (places config events) e).adds y ≡ false
+old-not-new config events e y h =
+    let some = numbered-has config.uid 0 (added (places config events)) y (added-numbered config events) h in
+    ap (has (place_of config (places config events) e).adds) some.1
+    ∙ has-smaller config.uid some.0 (length (added (places config events))) (place_of config (places config events) e).adds (adds-numbered config (places config events) e) (let l = some.2 in omega arith)
+
+-- What is in the table was exported.
+pub table-exported : (config : SpaceConfig) (h : List Place) (y : ObjId) → has (table config h) y ≡ true → has (added h) y ≡ true
+unfolding table
+table-exported config h y t = go (has (added h) y) refl
+  where
+    go : (b : Bool) → has (added h) y ≡ b → b ≡ true
+    go true e = refl
+    go false e = absurd (let never = has-filter (is_kept_since_export (is_kept config) h) (added h) y e in cc)
+
+-- A list whose objects are apart, before another of other objects.
+apart-append : (xs ys : List Exported) → AllApart xs → AllApart ys → ((y : ObjId) → has xs y ≡ true → has ys y ≡ false) → AllApart (xs ++ ys)
+apart-append [] ys a b f = b
+apart-append (x ∷ xs) ys a b f = (
+  list_any-append (λ (z : Exported). same_id z.id x.id) xs ys ∙ rw (a.0, f x.id (or_left (same_id x.id x.id) (has xs x.id) (same_id-self x.id))) refl,
+  apart-append xs ys a.1 b (λ y h. f y (or_right (same_id x.id y) (has xs y) h)),
+)
+
+pub table-all-apart : (config : SpaceConfig) (events : List Event) (e : Event) → AllApart (table config (places config events) ++ (place_of config (places config events) e).adds)
+unfolding table
+table-all-apart config events e =
+    apart-append (table config (places config events)) (place_of config (places config events) e).adds
+    (AllApart-filter (is_kept_since_export (is_kept config) (places config events)) (added (places config events)) (NumberedFrom-apart config.uid 0 (added (places config events)) (added-numbered config events)))
+    (NumberedFrom-apart config.uid (length (added (places config events))) (place_of config (places config events) e).adds (adds-numbered config (places config events) e))
+    (λ y h. old-not-new config events e y (table-exported config (places config events) y h))
+
+pub is-next : (config : SpaceConfig) (events : List Event) (e : Event) →
+    IsNext (table config (places config events)) (place_of config (places config events) e).adds (added (places config events)) (table config (place_of config (places config events) e ∷ places config events))
+    (is_kept config (place_of config (places config events) e ∷ places config events))
+is-next config events e = record {
+  apart = table-all-apart config events e;
+  old = λ y h. table-exported config (places config events) y h;
+  new = λ y h. old-not-new config events e y h;
+  next = table-place config (places config events) e (places-numbered config events);
+}
+
+-- ---- what leaves it
+
+pub withdrawn-ids : (config : SpaceConfig) (events : List Event) (e : Event) →
+    ids (withdrawn config (place_of config (places config events) e ∷ places config events))
+    ≡ gone_of (table config (places config events) ++ (place_of config (places config events) e).adds) (is_kept config (place_of config (places config events) e ∷ places config events))
+withdrawn-ids config events e = ap ids (withdrawn-place config (places config events) e)
+
+-- WHAT A TURN TELLS as gone: what was still to be told, and what goes now.
+pub gone-next : (config : SpaceConfig) (events : List Event) (e : Event) →
+    gone config (places config events) e
+    ≡ pending config (places config events) ++ gone_of (table config (places config events) ++ (place_of config (places config events) e).adds) (is_kept config (place_of config (places config events) e ∷ places config events))
+gone-next config events e = gone-push config (places config events) e (places-numbered config events) ∙ ap (λ l. pending config (places config events) ++ l) (withdrawn-ids config events e)
+
+-- ---- the live calls
+
+-- THE LIVE CALLS after an event.
+pub live-next : (config : SpaceConfig) (events : List Event) (e : Event) →
+    live_calls (table config (place_of config (places config events) e ∷ places config events)) (lease_calls (place_of config (places config events) e ∷ places config events))
+    ≡ map (without_all (gone_of (table config (places config events) ++ (place_of config (places config events) e).adds) (is_kept config (place_of config (places config events) e ∷ places config events))))
+    (call_with (has (table config (places config events))) (max e.moment (now (places config events))) e.ask ++ live_calls (table config (places config events)) (lease_calls (places config events)))
+live-next config events e =
+    ap (live_calls (table config (place_of config (places config events) e ∷ places config events))) (lease_calls-push config (places config events) e)
+    ∙ live-push (table config (places config events)) (place_of config (places config events) e).adds (added (places config events)) (table config (place_of config (places config events) e ∷ places config events))
+    (is_kept config (place_of config (places config events) e ∷ places config events)) (is-next config events e) (max e.moment (now (places config events))) e.ask (lease_calls (places config events)) (calls-names (places config events))
+
+-- ---- new objects were nowhere before
+
+pub new-not-old : (config : SpaceConfig) (events : List Event) (e : Event) (y : ObjId) → has (place_of config (places config events) e).adds y ≡ true → has (added (places config events)) y ≡ false
+new-not-old config events e y h = go (has (added (places config events)) y) refl
+  where
+    go : (b : Bool) → has (added (places config events)) y ≡ b → b ≡ false
+    go false t = refl
+    go true t = absurd (let never = old-not-new config events e y t in cc)
+
+pub not-exported-nowhere : (config : SpaceConfig) (events : List Event) (y : ObjId) → has (added (places config events)) y ≡ false → has (table config (places config events)) y ≡ false
+not-exported-nowhere config events y h = go (has (table config (places config events)) y) refl
+  where
+    go : (b : Bool) → has (table config (places config events)) y ≡ b → b ≡ false
+    go false t = refl
+    go true t = absurd (let there = table-exported config (places config events) y t in cc)
+
+-- No call of one runs.
+pub not-there-runs-none : (config : SpaceConfig) (events : List Event) (y : ObjId) → has (table config (places config events)) y ≡ false → running_calls (places config events) y ≡ 0
+not-there-runs-none config events y h = elim (order 0 (running_calls (places config events) y)) [
+  | inl runs ↦ absurd (let there = running-there config events y runs in cc)
+  | inr none ↦ omega arith
+]
+
+-- No call names one.
+pub not-exported-named : (config : SpaceConfig) (events : List Event) (y : ObjId) → has (added (places config events)) y ≡ false → list_any (is_naming y) (lease_calls (places config events)) ≡ false
+not-exported-named config events y h = go (list_any (is_naming y) (lease_calls (places config events))) refl
+  where
+    go : (b : Bool) → list_any (is_naming y) (lease_calls (places config events)) ≡ b → b ≡ false
+    go false t = refl
+    go true t = absurd (let there = naming-has (added (places config events)) y (lease_calls (places config events)) (calls-names (places config events)) t in cc)
+
+-- No name stands for one, and no reference to one awaits.
+pub not-there-named : (config : SpaceConfig) (events : List Event) (y : ObjId) → has (table config (places config events)) y ≡ false → is_named (places config events) y ≡ false
+not-there-named config events y h = go (is_named (places config events) y) refl
+  where
+    go : (b : Bool) → is_named (places config events) y ≡ b → b ≡ false
+    go false t = refl
+    go true t = absurd (let there = named-there config events y t in cc)
+
+pub not-there-awaits : (config : SpaceConfig) (events : List Event) (r : Returned) → has (table config (places config events)) r.object ≡ false → awaits config.ack_ms (now (places config events)) (places config events) r ≡ false
+not-there-awaits config events r h = go (awaits config.ack_ms (now (places config events)) (places config events) r) refl
+  where
+    go : (b : Bool) → awaits config.ack_ms (now (places config events)) (places config events) r ≡ b → b ≡ false
+    go false t = refl
+    go true t = absurd (let there = awaited-there config events r t in cc)
+
+-- ---- what is kept, before anything goes
+
+-- The event's own call and the live calls say whether an object of the table, or a new one, is held.
+told-both : (config : SpaceConfig) (events : List Event) (e : Event) (o : ObjId) → has (added (places config events)) o ≡ has (table config (places config events)) o →
+    AllAlike o (lease_calls (place_of config (places config events) e ∷ places config events))
+    (call_with (has (table config (places config events))) (max e.moment (now (places config events))) e.ask ++ live_calls (table config (places config events)) (lease_calls (places config events)))
+told-both config events e o same =
+    let P : List Call → Type 0 = λ l. AllAlike o l (call_with (has (table config (places config events))) (max e.moment (now (places config events))) e.ask ++ live_calls (table config (places config events)) (lease_calls (places config events))) in
+    subst P (sym (lease_calls-push config (places config events) e))
+    (told-alike (table config (places config events)) (added (places config events)) o (max e.moment (now (places config events))) e.ask (lease_calls (places config events)) same
+    (λ h. not-exported-named config events o (same ∙ h)))
+
+pub held-next : (config : SpaceConfig) (events : List Event) (e : Event) (t : ℕ) →
+    Every (λ x. is_held config.lease_ms t (lease_calls (place_of config (places config events) e ∷ places config events)) x.id
+    ≡ is_held config.lease_ms t (call_with (has (table config (places config events))) (max e.moment (now (places config events))) e.ask ++ live_calls (table config (places config events)) (lease_calls (places config events))) x.id)
+    (table config (places config events) ++ (place_of config (places config events) e).adds)
+held-next config events e t =
+    Every-append _ (table config (places config events)) (place_of config (places config events) e).adds
+    (Every-weaker (λ (x : Exported). has (table config (places config events)) x.id ≡ true) _
+    (λ x h. one x (table-exported config (places config events) x.id h ∙ sym h)) (table config (places config events)) (has-self (table config (places config events))))
+    (Every-weaker (λ (x : Exported). has (place_of config (places config events) e).adds x.id ≡ true) _
+    (λ x h. (let new = new-not-old config events e x.id h in one x (new ∙ sym (not-exported-nowhere config events x.id new)))) (place_of config (places config events) e).adds (has-self (place_of config (places config events) e).adds))
+  where
+    one : (x : Exported) → has (added (places config events)) x.id ≡ has (table config (places config events)) x.id →
+        is_held config.lease_ms t (lease_calls (place_of config (places config events) e ∷ places config events)) x.id
+        ≡ is_held config.lease_ms t (call_with (has (table config (places config events))) (max e.moment (now (places config events))) e.ask ++ live_calls (table config (places config events)) (lease_calls (places config events))) x.id
+    one x same =
+        is_held-alike x.id config.lease_ms t (lease_calls (place_of config (places config events) e ∷ places config events))
+        (call_with (has (table config (places config events))) (max e.moment (now (places config events))) e.ask ++ live_calls (table config (places config events)) (lease_calls (places config events)))
+        (told-both config events e x.id same)
+
+-- WHAT KEEPS AN OBJECT after an event, by how many calls of it run, by any list of the references that await, and by the calls that the
+-- lease table was told before objects go.
+pub kept-next : (config : SpaceConfig) (events : List Event) (e : Event) (waits : List Returned) →
+    ((r : Returned) → list_any (same_returned r) waits ≡ awaits config.ack_ms (now (place_of config (places config events) e ∷ places config events)) (place_of config (places config events) e ∷ places config events) r) →
+    Every (λ x. is_kept config (place_of config (places config events) e ∷ places config events) x
+    ≡ ((x.pinned || is_named (place_of config (places config events) e ∷ places config events) x.id || nat_lt 0 (running_calls (place_of config (places config events) e ∷ places config events) x.id))
+    || list_any (λ r. same_id r.object x.id) waits
+    || is_held config.lease_ms (max e.moment (now (places config events)))
+    (call_with (has (table config (places config events))) (max e.moment (now (places config events))) e.ask ++ live_calls (table config (places config events)) (lease_calls (places config events))) x.id))
+    (table config (places config events) ++ (place_of config (places config events) e).adds)
+unfolding is_kept is_pinned
+kept-next config events e waits await =
+    Every-weaker _ _ (λ x held.
+    ap (λ v. (x.pinned || is_named (place_of config (places config events) e ∷ places config events) x.id || v)
+    || is_awaited config.ack_ms (now (place_of config (places config events) e ∷ places config events)) (place_of config (places config events) e ∷ places config events) x.id
+    || is_held config.lease_ms (now (place_of config (places config events) e ∷ places config events)) (lease_calls (place_of config (places config events) e ∷ places config events)) x.id)
+    (is_running-calls (place_of config (places config events) e ∷ places config events) x.id)
+    ∙ ap (λ v. (x.pinned || is_named (place_of config (places config events) e ∷ places config events) x.id || nat_lt 0 (running_calls (place_of config (places config events) e ∷ places config events) x.id))
+    || v || is_held config.lease_ms (now (place_of config (places config events) e ∷ places config events)) (lease_calls (place_of config (places config events) e ∷ places config events)) x.id)
+    (is_awaited-members config.ack_ms (now (place_of config (places config events) e ∷ places config events)) (place_of config (places config events) e ∷ places config events) x.id waits await)
+    ∙ ap (λ n. (x.pinned || is_named (place_of config (places config events) e ∷ places config events) x.id || nat_lt 0 (running_calls (place_of config (places config events) e ∷ places config events) x.id))
+    || list_any (λ r. same_id r.object x.id) waits || is_held config.lease_ms n (lease_calls (place_of config (places config events) e ∷ places config events)) x.id)
+    (now-push config (places config events) e)
+    ∙ ap (λ v. (x.pinned || is_named (place_of config (places config events) e ∷ places config events) x.id || nat_lt 0 (running_calls (place_of config (places config events) e ∷ places config events) x.id))
+    || list_any (λ r. same_id r.object x.id) waits || v) held)
+    (table config (places config events) ++ (place_of config (places config events) e).adds)
+    (held-next config events e (max e.moment (now (places config events))))

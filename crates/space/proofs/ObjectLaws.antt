@@ -1,0 +1,313 @@
+-- Objects of the table, generic in the ask: what keeps an object is in the table, new objects are nowhere before, and what leaves the table.
+use Rattle.std.proofs.Common.{◌≡◌, ℕ, ◌+◌, ◌<◌, ◌≤◌, inl, inr, List, [], ◌∷◌, ◌++◌, length, refl, ap, sym, subst, ◌∙◌, cond, map, arith, Option, Some, None}
+use Rattle.std.specs.Prelude.{Bool, true, false, ◌&&◌, ◌||◌, filter, nat_lt, reverse, if◌then◌else◌, is_some, is_none, option_to_list, flat_map}
+use Rattle.std.specs.List.{list_any}
+use Rattle.std.proofs.lemmas.Bool.{lt-ltb, and_parts, or_left, or_right, or_cases}
+use Rattle.std.proofs.lemmas.List.{reverse-reverse}
+use Rattle.std.proofs.lemmas.List.Folds.{list_any-append}
+use Rattle.object_ids.specs.declared.ids.Uid.{Uid}
+use Rattle.object_ids.specs.declared.ids.ObjId.{ObjId}
+use Rattle.object_ids.specs.Same.{same_id, same_uid, same_bytes}
+use Rattle.object_ids.proofs.Exact.{same_id-equal, same_id-self}
+use Rattle.history.specs.declared.asks.SpaceConfig.{SpaceConfig}
+use Rattle.history.specs.declared.asks.Event.{Event}
+use Rattle.history.specs.declared.asks.Ask.{Ask}
+use Rattle.history.specs.declared.asks.Ask.TheVariants.{Begin, Finish, Bind, Rebind, Lookup}
+use Rattle.history.specs.declared.places.Place.{Place}
+use Rattle.history.specs.declared.places.Exported.{Exported}
+use Rattle.history.specs.declared.places.Returned.{Returned}
+use Rattle.history.specs.Awaiting.{same_returned, returns, return_uid, is_ack_of, awaits, awaiting, is_awaited}
+use Rattle.history.specs.LeaseCalls.{lease_calls}
+use Rattle.history.specs.Leases.{is_held}
+use Rattle.history.specs.Lists.{option_any}
+use Rattle.history.specs.Names.{object_bound, changes_name, is_bind_of, is_unbind_of, stands_for, names, is_name_of, is_named}
+use Rattle.history.specs.Places.{has, now}
+use Rattle.history.specs.Running.{running, running_calls, is_running}
+use Rattle.history.specs.Table.{is_pinned, is_kept, table, is_effective, exports, lists, place_of, places}
+use Rattle.history.proofs.AwaitingLaws.{returned-equality, awaits-acknowledged, awaits-passed, awaits-none, awaiting-member}
+use Rattle.history.proofs.ListLemmas.{reverse-cons}
+use Rattle.history.proofs.NameLaws.{stands_for-push, stands_for-none, names-member, bytes-equality}
+use Rattle.history.proofs.Partitions.{one_if}
+use Rattle.history.proofs.RunningLaws.{begins_any, ends_any, running_calls-difference, running_calls-push, is_running-calls}
+use Rattle.history.proofs.TableLaws.{places-numbered, places-push, places-none, table-place, now-push}
+use Rattle.dgc_server.proofs.Steps.{earlier}
+use Rattle.space.proofs.Named.{any-ids}
+use Rattle.space.specs.Waits.{until_of}
+use Rattle.space.proofs.WaitLaws.{awaits-until, numbered-place}
+
+-- ---- from event to event
+
+-- What holds of no events, and of one more where it held before, holds of all lists of events.
+pub by-events : (P : List Event → Type 0) → P [] → ((events : List Event) (e : Event) → P events → P (events ++ e ∷ [])) → (events : List Event) → P events
+by-events P nothing more events = subst P (reverse-reverse events) (go (reverse events))
+  where
+    go : (es : List Event) → P (reverse es)
+    go [] = nothing
+    go (e ∷ es) = subst P (sym (reverse-cons e es)) (more (reverse es) e (go es))
+
+-- ---- an object that is kept stays
+
+has-kept : (test : Exported → Bool) (xs : List Exported) (o : ObjId) → ((x : Exported) → x.id ≡ o → test x ≡ true) → has xs o ≡ true → has (filter test xs) o ≡ true
+has-kept test [] o k h = absurd (cc)
+has-kept test (x ∷ xs) o k h = go (test x) (same_id x.id o) refl refl h (has-kept test xs o k)
+  where
+    go : (a b : Bool) → test x ≡ a → same_id x.id o ≡ b → (b || has xs o) ≡ true → (has xs o ≡ true → has (filter test xs) o ≡ true) → has (cond a (x ∷ filter test xs) (filter test xs)) o ≡ true
+    go true true e f h rest = rw f refl
+    go true false e f h rest = rw f (rest h)
+    go false true e f h rest = absurd (let yes = k x (same_id-equal x.id o f) in cc)
+    go false false e f h rest = rest h
+
+-- An object of the table, or a new one, that is kept after an event is in the table then.
+pub stays : (config : SpaceConfig) (events : List Event) (e : Event) (o : ObjId) →
+    ((x : Exported) → x.id ≡ o → is_kept config (place_of config (places config events) e ∷ places config events) x ≡ true) →
+    has (table config (places config events) ++ (place_of config (places config events) e).adds) o ≡ true →
+    has (table config (place_of config (places config events) e ∷ places config events)) o ≡ true
+stays config events e o k h =
+    ap (λ l. has l o) (table-place config (places config events) e (places-numbered config events))
+    ∙ has-kept (is_kept config (place_of config (places config events) e ∷ places config events)) (table config (places config events) ++ (place_of config (places config events) e).adds) o k h
+
+in-front : (xs ys : List Exported) (o : ObjId) → has xs o ≡ true → has (xs ++ ys) o ≡ true
+in-front xs ys o h = list_any-append (λ (x : Exported). same_id x.id o) xs ys ∙ or_left (has xs o) (has ys o) h
+
+-- ---- running calls are of objects of the table
+
+begun-there : (config : SpaceConfig) (h : List Place) (e : Event) (o : ObjId) → begins_any o (place_of config h e) ≡ true → has (table config h) o ≡ true
+unfolding place_of is_effective
+begun-there config h e o b = go e.ask b
+  where
+    never : (v : Bool) → (v && false) ≡ true → has (table config h) o ≡ true
+    never true t = absurd (cc)
+    never false t = absurd (cc)
+
+    go : (a : Ask) → begins_any o (place_of config h (record e { ask = a })) ≡ true → has (table config h) o ≡ true
+    go (Begin x) t = let two = and_parts (has (table config h) x) (same_id x o) t in ap (has (table config h)) (sym (same_id-equal x o two.1)) ∙ two.0
+    go a t = never (place_of config h (record e { ask = a })).effective t
+
+kept-running : (config : SpaceConfig) (h : List Place) (x : Exported) → 0 < running_calls h x.id → is_kept config h x ≡ true
+unfolding is_kept is_pinned
+kept-running config h x r = rw (is_running-calls h x.id ∙ lt-ltb 0 (running_calls h x.id) r) (go x.pinned (is_named h x.id) (is_awaited config.ack_ms (now h) h x.id) (is_held config.lease_ms (now h) (lease_calls h) x.id))
+  where
+    go : (a b c d : Bool) → (((a || b) || true) || c || d) ≡ true
+    go true b c d = refl
+    go false true c d = refl
+    go false false c d = refl
+
+ran-before : (after before : ℕ) (ends begins : Bool) → after + one_if ends ≡ before + one_if begins → begins ≡ false → 0 < after → 0 < before
+unfolding one_if
+ran-before after before ends true e b r = absurd (cc)
+ran-before after before ends false e b r = omega arith
+
+pub running-there : (config : SpaceConfig) (events : List Event) (o : ObjId) → 0 < running_calls (places config events) o → has (table config (places config events)) o ≡ true
+running-there config = by-events
+    (λ events. (o : ObjId) → 0 < running_calls (places config events) o → has (table config (places config events)) o ≡ true) none more
+  where
+    none : (o : ObjId) → 0 < running_calls (places config []) o → has (table config (places config [])) o ≡ true
+    none o r = absurd (let all = running_calls-difference config [] o in
+        let empty : length (filter (begins_any o) (places config [])) ≡ 0 = ap (λ h. length (filter (begins_any o) h)) (places-none config) in omega arith)
+
+    more : (events : List Event) (e : Event) → ((o : ObjId) → 0 < running_calls (places config events) o → has (table config (places config events)) o ≡ true) →
+        (o : ObjId) → 0 < running_calls (places config (events ++ e ∷ [])) o → has (table config (places config (events ++ e ∷ []))) o ≡ true
+    more events e ih o r =
+        ap (λ h. has (table config h) o) (places-push config events e) ∙ stays config events e o (λ x i. kept-running config (place_of config (places config events) e ∷ places config events) x (let same = ap (running_calls (place_of config (places config events) e ∷ places config events)) i in let r = runs in omega arith))
+        (in-front (table config (places config events)) (place_of config (places config events) e).adds o (before (begins_any o (place_of config (places config events) e)) refl))
+      where
+        runs : 0 < running_calls (place_of config (places config events) e ∷ places config events) o
+        runs = let same = ap (λ h. running_calls h o) (places-push config events e) in omega arith
+
+        before : (b : Bool) → begins_any o (place_of config (places config events) e) ≡ b → has (table config (places config events)) o ≡ true
+        before true t = begun-there config (places config events) e o t
+        before false t = ih o (ran-before (running_calls (place_of config (places config events) e ∷ places config events) o) (running_calls (places config events) o) (ends_any o (place_of config (places config events) e)) (begins_any o (place_of config (places config events) e)) (running_calls-push config events e o) t runs)
+
+-- ---- names stand for objects of the table
+
+bound-there : (config : SpaceConfig) (h : List Place) (e : Event) (n : List ℕ) (o : ObjId) → changes_name n (place_of config h e) ≡ true → object_bound (place_of config h e).event.ask ≡ Some o → has (table config h) o ≡ true
+unfolding place_of is_effective
+bound-there config h e n o c b = go e.ask c b
+  where
+    go : (a : Ask) → changes_name n (place_of config h (record e { ask = a })) ≡ true → object_bound a ≡ Some o → has (table config h) o ≡ true
+    go (Bind m x) c b =
+        let two = and_parts (has (table config h) x && is_none (stands_for h m)) (is_bind_of n (Bind m x) || is_unbind_of n (Bind m x)) c in
+        let one = and_parts (has (table config h) x) (is_none (stands_for h m)) two.0 in
+        let same : x ≡ o = cc in ap (has (table config h)) (sym same) ∙ one.0
+    go (Rebind m x) c b =
+        let two = and_parts (has (table config h) x) (is_bind_of n (Rebind m x) || is_unbind_of n (Rebind m x)) c in
+        let same : x ≡ o = cc in ap (has (table config h)) (sym same) ∙ two.0
+    go _ c b = absurd (cc)
+
+any-at : {X : Type 0} (same : X → X → Bool) → ((a b : X) → same a b ≡ true → a ≡ b) → (test : X → Bool) (n : X) (xs : List X) → list_any (same n) xs ≡ true → test n ≡ true → list_any test xs ≡ true
+any-at same equal test n [] h t = absurd (cc)
+any-at same equal test n (x ∷ xs) h t = elim (or_cases (same n x) (list_any (same n) xs) h) [
+  | inl here ↦ or_left (test x) (list_any test xs) (ap test (sym (equal n x here)) ∙ t)
+  | inr there ↦ or_right (test x) (list_any test xs) (any-at same equal test n xs there t)
+]
+
+pub named-standing : (config : SpaceConfig) (events : List Event) (n : List ℕ) (o : ObjId) → stands_for (places config events) n ≡ Some o → is_named (places config events) o ≡ true
+unfolding is_named
+named-standing config events n o s =
+    any-at same_bytes bytes-equality.equal (is_name_of (places config events) o) n (names (places config events)) (names-member config events n ∙ ap is_some s)
+    (ap (option_any (λ x. same_id x o)) s ∙ same_id-self o)
+
+kept-named : (config : SpaceConfig) (h : List Place) (x : Exported) → is_named h x.id ≡ true → is_kept config h x ≡ true
+unfolding is_kept is_pinned
+kept-named config h x n = rw n (go x.pinned (is_running h x.id) (is_awaited config.ack_ms (now h) h x.id) (is_held config.lease_ms (now h) (lease_calls h) x.id))
+  where
+    go : (a b c d : Bool) → (((a || true) || b) || c || d) ≡ true
+    go true b c d = refl
+    go false b c d = refl
+
+pub standing-there : (config : SpaceConfig) (events : List Event) (n : List ℕ) (o : ObjId) → stands_for (places config events) n ≡ Some o → has (table config (places config events)) o ≡ true
+standing-there config = by-events
+    (λ events. (n : List ℕ) (o : ObjId) → stands_for (places config events) n ≡ Some o → has (table config (places config events)) o ≡ true) none more
+  where
+    none : (n : List ℕ) (o : ObjId) → stands_for (places config []) n ≡ Some o → has (table config (places config [])) o ≡ true
+    none n o s = absurd (let nothing = ap (λ h. stands_for h n) (places-none config) ∙ stands_for-none n in cc)
+
+    more : (events : List Event) (e : Event) → ((n : List ℕ) (o : ObjId) → stands_for (places config events) n ≡ Some o → has (table config (places config events)) o ≡ true) →
+        (n : List ℕ) (o : ObjId) → stands_for (places config (events ++ e ∷ [])) n ≡ Some o → has (table config (places config (events ++ e ∷ []))) o ≡ true
+    more events e ih n o s =
+        ap (λ h. has (table config h) o) (places-push config events e) ∙ stays config events e o (λ x i. kept-named config (place_of config (places config events) e ∷ places config events) x (ap (is_named (place_of config (places config events) e ∷ places config events)) i ∙ there))
+        (in-front (table config (places config events)) (place_of config (places config events) e).adds o (before (changes_name n (place_of config (places config events) e)) refl))
+      where
+        there : is_named (place_of config (places config events) e ∷ places config events) o ≡ true
+        there = ap (λ h. is_named h o) (sym (places-push config events e)) ∙ named-standing config (events ++ e ∷ []) n o s
+
+        step : (if changes_name n (place_of config (places config events) e) then object_bound (place_of config (places config events) e).event.ask else stands_for (places config events) n) ≡ Some o
+        step = sym (stands_for-push (place_of config (places config events) e) (places config events) n) ∙ ap (λ h. stands_for h n) (sym (places-push config events e)) ∙ s
+
+        before : (b : Bool) → changes_name n (place_of config (places config events) e) ≡ b → has (table config (places config events)) o ≡ true
+        before true t =
+            bound-there config (places config events) e n o t (ap (λ b. if b then object_bound (place_of config (places config events) e).event.ask else stands_for (places config events) n) (sym t) ∙ step)
+        before false t = ih n o (ap (λ b. if b then object_bound (place_of config (places config events) e).event.ask else stands_for (places config events) n) (sym t) ∙ step)
+
+pub named-there : (config : SpaceConfig) (events : List Event) (o : ObjId) → is_named (places config events) o ≡ true → has (table config (places config events)) o ≡ true
+unfolding is_named
+named-there config events o h = go (names (places config events)) h
+  where
+    one : (n : List ℕ) (s : Option ObjId) → stands_for (places config events) n ≡ s → option_any (λ x. same_id x o) s ≡ true → has (table config (places config events)) o ≡ true
+    one n None e t = absurd (cc)
+    one n (Some x) e t = ap (has (table config (places config events))) (sym (same_id-equal x o t)) ∙ standing-there config events n x e
+
+    go : (ns : List (List ℕ)) → list_any (is_name_of (places config events) o) ns ≡ true → has (table config (places config events)) o ≡ true
+    go [] t = absurd (cc)
+    go (n ∷ ns) t = elim (or_cases (is_name_of (places config events) o n) (list_any (is_name_of (places config events) o) ns) t) [
+      | inl here ↦ one n (stands_for (places config events) n) refl here
+      | inr there ↦ go ns there
+    ]
+
+-- ---- references await of objects of the table
+
+kept-awaited : (config : SpaceConfig) (h : List Place) (x : Exported) → is_awaited config.ack_ms (now h) h x.id ≡ true → is_kept config h x ≡ true
+unfolding is_kept
+kept-awaited config h x a = rw a (go (is_pinned h x) (is_held config.lease_ms (now h) (lease_calls h) x.id))
+  where
+    go : (a b : Bool) → (a || true || b) ≡ true
+    go true b = refl
+    go false b = refl
+
+awaited-by : (ack t : ℕ) (h : List Place) (r : Returned) → awaits ack t h r ≡ true → is_awaited ack t h r.object ≡ true
+unfolding is_awaited
+awaited-by ack t h r a = any-at same_returned returned-equality.equal (λ s. same_id s.object r.object) r (awaiting ack t h) (awaiting-member ack t h r ∙ a) (same_id-self r.object)
+
+exported-ids : (o : ObjId) (xs : List Exported) → list_any (same_id o) (map (λ x. x.id) xs) ≡ true → has xs o ≡ true
+exported-ids o xs h = sym (any-ids xs o) ∙ h
+
+filter-there : (objects : List Exported) (o : ObjId) (os : List ObjId) → list_any (same_id o) (filter (has objects) os) ≡ true → has objects o ≡ true
+filter-there objects o [] h = absurd (cc)
+filter-there objects o (y ∷ os) h = go (has objects y) refl h (filter-there objects o os)
+  where
+    go : (b : Bool) → has objects y ≡ b → list_any (same_id o) (cond b (y ∷ filter (has objects) os) (filter (has objects) os)) ≡ true → (list_any (same_id o) (filter (has objects) os) ≡ true → has objects o ≡ true) → has objects o ≡ true
+    go false e t rest = rest t
+    go true e t rest = elim (or_cases (same_id o y) (list_any (same_id o) (filter (has objects) os)) t) [
+      | inl here ↦ ap (has objects) (same_id-equal o y here) ∙ e
+      | inr there ↦ rest there
+    ]
+
+-- What a place returns is in the table before it, or new.
+listed-there : (config : SpaceConfig) (events : List Event) (e : Event) (o : ObjId) → list_any (same_id o) (place_of config (places config events) e).lists ≡ true →
+    has (table config (places config events) ++ (place_of config (places config events) e).adds) o ≡ true
+unfolding place_of is_effective lists
+listed-there config events e o h = go e.ask h
+  where
+    nowhere : (b : Bool) → list_any (same_id o) (if b then [] else []) ≡ true → ⊥
+    nowhere true t = cc
+    nowhere false t = cc
+
+    finish : (b : Bool) (new : List Exported) (listed : List ObjId) →
+        list_any (same_id o) (if b then map (λ x. x.id) new ++ filter (has (table config (places config events))) listed else []) ≡ true →
+        has (table config (places config events) ++ (if b then new else [])) o ≡ true
+    finish false new listed t = absurd (cc)
+    finish true new listed t =
+        list_any-append (λ (x : Exported). same_id x.id o) (table config (places config events)) new
+        ∙ elim (or_cases (list_any (same_id o) (map (λ x. x.id) new)) (list_any (same_id o) (filter (has (table config (places config events))) listed))
+        (sym (list_any-append (same_id o) (map (λ x. x.id) new) (filter (has (table config (places config events))) listed)) ∙ t)) [
+          | inl here ↦ or_right (has (table config (places config events)) o) (has new o) (exported-ids o new here)
+          | inr there ↦ or_left (has (table config (places config events)) o) (has new o) (filter-there (table config (places config events)) o listed there)
+        ]
+
+    looked : (s : Option ObjId) (n : List ℕ) → stands_for (places config events) n ≡ s → list_any (same_id o) (if is_some s then option_to_list s else []) ≡ true → has (table config (places config events)) o ≡ true
+    looked None n e t = absurd (cc)
+    looked (Some x) n e t = elim (or_cases (same_id o x) false t) [
+      | inl here ↦ standing-there config events n o (e ∙ ap (λ y. Some y) (sym (same_id-equal o x here)))
+      | inr never ↦ absurd (cc)
+    ]
+
+    go : (a : Ask) → list_any (same_id o) (place_of config (places config events) (record e { ask = a })).lists ≡ true →
+        has (table config (places config events) ++ (place_of config (places config events) (record e { ask = a })).adds) o ≡ true
+    go (Finish x made listed uid) t = finish (nat_lt 0 (running (places config events) e.by x)) (exports config (places config events) (Finish x made listed uid)) listed t
+    go (Lookup n uid) t = in-front (table config (places config events)) (place_of config (places config events) (record e { ask = Lookup n uid })).adds o (looked (stands_for (places config events) n) n refl t)
+    go a t = absurd (nowhere (place_of config (places config events) (record e { ask = a })).effective t)
+
+returned-listed : (p : Place) (r : Returned) → returns r p ≡ true → list_any (same_id r.object) p.lists ≡ true
+returned-listed p r t = go (return_uid p.event.ask) t
+  where
+    one : (u : Uid) (os : List ObjId) → list_any (same_returned r) (map (λ o. record { object = o; uid = u }) os) ≡ true → list_any (same_id r.object) os ≡ true
+    one u [] h = absurd (cc)
+    one u (o ∷ os) h = elim (or_cases (same_id r.object o && same_uid r.uid u) (list_any (same_returned r) (map (λ x. record { object = x; uid = u }) os)) h) [
+      | inl here ↦ or_left (same_id r.object o) (list_any (same_id r.object) os) (and_parts (same_id r.object o) (same_uid r.uid u) here).0
+      | inr there ↦ or_right (same_id r.object o) (list_any (same_id r.object) os) (one u os there)
+    ]
+
+    go : (u : Option Uid) → list_any (same_returned r) (flat_map (λ v. map (λ o. record { object = o; uid = v }) p.lists) (option_to_list u)) ≡ true → list_any (same_id r.object) p.lists ≡ true
+    go None h = absurd (cc)
+    go (Some u) h = one u p.lists (sym (whole (map (λ o. record { object = o; uid = u }) p.lists)) ∙ h)
+      where
+        whole : (rs : List Returned) → list_any (same_returned r) (rs ++ []) ≡ list_any (same_returned r) rs
+        whole rs = list_any-append (same_returned r) rs [] ∙ right (list_any (same_returned r) rs)
+          where
+            right : (b : Bool) → (b || false) ≡ b
+            right true = refl
+            right false = refl
+
+awaits-earlier : (ack t u : ℕ) (h : List Place) (r : Returned) → t ≤ u → awaits ack u h r ≡ true → awaits ack t h r ≡ true
+awaits-earlier ack t u h r le a = awaits-until ack t h r ∙ earlier t u (until_of ack h r) le (sym (awaits-until ack u h r) ∙ a)
+
+pub awaited-there : (config : SpaceConfig) (events : List Event) (r : Returned) → awaits config.ack_ms (now (places config events)) (places config events) r ≡ true → has (table config (places config events)) r.object ≡ true
+awaited-there config = by-events
+    (λ events. (r : Returned) → awaits config.ack_ms (now (places config events)) (places config events) r ≡ true → has (table config (places config events)) r.object ≡ true) none more
+  where
+    none : (r : Returned) → awaits config.ack_ms (now (places config [])) (places config []) r ≡ true → has (table config (places config [])) r.object ≡ true
+    none r a = absurd (let nothing = ap (λ h. awaits config.ack_ms (now h) h r) (places-none config) ∙ awaits-none config.ack_ms (now []) r in cc)
+
+    more : (events : List Event) (e : Event) → ((r : Returned) → awaits config.ack_ms (now (places config events)) (places config events) r ≡ true → has (table config (places config events)) r.object ≡ true) →
+        (r : Returned) → awaits config.ack_ms (now (places config (events ++ e ∷ []))) (places config (events ++ e ∷ [])) r ≡ true → has (table config (places config (events ++ e ∷ []))) r.object ≡ true
+    more events e ih r a =
+        ap (λ h. has (table config h) r.object) (places-push config events e)
+        ∙ stays config events e r.object
+        (λ x i. kept-awaited config (place_of config (places config events) e ∷ places config events) x
+        (ap (is_awaited config.ack_ms (now (place_of config (places config events) e ∷ places config events)) (place_of config (places config events) e ∷ places config events)) i
+        ∙ awaited-by config.ack_ms (now (place_of config (places config events) e ∷ places config events)) (place_of config (places config events) e ∷ places config events) r waits))
+        (before (returns r (place_of config (places config events) e)) (is_ack_of r.uid (place_of config (places config events) e).event.ask) refl refl)
+      where
+        waits : awaits config.ack_ms (now (place_of config (places config events) e ∷ places config events)) (place_of config (places config events) e ∷ places config events) r ≡ true
+        waits = ap (λ h. awaits config.ack_ms (now h) h r) (sym (places-push config events e)) ∙ a
+
+        before : (b c : Bool) → returns r (place_of config (places config events) e) ≡ b → is_ack_of r.uid (place_of config (places config events) e).event.ask ≡ c →
+            has (table config (places config events) ++ (place_of config (places config events) e).adds) r.object ≡ true
+        before true c s t = listed-there config events e r.object (returned-listed (place_of config (places config events) e) r s)
+        before false true s t =
+            absurd (let never = awaits-acknowledged config.ack_ms (now (place_of config (places config events) e ∷ places config events)) (place_of config (places config events) e) (places config events) r (numbered-place config events e) s t in let w = waits in cc)
+        before false false s t =
+            in-front (table config (places config events)) (place_of config (places config events) e).adds r.object
+            (ih r (awaits-earlier config.ack_ms (now (places config events)) (now (place_of config (places config events) e ∷ places config events)) (places config events) r
+            (let n = now-push config (places config events) e in omega arith)
+            (sym (awaits-passed config.ack_ms (now (place_of config (places config events) e ∷ places config events)) (place_of config (places config events) e) (places config events) r s t) ∙ waits)))

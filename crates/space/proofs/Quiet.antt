@@ -1,0 +1,120 @@
+-- What the served asks leave out: names.
+use Rattle.std.proofs.Common.{◌≡◌, ℕ, List, [], ◌∷◌, length, refl, ap, None}
+use Rattle.std.specs.Prelude.{Bool, true, false, filter, filter_map, reverse, if◌then◌else◌}
+use Rattle.object_ids.specs.declared.ids.ObjId.{ObjId}
+use Rattle.history.specs.declared.asks.SpaceConfig.{SpaceConfig}
+use Rattle.history.specs.declared.asks.Event.{Event}
+use Rattle.history.specs.declared.asks.Ask.{Ask}
+use Rattle.history.specs.declared.asks.Ask.TheVariants.{Open, Begin, Finish, Abandon, Dirty, Clean, Ack, Bind, Rebind, Unbind, Lookup, List as ListNames, Tick}
+use Rattle.history.specs.declared.places.Place.{Place}
+use Rattle.history.specs.declared.places.Exported.{Exported}
+use Rattle.history.specs.Places.{added, exported_from}
+use Rattle.history.specs.Awaiting.{returned}
+use Rattle.history.specs.Names.{name_bound, begins_name, names, names_of, is_named}
+use Rattle.history.specs.Table.{is_effective, exports, place_of, places_back, places}
+use Rattle.history.proofs.ListLemmas.{Every, Every-filter, Every-reverse}
+use Rattle.space.specs.Built.{IsBuilt}
+use Rattle.space.specs.Kept.{AllBuilt}
+use Rattle.space.specs.Acts.{opens}
+
+-- ---- one place
+
+pub record IsQuiet (p : Place) : Type 0 where
+  pub binds : name_bound p.event.ask ≡ None
+
+pub quiet-place : (config : SpaceConfig) (h : List Place) (e : Event) → IsBuilt e.ask → IsQuiet (place_of config h e)
+unfolding place_of
+quiet-place config h e b = go e.ask b
+  where
+    go : (a : Ask) → IsBuilt a → IsQuiet (place_of config h (record e { ask = a }))
+    go (Bind x y) b = absurd b
+    go (Rebind x y) b = absurd b
+    go (Open kind pinned) b = record { binds = refl }
+    go (Dirty x y z w) b = record { binds = refl }
+    go (Clean x y z w) b = record { binds = refl }
+    go Tick b = record { binds = refl }
+    go (Begin x) b = record { binds = refl }
+    go (Finish x y z w) b = record { binds = refl }
+    go (Abandon x) b = record { binds = refl }
+    go (Ack u) b = record { binds = refl }
+    go (Unbind x) b = absurd b
+    go (Lookup x y) b = absurd b
+    go ListNames b = absurd b
+
+-- The objects that an ask exports at a place, the first of them as the space's k-th.
+abbrev pub opened_by : SpaceConfig → ℕ → ℕ → Ask → List Exported
+opened_by config k place (Open kind pinned) = exported_from config.uid k place pinned (kind ∷ [])
+opened_by config k place _ = []
+
+pub opened-length : (config : SpaceConfig) (k place : ℕ) (a : Ask) → length (opened_by config k place a) ≡ opens a
+opened-length config k place (Open kind pinned) = refl
+opened-length config k place _ = refl
+
+none-either : {X : Type 0} (b : Bool) → ◌≡◌ {A = List X} (if b then [] else []) []
+none-either true = refl
+none-either false = refl
+
+pub adds-built : (config : SpaceConfig) (h : List Place) (e : Event) → IsBuilt e.ask → (place_of config h e).adds ≡ opened_by config (length (added h)) (length h) e.ask
+unfolding place_of is_effective exports
+adds-built config h e b = go e.ask b
+  where
+    go : (a : Ask) → IsBuilt a → (place_of config h (record e { ask = a })).adds ≡ opened_by config (length (added h)) (length h) a
+    go (Open kind pinned) b = refl
+    go (Dirty x y z w) b = refl
+    go (Clean x y z w) b = refl
+    go Tick b = refl
+    go (Begin x) b = none-either _
+    go (Finish x y z w) b = absurd b
+    go (Abandon x) b = none-either _
+    go (Ack u) b = refl
+    go (Bind x y) b = absurd b
+    go (Rebind x y) b = absurd b
+    go (Unbind x) b = absurd b
+    go (Lookup x y) b = absurd b
+    go ListNames b = absurd b
+
+pub returned-built : (config : SpaceConfig) (h : List Place) (e : Event) → IsBuilt e.ask → returned (place_of config h e) ≡ []
+unfolding place_of
+returned-built config h e b = go e.ask b
+  where
+    go : (a : Ask) → IsBuilt a → returned (place_of config h (record e { ask = a })) ≡ []
+    go (Open kind pinned) b = refl
+    go (Dirty x y z w) b = refl
+    go (Clean x y z w) b = refl
+    go Tick b = refl
+    go (Begin x) b = refl
+    go (Finish x y z w) b = absurd b
+    go (Abandon x) b = refl
+    go (Ack u) b = refl
+    go (Bind x y) b = absurd b
+    go (Rebind x y) b = absurd b
+    go (Unbind x) b = absurd b
+    go (Lookup x y) b = absurd b
+    go ListNames b = absurd b
+
+-- ---- all places
+
+quiet_back : (config : SpaceConfig) (es : List Event) → AllBuilt es → Every IsQuiet (places_back config es)
+unfolding places_back
+quiet_back config [] b = tt
+quiet_back config (e ∷ es) b = (quiet-place config (places_back config es) e b.0, quiet_back config es b.1)
+
+pub quiet : (config : SpaceConfig) (events : List Event) → AllBuilt (reverse events) → Every IsQuiet (places config events)
+unfolding places
+quiet config events b = quiet_back config (reverse events) b
+
+none-bound : (ps : List Place) → Every IsQuiet ps → filter_map (λ (p : Place). name_bound p.event.ask) ps ≡ []
+none-bound [] q = refl
+none-bound (p ∷ ps) q = rw (q.0.binds, none-bound ps q.1) refl
+
+pub no-names : (h : List Place) → Every IsQuiet h → names h ≡ []
+unfolding names
+no-names h q = none-bound (filter (begins_name h) (reverse h)) (Every-filter IsQuiet (begins_name h) (reverse h) (Every-reverse IsQuiet h q))
+
+pub no-names_of : (h : List Place) (o : ObjId) → Every IsQuiet h → names_of h o ≡ []
+unfolding names_of
+no-names_of h o q = rw (no-names h q) refl
+
+pub not-named : (h : List Place) (o : ObjId) → Every IsQuiet h → is_named h o ≡ false
+unfolding is_named
+not-named h o q = rw (no-names h q) refl

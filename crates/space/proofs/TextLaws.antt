@@ -1,0 +1,149 @@
+-- The outline, by what is kept.
+use Rattle.std.proofs.Common.{◌≡◌, ℕ, ◌+◌, ◌<◌, ◌≤◌, List, [], ◌∷◌, ◌++◌, length, refl, ap, sym, subst, ◌∙◌, arith, map, max, take, get_or, append-nil, append_assoc}
+use Rattle.std.specs.Prelude.{true, flat_map, reverse}
+use Rattle.std.proofs.lemmas.List.{take_all, take_more}
+use Rattle.std.proofs.lemmas.List.Concat.{flat_map-append}
+use Rattle.history.specs.declared.asks.SpaceConfig.{SpaceConfig}
+use Rattle.history.specs.declared.asks.Event.{Event}
+use Rattle.history.specs.declared.calls.Call.{Call}
+use Rattle.history.specs.declared.places.Exported.{Exported}
+use Rattle.history.specs.declared.places.Place.{Place}
+use Rattle.history.specs.declared.places.Withdrawal.{Withdrawal}
+use Rattle.history.specs.Awaiting.{awaiting_of}
+use Rattle.history.specs.LeaseCalls.{lease_calls}
+use Rattle.history.specs.Leases.{lease_rows, holders}
+use Rattle.history.specs.Limits.{units}
+use Rattle.history.specs.Names.{names, names_of}
+use Rattle.history.specs.Outline.{ObjectRow, object_row, object_line, lease_line, name_line, withdrawal_line, events_line, outline}
+use Rattle.history.specs.Places.{has, now}
+use Rattle.history.specs.Running.{running_calls}
+use Rattle.history.specs.Table.{table, places, withdrawals}
+use Rattle.history.proofs.ListLemmas.{Every, Every-weaker}
+use Rattle.history.proofs.NumberLaws.{has-self}
+use Rattle.history.proofs.TableLaws.{length-places}
+use Rattle.journal.specs.Rows.{events_text}
+use Rattle.dgc_server.specs.Stands.{LeaseTable, StandsFor}
+use Rattle.export_table.specs.declared.rows.ExportRow.{ExportRow}
+use Rattle.export_table.specs.declared.waits.Wait.{Wait}
+use Rattle.export_table.specs.Rows.{row_at}
+use Rattle.export_table.specs.Table.{ExportTable}
+use Rattle.export_table.specs.Waits.{awaiting_of as waits_of}
+use Rattle.space.specs.declared.runs.Run.{Run}
+use Rattle.space.specs.Built.{SpaceHistory}
+use Rattle.space.specs.Kept.{live_calls, AllBuilt, row_of, rows_of, Stands, Keeps}
+use Rattle.space.specs.Rows.{held_row}
+use Rattle.space.specs.Waits.{WaitsStand, reference_of, end_of}
+use Rattle.space.proofs.LiveLaws.{holders-live, lease_rows-live}
+use Rattle.space.proofs.Quiet.{IsQuiet, quiet, no-names, no-names_of}
+use Rattle.space.proofs.RowLaws.{awaiting_of-counted}
+
+-- One more line of a list's lines.
+pub lines-more : {X : Type 0} (f : X → List ℕ) (xs : List X) (i : ℕ) (d : X) (start before after line : List ℕ) → i < length xs →
+    before ≡ start ++ flat_map f (take i xs) → after ≡ before ++ line → line ≡ f (get_or xs i d) → after ≡ start ++ flat_map f (take (i + 1) xs)
+lines-more {X} f xs i d start before after line h b a l =
+    a ∙ ap (λ t. before ++ t) l ∙ ap (λ t. t ++ f (get_or xs i d)) b ∙ joined (flat_map f (take i xs)) (f (get_or xs i d))
+    ∙ ap (λ t. start ++ t) (one (f (get_or xs i d)) ∙ sym (flat_map-append f (take i xs) (get_or xs i d ∷ [])))
+    ∙ ap (λ t. start ++ flat_map f t) (sym (take_more xs i d h))
+  where
+    joined : (u v : List ℕ) → (start ++ u) ++ v ≡ start ++ (u ++ v)
+    joined u v = rw append_assoc refl
+
+    one : (u : List ℕ) → flat_map f (take i xs) ++ u ≡ flat_map f (take i xs) ++ (u ++ [])
+    one u = rw append-nil refl
+
+pub lines-all : {X : Type 0} (f : X → List ℕ) (xs : List X) (i : ℕ) (start text : List ℕ) → length xs ≤ i → text ≡ start ++ flat_map f (take i xs) → text ≡ start ++ flat_map f xs
+lines-all f xs i start text h t = t ∙ ap (λ ys. start ++ flat_map f ys) (take_all i xs h)
+
+-- ---- the outline's parts
+
+five : (x : Exported) (a b c d b' c' d' : ℕ) → b ≡ b' → c ≡ c' → d ≡ d' →
+    ◌≡◌ {A = ObjectRow} (record { object = x.id; kind = x.kind; pinned = x.pinned; running = a; awaiting = b; held = c; names = d }) (record { object = x.id; kind = x.kind; pinned = x.pinned; running = a; awaiting = b'; held = c'; names = d' })
+five x a b c d b' c' d' p q r = cc
+
+-- The row of an object of the table, by the export table and the live calls.
+row-is : (config : SpaceConfig) (h : List Place) (waits : List Wait) → Every IsQuiet h → WaitsStand reference_of end_of config.ack_ms (now h) h waits →
+    Every (λ x. object_row config h x ≡ held_row config.lease_ms (now h) (live_calls (table config h) (lease_calls h)) (row_at (now h) waits (row_of h x))) (table config h)
+row-is config h waits q w =
+    Every-weaker (λ (x : Exported). has (table config h) x.id ≡ true) _
+    (λ x there. five x (running_calls h x.id) (length (awaiting_of config.ack_ms (now h) h x.id)) (length (holders config.lease_ms (now h) (lease_calls h) x.id)) (length (names_of h x.id))
+    (length (waits_of (now h) x.id waits)) (length (holders config.lease_ms (now h) (live_calls (table config h) (lease_calls h)) x.id)) 0
+    (awaiting_of-counted reference_of end_of config.ack_ms (now h) (now h) h x.id waits (omega arith) w) (ap length (holders-live (table config h) x.id config.lease_ms (now h) (lease_calls h) there))
+    (ap length (no-names_of h x.id q)))
+    (table config h) (has-self (table config h))
+
+rows-lines : (config : SpaceConfig) (h : List Place) (calls : List Call) (waits : List Wait) (xs : List Exported) → Every (λ x. object_row config h x ≡ held_row config.lease_ms (now h) calls (row_at (now h) waits (row_of h x))) xs →
+    flat_map (object_line config) (map (object_row config h) xs) ≡ flat_map (λ r. object_line config (held_row config.lease_ms (now h) calls r)) (map (row_at (now h) waits) (rows_of h xs))
+rows-lines config h calls waits [] e = refl
+rows-lines config h calls waits (x ∷ xs) e =
+    ap (λ (r : ObjectRow). object_line config r ++ flat_map (object_line config) (map (object_row config h) xs)) e.0
+    ∙ ap (λ l. object_line config (held_row config.lease_ms (now h) calls (row_at (now h) waits (row_of h x))) ++ l) (rows-lines config h calls waits xs e.1)
+
+-- The text of what is kept.
+abbrev kept_text : SpaceConfig → ℕ → ℕ → ℕ → List Call → List ExportRow → List Withdrawal → List ℕ
+kept_text config count used moment calls rows withdrawn =
+    events_text count used moment
+    ++ flat_map (λ r. object_line config (held_row config.lease_ms moment calls r)) rows
+    ++ flat_map lease_line (lease_rows config.lease_ms moment calls)
+    ++ flat_map (withdrawal_line config) withdrawn
+
+outline-kept : (config : SpaceConfig) (events : List Event) (waits : List Wait) → AllBuilt (reverse events) → WaitsStand reference_of end_of config.ack_ms (now (places config events)) (places config events) waits →
+    outline config events
+    ≡ kept_text config (length (places config events)) (units (places config events)) (now (places config events)) (live_calls (table config (places config events)) (lease_calls (places config events)))
+    (map (row_at (now (places config events)) waits) (rows_of (places config events) (table config (places config events)))) (withdrawals config (places config events))
+unfolding outline
+outline-kept config events waits b w =
+    let q = quiet config events b in
+    parts (events_line (places config events)) (flat_map (object_line config) (map (object_row config (places config events)) (table config (places config events))))
+    (flat_map (λ r. object_line config (held_row config.lease_ms (now (places config events)) (live_calls (table config (places config events)) (lease_calls (places config events))) r)) (map (row_at (now (places config events)) waits) (rows_of (places config events) (table config (places config events)))))
+    (flat_map lease_line (lease_rows config.lease_ms (now (places config events)) (lease_calls (places config events))))
+    (flat_map lease_line (lease_rows config.lease_ms (now (places config events)) (live_calls (table config (places config events)) (lease_calls (places config events)))))
+    (flat_map (name_line config (places config events)) (names (places config events))) (flat_map (withdrawal_line config) (withdrawals config (places config events)))
+    (rows-lines config (places config events) (live_calls (table config (places config events)) (lease_calls (places config events))) waits (table config (places config events)) (row-is config (places config events) waits q w))
+    (ap (flat_map lease_line) (sym (lease_rows-live (table config (places config events)) config.lease_ms (now (places config events)) (lease_calls (places config events)))))
+    (ap (flat_map (name_line config (places config events))) (no-names (places config events) q))
+  where
+    parts : (a b b' c c' n d : List ℕ) → b ≡ b' → c ≡ c' → n ≡ [] → a ++ b ++ c ++ n ++ d ≡ a ++ b' ++ c' ++ d
+    parts a b b' c c' n d p q r = rw (p, q, r, append-nil) refl
+
+-- THE OUTLINE of a space.
+pub outline-is : (config : SpaceConfig) (events : List Event) (leases : LeaseTable) (exports : ExportTable) (runs : List Run) (withdrawn : List Withdrawal) (told opened used moment : ℕ) → Keeps config events leases exports runs withdrawn told opened used moment →
+    outline config events ≡ kept_text config (length events) used moment (live_calls (table config (places config events)) (lease_calls (places config events))) (map (row_at moment exports.waits) exports.rows) withdrawn
+outline-is config events leases exports runs withdrawn told opened used moment k =
+    let W : ℕ → Type 0 = λ n. WaitsStand reference_of end_of config.ack_ms n (places config events) exports.waits in
+    outline-kept config events exports.waits k.built (subst W k.stands.moment_is k.stands.waits_stand)
+    ∙ five_more _ _ _ _ _ _ _ _ _ _ (length-places config events) (sym k.stands.used_is) (sym k.stands.moment_is) (sym k.stands.rows_are) (sym k.stands.withdrawn_are)
+  where
+    five_more : (c d u v m n : ℕ) (rs ss : List _) (ws vs : List Withdrawal) → c ≡ d → u ≡ v → m ≡ n → rs ≡ ss → ws ≡ vs →
+        kept_text config c u m (live_calls (table config (places config events)) (lease_calls (places config events))) (map (row_at m exports.waits) rs) ws
+        ≡ kept_text config d v n (live_calls (table config (places config events)) (lease_calls (places config events))) (map (row_at n exports.waits) ss) vs
+    five_more c d u v m n rs ss ws vs p q r s t = rw (p, q, r, s, t) refl
+
+max_same : (m : ℕ) → max m m ≡ m
+max_same m = omega arith
+
+-- What was written, part after part.
+pub written : (config : SpaceConfig) (events : List Event) (leases : LeaseTable) (exports : ExportTable) (runs : List Run) (withdrawn seen : List Withdrawal) (told opened used moment count : ℕ) (rows : List ExportRow) (start first second third fourth : List ℕ) (s : SpaceHistory) →
+    record { configuration = config; events = events } ≡ s → Keeps config events leases exports runs withdrawn told opened used moment → count ≡ length events → rows ≡ map (row_at moment exports.waits) exports.rows → seen ≡ withdrawn →
+    start ≡ [] → first ≡ start ++ events_text count used moment →
+    ((lease m : ℕ) (calls : List Call) → StandsFor lease leases m calls → second ≡ first ++ flat_map (λ r. object_line config (held_row lease (max moment m) calls r)) rows) →
+    ((lease m : ℕ) (calls : List Call) → StandsFor lease leases m calls → third ≡ second ++ flat_map lease_line (lease_rows lease (max moment m) calls)) →
+    fourth ≡ third ++ flat_map (withdrawal_line config) seen →
+    fourth ≡ outline s.configuration s.events
+written config events leases exports runs withdrawn seen told opened used moment count rows start first second third fourth s v k n o z a b c d e =
+    let same = max_same moment in
+    let P : SpaceHistory → Type 0 = λ x. fourth ≡ outline x.configuration x.events in
+    subst P v (
+    e ∙ ap (λ ws. third ++ flat_map (withdrawal_line config) ws) z
+    ∙ ap (λ t. t ++ flat_map (withdrawal_line config) withdrawn) (
+    d config.lease_ms moment live k.stands.leases_stand
+    ∙ ap (λ t. second ++ flat_map lease_line (lease_rows config.lease_ms t live)) same
+    ∙ ap (λ t. t ++ flat_map lease_line (lease_rows config.lease_ms moment live)) (
+    c config.lease_ms moment live k.stands.leases_stand
+    ∙ ap (λ t. first ++ flat_map (λ r. object_line config (held_row config.lease_ms t live r)) rows) same
+    ∙ ap (λ l. first ++ flat_map (λ r. object_line config (held_row config.lease_ms moment live r)) l) o
+    ∙ ap (λ t. t ++ flat_map (λ r. object_line config (held_row config.lease_ms moment live r)) (map (row_at moment exports.waits) exports.rows)) (
+    b ∙ ap (λ t. t ++ events_text count used moment) a ∙ ap (λ x. events_text x used moment) n)))
+    ∙ sym (outline-is config events leases exports runs withdrawn told opened used moment k))
+  where
+    live : List Call
+    live = live_calls (table config (places config events)) (lease_calls (places config events))

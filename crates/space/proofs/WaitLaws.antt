@@ -1,0 +1,185 @@
+-- Returned references that await their acknowledgement, as moments until which they await, and lists that stand for them.
+use Rattle.std.proofs.Common.{◌≡◌, ℕ, ◌+◌, ◌<◌, ◌≤◌, inl, inr, List, [], ◌∷◌, ◌++◌, length, refl, ap, sym, ◌∙◌, cond, map, max, arith, Option, Some, None}
+use Rattle.std.specs.Prelude.{Bool, true, false, ◌&&◌, ◌||◌, not, filter, find, nat_lt, if◌then◌else◌, option_map, unwrap_or, reverse}
+use Rattle.std.specs.List.{list_any}
+use Rattle.std.proofs.str.Laws.{order}
+use Rattle.std.proofs.lemmas.Bool.{lt-ltb, le-ltb, or_parts}
+use Rattle.std.proofs.lemmas.List.Folds.{list_any-append}
+use Rattle.object_ids.specs.declared.ids.ObjId.{ObjId}
+use Rattle.object_ids.specs.Same.{same_id}
+use Rattle.history.specs.declared.asks.SpaceConfig.{SpaceConfig}
+use Rattle.history.specs.declared.asks.Event.{Event}
+use Rattle.history.specs.declared.places.Place.{Place}
+use Rattle.history.specs.declared.places.Returned.{Returned}
+use Rattle.history.specs.Awaiting.{same_returned, returns, is_ack_of, is_acknowledged, awaits, awaiting, awaiting_of}
+use Rattle.history.specs.Lists.{distinct, option_any}
+use Rattle.history.specs.Places.{now}
+use Rattle.history.specs.Table.{place_of, places_back, places}
+use Rattle.history.proofs.AwaitingLaws.{returned-equality, awaits-returned, awaits-acknowledged, awaits-passed, awaiting-member, awaiting-once}
+use Rattle.history.proofs.ListLemmas.{AllOnce, AllOnce-filter, length-members, same_test, and_true, and_false}
+use Rattle.history.proofs.TableLaws.{IsNumbered, index-place_of, adds-place, places_back-numbered, moment-place_of, now-push, places-numbered}
+use Rattle.dgc_server.proofs.Distinct.{Decides, any-filtered, turned}
+use Rattle.dgc_server.proofs.Outputs.{no_time}
+use Rattle.space.specs.Waits.{until_of, until_in, waits_once, WaitsFor, WaitsStand}
+use Rattle.space.proofs.Clients.{distinct-same}
+
+-- ---- until when
+
+pub awaits-until : (ack t : ℕ) (h : List Place) (r : Returned) → awaits ack t h r ≡ nat_lt t (until_of ack h r)
+unfolding awaits until_of
+awaits-until ack t h r = go (find (returns r) h)
+  where
+    go : (f : Option Place) → option_any (λ p. nat_lt t (p.moment + ack) && not (is_acknowledged h r.uid p)) f ≡ nat_lt t (unwrap_or (option_map (λ p. if is_acknowledged h r.uid p then 0 else p.moment + ack) f) 0)
+    go None = sym (no_time t)
+    go (Some p) = acked (is_acknowledged h r.uid p)
+      where
+        acked : (b : Bool) → (nat_lt t (p.moment + ack) && not b) ≡ nat_lt t (if b then 0 else p.moment + ack)
+        acked true = and_false (nat_lt t (p.moment + ack)) ∙ sym (no_time t)
+        acked false = and_true (nat_lt t (p.moment + ack))
+
+-- Moments that come after the same ones are equal.
+alike : (a b : ℕ) → ((t : ℕ) → nat_lt t a ≡ nat_lt t b) → a ≡ b
+alike a b f = elim (order a b) [
+  | inl less ↦ absurd (let one = lt-ltb a b less in let other = le-ltb a a (omega arith) in let same = f a in cc)
+  | inr more ↦ elim (order b a) [
+    | inl less ↦ absurd (let one = lt-ltb b a less in let other = le-ltb b b (omega arith) in let same = f b in cc)
+    | inr less ↦ omega arith
+  ]
+]
+
+-- ONE MORE EVENT: it returns the reference, or acknowledges its return, or neither.
+pub until-push : (ack : ℕ) (p : Place) (h : List Place) (r : Returned) → IsNumbered (p ∷ h) →
+    until_of ack (p ∷ h) r ≡ (if returns r p then p.moment + ack else if is_ack_of r.uid p.event.ask then 0 else until_of ack h r)
+until-push ack p h r n = go (returns r p) (is_ack_of r.uid p.event.ask) refl refl
+  where
+    go : (b c : Bool) → returns r p ≡ b → is_ack_of r.uid p.event.ask ≡ c → until_of ack (p ∷ h) r ≡ (if b then p.moment + ack else if c then 0 else until_of ack h r)
+    go true c e f = alike (until_of ack (p ∷ h) r) (p.moment + ack) (λ t. sym (awaits-until ack t (p ∷ h) r) ∙ awaits-returned ack t p h r n e)
+    go false true e f = alike (until_of ack (p ∷ h) r) 0 (λ t. sym (awaits-until ack t (p ∷ h) r) ∙ awaits-acknowledged ack t p h r n e f ∙ sym (no_time t))
+    go false false e f = alike (until_of ack (p ∷ h) r) (until_of ack h r) (λ t. sym (awaits-until ack t (p ∷ h) r) ∙ awaits-passed ack t p h r e f ∙ awaits-until ack t h r)
+
+pub until-none : (ack : ℕ) (r : Returned) → until_of ack [] r ≡ 0
+unfolding until_of
+until-none ack r = refl
+
+pub numbered-place : (config : SpaceConfig) (events : List Event) (e : Event) → IsNumbered (place_of config (places config events) e ∷ places config events)
+numbered-place config events e = (index-place_of config (places config events) e, adds-place config (places config events) e, places-numbered config events)
+
+numbered_back : (config : SpaceConfig) (es : List Event) (e : Event) → IsNumbered (place_of config (places_back config es) e ∷ places_back config es)
+numbered_back config es e = (index-place_of config (places_back config es) e, adds-place config (places_back config es) e, places_back-numbered config es)
+
+-- No reference awaits longer than from now on.
+until_back : (ack : ℕ) (config : SpaceConfig) (es : List Event) (r : Returned) → until_of ack (places_back config es) r ≤ now (places_back config es) + ack
+unfolding places_back
+until_back ack config [] r = let none = until-none ack r in omega arith
+until_back ack config (e ∷ es) r =
+    let step = until-push ack (place_of config (places_back config es) e) (places_back config es) r (numbered_back config es e) in
+    let moment = moment-place_of config (places_back config es) e in
+    let time = now-push config (places_back config es) e in
+    go (returns r (place_of config (places_back config es) e)) (is_ack_of r.uid (place_of config (places_back config es) e).event.ask) step moment time (until_back ack config es r)
+  where
+    go : (b c : Bool) → until_of ack (place_of config (places_back config es) e ∷ places_back config es) r ≡ (if b then (place_of config (places_back config es) e).moment + ack else if c then 0 else until_of ack (places_back config es) r) →
+        (place_of config (places_back config es) e).moment ≡ max e.moment (now (places_back config es)) → now (place_of config (places_back config es) e ∷ places_back config es) ≡ max e.moment (now (places_back config es)) →
+        until_of ack (places_back config es) r ≤ now (places_back config es) + ack →
+        until_of ack (place_of config (places_back config es) e ∷ places_back config es) r ≤ now (place_of config (places_back config es) e ∷ places_back config es) + ack
+    go true c s m t ih = omega arith
+    go false true s m t ih = omega arith
+    go false false s m t ih = omega arith
+
+pub until-bound : (ack : ℕ) (config : SpaceConfig) (events : List Event) (r : Returned) → until_of ack (places config events) r ≤ now (places config events) + ack
+unfolding places
+until-bound ack config events r = until_back ack config (reverse events) r
+
+-- ---- counts, by another list of the same references
+
+pub decides-returned : Decides same_returned
+decides-returned = record { equal = returned-equality.equal; self = returned-equality.self }
+
+pub count-awaiting : (ack t : ℕ) (h : List Place) (rs : List Returned) → AllOnce same_returned rs → ((r : Returned) → list_any (same_returned r) rs ≡ awaits ack t h r) → length (awaiting ack t h) ≡ length rs
+count-awaiting ack t h rs once f =
+    length-members same_returned returned-equality (awaiting ack t h) rs (awaiting-once ack t h) once (λ r. awaiting-member ack t h r ∙ sym (f r))
+
+pub count-awaiting_of : (ack t : ℕ) (h : List Place) (o : ObjId) (rs : List Returned) → AllOnce same_returned rs → ((r : Returned) → list_any (same_returned r) rs ≡ awaits ack t h r) →
+    length (awaiting_of ack t h o) ≡ length (filter (λ r. same_id r.object o) rs)
+unfolding awaiting_of
+count-awaiting_of ack t h o rs once f =
+    length-members same_returned returned-equality (filter (λ r. same_id r.object o) (awaiting ack t h)) (filter (λ r. same_id r.object o) rs)
+    (AllOnce-filter same_returned (λ r. same_id r.object o) (awaiting ack t h) (awaiting-once ack t h)) (AllOnce-filter same_returned (λ r. same_id r.object o) rs once)
+    (λ r. any-filtered decides-returned (λ x. same_id x.object o) r (awaiting ack t h) ∙ ap (λ v. v && same_id r.object o) (awaiting-member ack t h r ∙ sym (f r)) ∙ sym (any-filtered decides-returned (λ x. same_id x.object o) r rs))
+
+pub count-awaiting-with : (ack t : ℕ) (h : List Place) (rs more : List Returned) → ((r : Returned) → list_any (same_returned r) rs ≡ awaits ack t h r) →
+    length (distinct same_returned (awaiting ack t h ++ more)) ≡ length (distinct same_returned (rs ++ more))
+count-awaiting-with ack t h rs more f =
+    distinct-same same_returned returned-equality (awaiting ack t h ++ more) (rs ++ more)
+    (λ r. list_any-append (same_returned r) (awaiting ack t h) more ∙ ap (λ v. v || list_any (same_returned r) more) (awaiting-member ack t h r ∙ sym (f r)) ∙ sym (list_any-append (same_returned r) rs more))
+
+-- ---- lists of waits: each is of a reference, and has a moment until which it waits
+
+pub absent-until : {W : Type 0} (ref : W → Returned) (until : W → ℕ) (r : Returned) (ws : List W) → list_any (λ w. same_returned (ref w) r) ws ≡ false → until_in ref until r ws ≡ 0
+absent-until ref until r [] h = refl
+absent-until ref until r (w ∷ ws) h = let two = or_parts (same_returned (ref w) r) (list_any (λ v. same_returned (ref v) r) ws) h in rw two.0 (absent-until ref until r ws two.1)
+
+-- Where the first is of the reference, no other is.
+pub others-absent : {W : Type 0} (ref : W → Returned) (w : W) (r : Returned) (ws : List W) → same_returned (ref w) r ≡ true → list_any (λ v. same_returned (ref w) (ref v)) ws ≡ false → list_any (λ v. same_returned (ref v) r) ws ≡ false
+others-absent ref w r [] e h = refl
+others-absent ref w r (v ∷ ws) e h =
+    let two = or_parts (same_returned (ref w) (ref v)) (list_any (λ u. same_returned (ref w) (ref u)) ws) h in
+    rw (turned decides-returned (ref v) r ∙ ap (λ x. same_returned x (ref v)) (sym (returned-equality.equal (ref w) r e)) ∙ two.0) (others-absent ref w r ws e two.1)
+
+-- A reference waits at a moment exactly where its moment comes later.
+pub goes-until : {W : Type 0} (ref : W → Returned) (until : W → ℕ) (t : ℕ) (r : Returned) (ws : List W) → waits_once ref ws →
+    list_any (λ w. nat_lt t (until w) && same_returned (ref w) r) ws ≡ nat_lt t (until_in ref until r ws)
+goes-until ref until t r [] once = sym (no_time t)
+goes-until {W} ref until t r (w ∷ ws) once = go (same_returned (ref w) r) refl (goes-until ref until t r ws once.1)
+  where
+    none : (vs : List W) → list_any (λ v. same_returned (ref v) r) vs ≡ false → list_any (λ v. nat_lt t (until v) && same_returned (ref v) r) vs ≡ false
+    none [] h = refl
+    none (v ∷ vs) h = let two = or_parts (same_returned (ref v) r) (list_any (λ u. same_returned (ref u) r) vs) h in rw (two.0, and_false (nat_lt t (until v))) (none vs two.1)
+
+    go : (b : Bool) → same_returned (ref w) r ≡ b → list_any (λ v. nat_lt t (until v) && same_returned (ref v) r) ws ≡ nat_lt t (until_in ref until r ws) →
+        ((nat_lt t (until w) && b) || list_any (λ v. nat_lt t (until v) && same_returned (ref v) r) ws) ≡ nat_lt t (if b then until w else until_in ref until r ws)
+    go true e ih = rw (none ws (others-absent ref w r ws e once.0)) (whole (nat_lt t (until w)))
+      where
+        whole : (v : Bool) → ((v && true) || false) ≡ v
+        whole true = refl
+        whole false = refl
+    go false e ih = rw (and_false (nat_lt t (until w))) ih
+
+later-time : (m t a b : ℕ) → m ≤ t → max m a ≡ max m b → nat_lt t a ≡ nat_lt t b
+later-time m t a b le e = same_test (nat_lt t a) (nat_lt t b) (λ h. lt-ltb t b (let l = less t a h in omega arith)) (λ h. lt-ltb t a (let l = less t b h in omega arith))
+  where
+    less : (x y : ℕ) → nat_lt x y ≡ true → x < y
+    less x y h = elim (order x y) [ inl l ↦ l | inr g ↦ absurd (let f = le-ltb x y g in cc) ]
+
+-- Those that go on in the list are those that await.
+pub waits-await : {W : Type 0} (ref : W → Returned) (until : W → ℕ) (ack m t : ℕ) (h : List Place) (ws : List W) → m ≤ t → WaitsStand ref until ack m h ws → (r : Returned) →
+    list_any (λ w. nat_lt t (until w) && same_returned (ref w) r) ws ≡ awaits ack t h r
+waits-await ref until ack m t h ws le s r =
+    goes-until ref until t r ws s.once ∙ later-time m t (until_in ref until r ws) (until_of ack h r) le (s.each r) ∙ sym (awaits-until ack t h r)
+
+-- As references.
+abbrev pub waiting_refs : {W : Type 0} → (W → Returned) → (W → ℕ) → ℕ → List W → List Returned
+waiting_refs ref until t ws = map ref (filter (λ w. nat_lt t (until w)) ws)
+
+refs-any : {W : Type 0} (ref : W → Returned) (until : W → ℕ) (t : ℕ) (r : Returned) (ws : List W) → list_any (same_returned r) (waiting_refs ref until t ws) ≡ list_any (λ w. nat_lt t (until w) && same_returned (ref w) r) ws
+refs-any ref until t r [] = refl
+refs-any {W} ref until t r (w ∷ ws) = go (nat_lt t (until w)) (refs-any ref until t r ws)
+  where
+    go : (b : Bool) → list_any (same_returned r) (waiting_refs ref until t ws) ≡ list_any (λ v. nat_lt t (until v) && same_returned (ref v) r) ws →
+        list_any (same_returned r) (map ref (cond b (w ∷ filter (λ v. nat_lt t (until v)) ws) (filter (λ v. nat_lt t (until v)) ws))) ≡ ((b && same_returned (ref w) r) || list_any (λ v. nat_lt t (until v) && same_returned (ref v) r) ws)
+    go true e = rw (turned decides-returned r (ref w), e) refl
+    go false e = e
+
+refs-once : {W : Type 0} (ref : W → Returned) (ws : List W) → waits_once ref ws → AllOnce same_returned (map ref ws)
+refs-once ref [] once = tt
+refs-once {W} ref (w ∷ ws) once = (moved ws once.0, refs-once ref ws once.1)
+  where
+    moved : (vs : List W) → list_any (λ v. same_returned (ref w) (ref v)) vs ≡ false → list_any (same_returned (ref w)) (map ref vs) ≡ false
+    moved [] h = refl
+    moved (v ∷ vs) h = let two = or_parts (same_returned (ref w) (ref v)) (list_any (λ u. same_returned (ref w) (ref u)) vs) h in rw (two.0, moved vs two.1) refl
+
+pub refs-await : {W : Type 0} (ref : W → Returned) (until : W → ℕ) (ack m t : ℕ) (h : List Place) (ws : List W) → m ≤ t → WaitsStand ref until ack m h ws → (r : Returned) →
+    list_any (same_returned r) (waiting_refs ref until t ws) ≡ awaits ack t h r
+refs-await ref until ack m t h ws le s r = refs-any ref until t r ws ∙ waits-await ref until ack m t h ws le s r
+
+pub refs-waiting-once : {W : Type 0} (ref : W → Returned) (until : W → ℕ) (t : ℕ) (ws : List W) → waits_once ref ws → AllOnce same_returned (waiting_refs ref until t ws)
+refs-waiting-once ref until t ws once = refs-once ref (filter (λ w. nat_lt t (until w)) ws) (AllOnce-filter (λ a b. same_returned (ref a) (ref b)) (λ w. nat_lt t (until w)) ws once)

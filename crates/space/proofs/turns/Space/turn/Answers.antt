@@ -1,0 +1,165 @@
+use Rattle.std.proofs.Common.{◌≡◌, ◌∷◌, ◌++◌, [], List, ℕ, length, refl, ap, sym, subst, ◌∙◌, rules, arith, max, Err, Result, None, Some}
+use Rattle.std.specs.Prelude.{vec_len, drop, ◌+◌, map}
+use Rattle.history.specs.declared.asks.Event.{Event}
+use Rattle.history.specs.declared.replies.Refused.{Refused}
+use Rattle.history.specs.declared.replies.Turn.{Turn}
+use Rattle.history.specs.LeaseCalls.{call_with}
+use Rattle.history.specs.Steps.{Step}
+use Rattle.export_table.specs.Rows.{is_exported}
+use Rattle.export_table.specs.Table.{ExportTable}
+use Rattle.dgc_server.proofs.Told.{error-is}
+use Rattle.dgc_server.specs.Stands.{ForEachLogBy}
+use Rattle.history.specs.declared.places.Withdrawal.{Withdrawal}
+use Rattle.space.specs.Acts.{event_of, acted, acted_runs, withdrawal_at, told_after, lease_refusal, Agrees}
+use Rattle.space.specs.Built.{SpaceHistory}
+use Rattle.space.proofs.TurnLaws.{none-else, room-step, told-step, turn-keeps, turn-step, step-viewed}
+use Rattle.space.proofs.EndLaws.{has-acted, has-withdrawn, goes-after, goes-few}
+use Rattle.space.proofs.AskLaws.{keeps-roomy, asked, room-as, few-run, abandon-counted, acted-few}
+use Rattle.space.proofs.turns.Space.turn.Goals as goal
+
+pub returns-in-Some-clause-step : goal.returns-in-Some-clause-step
+returns-in-Some-clause-step c =
+    let running : c.len-running.result ≡ length c.self.inside.runs.items = search rules in
+    let P : List Event → Type 0 = λ es. Step c.self.inside.config c.self.inside.events.items (event_of c.args.by c.args.moment c.args.ask) (Err c.in-Some.refused) es in
+    step-viewed c.self.inside.config c.self.inside.events.items c.args.self.now.events (event_of c.args.by c.args.moment c.args.ask) (Err c.in-Some.refused) c.args.self.now c.self.view_is
+    (subst P (ap (λ (h : SpaceHistory). h.events) c.self.view_is)
+    (room-step c.self.inside.config c.self.inside.events.items (event_of c.args.by c.args.moment c.args.ask) c.self.inside.leases c.self.inside.exports c.self.inside.runs.items c.self.inside.withdrawn.items
+    c.self.inside.told c.self.inside.added c.self.inside.units c.self.inside.moment c.is_effective-effective.result c.in-Some.refused
+    (asked c.self.inside.config c.self.inside.events.items (event_of c.args.by c.args.moment c.args.ask) c.self.inside.leases c.self.inside.exports c.self.inside.exports c.self.inside.runs.items c.deref.result.now c.self.inside.withdrawn.items
+    c.self.inside.told c.self.inside.added c.self.inside.units c.self.inside.moment c.is_effective-effective.result c.self.invariant c.requires.built c.is_effective-effective.ensures c.deref.ensures.value refl)
+    (room-as c.self.inside.units c.len-running.result c.count-exported.result c.is_effective-effective.result c.args.ask c.self.inside.runs.items c.self.inside.exports c.self.inside.exports c.room_refusal.result (Some c.in-Some.refused)
+    c.room_refusal.ensures running c.count-exported.ensures.value refl c.in-Some.is)))
+
+pub invariant_of-self : goal.invariant_of-self
+invariant_of-self c =
+    keeps-roomy c.self.inside.config c.self.inside.events.items c.make_room.new.events.items c.self.inside.leases c.self.inside.leases c.self.inside.exports c.make_room.new.exports c.self.inside.runs.items c.make_room.new.runs.items
+    c.self.inside.withdrawn.items c.make_room.new.withdrawn.items c.self.inside.told c.self.inside.added c.self.inside.units c.self.inside.moment
+    c.self.invariant c.make_room.ensures.exports c.make_room.ensures.events refl c.make_room.ensures.runs c.make_room.ensures.withdrawn
+
+pub invariant_of-self-in_err-tell : goal.invariant_of-self-in_err-tell
+invariant_of-self-in_err-tell c =
+    keeps-roomy c.self.inside.config c.self.inside.events.items c.make_room.new.events.items c.self.inside.leases c.tell.new.leases c.self.inside.exports c.make_room.new.exports c.self.inside.runs.items c.make_room.new.runs.items
+    c.self.inside.withdrawn.items c.make_room.new.withdrawn.items c.self.inside.told c.self.inside.added c.self.inside.units c.self.inside.moment
+    c.self.invariant c.make_room.ensures.exports c.make_room.ensures.events (c.in_err-tell.ensures {u = tt}).err c.make_room.ensures.runs c.make_room.ensures.withdrawn
+
+pub returns-in_err-tell-clause-step : goal.returns-in_err-tell-clause-step
+returns-in_err-tell-clause-step c =
+    let running : c.len-running.result ≡ length c.self.inside.runs.items = search rules in
+    let time : c.max-now.result ≡ max c.args.moment c.self.inside.moment = search rules in
+    let P : Result Turn Refused → Type 0 = λ r. Step c.args.self.now.configuration c.args.self.now.events (event_of c.args.by c.args.moment c.args.ask) r c.make_room.new.events.items in
+    let Q : List Event → Type 0 = λ es. Step c.self.inside.config c.self.inside.events.items (event_of c.args.by c.args.moment c.args.ask) (Err c.in_err-tell.field-0.0) es in
+    let N : ℕ → Type 0 = λ n. ForEachLogBy n c.self.inside.leases (λ lease calls. Agrees {T = Unit {0}} (lease_refusal lease n calls (call_with (is_exported c.make_room.new.exports.rows) n c.args.ask)) (Err c.in_err-tell.field-0.0)) in
+    subst P (sym (error-is c.from_residual.result c.in_err-tell.field-0.0 c.from_residual.ensures.1))
+    (step-viewed c.self.inside.config c.self.inside.events.items c.make_room.new.events.items (event_of c.args.by c.args.moment c.args.ask) (Err c.in_err-tell.field-0.0) c.args.self.now c.self.view_is
+    (subst Q (sym c.make_room.ensures.events)
+    (told-step c.self.inside.config c.self.inside.events.items (event_of c.args.by c.args.moment c.args.ask) c.self.inside.leases c.make_room.new.exports c.self.inside.runs.items c.self.inside.withdrawn.items
+    c.self.inside.told c.self.inside.added c.self.inside.units c.self.inside.moment c.is_effective-effective.result c.in_err-tell.field-0.0
+    (asked c.self.inside.config c.self.inside.events.items (event_of c.args.by c.args.moment c.args.ask) c.self.inside.leases c.self.inside.exports c.make_room.new.exports c.self.inside.runs.items c.deref.result.now c.self.inside.withdrawn.items
+    c.self.inside.told c.self.inside.added c.self.inside.units c.self.inside.moment c.is_effective-effective.result c.self.invariant c.requires.built c.is_effective-effective.ensures c.deref.ensures.value c.make_room.ensures.exports)
+    (room-as c.self.inside.units c.len-running.result c.count-exported.result c.is_effective-effective.result c.args.ask c.self.inside.runs.items c.self.inside.exports c.make_room.new.exports c.room_refusal.result None
+    c.room_refusal.ensures running c.count-exported.ensures.value c.make_room.ensures.exports (none-else c.room_refusal.result c.in_default.not-Some))
+    (subst N time (c.in_err-tell.ensures {u = tt}).refusal))))
+
+pub act-requires-clause-few : goal.act-requires-clause-few
+act-requires-clause-few c o =
+    few-run c.self.inside.config c.self.inside.events.items c.self.inside.leases c.make_room.new.exports c.self.inside.runs.items c.self.inside.withdrawn.items c.self.inside.told c.self.inside.added c.self.inside.units c.self.inside.moment
+    (keeps-roomy c.self.inside.config c.self.inside.events.items c.self.inside.events.items c.self.inside.leases c.self.inside.leases c.self.inside.exports c.make_room.new.exports c.self.inside.runs.items c.self.inside.runs.items
+    c.self.inside.withdrawn.items c.self.inside.withdrawn.items c.self.inside.told c.self.inside.added c.self.inside.units c.self.inside.moment c.self.invariant c.make_room.ensures.exports refl refl refl refl) o
+
+pub act-requires-clause-runs : goal.act-requires-clause-runs
+act-requires-clause-runs c o t s =
+    abandon-counted c.self.inside.config c.self.inside.events.items (event_of c.args.by c.args.moment c.args.ask) c.self.inside.leases c.make_room.new.exports c.self.inside.runs.items c.self.inside.withdrawn.items
+    c.self.inside.told c.self.inside.added c.self.inside.units c.self.inside.moment c.is_effective-effective.result
+    (asked c.self.inside.config c.self.inside.events.items (event_of c.args.by c.args.moment c.args.ask) c.self.inside.leases c.self.inside.exports c.make_room.new.exports c.self.inside.runs.items c.deref.result.now c.self.inside.withdrawn.items
+    c.self.inside.told c.self.inside.added c.self.inside.units c.self.inside.moment c.is_effective-effective.result c.self.invariant c.requires.built c.is_effective-effective.ensures c.deref.ensures.value c.make_room.ensures.exports)
+    o t s
+
+pub withdraw-requires : goal.withdraw-requires
+withdraw-requires c =
+    let few = acted-few c.is_effective-effective.result c.args.ask c.make_room.new.exports c.act.new.exports c.requires.built c.act.ensures in
+    let same = ap (λ (t : ExportTable). length t.rows) c.make_room.ensures.exports in
+    let count = c.count-exported.ensures.value in
+    let room = c.in-Ok.ensures.room in
+    omega (arith, few, same, count, room)
+
+pub note_withdrawn-requires-clause-within : goal.note_withdrawn-requires-clause-within
+note_withdrawn-requires-clause-within c =
+    let running : c.len-running.result ≡ length c.self.inside.runs.items = search rules in
+    let time : c.max-now.result ≡ max c.args.moment c.self.inside.moment = search rules in
+    let untold : c.len-untold.result ≡ length c.in-Ok.gone.items = search rules in
+    let after = goes-after c.self.inside.config c.self.inside.events.items (event_of c.args.by c.args.moment c.args.ask) c.self.inside.leases c.tell.new.leases c.withdraw.new.leases c.make_room.new.exports (acted c.is_effective-effective.result c.args.ask c.make_room.new.exports) c.withdraw.new.self
+    c.self.inside.runs.items c.self.inside.withdrawn.items c.self.inside.told c.self.inside.added c.self.inside.units c.self.inside.moment c.max-now.result c.is_effective-effective.result c.in-Ok.gone.items c.withdraw.new.gone.items
+    (has-acted c.self.inside.config c.self.inside.events.items (event_of c.args.by c.args.moment c.args.ask) c.self.inside.leases c.tell.new.leases c.self.inside.exports c.make_room.new.exports c.self.inside.runs.items c.deref.result.now c.self.inside.withdrawn.items
+    c.self.inside.told c.self.inside.added c.self.inside.units c.self.inside.moment c.max-now.result c.len-running.result c.count-exported.result c.is_effective-effective.result c.room_refusal.result
+    c.self.invariant c.requires.built c.requires.moment c.is_effective-effective.ensures c.deref.ensures.value c.make_room.ensures.exports c.room_refusal.ensures running c.count-exported.ensures.value (none-else c.room_refusal.result c.in_default.not-Some) time
+    (c.in_ok-tell.ensures {u = tt}).refusal (c.in_ok-tell.ensures {u = tt}).ok)
+    time (has-withdrawn c.tell.new.leases c.withdraw.new.leases (acted c.is_effective-effective.result c.args.ask c.make_room.new.exports) c.act.new.exports c.withdraw.new.self c.max-now.result c.in-Ok.gone.items c.withdraw.new.gone.items
+    c.act.ensures c.withdraw.ensures.kept c.withdraw.ensures.gone c.withdraw.ensures.dropped) in
+    let seen = ap length c.deref-3.ensures.value in
+    omega (arith, untold, after, seen)
+
+pub note_withdrawn-requires-clause-room : goal.note_withdrawn-requires-clause-room
+note_withdrawn-requires-clause-room c =
+    let running : c.len-running.result ≡ length c.self.inside.runs.items = search rules in
+    let time : c.max-now.result ≡ max c.args.moment c.self.inside.moment = search rules in
+    let untold : c.len-untold.result ≡ length c.in-Ok.gone.items = search rules in
+    let few = goes-few c.self.inside.config c.self.inside.events.items (event_of c.args.by c.args.moment c.args.ask) c.self.inside.leases c.tell.new.leases c.withdraw.new.leases c.make_room.new.exports (acted c.is_effective-effective.result c.args.ask c.make_room.new.exports) c.withdraw.new.self
+    c.self.inside.runs.items c.self.inside.withdrawn.items c.self.inside.told c.self.inside.added c.self.inside.units c.self.inside.moment c.max-now.result c.is_effective-effective.result c.in-Ok.gone.items c.withdraw.new.gone.items
+    (has-acted c.self.inside.config c.self.inside.events.items (event_of c.args.by c.args.moment c.args.ask) c.self.inside.leases c.tell.new.leases c.self.inside.exports c.make_room.new.exports c.self.inside.runs.items c.deref.result.now c.self.inside.withdrawn.items
+    c.self.inside.told c.self.inside.added c.self.inside.units c.self.inside.moment c.max-now.result c.len-running.result c.count-exported.result c.is_effective-effective.result c.room_refusal.result
+    c.self.invariant c.requires.built c.requires.moment c.is_effective-effective.ensures c.deref.ensures.value c.make_room.ensures.exports c.room_refusal.ensures running c.count-exported.ensures.value (none-else c.room_refusal.result c.in_default.not-Some) time
+    (c.in_ok-tell.ensures {u = tt}).refusal (c.in_ok-tell.ensures {u = tt}).ok)
+    time (has-withdrawn c.tell.new.leases c.withdraw.new.leases (acted c.is_effective-effective.result c.args.ask c.make_room.new.exports) c.act.new.exports c.withdraw.new.self c.max-now.result c.in-Ok.gone.items c.withdraw.new.gone.items
+    c.act.ensures c.withdraw.ensures.kept c.withdraw.ensures.gone c.withdraw.ensures.dropped) in
+    let same = ap (λ (t : ExportTable). length t.rows) c.act.ensures in
+    let rows = acted-few c.is_effective-effective.result c.args.ask c.make_room.new.exports c.act.new.exports c.requires.built c.act.ensures in
+    let before = ap (λ (t : ExportTable). length t.rows) c.make_room.ensures.exports in
+    let seen = ap (λ l. length (drop c.len-untold.result l)) c.deref-3.ensures.value in
+    let at = ap (λ n. length (drop n c.withdraw.new.gone.items)) untold in
+    let count = c.count-exported.ensures.value in
+    let room = (c.in-Ok-make_room.ensures).withdrawals in
+    omega (arith, few, same, rows, before, seen, at, count, room)
+
+pub invariant_of-self-2 : goal.invariant_of-self-2
+invariant_of-self-2 c =
+    let running : c.len-running.result ≡ length c.self.inside.runs.items = search rules in
+    let time : c.max-now.result ≡ max c.args.moment c.self.inside.moment = search rules in
+    let untold : c.len-untold.result ≡ length c.in-Ok.gone.items = search rules in
+    let place : c.len-place.result ≡ length c.make_room.new.events.items = search rules in
+    let all : c.len.result ≡ length c.note_withdrawn.new.withdrawn.items = search rules in
+    let seen : c.deref-3.result.now ≡ c.withdraw.new.gone.items = c.deref-3.ensures.value in
+    turn-keeps c.self.inside.config c.self.inside.events.items (event_of c.args.by c.args.moment c.args.ask) c.self.inside.leases c.tell.new.leases c.withdraw.new.leases c.make_room.new.exports (acted c.is_effective-effective.result c.args.ask c.make_room.new.exports) c.withdraw.new.self
+    c.self.inside.runs.items c.self.inside.withdrawn.items c.self.inside.told c.self.inside.added c.self.inside.units c.self.inside.moment c.max-now.result c.is_effective-effective.result c.in-Ok.gone.items c.withdraw.new.gone.items
+    (has-acted c.self.inside.config c.self.inside.events.items (event_of c.args.by c.args.moment c.args.ask) c.self.inside.leases c.tell.new.leases c.self.inside.exports c.make_room.new.exports c.self.inside.runs.items c.deref.result.now c.self.inside.withdrawn.items
+    c.self.inside.told c.self.inside.added c.self.inside.units c.self.inside.moment c.max-now.result c.len-running.result c.count-exported.result c.is_effective-effective.result c.room_refusal.result
+    c.self.invariant c.requires.built c.requires.moment c.is_effective-effective.ensures c.deref.ensures.value c.make_room.ensures.exports c.room_refusal.ensures running c.count-exported.ensures.value (none-else c.room_refusal.result c.in_default.not-Some) time
+    (c.in_ok-tell.ensures {u = tt}).refusal (c.in_ok-tell.ensures {u = tt}).ok)
+    time (has-withdrawn c.tell.new.leases c.withdraw.new.leases (acted c.is_effective-effective.result c.args.ask c.make_room.new.exports) c.act.new.exports c.withdraw.new.self c.max-now.result c.in-Ok.gone.items c.withdraw.new.gone.items
+    c.act.ensures c.withdraw.ensures.kept c.withdraw.ensures.gone c.withdraw.ensures.dropped)
+    c.len-place.result c.told_after-self-inside.result _ _ c.put_event.new.events.items c.act_on_runs.new.runs.items c.note_withdrawn.new.withdrawn.items
+    (place ∙ ap length c.make_room.ensures.events) (c.put_event.ensures ∙ ap (λ l. l ++ (event_of c.args.by c.args.moment c.args.ask) ∷ []) c.make_room.ensures.events)
+    (c.act_on_runs.ensures ∙ ap (acted_runs c.is_effective-effective.result c.args.by c.args.ask) c.make_room.ensures.runs)
+    (c.note_withdrawn.ensures ∙ ap (λ l. l ++ map (withdrawal_at c.len-place.result) (drop c.len-untold.result c.deref-3.result.now)) c.make_room.ensures.withdrawn
+    ∙ ap (λ l. c.self.inside.withdrawn.items ++ map (withdrawal_at c.len-place.result) (drop c.len-untold.result l)) seen
+    ∙ ap (λ n. c.self.inside.withdrawn.items ++ map (withdrawal_at c.len-place.result) (drop n c.withdraw.new.gone.items)) untold)
+    (c.told_after-self-inside.ensures ∙ ap (λ n. told_after c.self.inside.told n c.args.ask) all)
+    (ap (λ n. c.self.inside.added + n) c.opens.ensures.value) (ap (λ n. c.self.inside.units + n) c.units_of.ensures.value)
+
+pub returns-clause-step : goal.returns-clause-step
+returns-clause-step c =
+    let running : c.len-running.result ≡ length c.self.inside.runs.items = search rules in
+    let time : c.max-now.result ≡ max c.args.moment c.self.inside.moment = search rules in
+    let untold : c.len-untold.result ≡ length c.in-Ok.gone.items = search rules in
+    let place : c.len-place.result ≡ length c.make_room.new.events.items = search rules in
+    step-viewed c.self.inside.config c.self.inside.events.items c.put_event.new.events.items (event_of c.args.by c.args.moment c.args.ask) _ c.args.self.now c.self.view_is
+    (turn-step c.self.inside.config c.self.inside.events.items (event_of c.args.by c.args.moment c.args.ask) c.self.inside.leases c.tell.new.leases c.withdraw.new.leases c.make_room.new.exports (acted c.is_effective-effective.result c.args.ask c.make_room.new.exports) c.withdraw.new.self
+    c.self.inside.runs.items c.self.inside.withdrawn.items c.self.inside.told c.self.inside.added c.self.inside.units c.self.inside.moment c.max-now.result c.is_effective-effective.result c.in-Ok.gone.items c.withdraw.new.gone.items
+    (has-acted c.self.inside.config c.self.inside.events.items (event_of c.args.by c.args.moment c.args.ask) c.self.inside.leases c.tell.new.leases c.self.inside.exports c.make_room.new.exports c.self.inside.runs.items c.deref.result.now c.self.inside.withdrawn.items
+    c.self.inside.told c.self.inside.added c.self.inside.units c.self.inside.moment c.max-now.result c.len-running.result c.count-exported.result c.is_effective-effective.result c.room_refusal.result
+    c.self.invariant c.requires.built c.requires.moment c.is_effective-effective.ensures c.deref.ensures.value c.make_room.ensures.exports c.room_refusal.ensures running c.count-exported.ensures.value (none-else c.room_refusal.result c.in_default.not-Some) time
+    (c.in_ok-tell.ensures {u = tt}).refusal (c.in_ok-tell.ensures {u = tt}).ok)
+    time (has-withdrawn c.tell.new.leases c.withdraw.new.leases (acted c.is_effective-effective.result c.args.ask c.make_room.new.exports) c.act.new.exports c.withdraw.new.self c.max-now.result c.in-Ok.gone.items c.withdraw.new.gone.items
+    c.act.ensures c.withdraw.ensures.kept c.withdraw.ensures.gone c.withdraw.ensures.dropped)
+    c.len-place.result c.reply_at-reply.result c.from_vec.result c.put_event.new.events.items
+    (place ∙ ap length c.make_room.ensures.events) (c.put_event.ensures ∙ ap (λ l. l ++ (event_of c.args.by c.args.moment c.args.ask) ∷ []) c.make_room.ensures.events)
+    c.reply_at-reply.ensures (c.in-Ok.ensures.items ∙ ap (λ l. map (λ (w : Withdrawal). w.object) (drop c.self.inside.told l)) c.deref-2.ensures.value) c.from_vec.ensures)

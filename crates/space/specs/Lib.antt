@@ -1,0 +1,7 @@
+pub mod Acts
+pub mod Built
+pub mod Faults
+pub mod Kept
+pub mod Rows
+pub mod Runs
+pub mod Waits

@@ -1,0 +1,161 @@
+//! Whether an ask is effective, whether there is room for it, and what it is answered.
+ghost use Rattle.std.specs.Prelude.{◌≡◌, ◌+◌, ◌≤◌, ◌<◌, ◌^◌, nat_lt, if◌then◌else◌};
+ghost use Rattle.history.specs.declared.limits.TheConstants.{MAX_UNITS};
+ghost use Rattle.history.specs.Limits as limit_words;
+ghost use Rattle.history.specs.Replies as reply_words;
+ghost use Rattle.export_table.specs.Rows.{is_exported};
+ghost use Rattle.space.specs.Acts.{effective_by, opens, reply_at, room_refusal, started_reply, told_after};
+
+use crate::runs::{Run, is_running};
+use export_table::Exports;
+use history::limits::{MAX_EXPORTS, MAX_UNITS};
+use history::plain::limits::units_of;
+use history::plain::places::id_at;
+use history::{Ask, Refused, Reply, SpaceConfig};
+use object_ids::{FullKind, ObjId};
+
+/// Whether an object is exported.
+pub(crate) fn is_exported(exports: &Exports, object: &ObjId) -> bool
+    ensures { result ≡ is_exported exports.now.rows object.now }
+{
+    exports.find(*object).is_some()
+}
+
+/// Whether an ask of a connection is effective.
+pub(crate) fn is_effective(exports: &Exports, runs: &[Run], by: u32, ask: &Ask) -> bool
+    ensures { result ≡ effective_by exports.now.rows runs.now by ask.now }
+{
+    match ask {
+        Ask::Begin { object } => is_exported(exports, object),
+        Ask::Abandon { object } => is_running(runs, by, object),
+        _ => true,
+    }
+}
+
+fn is_begin(ask: &Ask) -> bool
+    ensures { result ≡ limit_words.is_begin ask.now }
+{
+    match ask {
+        Ask::Begin { object: _ } => true,
+        _ => false,
+    }
+}
+
+fn is_end(ask: &Ask) -> bool
+    ensures { result ≡ limit_words.is_end ask.now }
+{
+    match ask {
+        Ask::Finish {
+            object: _,
+            made: _,
+            listed: _,
+            uid: _,
+        } => true,
+        Ask::Abandon { object: _ } => true,
+        _ => false,
+    }
+}
+
+fn is_abandon(ask: &Ask) -> bool
+    ensures { result ≡ reply_words.is_abandon ask.now }
+{
+    match ask {
+        Ask::Abandon { object: _ } => true,
+        _ => false,
+    }
+}
+
+/// How many objects an ask exports.
+pub(crate) fn opens(ask: &Ask) -> u64
+    ensures value { result ≡ opens ask.now }
+    ensures small { result ≤ 1 }
+{
+    match ask {
+        Ask::Open { kind: _, pinned: _ } => 1,
+        _ => 0,
+    }
+}
+
+fn one_if(test: bool) -> u128
+    ensures value { result ≡ (if test then 1 else 0) }
+    ensures bound { result ≤ 1 }
+{
+    if test { 1 } else { 0 }
+}
+
+/// Whether so many units, and one more if a call starts, pass the limit, and one more if a call ends.
+fn is_past(used: u128, starts: bool, ends: bool) -> bool
+    requires { used < 2 ^ 127 }
+    ensures { result ≡ nat_lt (MAX_UNITS + (if ends then 1 else 0)) (used + (if starts then 1 else 0)) }
+{
+    u128::from(MAX_UNITS) + one_if(ends) < used + one_if(starts)
+}
+
+/// Why there is no room for an ask, if there is none: in a history of so many units and running calls, or
+/// among so many exported objects.
+pub(crate) fn room_refusal(
+    units: u64,
+    running: usize,
+    exported: u32,
+    effective: bool,
+    ask: &Ask,
+) -> Option<Refused>
+    ensures { result ≡ room_refusal units running exported effective ask.now }
+{
+    let used = u128::from(units) + running as u128 + u128::from(units_of(ask));
+    if is_past(used, effective && is_begin(ask), effective && is_end(ask)) {
+        Some(Refused::HistoryFull)
+    } else if u64::from(exported) + opens(ask) > MAX_EXPORTS {
+        Some(Refused::Full(FullKind::Exports))
+    } else {
+        None
+    }
+}
+
+/// What an ask is answered where it is taken, and the next object is the space's k-th.
+pub(crate) fn reply_at(
+    config: &SpaceConfig,
+    k: u64,
+    exports: &Exports,
+    effective: bool,
+    ask: &Ask,
+) -> Reply
+    requires { k < 2 ^ 62 }
+    ensures { result ≡ reply_at config.now k exports.now.rows effective ask.now }
+{
+    match ask {
+        Ask::Open { kind: _, pinned: _ } => Reply::Opened(id_at(config.uid, k)),
+        Ask::Begin { object } => started_reply(exports.find(*object)),
+        Ask::Abandon { object: _ } => {
+            if effective {
+                Reply::Done
+            } else {
+                Reply::NotRunning
+            }
+        }
+        Ask::Dirty {
+            client: _,
+            number: _,
+            asked: _,
+            objects: _,
+        } => Reply::Granted(config.lease_ms),
+        _ => Reply::Done,
+    }
+}
+
+/// The reply to a Begin of an object of this kind, if it is exported.
+fn started_reply(kind: Option<u32>) -> Reply
+    ensures { result ≡ started_reply kind }
+{
+    match kind {
+        Some(kind) => Reply::Started(kind),
+        None => Reply::NoObject,
+    }
+}
+
+/// How many withdrawals are told as gone after an ask, of so many then. An Abandon is told none.
+pub(crate) fn told_after(told: usize, all: usize, ask: &Ask) -> usize
+    ensures { result ≡ told_after told all ask.now }
+{
+    if is_abandon(ask) { told } else { all }
+}

@@ -1,0 +1,231 @@
+//! What no contract says: that events are taken with ample memory, and the outlines of histories that were
+//! worked out by hand.
+ghost use Rattle.std.specs.Prelude.{IsTrue, IfSome};
+ghost use Rattle.space.specs.Built.{IsBuilt};
+ghost use Rattle.space.specs.Kept.{HasDurations};
+
+use crate::{Ask, Refused, Reply, Space, SpaceConfig, outline};
+use history::limits::{END_OF_TIME, MAX_DURATION};
+use journal::lines::{read_event, read_first_line};
+use mod_utf::list::{ByteList, Same};
+use object_ids::{ObjId, ObjIds, Uid, Vmid};
+use std::alloc::{AllocError, Global};
+use std::test::Fail;
+
+/// The configuration that a line spells, where its durations are those of a space.
+fn config_of(line: &str) -> Option<SpaceConfig>
+    ensures { IfSome result (λ config. HasDurations config) }
+{
+    let config = read_first_line(line.as_bytes())?;
+    let durations = 1..=MAX_DURATION;
+    if durations.contains(&config.lease_ms) && durations.contains(&config.ack_ms) {
+        Some(config)
+    } else {
+        None
+    }
+}
+
+fn is_served(ask: &Ask) -> bool
+    ensures { IsTrue result → IsBuilt ask.now }
+{
+    match ask {
+        Ask::Open { kind: _, pinned: _ } => true,
+        Ask::Begin { object: _ } => true,
+        Ask::Abandon { object: _ } => true,
+        Ask::Ack { uid: _ } => true,
+        Ask::Dirty {
+            client: _,
+            number: _,
+            asked: _,
+            objects: _,
+        } => true,
+        Ask::Clean {
+            client: _,
+            number: _,
+            objects: _,
+            strong: _,
+        } => true,
+        Ask::Tick => true,
+        _ => false,
+    }
+}
+
+/// The outline of a space that took the events of a journal's lines.
+fn replayed(alloc: Global, first: &str, lines: &[&str]) -> Result<ByteList, Fail> {
+    let config = config_of(first).ok_or("no configuration")?;
+    let mut space = Space::fresh(alloc, &config);
+    for line in lines {
+        let event = read_event(alloc, config.uid, line.as_bytes())?.ok_or("no event")?;
+        if event.moment >= END_OF_TIME || !is_served(&event.ask) {
+            return Err("not served".into());
+        }
+        space.turn(alloc, event.by, event.moment, event.ask)?;
+    }
+    Ok(outline(alloc, &space)?)
+}
+
+#[test]
+fn outlines_of_histories(rt: HostRuntime) -> Result<(), Fail> {
+    let alloc = rt.alloc();
+    let rows: [(&str, &[&str], &str); 12] = [
+        (
+            "space 2 10 7 9",
+            &["0 0 open 2 free", "1 1 open 3 pinned", "0 2 open 1 free"],
+            "events 3 units 3 now 2\nobject 17 kind 3 pinned running 0 awaiting 0 held 0 names 0\nwithdrawn 16 place 0\nwithdrawn 18 place 2\n",
+        ),
+        (
+            "space 50 5 7 9",
+            &["0 0 open 2 pinned", "3 54 begin 16:7/9/1"],
+            "events 2 units 2 now 54\nobject 16 kind 2 pinned running 0 awaiting 0 held 0 names 0\n",
+        ),
+        (
+            "space 10 2 7 9",
+            &["0 0 open 2 pinned", "2 52 begin 16", "1 82 abandon 16"],
+            "events 3 units 3 now 82\nobject 16 kind 2 pinned running 1 awaiting 0 held 0 names 0\n",
+        ),
+        (
+            "space 10 2 7 9",
+            &[
+                "0 0 open 2 pinned",
+                "2 52 begin 16",
+                "2 53 begin 16",
+                "2 82 abandon 16",
+                "2 83 ack 1/0/0",
+            ],
+            "events 5 units 5 now 83\nobject 16 kind 2 pinned running 1 awaiting 0 held 0 names 0\n",
+        ),
+        (
+            "space 10 1000 -1 -5",
+            &[
+                "1 12 open 2 pinned",
+                "1 1019 dirty aa@2/4/5 9223372036854775807 9223372036854775807 16,17",
+                "1 1019 clean aa@2/4/5 9223372036854775806 strong 16",
+            ],
+            "events 3 units 6 now 1019\nobject 16 kind 2 pinned running 0 awaiting 0 held 1 names 0\nlease aa@2/4/5 until 1029\n",
+        ),
+        (
+            "space 1 50 7 9",
+            &["3 353 tick", "0 303 dirty -@3/4/5 5 1 16"],
+            "events 2 units 3 now 353\nlease -@3/4/5 until 354\n",
+        ),
+        (
+            "space 1 5 -1 -5",
+            &[
+                "0 0 open 2 pinned",
+                "3 1 clean aa@3/4/5 -1 strong 16",
+                "0 9 dirty aa@3/4/5 6 1 16",
+                "3 18 dirty aa@3/4/5 -9223372036854775808 1 16,17,16",
+            ],
+            "events 4 units 9 now 18\nobject 16 kind 2 pinned running 0 awaiting 0 held 0 names 0\nlease aa@3/4/5 until 19\n",
+        ),
+        (
+            "space 10 5 -1 -5",
+            &["1 31 dirty -@0/0/0 1 10 16,16"],
+            "events 1 units 3 now 31\nlease -@0/0/0 until 41\n",
+        ),
+        (
+            "space 600000 300000 7 9",
+            &[
+                "0 0 open 1 pinned",
+                "1 1 clean aa@3/4/5 9 strong 16",
+                "1 2 dirty aa@3/4/5 8 600000 16",
+            ],
+            "events 3 units 5 now 2\nobject 16 kind 1 pinned running 0 awaiting 0 held 0 names 0\nlease aa@3/4/5 until 600002\n",
+        ),
+        (
+            "space 600000 300000 7 9",
+            &[
+                "0 0 open 1 pinned",
+                "1 1 clean aa@3/4/5 9 strong 16",
+                "1 2 dirty aa@3/4/5 8 600000 16",
+                "1 3 dirty aa@3/4/5 10 600000 16",
+            ],
+            "events 4 units 7 now 3\nobject 16 kind 1 pinned running 0 awaiting 0 held 1 names 0\nlease aa@3/4/5 until 600003\n",
+        ),
+        (
+            "space 600000 300000 7 9",
+            &[
+                "0 0 open 1 pinned",
+                "1 1 clean aa@3/4/5 9 strong 16",
+                "1 2 dirty aa@3/4/5 8 600000 16",
+                "1 3 dirty aa@3/4/5 10 600000 16",
+                "1 4 clean aa@3/4/5 10 weak 16",
+            ],
+            "events 5 units 9 now 4\nobject 16 kind 1 pinned running 0 awaiting 0 held 0 names 0\nlease aa@3/4/5 until 600003\n",
+        ),
+        (
+            "space 600000 300000 7 9",
+            &[
+                "0 0 open 1 pinned",
+                "1 1 clean aa@3/4/5 9 strong 16",
+                "1 2 dirty aa@3/4/5 8 600000 16",
+                "1 3 dirty aa@3/4/5 10 600000 16",
+                "1 4 clean aa@3/4/5 7 weak 16",
+            ],
+            "events 5 units 9 now 4\nobject 16 kind 1 pinned running 0 awaiting 0 held 1 names 0\nlease aa@3/4/5 until 600003\n",
+        ),
+    ];
+    for (first, lines, want) in rows {
+        let text = replayed(alloc, first, lines)?;
+        assert_eq!(rt; text.as_slice(), want.as_bytes(), "of {first}");
+    }
+    Ok(())
+}
+
+/// As many objects, none of which is exported, as a list has in the largest of messages.
+fn many_objects(alloc: Global) -> Result<ObjIds, AllocError> {
+    let mut ids = ObjIds::new(alloc);
+    let space = Uid {
+        unique: 0,
+        time: 0,
+        count: 0,
+    };
+    for number in 0..65_536 {
+        ids.push(ObjId { number, space })?;
+    }
+    Ok(ids)
+}
+
+#[test]
+fn a_full_history_still_takes_a_tick(rt: HostRuntime) -> Result<(), Fail> {
+    let alloc = rt.alloc();
+    let config = config_of("space 600000 300000 7 9").ok_or("no configuration")?;
+    let mut space = Space::fresh(alloc, &config);
+    let opened = space.turn(
+        alloc,
+        0,
+        0,
+        Ask::Open {
+            kind: 1,
+            pinned: true,
+        },
+    )?;
+    assert!(rt;
+        opened.reply.is_same(&Reply::Opened(ObjId {
+            number: 16,
+            space: config.uid
+        }))
+    );
+    for number in 0..64 {
+        let client = Vmid::new(ByteList::new(alloc), config.uid).ok_or("too long")?;
+        let dirty = Ask::Dirty {
+            client,
+            number,
+            asked: 1,
+            objects: many_objects(alloc)?,
+        };
+        match space.turn(alloc, 1, 5, dirty) {
+            Ok(turn) => {
+                assert!(rt; number < 63 && turn.reply.is_same(&Reply::Granted(600_000)));
+                assert_eq!(rt; turn.gone.len(), 0);
+            }
+            Err(refused) => assert!(rt; number == 63 && refused == Refused::HistoryFull),
+        }
+    }
+    let turn = space.turn(alloc, 2, 4, Ask::Tick)?;
+    assert!(rt; turn.reply.is_same(&Reply::Done));
+    assert_eq!(rt; turn.place, 64);
+    assert_eq!(rt; space.len(), 65);
+    assert_eq!(rt; space.now(), 5);
+    Ok(())
+}

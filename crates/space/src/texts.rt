@@ -1,0 +1,110 @@
+//! The texts of a space.
+ghost use Rattle.std.specs.Prelude.{◌≡◌, ◌++◌, flat_map, max, OnOk, IfOk};
+ghost use Rattle.history.specs.Leases.{lease_rows};
+ghost use Rattle.history.specs.Outline as lines;
+ghost use Rattle.dgc_server.specs.Stands.{ForEachLog};
+ghost use Rattle.space.specs.Rows.{held_row};
+
+use crate::turns::Space;
+use dgc_server::{LeaseRow, Leases};
+use export_table::ExportRow;
+use history::{SpaceConfig, Withdrawal};
+use journal::ObjectRow;
+use journal::outline::{put_events_line, put_lease_line, put_object_line, put_withdrawal_line};
+use mod_utf::list::ByteList;
+use std::alloc::{AllocError, Global};
+
+/// The outline of a space: how many events it took, their units and its present moment; each exported object;
+/// each client with time left; the names; all withdrawals.
+pub fn outline(alloc: Global, space: &Space) -> Result<ByteList, AllocError>
+    ensures { IfOk result (λ text. text ≡ lines.outline space.now.configuration space.now.events) }
+{
+    let mut text = ByteList::new(alloc);
+    put_events_line(
+        &mut text,
+        space.events.len() as u64,
+        space.units,
+        space.moment,
+    )?;
+    let rows = space.exports.rows(alloc, space.moment)?;
+    put_objects(
+        &mut text,
+        &space.config,
+        &space.leases,
+        space.moment,
+        rows.as_slice(),
+    )?;
+    put_leases(alloc, &mut text, &space.leases, space.moment)?;
+    put_withdrawals(&mut text, &space.config, &space.withdrawn)?;
+    Ok(text)
+}
+
+/// Appends the lines of exported objects.
+fn put_objects(
+    text: &mut ByteList,
+    config: &SpaceConfig,
+    leases: &Leases,
+    now: u64,
+    objects: &[ExportRow],
+) -> Result<(), AllocError>
+    ensures { OnOk result (ForEachLog leases.now (λ lease moment calls.
+        text.new ≡ text.old ++ flat_map (λ x. lines.object_line config.now (held_row lease (max now moment) calls x)) objects.now)) }
+{
+    for object in objects {
+        let row = row_of(leases, now, object);
+        put_object_line(text, *config, &row)?;
+    }
+    Ok(())
+}
+
+/// What the outline says of an exported object.
+fn row_of(leases: &Leases, now: u64, object: &ExportRow) -> ObjectRow
+    ensures { ForEachLog leases.now (λ lease moment calls. result ≡ held_row lease (max now moment) calls object.now) }
+{
+    ObjectRow {
+        object: object.id,
+        kind: object.kind,
+        pinned: object.pinned,
+        running: u64::from(object.running),
+        awaiting: u64::from(object.awaiting),
+        held: u64::from(leases.holders(object.id, now)),
+        names: 0,
+    }
+}
+
+/// Appends the lines of the clients with time left.
+fn put_leases(
+    alloc: Global,
+    text: &mut ByteList,
+    leases: &Leases,
+    now: u64,
+) -> Result<(), AllocError>
+    ensures { OnOk result (ForEachLog leases.now (λ lease moment calls.
+        text.new ≡ text.old ++ flat_map lines.lease_line (lease_rows lease (max now moment) calls))) }
+{
+    let rows = leases.clients(alloc, now)?;
+    put_rows(text, rows.as_slice())
+}
+
+fn put_rows(text: &mut ByteList, rows: &[LeaseRow]) -> Result<(), AllocError>
+    ensures { OnOk result (text.new ≡ text.old ++ flat_map lines.lease_line rows.now) }
+{
+    for row in rows {
+        put_lease_line(text, &row.client, row.until)?;
+    }
+    Ok(())
+}
+
+/// Appends the lines of withdrawals.
+fn put_withdrawals(
+    text: &mut ByteList,
+    config: &SpaceConfig,
+    withdrawn: &[Withdrawal],
+) -> Result<(), AllocError>
+    ensures { OnOk result (text.new ≡ text.old ++ flat_map (lines.withdrawal_line config.now) withdrawn.now) }
+{
+    for withdrawal in withdrawn {
+        put_withdrawal_line(text, *config, withdrawal.object, withdrawal.place)?;
+    }
+    Ok(())
+}
