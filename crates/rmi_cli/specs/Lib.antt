@@ -1,3 +1,5 @@
+pub mod Answer
 pub mod Command
 pub mod Line
-pub mod Answer
+pub mod Replay
+pub mod Replayed

@@ -1,10 +1,30 @@
--- The line that says how a run ended.
-use Rattle.std.specs.Prelude.{ℕ, codes, List}
+-- The line that says how a run ended, and the status of the process.
+use Rattle.std.specs.Prelude.{ℕ, codes, List, ◌++◌, decimal}
+use Rattle.call_dispatch.specs.End.{status_of}
 use Rattle.call_dispatch.specs.Words.{words_of}
 use Rattle.rmi_cli.specs.declared.end.RunEnd.{RunEnd}
-use Rattle.rmi_cli.specs.declared.end.RunEnd.TheVariants.{Usage, Answered}
+use Rattle.rmi_cli.specs.declared.end.RunEnd.TheVariants.{Usage, Answered, Done, BadLine, Refused, TooLarge, ReadFault, WriteFault, OutOfMemory}
 
--- the words of a run's end
+-- The words of a run's end.
 abbrev pub line_of : RunEnd → List ℕ
 line_of Usage = codes "usage"
 line_of (Answered end) = words_of end
+line_of Done = codes "done"
+line_of (BadLine line) = codes "bad line " ++ decimal line
+line_of Refused = codes "refused"
+line_of (TooLarge limit) = codes "too large bytes at " ++ decimal limit
+line_of ReadFault = codes "read fault"
+line_of WriteFault = codes "write fault"
+line_of OutOfMemory = codes "out of memory"
+
+-- The status of the process.
+abbrev pub status_of_run : RunEnd → ℕ
+status_of_run Usage = 1
+status_of_run (Answered end) = status_of end
+status_of_run Done = 0
+status_of_run (BadLine line) = 2
+status_of_run Refused = 6
+status_of_run (TooLarge limit) = 6
+status_of_run ReadFault = 3
+status_of_run WriteFault = 4
+status_of_run OutOfMemory = 5

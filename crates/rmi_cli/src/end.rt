@@ -9,6 +9,49 @@ pub enum RunEnd {
     Usage,
     /// One connection was served to this end.
     Answered(ConnEnd),
+    /// All was done. No line tells it.
+    Done,
+    /// The line of this number, from 1, is none of a journal, or of a kind that isn't served yet.
+    BadLine { line: u64 },
+    /// A turn of the journal was refused at a limit of the space.
+    Refused,
+    /// The input has more bytes than this limit.
+    TooLarge { limit: u64 },
+    /// Reading the input failed.
+    ReadFault,
+    /// Writing the output failed.
+    WriteFault,
+    /// There was no memory.
+    OutOfMemory,
+}
+
+impl RunEnd {
+    ghost use Rattle.std.specs.Prelude.{◌≡◌, IsTrue, ◌↔◌};
+    ghost use Rattle.rmi_cli.specs.Line.{status_of_run};
+    ghost use Rattle.rmi_cli.specs.declared.end.RunEnd.{RunEnd as RunEnds};
+
+    /// The status of the process.
+    pub fn status(self) -> u8
+        ensures { result ≡ status_of_run self }
+    {
+        match self {
+            RunEnd::Answered(end) => end.status(),
+            RunEnd::Done => 0,
+            RunEnd::Usage => 1,
+            RunEnd::BadLine { line: _ } => 2,
+            RunEnd::ReadFault => 3,
+            RunEnd::WriteFault => 4,
+            RunEnd::OutOfMemory => 5,
+            RunEnd::Refused | RunEnd::TooLarge { limit: _ } => 6,
+        }
+    }
+
+    /// Whether no line tells it.
+    pub fn is_silent(self) -> bool
+        ensures { IsTrue result ↔ (self ≡ RunEnds.Done) }
+    {
+        matches!(self, RunEnd::Done)
+    }
 }
 
 impl fmt::Display for RunEnd {
@@ -21,6 +64,13 @@ impl fmt::Display for RunEnd {
         match *self {
             RunEnd::Usage => write!(f, "usage"),
             RunEnd::Answered(end) => write!(f, "{end}"),
+            RunEnd::Done => write!(f, "done"),
+            RunEnd::BadLine { line } => write!(f, "bad line {line}"),
+            RunEnd::Refused => write!(f, "refused"),
+            RunEnd::TooLarge { limit } => write!(f, "too large bytes at {limit}"),
+            RunEnd::ReadFault => write!(f, "read fault"),
+            RunEnd::WriteFault => write!(f, "write fault"),
+            RunEnd::OutOfMemory => write!(f, "out of memory"),
         }
     }
 }

@@ -3,6 +3,8 @@
 
 mod end;
 mod host;
+mod journal_input;
+mod replay;
 mod run;
 mod words;
 
@@ -24,5 +26,7 @@ fn main(rt: HostRuntime) -> io::Result<ExitCode> {
     Ok(ExitCode::from(run(alloc, &words, &mut host)))
 }
 
+#[cfg(test)]
+mod replay_tests;
 #[cfg(test)]
 mod tests;

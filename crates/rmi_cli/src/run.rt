@@ -1,14 +1,17 @@
 //! All that the program does.
-ghost use Rattle.std.specs.Prelude.{◌≡◌, ◌↔◌, IfOk};
+ghost use Rattle.std.specs.Prelude.{◌≡◌, ◌↔◌, ◌⊎◌, IfOk};
 ghost use Rattle.wire_io.specs.Wire.{Rose};
 ghost use Rattle.call_dispatch.specs.End.{IsWriteFault};
 ghost use Rattle.call_dispatch.specs.Progress.{Halves, halves, Talks, Settles};
 ghost use Rattle.rmi_cli.specs.Answer.{Answers, AnswersExactly, answer_setup};
 ghost use Rattle.rmi_cli.specs.Command.{AskFor};
+ghost use Rattle.rmi_cli.specs.Line.{status_of_run};
+ghost use Rattle.rmi_cli.specs.Replayed.{ReplaysInput};
 ghost use Rattle.rmi_cli.specs.declared.words.Command.{Command as Commands};
 
 use crate::end::RunEnd;
 use crate::host::Host;
+use crate::journal_input::replay_input;
 use crate::words::{Command, Words};
 use call_dispatch::end::ConnEnd;
 use call_dispatch::serve::serve_connection;
@@ -49,6 +52,11 @@ pub fn run<I: Source, O: Sink, E: Sink>(
         (halves I.left O.held host.old.input host.old.output)
         (halves I.left O.held host.new.input host.new.output) result }
 
+    // `replay` takes the whole input as a journal, and writes the outline of the history that it spells, or says why it has none.
+    ensures replay { AskFor words.now Command.Replay → ReplaysInput
+        (halves I.left O.held host.old.input host.old.output)
+        (halves I.left O.held host.new.input host.new.output) result }
+
     // The outside's failures.
     ensures read_fault { result ≡ 3 → Rose (I.faults host.old.input) (I.faults host.new.input) }
     ensures write_fault { result ≡ 4 → Rose (O.faults host.old.output) (O.faults host.new.output) }
@@ -56,16 +64,27 @@ pub fn run<I: Source, O: Sink, E: Sink>(
     match words.command() {
         Some(Command::Answer) => {
             let end = answer(alloc, &mut host.input, &mut host.output);
-            if tell(alloc, &mut host.errors, RunEnd::Answered(end)).is_err() {
-                return 5;
-            }
-            end.status()
+            told(alloc, &mut host.errors, RunEnd::Answered(end))
+        }
+        Some(Command::Replay) => {
+            let end = replay_input(alloc, &mut host.input, &mut host.output);
+            told(alloc, &mut host.errors, end)
         }
         None => {
             let _ = put_all(&mut host.errors, b"usage\n");
             1
         }
     }
+}
+
+/// Writes the line that tells an end, and answers the status: the end's, or 5 where there is no memory for the line.
+fn told<E: Sink>(alloc: Global, errors: &mut E, end: RunEnd) -> u8
+    ensures { (result ≡ status_of_run end) ⊎ (result ≡ 5) }
+{
+    if !end.is_silent() && tell(alloc, errors, end).is_err() {
+        return 5;
+    }
+    end.status()
 }
 
 /// Writes the line of an end, where the sink takes it.

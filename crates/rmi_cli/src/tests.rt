@@ -15,10 +15,10 @@ const OPENING: &[u8] = b"JRMI\x00\x02K\x00\x00\x00\x00\x00\x00";
 /// The acknowledgement to the peer 127.0.0.1, port 1234.
 const ACK: &[u8] = b"N\x00\x09127.0.0.1\x00\x00\x04\xD2";
 
-type MemHost = Host<MemSource, MemSink, MemSink>;
+pub(crate) type MemHost = Host<MemSource, MemSink, MemSink>;
 
 /// A host whose input gives at most `cut` bytes a read, and whose reads and writes of these indices fail.
-fn host_of(
+pub(crate) fn host_of(
     alloc: Global,
     input: &[u8],
     cut: Option<u32>,
@@ -42,7 +42,7 @@ fn host_of(
 }
 
 /// The words of a command line.
-fn words_of(alloc: Global, texts: &[&str]) -> Result<Words, AllocError> {
+pub(crate) fn words_of(alloc: Global, texts: &[&str]) -> Result<Words, AllocError> {
     let mut words = Vec::new(alloc);
     for text in texts {
         words.push(text.to_string(alloc)?)?;
@@ -51,7 +51,7 @@ fn words_of(alloc: Global, texts: &[&str]) -> Result<Words, AllocError> {
 }
 
 /// Two pieces, one after the other.
-fn joined(alloc: Global, front: &[u8], rest: &[u8]) -> Result<ByteList, AllocError> {
+pub(crate) fn joined(alloc: Global, front: &[u8], rest: &[u8]) -> Result<ByteList, AllocError> {
     let mut bytes = ByteList::from_slice(alloc, front)?;
     bytes.append(rest)?;
     Ok(bytes)

@@ -22,6 +22,8 @@ impl Model for Words {
 pub enum Command {
     /// `answer`: serve the input and the output as one connection.
     Answer,
+    /// `replay`: print the outline of the history that the input spells as a journal.
+    Replay,
 }
 
 impl Words {
@@ -42,6 +44,8 @@ impl Words {
     {
         if self.are("answer") {
             Some(Command::Answer)
+        } else if self.are("replay") {
+            Some(Command::Replay)
         } else {
             None
         }

@@ -1,0 +1,14 @@
+use Rattle.std.proofs.Common.{◌≡◌, ◌≤◌, ◌+◌, List, Result, length}
+use Rattle.history.specs.declared.asks.Event.{Event}
+use Rattle.rmi_cli.specs.declared.replay.ReplayFault.{ReplayFault}
+use Rattle.rmi_cli.specs.Replay.{Goes}
+use Rattle.rmi_cli.proofs.replay.take_lines.Given as goal
+
+abbrev pub invariant-loop-rest : goal.invariant-loop-rest
+invariant-loop-rest l =
+    ((stop : Result (Unit {0}) ReplayFault) (h2 : List Event) → Goes l.fn.space.configuration l.space.events l.rest l.number stop h2
+    → Goes l.fn.space.configuration l.fn.space.events l.fn.lines 2 stop h2)
+    × (l.space.configuration ≡ l.fn.space.configuration) × (l.number + length l.rest ≤ 2 + length l.fn.lines)
+
+abbrev pub decreases-loop-rest : goal.decreases-loop-rest
+decreases-loop-rest l = length l.rest
