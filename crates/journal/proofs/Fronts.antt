@@ -65,7 +65,7 @@ front_within put old xs i mid new x inside is item stops =
     (ap (flat_map put) (sym (take-append-drop i xs)) ∙ flat_map-append put (take i xs) (drop i xs)
     ∙ ap (λ ys. flat_map put (take i xs) ++ flat_map put ys) tail) stops
 
--- Words after the first, joined by spaces.
-pub joined_further : {X : Type 0} (put : X → List ℕ) (x : X) (xs : List X) → join_with_byte 32 (map put (x ∷ xs)) ≡ put x ++ flat_map (λ y. 32 ∷ put y) xs
-joined_further put x [] = sym (append-nil (put x))
-joined_further put x (y ∷ xs) = ap (λ (t : List ℕ). put x ++ 32 ∷ t) (joined_further put y xs)
+-- Texts after the first, each after a separator.
+pub joined_further : {X : Type 0} (separator : ℕ) (put : X → List ℕ) (x : X) (xs : List X) → join_with_byte separator (map put (x ∷ xs)) ≡ put x ++ flat_map (λ y. separator ∷ put y) xs
+joined_further separator put x [] = sym (append-nil (put x))
+joined_further separator put x (y ∷ xs) = ap (λ (t : List ℕ). put x ++ separator ∷ t) (joined_further separator put y xs)

@@ -13,3 +13,4 @@ pub mod Splitting
 pub mod Refusing
 pub mod Unique
 pub mod Laws
+pub mod Written

@@ -7,3 +7,4 @@ pub mod Units
 pub mod Keywords
 pub mod Putting
 pub mod Rows
+pub mod Written

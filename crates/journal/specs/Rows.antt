@@ -1,10 +1,13 @@
 -- Lines of an outline, by what they say.
 use Rattle.std.specs.Prelude.{ℕ, List, [], ◌∷◌, codes, decimal}
+use Rattle.std.specs.Fmt.{signed_decimal}
 use Rattle.object_ids.specs.declared.ids.Uid.{Uid}
 use Rattle.object_ids.specs.declared.ids.ObjId.{ObjId}
-use Rattle.history.specs.Texts.{line, client_text, object_text, name_text}
+use Rattle.history.specs.Texts.{line, uid_text, client_text, object_text, name_text}
 use Rattle.journal.specs.declared.outline.Word.{Word}
-use Rattle.journal.specs.declared.outline.Word.TheVariants.{Text, Number, Object, Client, Name}
+use Rattle.journal.specs.declared.outline.Word.TheVariants.{Text, Number, Signed, Object, Client, Name, Kinds, Objects}
+use Rattle.journal.specs.declared.outline.Word.TheVariants.{Uid as Identifier}
+use Rattle.journal.specs.Written.{list_text, objects_text}
 
 -- The text of a word.
 abbrev pub word_text : Word → List ℕ
@@ -13,6 +16,10 @@ word_text (Number n) = decimal n
 word_text (Object space object) = object_text space object
 word_text (Client client) = client_text client.now
 word_text (Name name) = name_text name.now
+word_text (Signed n) = signed_decimal n
+word_text (Identifier uid) = uid_text uid
+word_text (Kinds kinds) = list_text decimal kinds.now
+word_text (Objects space objects) = objects_text space objects.now
 
 -- A word that is not the first of its line stands after a space.
 abbrev pub further_text : Word → List ℕ

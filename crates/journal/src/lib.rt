@@ -1,4 +1,4 @@
-//! The text of a journal: reading its configuration and its events, and writing the lines of an outline.
+//! The text of a journal: reading and writing its configuration and its events, and writing the lines of an outline.
 #![tactic(auto)]
 
 pub(crate) mod asks;
@@ -8,6 +8,7 @@ pub(crate) mod hex;
 pub(crate) mod ids;
 pub(crate) mod items;
 pub mod lines;
+pub(crate) mod listed;
 pub(crate) mod name;
 pub(crate) mod number;
 pub mod outline;
@@ -16,6 +17,8 @@ pub mod put;
 #[cfg(test)]
 mod tests;
 pub(crate) mod unread;
+pub mod write;
 
 pub use lines::{read_event, read_first_line, split_line};
 pub use outline::{ObjectRow, Word};
+pub use write::{put_event_line, put_first_line};

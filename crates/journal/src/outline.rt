@@ -6,10 +6,11 @@ ghost use Rattle.history.specs.Outline.{object_line, lease_line, withdrawal_line
 ghost use Rattle.journal.specs.Putting.{AppendsFront};
 ghost use Rattle.journal.specs.Rows.{word_text, further_text, events_text, named_text};
 
-use crate::put::{put_client, put_decimal, put_name, put_object};
+use crate::listed::{put_kinds, put_objects};
+use crate::put::{put_client, put_decimal, put_name, put_object, put_signed, put_uid};
 use history::{Name, SpaceConfig};
-use mod_utf::list::ByteList;
-use object_ids::{ObjId, Uid, Vmid};
+use mod_utf::list::{ByteList, Kinds};
+use object_ids::{ObjId, ObjIds, Uid, Vmid};
 use std::alloc::AllocError;
 use std::marker::Model;
 
@@ -26,6 +27,14 @@ pub enum Word<'a> {
     Client(&'a Vmid),
     /// A name in quotation marks.
     Name(&'a Name),
+    /// A number in decimal digits, with a minus sign where it is below 0.
+    Signed(i64),
+    /// An identifier as U/T/C.
+    Uid(Uid),
+    /// Kinds of objects, joined by commas, or `-` where there are none.
+    Kinds(&'a Kinds),
+    /// Objects, joined by commas, or `-` where there are none.
+    Objects { space: Uid, objects: &'a ObjIds },
 }
 
 /// Appends a line of words, which are parted by one space and end with LF.
@@ -38,7 +47,7 @@ pub fn put_line(out: &mut ByteList, words: &[Word]) -> Result<(), AllocError>
 }
 
 /// Appends words, parted by one space.
-fn put_words(out: &mut ByteList, words: &[Word]) -> Result<(), AllocError>
+pub(crate) fn put_words(out: &mut ByteList, words: &[Word]) -> Result<(), AllocError>
     ensures ok { OnOk result (out.new ≡ out.old ++ join_with_byte 32 (map word_text words.now)) }
     ensures err { OnErr result (AppendsFront out.old (join_with_byte 32 (map word_text words.now)) out.new) }
 {
@@ -80,6 +89,10 @@ fn put_word(out: &mut ByteList, word: &Word) -> Result<(), AllocError>
         Word::Object { space, object } => put_object(out, *space, *object),
         Word::Client(client) => put_client(out, *client),
         Word::Name(name) => put_name(out, *name),
+        Word::Signed(n) => put_signed(out, *n),
+        Word::Uid(uid) => put_uid(out, *uid),
+        Word::Kinds(kinds) => put_kinds(out, kinds.as_slice()),
+        Word::Objects { space, objects } => put_objects(out, *space, objects.as_slice()),
     }
 }
 

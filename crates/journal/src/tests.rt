@@ -3,11 +3,11 @@
 use crate::outline::{
     put_events_line, put_lease_line, put_name_line, put_object_line, put_withdrawal_line,
 };
-use crate::{ObjectRow, read_event, read_first_line};
+use crate::{ObjectRow, put_event_line, put_first_line, read_event, read_first_line};
 use history::{Name, SpaceConfig};
 use mod_utf::list::{ByteList, Units};
 use object_ids::{ObjId, Uid, Vmid};
-use std::alloc::AllocError;
+use std::alloc::{AllocError, Global};
 use std::test::Fail;
 
 const SPACE: Uid = Uid {
@@ -27,7 +27,6 @@ const EVENTS: &str = r#"0 0 open 2 pinned
 4294967295 4611686018427387903 open 4294967295 free
 1 1 begin -9223372036854775808
 1 1 begin 9223372036854775807:-2147483648/9223372036854775807/-32768
-1 1 begin 16:7/9/0
 1 11 finish 16 1,0,1 16:7/9/1,-1 2147483647/-9223372036854775808/32767
 1 11 finish 16 - - 1/0/0
 1 11 abandon 16
@@ -42,6 +41,9 @@ const EVENTS: &str = r#"0 0 open 2 pinned
 4294967295 5 lookup "\u0000\u0020" 1/0/0
 1 1 list
 1 1 tick"#;
+
+/// A line that names an object of the space in full.
+const IN_FULL: &str = "1 1 begin 16:7/9/0";
 
 /// Lines that spell none.
 const NO_EVENTS: &str = "\n1 1\n1 1 tick \n 1 1 tick\n1  1 tick\n1 1 tick\r\n1\t1 tick\n1 1 TICK
@@ -97,12 +99,38 @@ withdrawn 17 place 6
 
 #[test]
 fn events_are_read(rt: HostRuntime) -> Result<(), Fail> {
-    for (lines, spelled) in [(EVENTS, true), (NO_EVENTS, false)] {
+    for (lines, spelled) in [(EVENTS, true), (IN_FULL, true), (NO_EVENTS, false)] {
         for line in lines.split('\n') {
             let event = read_event(rt.alloc(), SPACE, line.as_bytes())?;
             assert_eq!(rt; event.is_some(), spelled, "{line}");
         }
     }
+    Ok(())
+}
+
+/// Whether a line that spells an event is written again as it stands.
+fn is_written_again(alloc: Global, line: &str) -> Result<bool, Fail> {
+    let event = read_event(alloc, SPACE, line.as_bytes())?.ok_or("no event")?;
+    let mut written = ByteList::new(alloc);
+    put_event_line(&mut written, SPACE, &event)?;
+    let mut expected = ByteList::from_slice(alloc, line.as_bytes())?;
+    expected.push(b'\n')?;
+    Ok(written.as_slice() == expected.as_slice())
+}
+
+#[test]
+fn events_are_written(rt: HostRuntime) -> Result<(), Fail> {
+    for line in EVENTS.split('\n') {
+        assert_eq!(rt; is_written_again(rt.alloc(), line)?, true, "{line}");
+    }
+    Ok(())
+}
+
+#[test]
+fn first_lines_are_written(rt: HostRuntime) -> Result<(), Fail> {
+    let mut out = ByteList::new(rt.alloc());
+    put_first_line(&mut out, &CONFIG)?;
+    assert_eq!(rt; str::from_utf8(out.as_slice()).ok(), Some("space 600000 300000 7 9\n"));
     Ok(())
 }
 

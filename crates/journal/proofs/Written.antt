@@ -1,0 +1,85 @@
+-- What is written is spelled by the grammar, and nothing else is spelled by it.
+use Rattle.std.proofs.Common.{◌≡◌, ℕ, ◌^◌, ◌<◌, List, [], ◌∷◌, ◌++◌, refl, map, codes, w32, w64}
+use Rattle.std.specs.Prelude.{decimal, FitsSigned}
+use Rattle.std.specs.Fmt.{signed_decimal}
+use Rattle.std.specs.List.{AllByRecursion, AllZip, join_with_byte}
+use Rattle.object_ids.specs.declared.ids.Uid.{Uid}
+use Rattle.object_ids.specs.declared.ids.ObjId.{ObjId}
+use Rattle.history.specs.declared.asks.SpaceConfig.{SpaceConfig}
+use Rattle.history.specs.declared.asks.Event.{Event}
+use Rattle.history.specs.declared.asks.Ask.{Ask}
+use Rattle.history.specs.declared.asks.Ask.TheVariants.{Open, Begin, Finish, Abandon, Dirty, Clean, Ack, Bind, Rebind, Unbind, Lookup, Tick}
+use Rattle.history.specs.declared.asks.Ask.TheVariants.{List as ListNames}
+use Rattle.history.specs.Texts.{object_text}
+use Rattle.journal.specs.Grammar.{SpellsNumber, SpellsObject, SpellsKinds, SpellsObjects, SpellsAsk, EventWords, SpellsEvent, ConfigWords, SpellsConfig}
+use Rattle.journal.specs.Written.{list_text, objects_text, ask_words, event_text, config_text, IsObject, AreObjects, AskFits, EventFits, ConfigFits}
+use Rattle.journal.proofs.Joined.{object_text_spells}
+use Rattle.journal.proofs.Laws.{event_once, config_once}
+
+-- ---- lists
+
+zipped : {X : Type 0} (Fits : X → Type 0) (Spells : X → List ℕ → Type 0) (text : X → List ℕ) → ((x : X) → Fits x → Spells x (text x))
+    → (xs : List X) → AllByRecursion Fits xs → AllZip Spells xs (map text xs)
+zipped Fits Spells text one [] fit = tt
+zipped Fits Spells text one (x ∷ xs) fit = (one x fit.0, zipped Fits Spells text one xs fit.1)
+
+kinds_spelled : (kinds : List ℕ) → AllByRecursion (λ kind. kind < 2 ^ 32) kinds → SpellsKinds kinds (list_text decimal kinds)
+kinds_spelled [] fit = refl
+kinds_spelled (kind ∷ kinds) fit =
+    (map decimal (kind ∷ kinds), zipped (λ n. n < 2 ^ 32) SpellsNumber decimal (λ n small. (small, refl)) (kind ∷ kinds) fit, refl)
+
+object_spelled : (space : Uid) (object : ObjId) → IsObject object → SpellsObject space object (object_text space object)
+object_spelled space object is = object_text_spells space object is.number is.space
+
+objects_spelled : (space : Uid) (objects : List ObjId) → AreObjects objects → SpellsObjects space objects (objects_text space objects)
+objects_spelled space [] fit = refl
+objects_spelled space (object ∷ objects) fit =
+    (map (object_text space) (object ∷ objects), zipped IsObject (SpellsObject space) (object_text space) (object_spelled space) (object ∷ objects) fit, refl)
+
+-- ---- asks
+
+ask_spelled : (space : Uid) (ask : Ask) → AskFits ask → SpellsAsk space ask (ask_words space ask)
+ask_spelled space (Open kind pinned) fits = (refl, ((fits, refl), (refl, refl)))
+ask_spelled space (Begin object) fits = (refl, (object_spelled space object fits, refl))
+ask_spelled space (Finish object made listed uid) fits =
+    (refl, (object_spelled space object fits.0, (kinds_spelled made fits.1, (objects_spelled space listed fits.2, ((fits.3, refl), refl)))))
+ask_spelled space (Abandon object) fits = (refl, (object_spelled space object fits, refl))
+ask_spelled space (Dirty client number asked objects) fits =
+    (refl, ((fits.0, refl), ((fits.1, refl), ((fits.2, refl), (objects_spelled space objects fits.3, refl)))))
+ask_spelled space (Clean client number objects strong) fits =
+    (refl, ((fits.0, refl), ((fits.1, refl), (refl, (objects_spelled space objects fits.2, refl)))))
+ask_spelled space (Ack uid) fits = (refl, ((fits, refl), refl))
+ask_spelled space (Bind name object) fits = (refl, ((fits.0, refl), (object_spelled space object fits.1, refl)))
+ask_spelled space (Rebind name object) fits = (refl, ((fits.0, refl), (object_spelled space object fits.1, refl)))
+ask_spelled space (Unbind name) fits = (refl, ((fits, refl), refl))
+ask_spelled space (Lookup name uid) fits = (refl, ((fits.0, refl), ((fits.1, refl), refl)))
+ask_spelled space ListNames fits = (refl, refl)
+ask_spelled space Tick fits = (refl, refl)
+
+-- ---- lines
+
+pub event_spelled : (space : Uid) (event : Event) → EventFits event → SpellsEvent space event (event_text space event)
+unfolding event_text
+event_spelled space event fits =
+    (decimal event.by ∷ decimal event.moment ∷ ask_words space event.ask, ((fits.by, refl), ((fits.moment, refl), ask_spelled space event.ask fits.ask)), refl)
+
+pub event_alone : (space : Uid) (event : Event) → EventFits event → (other : Event) → SpellsEvent space other (event_text space event) → other ≡ event
+event_alone space event fits other spells = event_once space other event (event_text space event) spells (event_spelled space event fits)
+
+-- The line of an event, number by number.
+pub event_text-is : (space : Uid) (event : Event) → event_text space event ≡ decimal event.by ++ 32 ∷ (decimal event.moment ++ 32 ∷ join_with_byte 32 (ask_words space event.ask))
+unfolding event_text
+event_text-is space event = by_ask space event.ask (decimal event.by) (decimal event.moment)
+  where
+    by_ask : (space : Uid) (ask : Ask) (by moment : List ℕ) → join_with_byte 32 (by ∷ moment ∷ ask_words space ask) ≡ by ++ 32 ∷ (moment ++ 32 ∷ join_with_byte 32 (ask_words space ask))
+    by_ask space Tick by moment = refl
+    by_ask space _ by moment = refl
+
+pub config_spelled : (config : SpaceConfig) → FitsSigned w32 config.uid.unique → FitsSigned w64 config.uid.time → ConfigFits config → SpellsConfig config (config_text config)
+unfolding config_text
+config_spelled config unique time fits =
+    (codes "space" ∷ decimal config.lease_ms ∷ decimal config.ack_ms ∷ signed_decimal config.uid.unique ∷ signed_decimal config.uid.time ∷ [],
+    (fits.count, (refl, ((fits.some_lease, fits.short_lease, refl), ((fits.some_ack, fits.short_ack, refl), ((unique, refl), ((time, refl), refl)))))), refl)
+
+pub config_alone : (config : SpaceConfig) → FitsSigned w32 config.uid.unique → FitsSigned w64 config.uid.time → ConfigFits config → (other : SpaceConfig) → SpellsConfig other (config_text config) → other ≡ config
+config_alone config unique time fits other spells = config_once other config (config_text config) spells (config_spelled config unique time fits)
