@@ -1,5 +1,5 @@
 -- What is written is spelled by the grammar, and nothing else is spelled by it.
-use Rattle.std.proofs.Common.{◌≡◌, ℕ, ◌^◌, ◌<◌, List, [], ◌∷◌, ◌++◌, refl, map, codes, w32, w64}
+use Rattle.std.proofs.Common.{◌≡◌, ℕ, ◌^◌, ◌<◌, List, [], ◌∷◌, ◌++◌, refl, ap, sym, ◌∙◌, append_assoc, map, codes, w32, w64}
 use Rattle.std.specs.Prelude.{decimal, FitsSigned}
 use Rattle.std.specs.Fmt.{signed_decimal}
 use Rattle.std.specs.List.{AllByRecursion, AllZip, join_with_byte}
@@ -74,6 +74,17 @@ event_text-is space event = by_ask space event.ask (decimal event.by) (decimal e
     by_ask : (space : Uid) (ask : Ask) (by moment : List ℕ) → join_with_byte 32 (by ∷ moment ∷ ask_words space ask) ≡ by ++ 32 ∷ (moment ++ 32 ∷ join_with_byte 32 (ask_words space ask))
     by_ask space Tick by moment = refl
     by_ask space _ by moment = refl
+
+-- What was written of an event, piece by piece.
+pub event_written : (space : Uid) (event : Event) (out one two three : List ℕ) → one ≡ out ++ (decimal event.by ++ 32 ∷ []) → two ≡ one ++ (decimal event.moment ++ 32 ∷ [])
+    → three ≡ two ++ join_with_byte 32 (ask_words space event.ask) → three ≡ out ++ event_text space event
+event_written space event out one two three is_one is_two is_three =
+    let words = join_with_byte 32 (ask_words space event.ask) in
+    is_three ∙ ap (λ (t : List ℕ). t ++ words) (is_two ∙ ap (λ (t : List ℕ). t ++ (decimal event.moment ++ 32 ∷ [])) is_one)
+    ∙ glued out (decimal event.by) (decimal event.moment) words ∙ ap (λ (t : List ℕ). out ++ t) (sym (event_text-is space event))
+  where
+    glued : (o a b c : List ℕ) → ((o ++ (a ++ 32 ∷ [])) ++ (b ++ 32 ∷ [])) ++ c ≡ o ++ (a ++ 32 ∷ (b ++ 32 ∷ c))
+    glued o a b c = rw append_assoc refl
 
 pub config_spelled : (config : SpaceConfig) → FitsSigned w32 config.uid.unique → FitsSigned w64 config.uid.time → ConfigFits config → SpellsConfig config (config_text config)
 unfolding config_text

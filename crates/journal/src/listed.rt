@@ -9,6 +9,9 @@ use mod_utf::list::ByteList;
 use object_ids::{ObjId, Uid};
 use std::alloc::AllocError;
 
+/// What stands between the items of a list.
+const SEPARATOR: u8 = b',';
+
 /// Appends kinds, joined by commas, or `-` where there are none.
 pub(crate) fn put_kinds(out: &mut ByteList, kinds: &[u32]) -> Result<(), AllocError>
     ensures ok { OnOk result (out.new ≡ out.old ++ list_text decimal kinds.now) }
@@ -37,7 +40,7 @@ fn put_further_kind(out: &mut ByteList, kind: u32) -> Result<(), AllocError>
     ensures ok { OnOk result (out.new ≡ out.old ++ further_kind kind) }
     ensures err { OnErr result (AppendsFront out.old (further_kind kind) out.new) }
 {
-    out.push(b',')?;
+    out.push(SEPARATOR)?;
     put_decimal(out, u64::from(kind))
 }
 
@@ -77,6 +80,6 @@ fn put_further_object(out: &mut ByteList, space: Uid, object: ObjId) -> Result<(
     ensures ok { OnOk result (out.new ≡ out.old ++ further_object space object) }
     ensures err { OnErr result (AppendsFront out.old (further_object space object) out.new) }
 {
-    out.push(b',')?;
+    out.push(SEPARATOR)?;
     put_object(out, space, object)
 }

@@ -17,6 +17,7 @@ use std::alloc::AllocError;
 
 /// Appends a journal's first line, with its LF: the durations of a configuration, and its identifier without the count. Where
 /// the durations are within their limits and the count is 0, it spells this configuration and no other.
+#[tactic(auto, unfolding(crate::specs::Written::config_text))]
 pub fn put_first_line(out: &mut ByteList, config: &SpaceConfig) -> Result<(), AllocError>
     ensures text { OnOk result (out.new ≡ out.old ++ ended (config_text config.now)) }
     ensures spelled { ConfigFits config.now → SpellsConfig config.now (config_text config.now) }
@@ -41,10 +42,16 @@ pub fn put_event_line(out: &mut ByteList, space: Uid, event: &Event) -> Result<(
     ensures spelled { EventFits event.now → SpellsEvent space event.now (event_text space event.now) }
     ensures alone { EventFits event.now → (other : EventData) → SpellsEvent space other (event_text space event.now) → other ≡ event.now }
 {
+    put_event(out, space, event)?;
+    out.push(b'\n')
+}
+
+fn put_event(out: &mut ByteList, space: Uid, event: &Event) -> Result<(), AllocError>
+    ensures { OnOk result (out.new ≡ out.old ++ event_text space event.now) }
+{
     put_leading(out, u64::from(event.by))?;
     put_leading(out, event.moment)?;
-    put_ask(out, space, &event.ask)?;
-    out.push(b'\n')
+    put_ask(out, space, &event.ask)
 }
 
 /// Appends a number before further words.

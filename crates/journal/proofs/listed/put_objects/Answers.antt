@@ -2,7 +2,7 @@ use Rattle.std.proofs.Common.{◌++◌, List, ℕ, flat_map, map, ap, sym, ◌�
 use Rattle.std.proofs.lemmas.Result.{on_ok_weaker, on_err_weaker}
 use Rattle.history.specs.Texts.{object_text}
 use Rattle.journal.specs.Written.{objects_text, further_object}
-use Rattle.journal.proofs.Fronts.{front_last, then_more, joined_further}
+use Rattle.journal.proofs.Fronts.{on_err, front_first, front_last, then_more, joined_further}
 use Rattle.journal.proofs.listed.put_objects.Goals as goal
 
 pub returns-clause-ok : goal.returns-clause-ok
@@ -19,3 +19,10 @@ returns-clause-err c =
     let whole = ap (objects_text c.args.space) c.in-Some.ensures.cases.0 ∙ joined_further 44 text c.in-Some.first.now c.in-Some.others.now in
     on_err_weaker c.put_further_objects.result (front_last c.args.out.now (text c.in-Some.first.now) (flat_map further c.in-Some.others.now) c.put_object.new.out c.put_further_objects.new.out
     (objects_text c.args.space c.args.objects.now) (c.in_ok-put_object.ensures {u = tt}).ok whole) c.put_further_objects.ensures.err
+
+pub returns-in_err-put_object-clause-err : goal.returns-in_err-put_object-clause-err
+returns-in_err-put_object-clause-err c =
+    let text = object_text c.args.space in let further = further_object c.args.space in
+    let whole = ap (objects_text c.args.space) c.in-Some.ensures.cases.0 ∙ joined_further 44 text c.in-Some.first.now c.in-Some.others.now in
+    on_err c.from_residual.result (front_first c.args.out.now (text c.in-Some.first.now) (flat_map further c.in-Some.others.now) c.put_object.new.out
+    (objects_text c.args.space c.args.objects.now) whole (c.in_err-put_object.ensures {u = tt}).err)
