@@ -65,6 +65,15 @@ front_within put old xs i mid new x inside is item stops =
     (ap (flat_map put) (sym (take-append-drop i xs)) ∙ flat_map-append put (take i xs) (drop i xs)
     ∙ ap (λ ys. flat_map put (take i xs) ++ flat_map put ys) tail) stops
 
+-- The same where the text is that of an item that is copied.
+pub front_at_copy : {X : Type 0} (put : X → List ℕ) (old : List ℕ) (xs : List X) (i : ℕ) (mid new : List ℕ) (d : X) → i < length xs → mid ≡ old ++ flat_map put (take i xs)
+    → AppendsFront mid (put (get_or xs i d)) new → AppendsFront old (flat_map put xs) new
+front_at_copy put old xs i mid new d inside is stops =
+    let tail : drop i xs ≡ get_or xs i d ∷ drop (i + 1) xs = rw add-one (drop-cons xs i d inside) in
+    front_at old (flat_map put (take i xs)) (put (get_or xs i d)) (flat_map put (drop (i + 1) xs)) mid new (flat_map put xs) is
+    (ap (flat_map put) (sym (take-append-drop i xs)) ∙ flat_map-append put (take i xs) (drop i xs)
+    ∙ ap (λ ys. flat_map put (take i xs) ++ flat_map put ys) tail) stops
+
 -- Texts after the first, each after a separator.
 pub joined_further : {X : Type 0} (separator : ℕ) (put : X → List ℕ) (x : X) (xs : List X) → join_with_byte separator (map put (x ∷ xs)) ≡ put x ++ flat_map (λ y. separator ∷ put y) xs
 joined_further separator put x [] = sym (append-nil (put x))

@@ -84,7 +84,9 @@ event_written space event out one two three is_one is_two is_three =
     ∙ glued out (decimal event.by) (decimal event.moment) words ∙ ap (λ (t : List ℕ). out ++ t) (sym (event_text-is space event))
   where
     glued : (o a b c : List ℕ) → ((o ++ (a ++ 32 ∷ [])) ++ (b ++ 32 ∷ [])) ++ c ≡ o ++ (a ++ 32 ∷ (b ++ 32 ∷ c))
-    glued o a b c = rw append_assoc refl
+    glued o a b c =
+        append_assoc (o ++ (a ++ 32 ∷ [])) (b ++ 32 ∷ []) c ∙ append_assoc o (a ++ 32 ∷ []) ((b ++ 32 ∷ []) ++ c)
+        ∙ ap (λ (t : List ℕ). o ++ t) (append_assoc a (32 ∷ []) ((b ++ 32 ∷ []) ++ c)) ∙ ap (λ (t : List ℕ). o ++ (a ++ 32 ∷ t)) (append_assoc b (32 ∷ []) c)
 
 pub config_spelled : (config : SpaceConfig) → FitsSigned w32 config.uid.unique → FitsSigned w64 config.uid.time → ConfigFits config → SpellsConfig config (config_text config)
 unfolding config_text

@@ -70,9 +70,12 @@ config_text config = join_with_byte 32 (
 abbrev pub ended : List ℕ → List ℕ
 ended text = text ++ 10 ∷ []
 
+abbrev pub event_line : Uid → Event → List ℕ
+event_line space event = ended (event_text space event)
+
 -- The journal of a configuration and of events.
 unfoldable pub journal_text : SpaceConfig → List Event → List ℕ
-journal_text config events = ended (config_text config) ++ flat_map (λ e. ended (event_text config.uid e)) events
+journal_text config events = ended (config_text config) ++ flat_map (event_line config.uid) events
 
 -- ---- numbers that fit their types
 

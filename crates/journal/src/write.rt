@@ -124,12 +124,12 @@ fn put_of_object(
     put_words(out, &[Word::Text(keyword), Word::Object { space, object }])
 }
 
-fn put_finish(
+fn put_finish<'a>(
     out: &mut ByteList,
     space: Uid,
     object: ObjId,
-    made: &Kinds,
-    listed: &ObjIds,
+    made: &'a Kinds,
+    listed: &'a ObjIds,
     uid: Uid,
 ) -> Result<(), AllocError>
     ensures { OnOk result (out.new ≡ out.old ++ join_with_byte 32 (
@@ -150,13 +150,13 @@ fn put_finish(
     )
 }
 
-fn put_dirty(
+fn put_dirty<'a>(
     out: &mut ByteList,
     space: Uid,
-    client: &Vmid,
+    client: &'a Vmid,
     number: i64,
     asked: i64,
-    objects: &ObjIds,
+    objects: &'a ObjIds,
 ) -> Result<(), AllocError>
     ensures { OnOk result (out.new ≡ out.old ++ join_with_byte 32 (
         codes "dirty" ∷ client_text client.now ∷ signed_decimal number ∷ signed_decimal asked ∷ objects_text space objects.now ∷ [])) }
@@ -173,12 +173,12 @@ fn put_dirty(
     )
 }
 
-fn put_clean(
+fn put_clean<'a>(
     out: &mut ByteList,
     space: Uid,
-    client: &Vmid,
+    client: &'a Vmid,
     number: i64,
-    objects: &ObjIds,
+    objects: &'a ObjIds,
     strong: bool,
 ) -> Result<(), AllocError>
     ensures { OnOk result (out.new ≡ out.old ++ join_with_byte 32 (
@@ -198,11 +198,11 @@ fn put_clean(
 }
 
 /// Appends a keyword, a name and an object.
-fn put_binding(
+fn put_binding<'a>(
     out: &mut ByteList,
-    keyword: &[u8],
+    keyword: &'a [u8],
     space: Uid,
-    name: &Name,
+    name: &'a Name,
     object: ObjId,
 ) -> Result<(), AllocError>
     ensures { OnOk result (out.new ≡ out.old ++ join_with_byte 32 (keyword.now ∷ name_text name.now ∷ object_text space object ∷ [])) }

@@ -17,6 +17,7 @@ pub mod Refusals
 pub mod Room
 pub mod RowLaws
 pub mod RunSteps
+pub mod SummaryLaws
 pub mod TextLaws
 pub mod TurnLaws
 pub mod WaitLaws

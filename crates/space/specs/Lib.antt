@@ -5,3 +5,4 @@ pub mod Kept
 pub mod Rows
 pub mod Runs
 pub mod Waits
+pub mod Summary

@@ -1,0 +1,119 @@
+-- The summary and the journal, by what is kept.
+use Rattle.std.proofs.Common.{◌≡◌, ℕ, suc, List, [], ◌∷◌, ◌++◌, length, refl, ap, sym, subst, ◌∙◌, arith, map, max, flat_map}
+use Rattle.std.specs.Prelude.{reverse}
+use Rattle.history.specs.declared.asks.SpaceConfig.{SpaceConfig}
+use Rattle.history.specs.declared.asks.Event.{Event}
+use Rattle.history.specs.declared.calls.Call.{Call}
+use Rattle.history.specs.declared.calls.LeaseRow.{LeaseRow}
+use Rattle.history.specs.declared.places.Place.{Place}
+use Rattle.history.specs.declared.places.Withdrawal.{Withdrawal}
+use Rattle.history.specs.Awaiting.{awaiting}
+use Rattle.history.specs.LeaseCalls.{lease_calls}
+use Rattle.history.specs.Leases.{clients_with_time_left, lease_rows, lease_end, calls_of, pairs, pairs_with}
+use Rattle.history.specs.Limits.{units}
+use Rattle.history.specs.Names.{names}
+use Rattle.history.specs.Outline.{events_line, summary}
+use Rattle.history.specs.Places.{now}
+use Rattle.history.specs.Replies.{ids}
+use Rattle.history.specs.Table.{table, places, withdrawals}
+use Rattle.history.proofs.TableLaws.{length-places}
+use Rattle.journal.specs.Rows.{events_text}
+use Rattle.journal.specs.Written.{ended, config_text, event_line, journal_text}
+use Rattle.dgc_server.specs.Stands.{LeaseTable, StandsFor}
+use Rattle.export_table.specs.Table.{ExportTable}
+use Rattle.export_table.specs.Waits.{waiting}
+use Rattle.space.specs.declared.journal_text.Counts.{Counts}
+use Rattle.space.specs.declared.runs.Run.{Run}
+use Rattle.space.specs.Built.{SpaceHistory}
+use Rattle.space.specs.Kept.{live_calls, row_of, Keeps}
+use Rattle.space.specs.Summary.{counts_text}
+use Rattle.space.specs.Waits.{reference_of, end_of}
+use Rattle.space.proofs.LiveLaws.{left-live}
+use Rattle.space.proofs.Quiet.{quiet, no-names}
+use Rattle.space.proofs.RowLaws.{awaiting-counted, pairs-counted-live}
+
+-- ---- counts
+
+length-map : {X Y : Type 0} (f : X → Y) (xs : List X) → length (map f xs) ≡ length xs
+length-map f [] = refl
+length-map f (x ∷ xs) = ap suc (length-map f xs)
+
+rows-counted : (lease t : ℕ) (calls : List Call) → length (lease_rows lease t calls) ≡ length (clients_with_time_left lease t calls)
+unfolding lease_rows
+rows-counted lease t calls = length-map (λ c. record { client = c; until = lease_end lease (calls_of c calls) }) (clients_with_time_left lease t calls)
+
+-- How many entries the tables of a history have.
+abbrev counted : SpaceConfig → List Place → Counts
+counted config h = record {
+  objects = length (table config h);
+  clients = length (clients_with_time_left config.lease_ms (now h) (lease_calls h));
+  pairs = length (pairs_with config.lease_ms (now h) (lease_calls h) (ids (table config h)));
+  awaiting = length (awaiting config.ack_ms (now h) h);
+  names = length (names h);
+  withdrawn = length (withdrawals config h);
+}
+
+six : (a b c d e f a' b' c' d' e' f' : ℕ) → a ≡ a' → b ≡ b' → c ≡ c' → d ≡ d' → e ≡ e' → f ≡ f' →
+    ◌≡◌ {A = Counts} (record { objects = a; clients = b; pairs = c; awaiting = d; names = e; withdrawn = f }) (record { objects = a'; clients = b'; pairs = c'; awaiting = d'; names = e'; withdrawn = f' })
+six a b c d e f a' b' c' d' e' f' p q r s t u = cc
+
+summary-is : (config : SpaceConfig) (events : List Event) → summary config events ≡ events_line (places config events) ++ counts_text (counted config (places config events))
+unfolding summary
+summary-is config events = refl
+
+-- THE COUNTS of what is kept.
+counts-are : (config : SpaceConfig) (events : List Event) (leases : LeaseTable) (exports : ExportTable) (runs : List Run) (withdrawn : List Withdrawal) (told opened used moment : ℕ) → Keeps config events leases exports runs withdrawn told opened used moment →
+    (clients pairs_left : ℕ) → clients ≡ length (lease_rows config.lease_ms moment (live_calls (table config (places config events)) (lease_calls (places config events)))) →
+    pairs_left ≡ length (pairs config.lease_ms moment (live_calls (table config (places config events)) (lease_calls (places config events)))) →
+    ◌≡◌ {A = Counts} (record { objects = length exports.rows; clients = clients; pairs = pairs_left; awaiting = length (waiting moment exports.waits); names = 0; withdrawn = length withdrawn })
+    (counted config (places config events))
+counts-are config events leases exports runs withdrawn told opened used moment k clients pairs_left c p =
+    let h = places config events in let live = live_calls (table config (places config events)) (lease_calls (places config events)) in
+    six (length exports.rows) clients pairs_left (length (waiting moment exports.waits)) 0 (length withdrawn)
+    (length (table config h)) (length (clients_with_time_left config.lease_ms (now h) (lease_calls h))) (length (pairs_with config.lease_ms (now h) (lease_calls h) (ids (table config h))))
+    (length (awaiting config.ack_ms (now h) h)) (length (names h)) (length (withdrawals config h))
+    (ap length k.stands.rows_are ∙ length-map (row_of h) (table config h))
+    (c ∙ rows-counted config.lease_ms moment live ∙ ap length (left-live (table config h) config.lease_ms moment (lease_calls h))
+    ∙ ap (λ t. length (clients_with_time_left config.lease_ms t (lease_calls h))) k.stands.moment_is)
+    (p ∙ sym (pairs-counted-live config events moment) ∙ ap (λ t. length (pairs_with config.lease_ms t (lease_calls h) (ids (table config h)))) k.stands.moment_is)
+    (sym (awaiting-counted reference_of end_of config.ack_ms moment moment h exports.waits (omega arith) k.stands.waits_stand) ∙ ap (λ t. length (awaiting config.ack_ms t h)) k.stands.moment_is)
+    (sym (ap length (no-names h (quiet config events k.built))))
+    (ap length k.stands.withdrawn_are)
+
+events-are : (config : SpaceConfig) (events : List Event) (used moment : ℕ) → used ≡ units (places config events) → moment ≡ now (places config events) → events_text (length events) used moment ≡ events_line (places config events)
+events-are config events used moment u m =
+    ap (λ (n : ℕ). events_text n used moment) (sym (length-places config events)) ∙ ap (λ (n : ℕ). events_text (length (places config events)) n moment) u
+    ∙ ap (λ (n : ℕ). events_text (length (places config events)) (units (places config events)) n) m
+
+max_same : (m : ℕ) → max m m ≡ m
+max_same m = omega arith
+
+-- ---- what was written
+
+pub summarized : (config : SpaceConfig) (events : List Event) (leases : LeaseTable) (exports : ExportTable) (runs : List Run) (withdrawn : List Withdrawal) (told opened used moment : ℕ) (rows : List LeaseRow) (counts : Counts) (start first second : List ℕ) (s : SpaceHistory) →
+    record { configuration = config; events = events } ≡ s → Keeps config events leases exports runs withdrawn told opened used moment →
+    ((lease m : ℕ) (calls : List Call) → StandsFor lease leases m calls → rows ≡ lease_rows lease (max moment m) calls) →
+    ((lease m : ℕ) (calls : List Call) → StandsFor lease leases m calls → counts.pairs ≡ length (pairs lease (max moment m) calls)) →
+    counts.objects ≡ length exports.rows → counts.clients ≡ length rows → counts.awaiting ≡ length (waiting moment exports.waits) → counts.names ≡ 0 → counts.withdrawn ≡ length withdrawn →
+    start ≡ [] → first ≡ start ++ events_text (length events) used moment → second ≡ first ++ counts_text counts →
+    second ≡ summary s.configuration s.events
+summarized config events leases exports runs withdrawn told opened used moment rows counts start first second s v k of_rows of_pairs o c a n w empty one two =
+    let live = live_calls (table config (places config events)) (lease_calls (places config events)) in
+    let same = max_same moment in
+    let P : SpaceHistory → Type 0 = λ x. second ≡ summary x.configuration x.events in
+    let clients = c ∙ ap length (of_rows config.lease_ms moment live k.stands.leases_stand ∙ ap (λ (t : ℕ). lease_rows config.lease_ms t live) same) in
+    let pairs_left = of_pairs config.lease_ms moment live k.stands.leases_stand ∙ ap (λ (t : ℕ). length (pairs config.lease_ms t live)) same in
+    let all = six counts.objects counts.clients counts.pairs counts.awaiting counts.names counts.withdrawn (length exports.rows) counts.clients counts.pairs (length (waiting moment exports.waits)) 0 (length withdrawn) o refl refl a n w
+        ∙ counts-are config events leases exports runs withdrawn told opened used moment k counts.clients counts.pairs clients pairs_left in
+    subst P v (
+    two ∙ ap (λ (x : Counts). first ++ counts_text x) all
+    ∙ ap (λ (t : List ℕ). t ++ counts_text (counted config (places config events)))
+    (one ∙ ap (λ (t : List ℕ). t ++ events_text (length events) used moment) empty ∙ events-are config events used moment k.stands.used_is k.stands.moment_is)
+    ∙ sym (summary-is config events))
+
+pub journalled : (config : SpaceConfig) (events : List Event) (start first second : List ℕ) (s : SpaceHistory) → record { configuration = config; events = events } ≡ s →
+    start ≡ [] → first ≡ start ++ ended (config_text config) → second ≡ first ++ flat_map (event_line config.uid) events → second ≡ journal_text s.configuration s.events
+unfolding journal_text
+journalled config events start first second s v empty one two =
+    let P : SpaceHistory → Type 0 = λ x. second ≡ journal_text x.configuration x.events in
+    subst P v (two ∙ ap (λ (t : List ℕ). t ++ flat_map (event_line config.uid) events) (one ∙ ap (λ (t : List ℕ). t ++ ended (config_text config)) empty))

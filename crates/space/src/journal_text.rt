@@ -1,0 +1,94 @@
+//! The journal and the summary of a space.
+ghost use Rattle.std.specs.Prelude.{◌≡◌, ◌++◌, flat_map, OnOk, IfOk};
+ghost use Rattle.history.specs.Outline as lines;
+ghost use Rattle.journal.specs.Written as written;
+ghost use Rattle.space.specs.Summary.{counts_text};
+
+use crate::turns::Space;
+use history::Event;
+use journal::outline::{put_events_line, put_line};
+use journal::write::{put_event_line, put_first_line};
+use journal::Word;
+use mod_utf::list::ByteList;
+use object_ids::Uid;
+use std::alloc::{AllocError, Global};
+
+/// The journal of a space: a line of its configuration, then a line for each event that it took, in order.
+pub fn journal(alloc: Global, space: &Space) -> Result<ByteList, AllocError>
+    ensures { IfOk result (λ text. text ≡ written.journal_text space.now.configuration space.now.events) }
+{
+    let mut text = ByteList::new(alloc);
+    put_first_line(&mut text, &space.config)?;
+    put_events(&mut text, space.config.uid, &space.events)?;
+    Ok(text)
+}
+
+/// Appends the lines of events.
+fn put_events(text: &mut ByteList, space: Uid, events: &[Event]) -> Result<(), AllocError>
+    ensures { OnOk result (text.new ≡ text.old ++ flat_map (written.event_line space) events.now) }
+{
+    for event in events {
+        put_event_line(text, space, event)?;
+    }
+    Ok(())
+}
+
+/// How many entries the tables of a space have.
+#[derive(Clone, Copy, Debug)]
+struct Counts {
+    objects: u64,
+    clients: u64,
+    pairs: u64,
+    awaiting: u64,
+    names: u64,
+    withdrawn: u64,
+}
+
+/// The summary of a space: how many events it took, their units and its present moment; then how many objects are exported, how
+/// many clients have time left, how many pairs are remembered, how many references await, how many names there are, and how
+/// many objects were withdrawn.
+pub fn summary(alloc: Global, space: &Space) -> Result<ByteList, AllocError>
+    ensures { IfOk result (λ text. text ≡ lines.summary space.now.configuration space.now.events) }
+{
+    let mut text = ByteList::new(alloc);
+    put_events_line(
+        &mut text,
+        space.events.len() as u64,
+        space.units,
+        space.moment,
+    )?;
+    let clients = space.leases.clients(alloc, space.moment)?;
+    let counts = Counts {
+        objects: u64::from(space.exports.count()),
+        clients: clients.len() as u64,
+        pairs: u64::from(space.leases.pairs(space.moment)),
+        awaiting: u64::from(space.exports.waiting(space.moment)),
+        names: 0,
+        withdrawn: space.withdrawn.len() as u64,
+    };
+    put_counts(&mut text, counts)?;
+    Ok(text)
+}
+
+/// Appends the line of these counts.
+fn put_counts(text: &mut ByteList, counts: Counts) -> Result<(), AllocError>
+    ensures { OnOk result (text.new ≡ text.old ++ counts_text counts) }
+{
+    put_line(
+        text,
+        &[
+            Word::Text(b"objects"),
+            Word::Number(counts.objects),
+            Word::Text(b"clients"),
+            Word::Number(counts.clients),
+            Word::Text(b"pairs"),
+            Word::Number(counts.pairs),
+            Word::Text(b"awaiting"),
+            Word::Number(counts.awaiting),
+            Word::Text(b"names"),
+            Word::Number(counts.names),
+            Word::Text(b"withdrawn"),
+            Word::Number(counts.withdrawn),
+        ],
+    )
+}
