@@ -90,9 +90,11 @@ event_written space event out one two three is_one is_two is_three =
 
 pub config_spelled : (config : SpaceConfig) → FitsSigned w32 config.uid.unique → FitsSigned w64 config.uid.time → ConfigFits config → SpellsConfig config (config_text config)
 unfolding config_text
-config_spelled config unique time fits =
-    (codes "space" ∷ decimal config.lease_ms ∷ decimal config.ack_ms ∷ signed_decimal config.uid.unique ∷ signed_decimal config.uid.time ∷ [],
-    (fits.count, (refl, ((fits.some_lease, fits.short_lease, refl), ((fits.some_ack, fits.short_ack, refl), ((unique, refl), ((time, refl), refl)))))), refl)
+config_spelled config unique time fits = (
+  codes "space" ∷ decimal config.lease_ms ∷ decimal config.ack_ms ∷ signed_decimal config.uid.unique ∷ signed_decimal config.uid.time ∷ [],
+  (fits.count, (refl, ((fits.some_lease, fits.short_lease, refl), ((fits.some_ack, fits.short_ack, refl), ((unique, refl), ((time, refl), refl)))))),
+  refl,
+)
 
 pub config_alone : (config : SpaceConfig) → FitsSigned w32 config.uid.unique → FitsSigned w64 config.uid.time → ConfigFits config → (other : SpaceConfig) → SpellsConfig other (config_text config) → other ≡ config
 config_alone config unique time fits other spells = config_once other config (config_text config) spells (config_spelled config unique time fits)

@@ -130,7 +130,10 @@ fn events_are_written(rt: HostRuntime) -> Result<(), Fail> {
 fn first_lines_are_written(rt: HostRuntime) -> Result<(), Fail> {
     let mut out = ByteList::new(rt.alloc());
     put_first_line(&mut out, &CONFIG)?;
-    assert_eq!(rt; str::from_utf8(out.as_slice()).ok(), Some("space 600000 300000 7 9\n"));
+    assert_eq!(rt;
+        str::from_utf8(out.as_slice()).ok(),
+        Some("space 600000 300000 7 9\n")
+    );
     Ok(())
 }
 

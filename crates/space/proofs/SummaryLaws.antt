@@ -104,7 +104,7 @@ summarized config events leases exports runs withdrawn told opened used moment r
     let clients = c ∙ ap length (of_rows config.lease_ms moment live k.stands.leases_stand ∙ ap (λ (t : ℕ). lease_rows config.lease_ms t live) same) in
     let pairs_left = of_pairs config.lease_ms moment live k.stands.leases_stand ∙ ap (λ (t : ℕ). length (pairs config.lease_ms t live)) same in
     let all = six counts.objects counts.clients counts.pairs counts.awaiting counts.names counts.withdrawn (length exports.rows) counts.clients counts.pairs (length (waiting moment exports.waits)) 0 (length withdrawn) o refl refl a n w
-        ∙ counts-are config events leases exports runs withdrawn told opened used moment k counts.clients counts.pairs clients pairs_left in
+    ∙ counts-are config events leases exports runs withdrawn told opened used moment k counts.clients counts.pairs clients pairs_left in
     subst P v (
     two ∙ ap (λ (x : Counts). first ++ counts_text x) all
     ∙ ap (λ (t : List ℕ). t ++ counts_text (counted config (places config events)))

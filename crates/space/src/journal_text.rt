@@ -6,9 +6,9 @@ ghost use Rattle.space.specs.Summary.{counts_text};
 
 use crate::turns::Space;
 use history::Event;
+use journal::Word;
 use journal::outline::{put_events_line, put_line};
 use journal::write::{put_event_line, put_first_line};
-use journal::Word;
 use mod_utf::list::ByteList;
 use object_ids::Uid;
 use std::alloc::{AllocError, Global};

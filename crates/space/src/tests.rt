@@ -4,7 +4,7 @@ ghost use Rattle.std.specs.Prelude.{IsTrue, IfSome};
 ghost use Rattle.space.specs.Built.{IsBuilt};
 ghost use Rattle.space.specs.Kept.{HasDurations};
 
-use crate::{Ask, Refused, Reply, Space, SpaceConfig, outline};
+use crate::{Ask, Refused, Reply, Space, SpaceConfig, journal, outline, summary};
 use history::limits::{END_OF_TIME, MAX_DURATION};
 use journal::lines::{read_event, read_first_line};
 use mod_utf::list::{ByteList, Same};
@@ -50,8 +50,8 @@ fn is_served(ask: &Ask) -> bool
     }
 }
 
-/// The outline of a space that took the events of a journal's lines.
-fn replayed(alloc: Global, first: &str, lines: &[&str]) -> Result<ByteList, Fail> {
+/// The space that took the events of a journal's lines.
+fn space_of(alloc: Global, first: &str, lines: &[&str]) -> Result<Space, Fail> {
     let config = config_of(first).ok_or("no configuration")?;
     let mut space = Space::fresh(alloc, &config);
     for line in lines {
@@ -61,7 +61,47 @@ fn replayed(alloc: Global, first: &str, lines: &[&str]) -> Result<ByteList, Fail
         }
         space.turn(alloc, event.by, event.moment, event.ask)?;
     }
+    Ok(space)
+}
+
+/// The outline of such a space.
+fn replayed(alloc: Global, first: &str, lines: &[&str]) -> Result<ByteList, Fail> {
+    let space = space_of(alloc, first, lines)?;
     Ok(outline(alloc, &space)?)
+}
+
+/// The journal of such a space and, after it, its summary.
+fn told(alloc: Global, first: &str, lines: &[&str]) -> Result<ByteList, Fail> {
+    let space = space_of(alloc, first, lines)?;
+    let mut text = journal(alloc, &space)?;
+    text.append(summary(alloc, &space)?.as_slice())?;
+    Ok(text)
+}
+
+#[test]
+fn journals_and_summaries_of_histories(rt: HostRuntime) -> Result<(), Fail> {
+    let rows: [(&str, &[&str], &str); 2] = [
+        (
+            "space 2 10 7 9",
+            &[],
+            "space 2 10 7 9\nevents 0 units 0 now 0\nobjects 0 clients 0 pairs 0 awaiting 0 names 0 withdrawn 0\n",
+        ),
+        (
+            "space 10 1000 -1 -5",
+            &[
+                "1 12 open 2 pinned",
+                "1 12 open 3 free",
+                "1 1019 dirty aa@2/4/5 7 10 16:-1/-5/0,17",
+                "0 1020 clean -@2/4/5 6 strong 16",
+            ],
+            "space 10 1000 -1 -5\n1 12 open 2 pinned\n1 12 open 3 free\n1 1019 dirty aa@2/4/5 7 10 16,17\n0 1020 clean -@2/4/5 6 strong 16\nevents 4 units 7 now 1020\nobjects 1 clients 1 pairs 2 awaiting 0 names 0 withdrawn 1\n",
+        ),
+    ];
+    for (first, lines, want) in rows {
+        let text = told(rt.alloc(), first, lines)?;
+        assert_eq!(rt; text.as_slice(), want.as_bytes(), "of {first}");
+    }
+    Ok(())
 }
 
 #[test]
