@@ -11,7 +11,7 @@ use Rattle.history.specs.declared.asks.Ask.{Ask}
 use Rattle.history.specs.declared.asks.Ask.TheVariants.{Open, Begin, Finish, Abandon, Dirty, Clean, Ack, Bind, Rebind, Unbind, Lookup, Tick}
 use Rattle.history.specs.declared.asks.Ask.TheVariants.{List as ListNames}
 use Rattle.history.specs.Texts.{object_text}
-use Rattle.journal.specs.Grammar.{SpellsNumber, SpellsObject, SpellsKinds, SpellsObjects, SpellsAsk, EventWords, SpellsEvent, ConfigWords, SpellsConfig}
+use Rattle.journal.specs.Grammar.{SpellsNumber, SpellsObject, SpellsKinds, SpellsObjects, SpellsAsk, SpellsEvent, SpellsConfig}
 use Rattle.journal.specs.Written.{list_text, objects_text, ask_words, event_text, config_text, IsObject, AreObjects, AskFits, EventFits, ConfigFits}
 use Rattle.journal.proofs.Joined.{object_text_spells}
 use Rattle.journal.proofs.Laws.{event_once, config_once}

@@ -1,6 +1,5 @@
 -- The summary and the journal, by what is kept.
 use Rattle.std.proofs.Common.{◌≡◌, ℕ, suc, List, [], ◌∷◌, ◌++◌, length, refl, ap, sym, subst, ◌∙◌, arith, map, max, flat_map}
-use Rattle.std.specs.Prelude.{reverse}
 use Rattle.history.specs.declared.asks.SpaceConfig.{SpaceConfig}
 use Rattle.history.specs.declared.asks.Event.{Event}
 use Rattle.history.specs.declared.calls.Call.{Call}

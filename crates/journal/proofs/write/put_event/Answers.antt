@@ -1,5 +1,3 @@
-use Rattle.std.proofs.Common.{ℕ, [], ◌∷◌, ◌++◌, ap, ◌∙◌}
-use Rattle.std.specs.Prelude.{decimal}
 use Rattle.std.proofs.lemmas.Result.{on_ok_weaker}
 use Rattle.journal.proofs.Written.{event_written}
 use Rattle.journal.proofs.write.put_event.Goals as goal
