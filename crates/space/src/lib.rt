@@ -5,6 +5,7 @@
 mod acts;
 mod asks;
 mod calls;
+mod returns;
 mod runs;
 #[cfg(test)]
 mod tests;
