@@ -1,5 +1,5 @@
 -- What an event does to what a space keeps.
-use Rattle.std.specs.Prelude.{◌≡◌, ℕ, ◌+◌, Bool, true, false, not, List, [], ◌∷◌, ◌++◌, length, filter, ◌&&◌, nat_lt, Option, Some, None, Result, Ok, Err, ◌⊎◌, if◌then◌else◌}
+use Rattle.std.specs.Prelude.{◌≡◌, ℕ, ◌+◌, Bool, true, false, not, List, [], ◌∷◌, ◌++◌, length, map, filter, ◌&&◌, nat_lt, Option, Some, None, Result, Ok, Err, ◌⊎◌, if◌then◌else◌}
 use Rattle.std.specs.List.{list_any}
 use Rattle.object_ids.specs.declared.ids.Uid.{Uid}
 use Rattle.object_ids.specs.declared.ids.ObjId.{ObjId}
@@ -11,7 +11,9 @@ use Rattle.history.specs.declared.asks.Ask.{Ask}
 use Rattle.history.specs.declared.asks.Ask.TheVariants.{Open, Begin, Finish, Abandon, Dirty, Ack}
 use Rattle.history.specs.declared.calls.Call.{Call}
 use Rattle.history.specs.declared.limits.TheConstants.{MAX_EXPORTS, MAX_AWAITING, MAX_CLIENTS, MAX_PAIRS, MAX_UNITS}
+use Rattle.history.specs.declared.places.Returned.{Returned}
 use Rattle.history.specs.declared.places.Withdrawal.{Withdrawal}
+use Rattle.history.specs.Awaiting.{same_returned}
 use Rattle.history.specs.declared.replies.Refused.{Refused}
 use Rattle.history.specs.declared.replies.Refused.TheVariants.{HistoryFull, Full, OutOfMemory}
 use Rattle.history.specs.declared.replies.Reply.{Reply}
@@ -29,6 +31,7 @@ use Rattle.export_table.specs.Waits.{waiting, is_waiting, listed as listed_once,
 use Rattle.export_table.specs.declared.waits.Wait.{Wait}
 use Rattle.space.specs.declared.runs.Run.{Run}
 use Rattle.space.specs.Runs.{is_run, without_first}
+use Rattle.space.specs.Waits.{reference_of}
 
 abbrev pub event_of : ℕ → ℕ → Ask → Event
 event_of by moment ask = record { by = by; moment = moment; ask = ask }
@@ -62,6 +65,13 @@ new_ids space k (kind ∷ kinds) = id_at space k ∷ new_ids space (k + 1) kinds
 abbrev pub returned_by : Uid → ℕ → List Export → Bool → Ask → List ObjId
 returned_by space k rows effective (Finish object made listed uid) = if effective then new_ids space k made ++ filter (is_exported rows) listed else []
 returned_by space k rows effective _ = []
+
+-- References to objects in a return, and how many references await at the moment t, these included.
+abbrev pub references : Uid → List ObjId → List Returned
+references uid os = map (λ o. record { object = o; uid = uid }) os
+
+abbrev pub awaiting_with : ℕ → Uid → List ObjId → List Wait → ℕ
+awaiting_with t uid os waits = length (distinct same_returned (map reference_of (waiting t waits) ++ references uid os))
 
 -- The waits once objects are listed in a return at the moment t, one after another.
 abbrev pub listed_each : ℕ → ℕ → Uid → List ObjId → List Wait → List Wait
@@ -126,14 +136,18 @@ room_refusal used running exported effective ask =
     else if nat_lt MAX_EXPORTS (exported + opens effective ask) then Some (Full Exports)
     else None
 
--- How many references await at the moment t once these objects are listed in a return.
-abbrev pub awaiting_after : ℕ → Uid → List ObjId → List Wait → ℕ
-awaiting_after t uid os waits = length (waiting t waits) + length (filter (λ o. not (is_waiting t o uid waits)) (distinct same_id os))
+-- How many references await at the moment t once so many new objects, and these exported ones, are listed in a return.
+abbrev pub awaiting_after : ℕ → Uid → ℕ → List ObjId → List Wait → ℕ
+awaiting_after t uid made live waits = length (waiting t waits) + made + length (filter (λ o. not (is_waiting t o uid waits)) (distinct same_id live))
 
--- Whether there is no room for the references to these objects that an ask returns.
-abbrev pub await_refusal : ℕ → List Wait → List ObjId → Ask → Option Refused
-await_refusal t waits os (Finish object made listed uid) = if nat_lt MAX_AWAITING (awaiting_after t uid os waits) then Some (Full Awaiting) else None
-await_refusal t waits os _ = None
+abbrev pub return_refusal : ℕ → Uid → ℕ → List ObjId → List Wait → Option Refused
+return_refusal t uid made live waits = if nat_lt MAX_AWAITING (awaiting_after t uid made live waits) then Some (Full Awaiting) else None
+
+-- Whether there is no room for the references that an ask returns at the moment t.
+abbrev pub await_refusal : ℕ → List Export → List Wait → Bool → Ask → Option Refused
+await_refusal t rows waits effective (Finish object made listed uid) =
+    if effective then return_refusal t uid (length made) (filter (is_exported rows) listed) waits else None
+await_refusal t rows waits effective _ = None
 
 -- Whether a lease call is refused after others.
 abbrev pub call_refusal : ℕ → ℕ → List Call → Call → Option Refused

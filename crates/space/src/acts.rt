@@ -1,13 +1,14 @@
 //! What an ask does to the exported objects and to the withdrawals.
-ghost use Rattle.std.specs.Prelude.{◌≡◌, ◌≤◌, ◌<◌, ◌+◌, ◌^◌, ◌++◌, ◌∷◌, [], ℕ, List, Bool, true, map, drop, length, None, OnOk, IfOk, vec_len, vec_capacity};
+ghost use Rattle.std.specs.Prelude.{◌≡◌, ◌≤◌, ◌<◌, ◌+◌, ◌^◌, ◌++◌, ◌∷◌, [], ℕ, List, Bool, true, map, drop, length, Some, OnOk, IfOk, vec_len, vec_capacity};
 ghost use Rattle.object_ids.specs.declared.ids.ObjId.{ObjId};
 ghost use Rattle.object_ids.specs.declared.ids.Uid.{Uid};
 ghost use Rattle.history.specs.declared.limits.TheConstants.{MAX_EXPORTS, MAX_AWAITING};
 ghost use Rattle.history.specs.declared.asks.Ask.TheVariants.{Abandon, Finish};
+ghost use Rattle.history.specs.Awaiting.{return_uid};
 ghost use Rattle.history.specs.Places.{id_at};
 ghost use Rattle.history.proofs.ListLemmas.{Every};
 ghost use Rattle.export_table.specs.Rows.{is_exported, running_of, new_row};
-ghost use Rattle.space.specs.Acts.{acted, await_refusal, awaiting_after, listed_each, new_rows, opens, returned_by, returned_from, withdrawal_at};
+ghost use Rattle.space.specs.Acts.{acted, awaiting_with, listed_each, new_rows, opens, returned_by, returned_from, withdrawal_at};
 ghost use Rattle.space.specs.Waits.{waits_once, reference_of};
 
 use crate::runs::Run;
@@ -86,7 +87,7 @@ pub(crate) fn act(
     requires early { now < 2 ^ 62 }
     requires once { waits_once reference_of exports.old.waits }
     requires returned { returned.now ≡ returned_by exports.old.space exports.old.added exports.old.rows effective ask.now }
-    requires awaiting { await_refusal now exports.old.waits returned.now ask.now ≡ None }
+    requires awaiting { (u : Uid) → return_uid ask.now ≡ Some u → awaiting_with now u returned.now exports.old.waits ≤ MAX_AWAITING }
     requires objects_room { opens effective ask.now ≤ exports.old.room.exports }
     requires waits_room { length returned.now ≤ exports.old.room.waits }
     ensures { exports.new ≡ record (acted effective now ask.now exports.old) { room = exports.new.room } }
@@ -134,7 +135,7 @@ fn end_with(
     requires early { now < 2 ^ 62 }
     requires once { waits_once reference_of exports.old.waits }
     requires exported { Every (λ o. is_exported (exports.old.rows ++ new_rows exports.old.space exports.old.added made.now) o ≡ true) returned.now }
-    requires awaiting { awaiting_after now uid.now returned.now exports.old.waits ≤ MAX_AWAITING }
+    requires awaiting { awaiting_with now uid.now returned.now exports.old.waits ≤ MAX_AWAITING }
     requires objects_room { length made.now ≤ exports.old.room.exports }
     requires waits_room { length returned.now ≤ exports.old.room.waits }
     ensures { exports.new ≡ record (returned_from now object.now made.now returned.now uid.now exports.old) { room = exports.new.room } }
@@ -179,7 +180,7 @@ fn await_all(exports: &mut Exports, now: u64, objects: &[ObjId], uid: &Uid)
     requires exported { Every (λ o. is_exported exports.old.rows o ≡ true) objects.now }
     requires early { now < 2 ^ 62 }
     requires once { waits_once reference_of exports.old.waits }
-    requires awaiting { awaiting_after now uid.now objects.now exports.old.waits ≤ MAX_AWAITING }
+    requires awaiting { awaiting_with now uid.now objects.now exports.old.waits ≤ MAX_AWAITING }
     requires room { length objects.now ≤ exports.old.room.waits }
     ensures { exports.new ≡ record exports.old { waits = listed_each exports.old.ack now uid.now objects.now exports.old.waits; room = exports.new.room } }
 {
