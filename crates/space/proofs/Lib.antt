@@ -1,5 +1,6 @@
 pub mod Acting
 pub mod AskLaws
+pub mod AwaitLaws
 pub mod Clients
 pub mod EndLaws
 pub mod FirstLaws
@@ -13,6 +14,7 @@ pub mod NextLaws
 pub mod ObjectLaws
 pub mod Pairs
 pub mod Quiet
+pub mod ReferenceLaws
 pub mod Refusals
 pub mod Room
 pub mod RowLaws
