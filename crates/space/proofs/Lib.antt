@@ -9,6 +9,7 @@ pub mod Fresh
 pub mod Keeping
 pub mod LimitLaws
 pub mod LiveLaws
+pub mod LoopLaws
 pub mod Named
 pub mod NextLaws
 pub mod ObjectLaws

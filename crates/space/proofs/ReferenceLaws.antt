@@ -1,5 +1,5 @@
 -- References that are returned: how many await then, by what waits before and by what is new.
-use Rattle.std.proofs.Common.{◌≡◌, ℕ, ◌+◌, ◌<◌, ◌≤◌, List, [], ◌∷◌, ◌++◌, length, refl, ap, sym, subst, ◌∙◌, cond, map, max, arith, length-append}
+use Rattle.std.proofs.Common.{◌≡◌, ℕ, ◌+◌, ◌<◌, ◌≤◌, List, [], ◌∷◌, ◌++◌, length, suc, refl, ap, sym, subst, ◌∙◌, cond, map, max, arith, length-append}
 use Rattle.std.specs.Prelude.{Bool, true, false, ◌&&◌, ◌||◌, not, filter, nat_lt, if◌then◌else◌}
 use Rattle.std.specs.List.{list_any}
 use Rattle.std.proofs.lemmas.Bool.{lt-ltb, or_parts, or_left, or_right}
@@ -102,7 +102,7 @@ references-once uid (o ∷ os) a = (references-any o uid os ∙ a.0, references-
 
 references-length : (uid : Uid) (os : List ObjId) → length (references uid os) ≡ length os
 references-length uid [] = refl
-references-length uid (o ∷ os) = ap (λ n. n + 1) (references-length uid os)
+references-length uid (o ∷ os) = ap suc (references-length uid os)
 
 references-distinct : (uid : Uid) (os : List ObjId) → distinct same_returned (references uid os) ≡ references uid (distinct same_id os)
 references-distinct uid [] = refl
@@ -118,7 +118,7 @@ references-filter p q uid s [] = refl
 references-filter p q uid s (o ∷ os) = rw (s o) (go (q o) (references-filter p q uid s os))
   where
     go : (b : Bool) → length (filter p (references uid os)) ≡ length (filter q os) → length (cond b (record { object = o; uid = uid } ∷ filter p (references uid os)) (filter p (references uid os))) ≡ length (cond b (o ∷ filter q os) (filter q os))
-    go true h = ap (λ n. n + 1) h
+    go true h = ap suc h
     go false h = h
 
 -- A reference is among those of a list of waits exactly where it waits.
@@ -127,7 +127,7 @@ any-waiting t r waits = refs-any reference_of end_of t r waits
 
 refs-length : (ws : List Wait) → length (map reference_of ws) ≡ length ws
 refs-length [] = refl
-refs-length (w ∷ ws) = ap (λ n. n + 1) (refs-length ws)
+refs-length (w ∷ ws) = ap suc (refs-length ws)
 
 -- HOW MANY AWAIT once references to new objects, and to others, are returned.
 pub awaiting-counted-with : (t : ℕ) (uid : Uid) (ns live : List ObjId) (waits : List Wait) → waits_once reference_of waits → AllOnce same_id ns →

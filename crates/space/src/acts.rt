@@ -85,6 +85,7 @@ pub(crate) fn act(
     requires countable { exports.old.added + opens effective ask.now < 2 ^ 62 }
     requires within { length exports.old.rows + opens effective ask.now ≤ MAX_EXPORTS }
     requires early { now < 2 ^ 62 }
+    requires some { 1 ≤ exports.old.ack }
     requires once { waits_once reference_of exports.old.waits }
     requires returned { returned.now ≡ returned_by exports.old.space exports.old.added exports.old.rows effective ask.now }
     requires awaiting { (u : Uid) → return_uid ask.now ≡ Some u → awaiting_with now u returned.now exports.old.waits ≤ MAX_AWAITING }
@@ -133,6 +134,7 @@ fn end_with(
     requires countable { exports.old.added + length made.now < 2 ^ 62 }
     requires within { length exports.old.rows + length made.now ≤ MAX_EXPORTS }
     requires early { now < 2 ^ 62 }
+    requires some { 1 ≤ exports.old.ack }
     requires once { waits_once reference_of exports.old.waits }
     requires exported { Every (λ o. is_exported (exports.old.rows ++ new_rows exports.old.space exports.old.added made.now) o ≡ true) returned.now }
     requires awaiting { awaiting_with now uid.now returned.now exports.old.waits ≤ MAX_AWAITING }
@@ -179,6 +181,7 @@ fn add_all(exports: &mut Exports, made: &[u32])
 fn await_all(exports: &mut Exports, now: u64, objects: &[ObjId], uid: &Uid)
     requires exported { Every (λ o. is_exported exports.old.rows o ≡ true) objects.now }
     requires early { now < 2 ^ 62 }
+    requires some { 1 ≤ exports.old.ack }
     requires once { waits_once reference_of exports.old.waits }
     requires awaiting { awaiting_with now uid.now objects.now exports.old.waits ≤ MAX_AWAITING }
     requires room { length objects.now ≤ exports.old.room.waits }

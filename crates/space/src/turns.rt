@@ -89,7 +89,7 @@ impl Space {
             return Err(refused);
         }
         let now = moment.max(self.moment);
-        let returned = returned(
+        let references = returned(
             alloc,
             self.config.uid,
             self.added,
@@ -100,16 +100,6 @@ impl Space {
         )?;
         let opened = opens(effective, &ask);
         let objects = exported as usize + opened as usize;
-        let Ok(reply) = reply_at(
-            alloc,
-            &self.config,
-            self.added,
-            &self.exports,
-            effective,
-            &ask,
-        ) else {
-            return Err(Refused::OutOfMemory);
-        };
         let Ok(mut gone) = still_to_tell(alloc, &self.withdrawn, self.told, objects) else {
             return Err(Refused::OutOfMemory);
         };
@@ -120,13 +110,23 @@ impl Space {
             &mut self.exports,
             objects,
             opened,
-            returned.len(),
+            references.len(),
+        ) else {
+            return Err(Refused::OutOfMemory);
+        };
+        let Ok(reply) = reply_at(
+            alloc,
+            &self.config,
+            self.added,
+            &self.exports,
+            effective,
+            &ask,
         ) else {
             return Err(Refused::OutOfMemory);
         };
         tell(alloc, &mut self.leases, &self.exports, now, &ask)?;
         let place = self.events.len() as u64;
-        act(&mut self.exports, effective, now, &returned, &ask);
+        act(&mut self.exports, effective, now, &references, &ask);
         act_on_runs(&mut self.runs, effective, by, &ask);
         let untold = gone.len();
         self.exports.withdraw(now, &mut self.leases, &mut gone);
