@@ -1,12 +1,13 @@
 -- References that are returned: how many await then, by what waits before and by what is new.
-use Rattle.std.proofs.Common.{◌≡◌, ℕ, ◌+◌, ◌<◌, ◌≤◌, List, [], ◌∷◌, ◌++◌, length, suc, refl, ap, sym, subst, ◌∙◌, cond, map, max, arith, length-append}
-use Rattle.std.specs.Prelude.{Bool, true, false, ◌&&◌, ◌||◌, not, filter, nat_lt, if◌then◌else◌}
+use Rattle.std.proofs.Common.{◌≡◌, ℕ, ◌+◌, ◌<◌, ◌≤◌, List, [], ◌∷◌, ◌++◌, length, suc, refl, ap, sym, subst, ◌∙◌, cond, map, max, arith, drop, get_or, inl, inr, ◌⊎◌, Ok, Err, Result, length-append}
+use Rattle.std.specs.Prelude.{Bool, true, false, ◌&&◌, ◌||◌, not, filter, nat_lt, if◌then◌else◌, ◌≢◌, OnOk, IfErr}
 use Rattle.std.specs.List.{list_any}
 use Rattle.std.proofs.lemmas.Bool.{lt-ltb, or_parts, or_left, or_right}
 use Rattle.std.proofs.lemmas.List.Folds.{list_any-append}
 use Rattle.std.proofs.lemmas.List.{map-append}
 use Rattle.object_ids.specs.declared.ids.Uid.{Uid}
 use Rattle.object_ids.specs.declared.ids.ObjId.{ObjId}
+use Rattle.object_ids.specs.declared.ids.FullKind.TheVariants.{Awaiting as FullAwaiting}
 use Rattle.object_ids.specs.Same.{same_id, same_uid}
 use Rattle.object_ids.proofs.Exact.{same_uid-self, same_uid-equal}
 use Rattle.history.specs.declared.limits.TheConstants.{MAX_AWAITING}
@@ -17,12 +18,16 @@ use Rattle.history.proofs.AwaitingLaws.{returned-equality}
 use Rattle.history.proofs.ListLemmas.{IsEquality, AllOnce, AllOnce-distinct, AllOnce-filter, AllOnce-push, length-members, list_any-map, and_true, and_false}
 use Rattle.dgc_server.proofs.Distinct.{Decides, any-filtered, turned}
 use Rattle.export_table.specs.declared.waits.Wait.{Wait}
+use Rattle.export_table.specs.declared.exports.ExportFault.{ExportFault}
+use Rattle.export_table.specs.declared.exports.ExportFault.TheVariants.{Full as ExportFull, OutOfMemory as NoMemory}
+use Rattle.export_table.specs.Table.{ExportTable}
 use Rattle.export_table.specs.Waits.{waiting, is_waiting, until_of, listed}
 use Rattle.export_table.proofs.Laws.{waiting-listed}
 use Rattle.space.specs.Acts.{references, awaiting_with, awaiting_after, listed_each}
 use Rattle.space.specs.Waits.{waits_once, reference_of, end_of}
 use Rattle.space.proofs.Clients.{any-distinct, distinct-same}
 use Rattle.space.proofs.LimitLaws.{distinct-longer}
+use Rattle.space.proofs.LoopLaws.{front}
 use Rattle.space.proofs.RowLaws.{object-equality}
 use Rattle.space.proofs.WaitLaws.{decides-returned, waiting_refs, refs-any, refs-waiting-once}
 use Rattle.space.proofs.WaitSteps as steps
@@ -213,3 +218,44 @@ awaiting-room t uid o os waits once few full new =
     both true b c h = refl
     both false true c h = refl
     both false false c h = absurd (cc)
+
+-- ---- a step of the loop that has references await
+
+pub record AwaitsTo (from : ExportTable) (t : ℕ) (uid : Uid) (os : List ObjId) (i : ℕ) (to : ExportTable) : Type 0 where
+  pub value : to ≡ record from { waits = to.waits; room = to.room }
+  pub waits : listed_each from.ack t uid (drop i os) to.waits ≡ listed_each from.ack t uid os from.waits
+  pub once : waits_once reference_of to.waits
+  pub few : awaiting_with t uid (drop i os) to.waits ≤ MAX_AWAITING
+  pub room : length os ≤ to.room.waits + i
+
+-- There is room, so that it is listed.
+listed-taken : (t : ℕ) (uid : Uid) (o : ObjId) (os : List ObjId) (x y : ExportTable) (result : Result (Unit {0}) ExportFault) → waits_once reference_of x.waits → awaiting_with t uid (o ∷ os) x.waits ≤ MAX_AWAITING → 0 < x.room.waits →
+    OnOk result (y ≡ record x { waits = listed x.ack t o uid x.waits; room = y.room }) →
+    (result ≡ Err (ExportFull FullAwaiting) → (MAX_AWAITING ≤ length (waiting t x.waits)) × (is_waiting t o uid x.waits ≡ false)) → (0 < x.room.waits → result ≢ Err NoMemory) →
+    IfErr result (λ fault. (fault ≡ ExportFull FullAwaiting) ⊎ (fault ≡ NoMemory)) → y ≡ record x { waits = listed x.ack t o uid x.waits; room = y.room }
+listed-taken t uid o os x y (Ok done) once few room ok full memory faults = ok
+listed-taken t uid o os x y (Err fault) once few room ok full memory (inl f) = absurd (let both = full (ap (λ e. Err e) f) in awaiting-room t uid o os x.waits once few both.0 both.1)
+listed-taken t uid o os x y (Err fault) once few room ok full memory (inr f) = absurd (memory room (ap (λ e. Err e) f))
+
+pub awaits-next : (from : ExportTable) (t : ℕ) (uid : Uid) (os : List ObjId) (i : ℕ) (d : ObjId) (x y : ExportTable) (result : Result (Unit {0}) ExportFault) → AwaitsTo from t uid os i x → i < length os → 1 ≤ from.ack →
+    OnOk result (y ≡ record x { waits = listed x.ack t (get_or os i d) uid x.waits; room = y.room }) →
+    (result ≡ Err (ExportFull FullAwaiting) → (MAX_AWAITING ≤ length (waiting t x.waits)) × (is_waiting t (get_or os i d) uid x.waits ≡ false)) → (0 < x.room.waits → result ≢ Err NoMemory) →
+    IfErr result (λ fault. (fault ≡ ExportFull FullAwaiting) ⊎ (fault ≡ NoMemory)) → x.room.waits ≤ y.room.waits + 1 → AwaitsTo from t uid os (i + 1) y
+awaits-next from t uid os i d x y result a h some ok full memory faults took =
+    let here = front os i d h in
+    let same_few = ap (λ l. awaiting_with t uid l x.waits) here in
+    let before = a.few in let rest = a.room in
+    let ack : x.ack ≡ from.ack = ap (λ (z : ExportTable). z.ack) a.value in
+    let taken = listed-taken t uid (get_or os i d) (drop (i + 1) os) x y result a.once (omega (arith, before, same_few)) (omega (arith, rest, h)) ok full memory faults in
+    let waits : y.waits ≡ listed x.ack t (get_or os i d) uid x.waits = ap (λ (z : ExportTable). z.waits) taken in
+    let step = awaiting-step x.ack t uid (get_or os i d) (drop (i + 1) os) x.waits (omega (arith, some, ack)) in
+    let now_few = ap (awaiting_with t uid (drop (i + 1) os)) waits in
+    let P : List Wait → Type 0 = λ ws. waits_once reference_of ws in
+    record {
+      value = taken ∙ ap (λ (z : ExportTable). record z { waits = listed x.ack t (get_or os i d) uid x.waits; room = y.room }) a.value ∙ ap (λ (ws : List Wait). record from { waits = ws; room = y.room }) (sym waits);
+      waits = ap (listed_each from.ack t uid (drop (i + 1) os)) waits ∙ ap (λ (n : ℕ). listed_each from.ack t uid (drop (i + 1) os) (listed n t (get_or os i d) uid x.waits)) ack
+          ∙ ap (λ l. listed_each from.ack t uid l x.waits) (sym here) ∙ a.waits;
+      once = subst P (sym waits) (listed-stays-once x.ack t (get_or os i d) uid x.waits a.once);
+      few = omega (arith, now_few, step, same_few, before);
+      room = omega (arith, rest, took);
+    }

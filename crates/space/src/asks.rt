@@ -87,7 +87,7 @@ pub(crate) fn opens(effective: bool, ask: &Ask) -> u64
             uid: _,
         } => {
             if effective {
-                made.len() as u64
+                made.as_slice().len() as u64
             } else {
                 0
             }

@@ -143,5 +143,11 @@ fn is_new_wait(exports: &Exports, now: u64, uid: &Uid, object: &ObjId, others: &
 fn is_among(object: &ObjId, objects: &[ObjId]) -> bool
     ensures { result ≡ list_any (same_id object.now) objects.now }
 {
-    objects.iter().any(|other| object.is_same(other))
+    objects.iter().any(|other| is_object(object, other))
+}
+
+fn is_object(object: &ObjId, other: &ObjId) -> bool
+    ensures { result ≡ same_id object.now other.now }
+{
+    object.is_same(other)
 }

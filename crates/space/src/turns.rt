@@ -99,6 +99,7 @@ impl Space {
             &ask,
         )?;
         let opened = opens(effective, &ask);
+        let returned = references.len();
         let objects = exported as usize + opened as usize;
         let Ok(mut gone) = still_to_tell(alloc, &self.withdrawn, self.told, objects) else {
             return Err(Refused::OutOfMemory);
@@ -110,7 +111,7 @@ impl Space {
             &mut self.exports,
             objects,
             opened,
-            references.len(),
+            returned,
         ) else {
             return Err(Refused::OutOfMemory);
         };
