@@ -1,5 +1,6 @@
 -- Steps of loops over what a return brings, from the front.
-use Rattle.std.proofs.Common.{◌≡◌, ℕ, ◌+◌, ◌<◌, ◌≤◌, suc, List, [], ◌∷◌, ◌++◌, length, drop, get_or, refl, ap, sym, subst, ◌∙◌, cond, arith, add-one, append_assoc, append-nil, drop-cons}
+use Rattle.std.proofs.Common.{◌≡◌, ℕ, ◌+◌, ◌<◌, ◌≤◌, suc, List, [], ◌∷◌, ◌++◌, length, drop, get_or, refl, ap, sym, subst, ◌∙◌, cond, arith, add-one, append_assoc, append-nil}
+use Rattle.std.proofs.Math.Seq.{drop-cons}
 use Rattle.std.specs.Prelude.{Bool, true, false, not, ◌&&◌, ◌||◌, filter, if◌then◌else◌}
 use Rattle.std.specs.List.{list_any}
 use Rattle.std.proofs.lemmas.Bool.{or_left, or_right}
@@ -84,11 +85,6 @@ counted-few p (o ∷ os) =
     small : (b : Bool) → (if b then 1 else 0) ≤ 1
     small true = omega arith
     small false = omega arith
-
-pub every-at : {X : Type 0} (P : X → Type 0) (xs : List X) (i : ℕ) (d : X) → i < length xs → Every P xs → P (get_or xs i d)
-every-at P [] i d h e = absurd (omega (arith, h))
-every-at P (x ∷ xs) 0 d h e = e.0
-every-at P (x ∷ xs) (suc i) d h e = every-at P xs i d (omega (arith, h)) e.1
 
 -- ---- the objects of a return are exported once those made are added
 

@@ -1,10 +1,9 @@
 //! What an ask does to the exported objects and to the withdrawals.
-ghost use Rattle.std.specs.Prelude.{◌≡◌, ◌≤◌, ◌<◌, ◌+◌, ◌^◌, ◌++◌, ◌∷◌, [], ℕ, List, Bool, true, map, drop, length, Some, OnOk, IfOk, vec_len, vec_capacity};
+ghost use Rattle.std.specs.Prelude.{◌≡◌, ◌≤◌, ◌<◌, ◌+◌, ◌^◌, ◌++◌, ◌∷◌, [], ℕ, List, Bool, true, map, drop, length, OnOk, IfOk, vec_len, vec_capacity};
 ghost use Rattle.object_ids.specs.declared.ids.ObjId.{ObjId};
 ghost use Rattle.object_ids.specs.declared.ids.Uid.{Uid};
 ghost use Rattle.history.specs.declared.limits.TheConstants.{MAX_EXPORTS, MAX_AWAITING};
 ghost use Rattle.history.specs.declared.asks.Ask.TheVariants.{Abandon, Finish};
-ghost use Rattle.history.specs.Awaiting.{return_uid};
 ghost use Rattle.history.specs.Places.{id_at};
 ghost use Rattle.history.proofs.ListLemmas.{Every};
 ghost use Rattle.export_table.specs.Rows.{is_exported, running_of, new_row};
@@ -88,7 +87,7 @@ pub(crate) fn act(
     requires some { 1 ≤ exports.old.ack }
     requires once { waits_once reference_of exports.old.waits }
     requires returned { returned.now ≡ returned_by exports.old.space exports.old.added exports.old.rows effective ask.now }
-    requires awaiting { (u : Uid) → return_uid ask.now ≡ Some u → awaiting_with now u returned.now exports.old.waits ≤ MAX_AWAITING }
+    requires awaiting { (o : ObjId) (made : List ℕ) (listed : List ObjId) (u : Uid) → effective ≡ true → ask.now ≡ Finish o made listed u → awaiting_with now u returned.now exports.old.waits ≤ MAX_AWAITING }
     requires objects_room { opens effective ask.now ≤ exports.old.room.exports }
     requires waits_room { length returned.now ≤ exports.old.room.waits }
     ensures { exports.new ≡ record (acted effective now ask.now exports.old) { room = exports.new.room } }

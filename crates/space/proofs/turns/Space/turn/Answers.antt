@@ -183,7 +183,7 @@ returns-in_err-references-clause-step c =
     let P : Result Turn Refused → Type 0 = λ r. Step c.args.self.now.configuration c.args.self.now.events (event_of c.args.by c.args.moment c.args.ask) r c.args.self.now.events in
     let Q : List Event → Type 0 = λ es. Step c.self.inside.config c.self.inside.events.items (event_of c.args.by c.args.moment c.args.ask) (Err c.in_err-references.field-0.0) es in
     let N : ℕ → Type 0 = λ n. Agrees {T = Unit {0}} (await_refusal n c.self.inside.exports.rows c.self.inside.exports.waits c.is_effective-effective.result c.args.ask) (Err c.in_err-references.field-0.0) in
-    subst P (sym (error-is c.from_residual-in_err-references.result c.in_err-references.field-0.0 c.from_residual-in_err-references.ensures.1))
+    subst P (sym (error-is c.from_residual.result c.in_err-references.field-0.0 c.from_residual.ensures.1))
     (step-viewed c.self.inside.config c.self.inside.events.items c.args.self.now.events (event_of c.args.by c.args.moment c.args.ask) (Err c.in_err-references.field-0.0) c.args.self.now c.self.view_is
     (subst Q (ap (λ (h : SpaceHistory). h.events) c.self.view_is)
     (await-step c.self.inside.config c.self.inside.events.items (event_of c.args.by c.args.moment c.args.ask) c.self.inside.leases c.self.inside.exports c.self.inside.runs.items c.self.inside.withdrawn.items
