@@ -21,7 +21,7 @@ use Rattle.space.specs.Acts.{new_ids, new_rows}
 
 -- From a place on: the item there, and the rest.
 pub front : {X : Type 0} (xs : List X) (i : ℕ) (d : X) → i < length xs → drop i xs ≡ get_or xs i d ∷ drop (i + 1) xs
-front xs i d h = drop-cons xs d i h ∙ ap (λ n. get_or xs i d ∷ drop n xs) (sym (add-one i))
+front xs i d h = drop-cons xs i d h ∙ ap (λ n. get_or xs i d ∷ drop n xs) (sym (add-one i))
 
 pub drop-none : {X : Type 0} (xs : List X) → drop 0 xs ≡ xs
 drop-none xs = refl
