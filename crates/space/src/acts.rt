@@ -71,13 +71,7 @@ fn objects_of(alloc: Global, withdrawn: &[Withdrawal]) -> Result<Vec<ObjId>, All
 
 /// Does what an ask does to the exported objects at a moment, but for the withdrawals. There is room for what it adds, and it returns
 /// references to the objects `returned`.
-pub(crate) fn act(
-    exports: &mut Exports,
-    effective: bool,
-    now: u64,
-    returned: &[ObjId],
-    ask: &Ask,
-)
+pub(crate) fn act(exports: &mut Exports, effective: bool, now: u64, returned: &[ObjId], ask: &Ask)
     requires few { (o : ObjId) → running_of exports.old.rows o < 2 ^ 31 }
     requires runs { (o : ObjId) → effective ≡ true → ask.now ≡ Abandon o → 0 < running_of exports.old.rows o }
     requires returns { (o : ObjId) (made : List ℕ) (listed : List ObjId) (u : Uid) → effective ≡ true → ask.now ≡ Finish o made listed u → 0 < running_of exports.old.rows o }

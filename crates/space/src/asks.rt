@@ -154,12 +154,7 @@ pub(crate) fn reply_at(
             uid: _,
         } => {
             if effective {
-                Reply::Finished(ObjIds::from_vec(new_ids(
-                    alloc,
-                    config.uid,
-                    k,
-                    made.as_slice(),
-                )?))
+                Reply::Finished(ObjIds::from_vec(new_ids(alloc, config.uid, k, made.as_slice())?))
             } else {
                 Reply::NotRunning
             }

@@ -116,7 +116,8 @@ fn is_past(exports: &Exports, now: u64, uid: &Uid, made: usize, live: &[ObjId]) 
 {
     let waiting = u128::from(exports.waiting(now)) + made as u128;
     let most = u128::from(MAX_AWAITING);
-    most < waiting + live.len() as u128 && most < waiting + new_waits(exports, now, uid, live) as u128
+    most < waiting + live.len() as u128
+        && most < waiting + new_waits(exports, now, uid, live) as u128
 }
 
 /// How many of these objects, each counted once, do not wait at a moment as listed in a return.
