@@ -1,31 +1,36 @@
 -- What a turn requires of its parts, by what is kept.
-use Rattle.std.proofs.Common.{◌≡◌, ℕ, ◌+◌, ◌<◌, ◌≤◌, ◌^◌, suc, List, [], ◌∷◌, ◌++◌, length, refl, ap, sym, subst, ◌∙◌, cond, map, max, drop, arith, Option, None, length-append}
-use Rattle.std.specs.Prelude.{Bool, true, false, not, ◌&&◌, ◌==◌, filter, nat_lt}
-use Rattle.std.proofs.lemmas.Bool.{and_parts, ltb-true}
+use Rattle.std.proofs.Common.{◌≡◌, ℕ, ◌+◌, ◌<◌, ◌≤◌, ◌^◌, suc, List, [], ◌∷◌, ◌++◌, length, refl, ap, sym, subst, ◌∙◌, cond, map, max, arith, Option, Some, None, length-append}
+use Rattle.std.specs.Prelude.{Bool, true, false, not, ◌&&◌, ◌==◌, filter, nat_lt, if◌then◌else◌}
+use Rattle.std.proofs.lemmas.Bool.{and_parts, ltb-true, ltb-false}
 use Rattle.std.proofs.Math.Seq.{drop-append_seam}
+use Rattle.object_ids.specs.declared.ids.Uid.{Uid}
 use Rattle.object_ids.specs.declared.ids.ObjId.{ObjId}
+use Rattle.object_ids.specs.declared.ids.FullKind.TheVariants.{Exports}
 use Rattle.object_ids.specs.Same.{same_id}
 use Rattle.history.specs.declared.asks.SpaceConfig.{SpaceConfig}
 use Rattle.history.specs.declared.asks.Event.{Event}
 use Rattle.history.specs.declared.asks.Ask.{Ask}
 use Rattle.history.specs.declared.asks.Ask.TheVariants.{Open, Begin, Finish, Abandon, Dirty, Clean, Ack, Bind, Rebind, Unbind, Lookup, List as ListNames, Tick}
-use Rattle.history.specs.declared.limits.TheConstants.{MAX_UNITS}
+use Rattle.history.specs.declared.limits.TheConstants.{MAX_EXPORTS, MAX_AWAITING, MAX_UNITS}
 use Rattle.history.specs.declared.places.Withdrawal.{Withdrawal}
 use Rattle.history.specs.declared.replies.Refused.{Refused}
-use Rattle.history.specs.Places.{id_at}
-use Rattle.history.specs.Limits.{units, reserved}
+use Rattle.history.specs.declared.replies.Refused.TheVariants.{HistoryFull, Full}
+use Rattle.history.specs.Places.{now, added, id_at}
+use Rattle.history.specs.Limits.{units_of, units, reserved, is_begin, is_end}
 use Rattle.history.specs.Running.{running, running_calls}
 use Rattle.history.specs.Table.{is_effective, table, places}
 use Rattle.dgc_server.specs.Stands.{LeaseTable}
 use Rattle.export_table.specs.declared.rows.Export.{Export}
 use Rattle.export_table.specs.declared.waits.Wait.{Wait}
-use Rattle.export_table.specs.Rows.{is_of, is_kept as row_kept, running_of, new_row, changed, begun, ended, withdrawn as rows_withdrawn}
+use Rattle.export_table.specs.Rows.{is_of, is_exported, is_kept as row_kept, running_of, new_row, changed, begun, ended, withdrawn as rows_withdrawn}
 use Rattle.export_table.specs.Table.{ExportTable}
 use Rattle.space.specs.declared.runs.Run.{Run}
-use Rattle.space.specs.Acts.{effective_by, acted, room_refusal}
+use Rattle.space.specs.Acts.{effective_by, opens, new_rows, new_ids, returned_by, awaiting_with, acted, room_refusal, await_refusal}
 use Rattle.space.specs.Built.{IsBuilt}
 use Rattle.space.specs.Kept.{rows_of, Keeps}
 use Rattle.space.specs.Runs.{is_run, is_run_on, caller_of, object_of}
+use Rattle.space.specs.Waits.{WaitsStand, reference_of, end_of}
+use Rattle.space.proofs.AwaitLaws.{new-length, return-few}
 use Rattle.space.proofs.Acting.{running-there as rows-running, running-few}
 use Rattle.space.proofs.ObjectLaws.{running-there}
 use Rattle.space.proofs.TurnLaws.{IsAsked, is-effective, keeps-room, keeps-alike}
@@ -109,26 +114,100 @@ abandon-counted config events e leases exports runs withdrawn told opened used m
     run-counted config events leases exports runs withdrawn told opened used moment q.keeps e.by o
     (abandon-effective config events e.by o (ap (is_effective config (places config events) e.by) (sym s) ∙ sym (is-effective config events e leases exports runs withdrawn told opened used moment effective q) ∙ t))
 
+-- The same of a return, and what it returns is few enough.
+finish-effective : (config : SpaceConfig) (events : List Event) (by : ℕ) (o : ObjId) (made : List ℕ) (listed : List ObjId) (u : Uid) → is_effective config (places config events) by (Finish o made listed u) ≡ true → 0 < running (places config events) by o
+unfolding is_effective
+finish-effective config events by o made listed u e = ltb-true 0 (running (places config events) by o) e
+
+pub finish-counted : (config : SpaceConfig) (events : List Event) (e : Event) (leases : LeaseTable) (exports : ExportTable) (runs : List Run) (withdrawn : List Withdrawal) (told opened used moment : ℕ) (effective : Bool) →
+    IsAsked config events e leases exports runs withdrawn told opened used moment effective → (o : ObjId) (made : List ℕ) (listed : List ObjId) (u : Uid) → effective ≡ true → e.ask ≡ Finish o made listed u → 0 < running_of exports.rows o
+finish-counted config events e leases exports runs withdrawn told opened used moment effective q o made listed u t s =
+    run-counted config events leases exports runs withdrawn told opened used moment q.keeps e.by o
+    (finish-effective config events e.by o made listed u (ap (is_effective config (places config events) e.by) (sym s) ∙ sym (is-effective config events e leases exports runs withdrawn told opened used moment effective q) ∙ t))
+
+pub finish-few : (config : SpaceConfig) (events : List Event) (e : Event) (leases : LeaseTable) (exports : ExportTable) (runs : List Run) (withdrawn : List Withdrawal) (told opened used moment time : ℕ) (effective : Bool) →
+    IsAsked config events e leases exports runs withdrawn told opened used moment effective → time ≡ max e.moment moment → await_refusal time exports.rows exports.waits effective e.ask ≡ None →
+    (os : List ObjId) → os ≡ returned_by exports.space exports.added exports.rows effective e.ask →
+    (o : ObjId) (made : List ℕ) (listed : List ObjId) (u : Uid) → effective ≡ true → e.ask ≡ Finish o made listed u → awaiting_with time u os exports.waits ≤ MAX_AWAITING
+finish-few config events e leases exports runs withdrawn told opened used moment time effective q at fit os same o made listed u t s =
+    let N : ℕ → Type 0 = λ n. WaitsStand reference_of end_of config.ack_ms n (places config events) exports.waits in
+    let k = q.keeps in
+    let time_is : time ≡ max e.moment (now (places config events)) = at ∙ ap (max e.moment) k.stands.moment_is in
+    let few = return-few config events e exports.rows exports.waits o made listed u
+    (record { asked = s; effective = sym (is-effective config events e leases exports runs withdrawn told opened used moment effective q) ∙ t; rows_are = k.stands.rows_are; waits_stand = subst N k.stands.moment_is k.stands.waits_stand })
+    (ap (λ n. await_refusal n exports.rows exports.waits true (Finish o made listed u)) (sym time_is) ∙ ap (λ v. await_refusal time exports.rows exports.waits v (Finish o made listed u)) (sym t)
+    ∙ ap (await_refusal time exports.rows exports.waits effective) (sym s) ∙ fit) in
+    let is : awaiting_with time u os exports.waits ≡ awaiting_with (max e.moment (now (places config events))) u (new_ids config.uid (length (added (places config events))) made ++ filter (is_exported exports.rows) listed) exports.waits =
+    ap (λ l. awaiting_with time u l exports.waits) (same ∙ ap (λ v. returned_by exports.space exports.added exports.rows v e.ask) t ∙ ap (returned_by exports.space exports.added exports.rows true) s
+    ∙ ap (λ y. new_ids y exports.added made ++ filter (is_exported exports.rows) listed) k.stands.space_is
+    ∙ ap (λ n. new_ids config.uid n made ++ filter (is_exported exports.rows) listed) (k.stands.added_is ∙ k.stands.opened_is))
+    ∙ ap (λ n. awaiting_with n u (new_ids config.uid (length (added (places config events))) made ++ filter (is_exported exports.rows) listed) exports.waits) time_is in
+    omega (arith, few, is)
+
+-- ---- what room leaves
+
+-- Where there is room, the event's units and the objects that it exports are within their limits.
+pub room-units : (used running exported : ℕ) (effective : Bool) (a : Ask) → room_refusal used running exported effective a ≡ None → used + running + units_of a ≤ MAX_UNITS + 1
+room-units used running exported effective a h = go (effective && is_end a) (effective && is_begin a) (nat_lt MAX_EXPORTS (exported + opens effective a)) h
+  where
+    unfull : (b c : Bool) → (if b then Some HistoryFull else if c then Some (Full Exports) else None) ≡ None → b ≡ false
+    unfull true c h = absurd (cc)
+    unfull false c h = refl
+
+    go : (v w c : Bool) → (if nat_lt (MAX_UNITS + (if v then 1 else 0)) (used + running + units_of a + (if w then 1 else 0)) then Some HistoryFull else if c then Some (Full Exports) else None) ≡ None → used + running + units_of a ≤ MAX_UNITS + 1
+    go v w c h = one v w (ltb-false (MAX_UNITS + (if v then 1 else 0)) (used + running + units_of a + (if w then 1 else 0)) (unfull _ c h))
+      where
+        one : (v w : Bool) → used + running + units_of a + (if w then 1 else 0) ≤ MAX_UNITS + (if v then 1 else 0) → used + running + units_of a ≤ MAX_UNITS + 1
+        one true true h = omega (arith, h)
+        one true false h = omega (arith, h)
+        one false true h = omega (arith, h)
+        one false false h = omega (arith, h)
+
+pub room-exports : (used running exported : ℕ) (effective : Bool) (a : Ask) → room_refusal used running exported effective a ≡ None → exported + opens effective a ≤ MAX_EXPORTS
+room-exports used running exported effective a h =
+    ltb-false MAX_EXPORTS (exported + opens effective a)
+    (unfull (nat_lt (MAX_UNITS + (if effective && is_end a then 1 else 0)) (used + running + units_of a + (if effective && is_begin a then 1 else 0))) (nat_lt MAX_EXPORTS (exported + opens effective a)) h)
+  where
+    unfull : (b c : Bool) → (if b then Some HistoryFull else if c then Some (Full Exports) else None) ≡ None → c ≡ false
+    unfull true c h = absurd (cc)
+    unfull false true h = absurd (cc)
+    unfull false false h = refl
+
+-- What is returned has no more entries than the event has units.
+pub returned-few : (space : Uid) (k : ℕ) (rows : List Export) (effective : Bool) (a : Ask) → length (returned_by space k rows effective a) ≤ units_of a
+returned-few space k rows true (Finish o made listed u) =
+    let both = length-append (new_ids space k made) (filter (is_exported rows) listed) in let new = new-length space k made in let live = shorter (is_exported rows) listed in omega (arith, both, new, live)
+returned-few space k rows false (Finish o made listed u) = omega arith
+returned-few space k rows effective (Dirty y z v w) = omega arith
+returned-few space k rows effective (Clean y z v w) = omega arith
+returned-few space k rows effective _ = omega arith
+
 -- ---- rows
 
 changed-length : (f : Export → Export) (o : ObjId) (rows : List Export) → length (changed f o rows) ≡ length rows
 changed-length f o [] = refl
 changed-length f o (x ∷ rows) = ap suc (changed-length f o rows)
 
-pub acted-few : (effective : Bool) (a : Ask) (x y : ExportTable) → IsBuilt a → y ≡ record (acted effective a x) { room = y.room } → length y.rows ≤ length x.rows + 1
-acted-few effective a x y b e = (let rows : length y.rows ≡ length (acted effective a x).rows = ap (λ (t : ExportTable). length t.rows) e in let few = go effective a b in omega (arith, rows, few))
+new_rows-length : (space : Uid) (k : ℕ) (kinds : List ℕ) → length (new_rows space k kinds) ≡ length kinds
+new_rows-length space k [] = refl
+new_rows-length space k (kind ∷ kinds) = ap suc (new_rows-length space (k + 1) kinds)
+
+pub acted-few : (effective : Bool) (at : ℕ) (a : Ask) (x y : ExportTable) → IsBuilt a → y ≡ record (acted effective at a x) { room = y.room } → length y.rows ≤ length x.rows + opens effective a
+acted-few effective at a x y b e = (let rows : length y.rows ≡ length (acted effective at a x).rows = ap (λ (t : ExportTable). length t.rows) e in let few = go effective a b in omega (arith, rows, few))
   where
-    go : (effective : Bool) (a : Ask) → IsBuilt a → length (acted effective a x).rows ≤ length x.rows + 1
+    go : (effective : Bool) (a : Ask) → IsBuilt a → length (acted effective at a x).rows ≤ length x.rows + opens effective a
     go effective (Open kind pinned) b = let both = length-append x.rows (new_row (id_at x.space x.added) kind pinned ∷ []) in omega (arith, both)
     go true (Begin o) b = let same = changed-length begun o x.rows in omega (arith, same)
     go false (Begin o) b = omega arith
+    go true (Finish o made listed u) b =
+        let same = changed-length ended o x.rows in let both = length-append (changed ended o x.rows) (new_rows x.space x.added made) in let new = new_rows-length x.space x.added made in omega (arith, same, both, new)
+    go false (Finish o made listed u) b = omega arith
     go true (Abandon o) b = let same = changed-length ended o x.rows in omega (arith, same)
     go false (Abandon o) b = omega arith
     go effective (Ack u) b = omega arith
     go effective (Dirty y z v w) b = omega arith
     go effective (Clean y z v w) b = omega arith
     go effective Tick b = omega arith
-    go effective (Finish y z v w) b = absurd b
     go effective (Bind y z) b = absurd b
     go effective (Rebind y z) b = absurd b
     go effective (Unbind y) b = absurd b

@@ -23,7 +23,7 @@ use Rattle.dgc_server.proofs.Steps.{earlier}
 
 -- ---- how many items a list has, each counted once
 
-any-distinct : {X : Type 0} (same : X → X → Bool) → IsEquality same → (k : X) (xs : List X) → list_any (same k) (distinct same xs) ≡ list_any (same k) xs
+pub any-distinct : {X : Type 0} (same : X → X → Bool) → IsEquality same → (k : X) (xs : List X) → list_any (same k) (distinct same xs) ≡ list_any (same k) xs
 any-distinct same e k xs = list_any-distinct same (same k) (λ a b h. ap (same k) (e.equal a b h)) xs
 
 -- Items that all stand in another list are no more than those.

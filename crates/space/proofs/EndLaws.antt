@@ -15,7 +15,7 @@ use Rattle.export_table.specs.Rows.{is_exported, is_kept as row_kept, held_by, w
 use Rattle.export_table.specs.Table.{ExportTable}
 use Rattle.export_table.specs.Waits.{waiting}
 use Rattle.space.specs.declared.runs.Run.{Run}
-use Rattle.space.specs.Acts.{effective_by, acted, withdrawal_at, room_refusal, lease_refusal}
+use Rattle.space.specs.Acts.{effective_by, acted, withdrawal_at, room_refusal, await_refusal, lease_refusal}
 use Rattle.space.specs.Built.{IsBuilt}
 use Rattle.space.specs.Kept.{Keeps}
 use Rattle.space.proofs.Keeping.{told_calls, going_now}
@@ -25,20 +25,21 @@ use Rattle.space.proofs.AskLaws.{asked, room-as, gone-few}
 -- What is known once an ask has acted.
 pub has-acted : (config : SpaceConfig) (events : List Event) (e : Event) (leases leases1 : LeaseTable) (x y : ExportTable) (runs seen : List Run) (withdrawn : List Withdrawal) (told opened used moment time running count : ℕ) (effective : Bool) (room : Option Refused) →
     Keeps config events leases x runs withdrawn told opened used moment → IsBuilt e.ask → e.moment < 2 ^ 62 → effective ≡ effective_by x.rows seen e.by e.ask → seen ≡ runs → y ≡ record x { room = y.room } →
-    room ≡ room_refusal used running count effective e.ask → running ≡ length runs → count ≡ length x.rows → room ≡ None → time ≡ max e.moment moment →
+    room ≡ room_refusal used running count effective e.ask → running ≡ length runs → count ≡ length x.rows → room ≡ None → time ≡ max e.moment moment → await_refusal time y.rows y.waits effective e.ask ≡ None →
     ForEachLogBy time leases (λ lease calls. lease_refusal lease time calls (call_with (is_exported y.rows) time e.ask) ≡ None) →
     ForEachLogBy time leases (λ lease calls. StandsFor lease leases1 time (call_with (is_exported y.rows) time e.ask ++ calls)) →
-    HasActed config events e leases leases1 y (acted effective e.ask y) runs withdrawn told opened used moment effective
-has-acted config events e leases leases1 x y runs seen withdrawn told opened used moment time running count effective room k b early f s r re n m none t refusal ok =
+    HasActed config events e leases leases1 y (acted effective time e.ask y) runs withdrawn told opened used moment effective
+has-acted config events e leases leases1 x y runs seen withdrawn told opened used moment time running count effective room k b early f s r re n m none t fit refusal ok =
     let R : ℕ → Type 0 = λ i. ForEachLogBy i leases (λ lease calls. lease_refusal lease i calls (call_with (is_exported y.rows) i e.ask) ≡ None) in
     let O : ℕ → Type 0 = λ i. ForEachLogBy i leases (λ lease calls. StandsFor lease leases1 i (call_with (is_exported y.rows) i e.ask ++ calls)) in
     record {
       asked = asked config events e leases x y runs seen withdrawn told opened used moment effective k b f s r;
       early = early;
       room = room-as used running count effective e.ask runs x y room None re n m r none;
+      fit = ap (λ i. await_refusal i y.rows y.waits effective e.ask) (sym t) ∙ fit;
       unrefused = subst R t refusal;
       told_leases = subst O t ok;
-      act = refl;
+      act = ap (λ i. acted effective i e.ask y) t;
     }
 
 -- What the withdrawal answered, of a table but for its room.

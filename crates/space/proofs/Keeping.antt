@@ -15,15 +15,15 @@ use Rattle.history.specs.declared.places.Exported.{Exported}
 use Rattle.history.specs.declared.places.Withdrawal.{Withdrawal}
 use Rattle.history.specs.declared.replies.Refused.{Refused}
 use Rattle.history.specs.declared.replies.Reply.{Reply}
-use Rattle.history.specs.declared.replies.Reply.TheVariants.{Started, NoObject}
+use Rattle.history.specs.declared.replies.Reply.TheVariants.{Started, NoObject, Finished, NotRunning}
 use Rattle.history.specs.declared.replies.Turn.{Turn}
 use Rattle.history.specs.LeaseCalls.{call_with, lease_calls}
 use Rattle.history.specs.Leases.{is_held}
 use Rattle.history.specs.Limits.{units_of, units, limits, refusal}
-use Rattle.history.specs.Places.{has, now, added}
+use Rattle.history.specs.Places.{has, now, added, exported_from}
 use Rattle.history.specs.Replies.{reply, gone, ids, is_abandon}
 use Rattle.history.specs.Steps.{turn_of, answer_with, history_with, Step}
-use Rattle.history.specs.Table.{is_effective, is_kept, table, place_of, places, withdrawn, withdrawals_at_end, withdrawals}
+use Rattle.history.specs.Table.{is_effective, exports, is_kept, table, place_of, places, withdrawn, withdrawals_at_end, withdrawals}
 use Rattle.history.proofs.GoneLaws.{pending, pending-push, withdrawals-push}
 use Rattle.history.proofs.ListLemmas.{Every, Every-two, Every-weaker}
 use Rattle.history.proofs.TableLaws.{places-push, places-numbered, length-places, now-push, table-place, units-push, ask-place_of, index-place_of, added-push, withdrawn-place}
@@ -34,22 +34,23 @@ use Rattle.export_table.specs.Rows.{is_kept as row_kept, held_by, without_all, w
 use Rattle.export_table.specs.Table.{ExportTable}
 use Rattle.export_table.specs.Waits.{goes_on, waiting, is_awaited}
 use Rattle.space.specs.declared.runs.Run.{Run}
-use Rattle.space.specs.Acts.{acted, acted_runs, opens, reply_at, started_reply, withdrawal_at, told_after, room_refusal, lease_refusal, first_of_two, Agrees}
+use Rattle.space.specs.Acts.{opens, new_ids, reply_at, started_reply, withdrawal_at, told_after, room_refusal, await_refusal, lease_refusal, first_of_two, Agrees}
 use Rattle.space.specs.Built.{IsBuilt}
 use Rattle.space.specs.Kept.{live_calls, HasDurations, IsWithin, AllBuilt, row_of, rows_of, to_tell, Stands, Keeps}
 use Rattle.space.specs.Runs.{RunsStand, caller_of, object_of}
 use Rattle.space.specs.Waits.{WaitsFor, WaitsStand, reference_of, end_of, until_of}
-use Rattle.space.proofs.Acting.{rows-act, waits-act, runs-act, effective-is, kind-is, exported-has}
+use Rattle.space.proofs.Acting.{kind-is, exported-has, new-ids}
+use Rattle.space.proofs.AwaitLaws.{await-is}
 use Rattle.space.proofs.LimitLaws.{within-next}
 use Rattle.space.proofs.LiveLaws.{gone_of}
 use Rattle.space.proofs.NextLaws.{live-next, kept-next, gone-next, withdrawn-ids}
-use Rattle.space.proofs.Quiet.{IsQuiet, quiet-place, quiet, adds-built, opened-length, not-named}
+use Rattle.space.proofs.Quiet.{IsQuiet, quiet-place, quiet, adds-length, not-named}
 use Rattle.space.proofs.Room.{refusal-is}
 use Rattle.space.proofs.WaitLaws.{refs-await, waiting_refs}
 use Rattle.space.proofs.WaitSteps.{going-until, going}
 use Rattle.history.proofs.ListLemmas.{AllOnce-filter}
 use Rattle.history.specs.Awaiting.{same_returned, awaits}
-use Rattle.history.specs.Running.{running_calls}
+use Rattle.history.specs.Running.{running, running_calls}
 use Rattle.space.proofs.WaitLaws.{numbered-place}
 
 -- ---- lists
@@ -154,12 +155,13 @@ some-units (Dirty client number asked objects) = omega arith
 some-units (Clean client number objects strong) = omega arith
 some-units _ = omega arith
 
-opened-few : (a : Ask) → opens a ≤ units_of a
-opened-few (Open kind pinned) = omega arith
-opened-few (Finish object made listed uid) = omega arith
-opened-few (Dirty client number asked objects) = omega arith
-opened-few (Clean client number objects strong) = omega arith
-opened-few _ = omega arith
+pub opened-few : (effective : Bool) (a : Ask) → opens effective a ≤ units_of a
+opened-few effective (Open kind pinned) = omega arith
+opened-few true (Finish object made listed uid) = omega arith
+opened-few false (Finish object made listed uid) = omega arith
+opened-few effective (Dirty client number asked objects) = omega arith
+opened-few effective (Clean client number objects strong) = omega arith
+opened-few effective _ = omega arith
 
 withdrawn-next : (config : SpaceConfig) (events : List Event) (e : Event) →
     withdrawals config (place_of config (places config events) e ∷ places config events)
@@ -209,13 +211,13 @@ left config events e t = record t {
 abbrev pub withdrawn_then : SpaceConfig → List Event → Event → ExportTable → List Withdrawal → List Withdrawal
 withdrawn_then config events e t withdrawn = withdrawn ++ map (withdrawal_at (length events)) (going_now config events e t)
 
-stands-push : (config : SpaceConfig) (events : List Event) (e : Event) (leases leases1 leases2 : LeaseTable) (exports t : ExportTable) (runs runs1 : List Run) (withdrawn : List Withdrawal) (told opened used moment : ℕ) →
+stands-push : (config : SpaceConfig) (events : List Event) (e : Event) (leases leases1 leases2 : LeaseTable) (exports t : ExportTable) (runs runs1 : List Run) (withdrawn : List Withdrawal) (told opened used moment : ℕ) (effective : Bool) → effective ≡ is_effective config (places config events) e.by e.ask →
     Keeps config events leases exports runs withdrawn told opened used moment → IsBuilt e.ask → refusal limits config (places config events) e ≡ None →
-    IsActed config events e leases1 t runs1 → t.space ≡ config.uid → t.ack ≡ config.ack_ms → t.added ≡ opened + opens e.ask →
+    IsActed config events e leases1 t runs1 → t.space ≡ config.uid → t.ack ≡ config.ack_ms → t.added ≡ opened + opens effective e.ask →
     StandsFor config.lease_ms leases2 (max e.moment (now (places config events))) (map (without_all (going_now config events e t)) (told_calls config events e)) →
     Stands config (place_of config (places config events) e ∷ places config events) leases2 (left config events e t) runs1 (withdrawn_then config events e t withdrawn)
-    (told_after told (length (withdrawn_then config events e t withdrawn)) e.ask) (opened + opens e.ask) (used + units_of e.ask) (max e.moment (now (places config events)))
-stands-push config events e leases leases1 leases2 exports t runs runs1 withdrawn told opened used moment k b r a sp ac ad dropped =
+    (told_after told (length (withdrawn_then config events e t withdrawn)) e.ask) (opened + opens effective e.ask) (used + units_of e.ask) (max e.moment (now (places config events)))
+stands-push config events e leases leases1 leases2 exports t runs runs1 withdrawn told opened used moment effective f k b r a sp ac ad dropped =
     let goes : going_now config events e t ≡ gone_of (table config (places config events) ++ (place_of config (places config events) e).adds) (is_kept config (place_of config (places config events) e ∷ places config events)) = going-is config events e leases1 t runs1 k.built b a in
     let L : List ObjId → Type 0 = λ os. StandsFor config.lease_ms leases2 (max e.moment (now (places config events))) (map (without_all os) (told_calls config events e)) in
     let C : List Call → Type 0 = λ cs. StandsFor config.lease_ms leases2 (max e.moment (now (places config events))) cs in
@@ -228,8 +230,8 @@ stands-push config events e leases leases1 leases2 exports t runs runs1 withdraw
       ack_is = ac;
       added_is = ad;
       opened_is = (
-          ap (λ n. n + opens e.ask) k.stands.opened_is
-          ∙ ap (λ n. length (added (places config events)) + n) (sym (ap length (adds-built config (places config events) e b) ∙ opened-length config (length (added (places config events))) (length (places config events)) e.ask))
+          ap (λ n. n + opens effective e.ask) k.stands.opened_is
+          ∙ ap (λ n. length (added (places config events)) + n) (ap (λ v. opens v e.ask) f ∙ sym (adds-length config (places config events) e b))
           ∙ sym (length-append (added (places config events)) (place_of config (places config events) e).adds)
           ∙ ap length (sym (added-push (place_of config (places config events) e) (places config events))));
       rows_are = (
@@ -251,23 +253,23 @@ stands-push config events e leases leases1 leases2 exports t runs runs1 withdraw
     told-few true n xs ys h = let long = length-append xs ys in omega (arith, h, long)
     told-few false n xs ys h = omega arith
 
-pub keeps-push : (config : SpaceConfig) (events : List Event) (e : Event) (leases leases1 leases2 : LeaseTable) (exports t : ExportTable) (runs runs1 : List Run) (withdrawn : List Withdrawal) (told opened used moment : ℕ) →
+pub keeps-push : (config : SpaceConfig) (events : List Event) (e : Event) (leases leases1 leases2 : LeaseTable) (exports t : ExportTable) (runs runs1 : List Run) (withdrawn : List Withdrawal) (told opened used moment : ℕ) (effective : Bool) → effective ≡ is_effective config (places config events) e.by e.ask →
     Keeps config events leases exports runs withdrawn told opened used moment → IsBuilt e.ask → e.moment < 2 ^ 62 → refusal limits config (places config events) e ≡ None →
-    IsActed config events e leases1 t runs1 → t.space ≡ config.uid → t.ack ≡ config.ack_ms → t.added ≡ opened + opens e.ask →
+    IsActed config events e leases1 t runs1 → t.space ≡ config.uid → t.ack ≡ config.ack_ms → t.added ≡ opened + opens effective e.ask →
     StandsFor config.lease_ms leases2 (max e.moment (now (places config events))) (map (without_all (going_now config events e t)) (told_calls config events e)) →
     Keeps config (events ++ e ∷ []) leases2 (left config events e t) runs1 (withdrawn_then config events e t withdrawn)
-    (told_after told (length (withdrawn_then config events e t withdrawn)) e.ask) (opened + opens e.ask) (used + units_of e.ask) (max e.moment (now (places config events)))
-keeps-push config events e leases leases1 leases2 exports t runs runs1 withdrawn told opened used moment k b early r a sp ac ad dropped =
+    (told_after told (length (withdrawn_then config events e t withdrawn)) e.ask) (opened + opens effective e.ask) (used + units_of e.ask) (max e.moment (now (places config events)))
+keeps-push config events e leases leases1 leases2 exports t runs runs1 withdrawn told opened used moment effective f k b early r a sp ac ad dropped =
     let S : List Place → Type 0 = λ g. Stands config g leases2 (left config events e t) runs1 (withdrawn_then config events e t withdrawn)
-    (told_after told (length (withdrawn_then config events e t withdrawn)) e.ask) (opened + opens e.ask) (used + units_of e.ask) (max e.moment (now (places config events))) in
+    (told_after told (length (withdrawn_then config events e t withdrawn)) e.ask) (opened + opens effective e.ask) (used + units_of e.ask) (max e.moment (now (places config events))) in
     let B : List Event → Type 0 = λ es. AllBuilt es in
     let longer : length (events ++ e ∷ []) ≡ length events + 1 = length-append events (e ∷ []) in
     record {
       durations = k.durations;
-      stands = subst S (sym (places-push config events e)) (stands-push config events e leases leases1 leases2 exports t runs runs1 withdrawn told opened used moment k b r a sp ac ad dropped);
+      stands = subst S (sym (places-push config events e)) (stands-push config events e leases leases1 leases2 exports t runs runs1 withdrawn told opened used moment effective f k b r a sp ac ad dropped);
       early = (let before = k.early in let time = k.stands.moment_is in omega (arith, before, time, early));
       few_events = (let before = k.few_events in let some = some-units e.ask in omega (arith, before, some, longer));
-      few_opened = (let before = k.few_opened in let few = opened-few e.ask in omega (arith, before, few));
+      few_opened = (let before = k.few_opened in let few = opened-few effective e.ask in omega (arith, before, few));
       built = subst B (sym (reverse-append events (e ∷ []))) (b, k.built);
     }
 
@@ -292,20 +294,27 @@ rows-length : (h : List Place) (xs : List Exported) → length (rows_of h xs) �
 rows-length h [] = refl
 rows-length h (x ∷ xs) = ap suc (rows-length h xs)
 
--- The refusal, by what is kept: for want of room, and then as the lease table says after the calls that it stands for.
+-- The refusal, by what is kept: for want of room, for the references that are returned, and then as the lease table says after the calls
+-- that it stands for.
 pub refusal-kept : (config : SpaceConfig) (events : List Event) (e : Event) (leases : LeaseTable) (exports : ExportTable) (runs : List Run) (withdrawn : List Withdrawal) (told opened used moment : ℕ) → Keeps config events leases exports runs withdrawn told opened used moment → IsBuilt e.ask →
     refusal limits config (places config events) e
     ≡ first_of_two (room_refusal used (length runs) (length exports.rows) (is_effective config (places config events) e.by e.ask) e.ask)
-    (lease_refusal config.lease_ms (max e.moment (now (places config events))) (live_calls (table config (places config events)) (lease_calls (places config events))) (call_with (has (table config (places config events))) (max e.moment (now (places config events))) e.ask))
+    (first_of_two (await_refusal (max e.moment (now (places config events))) exports.rows exports.waits (is_effective config (places config events) e.by e.ask) e.ask)
+    (lease_refusal config.lease_ms (max e.moment (now (places config events))) (live_calls (table config (places config events)) (lease_calls (places config events))) (call_with (has (table config (places config events))) (max e.moment (now (places config events))) e.ask)))
 refusal-kept config events e leases exports runs withdrawn told opened used moment k b =
-    refusal-is config (places config events) e (quiet config events k.built) b k.stands.within
+    let N : ℕ → Type 0 = λ n. WaitsStand reference_of end_of config.ack_ms n (places config events) exports.waits in
+    refusal-is config (places config events) e (await_refusal (max e.moment (now (places config events))) exports.rows exports.waits (is_effective config (places config events) e.by e.ask) e.ask)
+    (quiet config events k.built) b k.stands.within (await-is config events e exports.rows exports.waits b k.stands.within k.stands.rows_are (subst N k.stands.moment_is k.stands.waits_stand))
     ∙ three _ _ _ _ _ _ (sym k.stands.used_is) (sym k.stands.runs_stand.all) (sym (rows-length (places config events) (table config (places config events))) ∙ sym (ap length k.stands.rows_are))
   where
+    later : Option Refused
+    later =
+        first_of_two (await_refusal (max e.moment (now (places config events))) exports.rows exports.waits (is_effective config (places config events) e.by e.ask) e.ask)
+        (lease_refusal config.lease_ms (max e.moment (now (places config events))) (live_calls (table config (places config events)) (lease_calls (places config events))) (call_with (has (table config (places config events))) (max e.moment (now (places config events))) e.ask))
+
     three : (u v r s n m : ℕ) → u ≡ v → r ≡ s → n ≡ m →
-        first_of_two (room_refusal u r n (is_effective config (places config events) e.by e.ask) e.ask)
-        (lease_refusal config.lease_ms (max e.moment (now (places config events))) (live_calls (table config (places config events)) (lease_calls (places config events))) (call_with (has (table config (places config events))) (max e.moment (now (places config events))) e.ask))
-        ≡ first_of_two (room_refusal v s m (is_effective config (places config events) e.by e.ask) e.ask)
-        (lease_refusal config.lease_ms (max e.moment (now (places config events))) (live_calls (table config (places config events)) (lease_calls (places config events))) (call_with (has (table config (places config events))) (max e.moment (now (places config events))) e.ask))
+        first_of_two (room_refusal u r n (is_effective config (places config events) e.by e.ask) e.ask) later
+        ≡ first_of_two (room_refusal v s m (is_effective config (places config events) e.by e.ask) e.ask) later
     three u v r s n m p q t = rw (p, q, t) refl
 
 -- ---- steps
@@ -327,10 +336,14 @@ found-some (x ∷ objects) o = go (same_id x.id o) (found-some objects o)
 
 reply-is : (config : SpaceConfig) (h : List Place) (e : Event) (opened : ℕ) (rows : List Export) (effective : Bool) → IsBuilt e.ask → opened ≡ length (added h) → rows ≡ rows_of h (table config h) → effective ≡ is_effective config h e.by e.ask →
     reply config h e ≡ reply_at config opened rows effective e.ask
-unfolding reply place_of is_effective
+unfolding reply place_of is_effective exports
 reply-is config h e opened rows effective b k rs f = go e.ask b (is_effective config h e.by e.ask) refl ∙ ap (λ n. reply_at config n (rows_of h (table config h)) (is_effective config h e.by e.ask) e.ask) (sym k)
     ∙ ap (λ l. reply_at config opened l (is_effective config h e.by e.ask) e.ask) (sym rs) ∙ ap (λ v. reply_at config opened rows v e.ask) (sym f)
   where
+    finished : (v : Bool) (made : List ℕ) → (if v then Finished (ids (if v then exported_from config.uid (length (added h)) (length h) false made else [])) else NotRunning) ≡ (if v then Finished (new_ids config.uid (length (added h)) made) else NotRunning)
+    finished true made = ap (λ l. Finished l) (new-ids config.uid (length (added h)) (length h) false made)
+    finished false made = refl
+
     go : (a : Ask) → IsBuilt a → (v : Bool) → is_effective config h e.by a ≡ v → reply config h (record e { ask = a }) ≡ reply_at config (length (added h)) (rows_of h (table config h)) (is_effective config h e.by a) a
     go (Open kind pinned) b v s = refl
     go (Begin o) b v s =
@@ -341,7 +354,7 @@ reply-is config h e opened rows effective b k rs f = go e.ask b (is_effective co
     go (Clean x y z w) b v s = refl
     go (Ack u) b v s = refl
     go Tick b v s = refl
-    go (Finish x y z w) b v s = absurd b
+    go (Finish x y z w) b v s = finished (nat_lt 0 (running h e.by x)) y
     go (Bind x y) b v s = absurd b
     go (Rebind x y) b v s = absurd b
     go (Unbind x) b v s = absurd b

@@ -1,5 +1,6 @@
 pub mod Acting
 pub mod AskLaws
+pub mod AwaitLaws
 pub mod Clients
 pub mod EndLaws
 pub mod FirstLaws
@@ -8,11 +9,13 @@ pub mod Fresh
 pub mod Keeping
 pub mod LimitLaws
 pub mod LiveLaws
+pub mod LoopLaws
 pub mod Named
 pub mod NextLaws
 pub mod ObjectLaws
 pub mod Pairs
 pub mod Quiet
+pub mod ReferenceLaws
 pub mod Refusals
 pub mod Room
 pub mod RowLaws

@@ -117,7 +117,7 @@ exports-next config events e =
 
 -- ---- references that await
 
-distinct-longer : {X : Type 0} (same : X → X → Bool) → IsEquality same → (xs ys : List X) → AllOnce same xs → ((k : X) → list_any (same k) xs ≡ true → list_any (same k) ys ≡ true) → length xs ≤ length (distinct same ys)
+pub distinct-longer : {X : Type 0} (same : X → X → Bool) → IsEquality same → (xs ys : List X) → AllOnce same xs → ((k : X) → list_any (same k) xs ≡ true → list_any (same k) ys ≡ true) → length xs ≤ length (distinct same ys)
 distinct-longer same e xs ys once f =
     length-fewer same e xs (distinct same ys) once (λ k h. list_any-distinct same (same k) (λ a b s. ap (same k) (e.equal a b s)) ys ∙ f k h)
 

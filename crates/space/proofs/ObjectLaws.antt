@@ -208,10 +208,10 @@ awaited-by : (ack t : ℕ) (h : List Place) (r : Returned) → awaits ack t h r 
 unfolding is_awaited
 awaited-by ack t h r a = any-at same_returned returned-equality.equal (λ s. same_id s.object r.object) r (awaiting ack t h) (awaiting-member ack t h r ∙ a) (same_id-self r.object)
 
-exported-ids : (o : ObjId) (xs : List Exported) → list_any (same_id o) (map (λ x. x.id) xs) ≡ true → has xs o ≡ true
+pub exported-ids : (o : ObjId) (xs : List Exported) → list_any (same_id o) (map (λ x. x.id) xs) ≡ true → has xs o ≡ true
 exported-ids o xs h = sym (any-ids xs o) ∙ h
 
-filter-there : (objects : List Exported) (o : ObjId) (os : List ObjId) → list_any (same_id o) (filter (has objects) os) ≡ true → has objects o ≡ true
+pub filter-there : (objects : List Exported) (o : ObjId) (os : List ObjId) → list_any (same_id o) (filter (has objects) os) ≡ true → has objects o ≡ true
 filter-there objects o [] h = absurd (cc)
 filter-there objects o (y ∷ os) h = go (has objects y) refl h (filter-there objects o os)
   where
@@ -278,7 +278,7 @@ returned-listed p r t = go (return_uid p.event.ask) t
             right true = refl
             right false = refl
 
-awaits-earlier : (ack t u : ℕ) (h : List Place) (r : Returned) → t ≤ u → awaits ack u h r ≡ true → awaits ack t h r ≡ true
+pub awaits-earlier : (ack t u : ℕ) (h : List Place) (r : Returned) → t ≤ u → awaits ack u h r ≡ true → awaits ack t h r ≡ true
 awaits-earlier ack t u h r le a = awaits-until ack t h r ∙ earlier t u (until_of ack h r) le (sym (awaits-until ack u h r) ∙ a)
 
 pub awaited-there : (config : SpaceConfig) (events : List Event) (r : Returned) → awaits config.ack_ms (now (places config events)) (places config events) r ≡ true → has (table config (places config events)) r.object ≡ true

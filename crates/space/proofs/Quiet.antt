@@ -1,7 +1,8 @@
 -- What the served asks leave out: names.
-use Rattle.std.proofs.Common.{◌≡◌, ℕ, List, [], ◌∷◌, length, refl, ap, None}
+use Rattle.std.proofs.Common.{◌≡◌, ℕ, ◌+◌, suc, List, [], ◌∷◌, length, refl, ap, ◌∙◌, None}
 use Rattle.std.specs.Prelude.{Bool, true, false, filter, filter_map, reverse, if◌then◌else◌}
 use Rattle.object_ids.specs.declared.ids.ObjId.{ObjId}
+use Rattle.object_ids.specs.declared.ids.Uid.{Uid}
 use Rattle.history.specs.declared.asks.SpaceConfig.{SpaceConfig}
 use Rattle.history.specs.declared.asks.Event.{Event}
 use Rattle.history.specs.declared.asks.Ask.{Ask}
@@ -9,7 +10,6 @@ use Rattle.history.specs.declared.asks.Ask.TheVariants.{Open, Begin, Finish, Aba
 use Rattle.history.specs.declared.places.Place.{Place}
 use Rattle.history.specs.declared.places.Exported.{Exported}
 use Rattle.history.specs.Places.{added, exported_from}
-use Rattle.history.specs.Awaiting.{returned}
 use Rattle.history.specs.Names.{name_bound, begins_name, names, names_of, is_named}
 use Rattle.history.specs.Table.{is_effective, exports, place_of, places_back, places}
 use Rattle.history.proofs.ListLemmas.{Every, Every-filter, Every-reverse}
@@ -42,29 +42,36 @@ quiet-place config h e b = go e.ask b
     go ListNames b = absurd b
 
 -- The objects that an ask exports at a place, the first of them as the space's k-th.
-abbrev pub opened_by : SpaceConfig → ℕ → ℕ → Ask → List Exported
-opened_by config k place (Open kind pinned) = exported_from config.uid k place pinned (kind ∷ [])
-opened_by config k place _ = []
+abbrev pub opened_by : SpaceConfig → ℕ → ℕ → Bool → Ask → List Exported
+opened_by config k place effective (Open kind pinned) = exported_from config.uid k place pinned (kind ∷ [])
+opened_by config k place effective (Finish object made listed uid) = if effective then exported_from config.uid k place false made else []
+opened_by config k place effective _ = []
 
-pub opened-length : (config : SpaceConfig) (k place : ℕ) (a : Ask) → length (opened_by config k place a) ≡ opens a
-opened-length config k place (Open kind pinned) = refl
-opened-length config k place _ = refl
+pub exported_from-length : (space : Uid) (k place : ℕ) (pinned : Bool) (kinds : List ℕ) → length (exported_from space k place pinned kinds) ≡ length kinds
+exported_from-length space k place pinned [] = refl
+exported_from-length space k place pinned (kind ∷ kinds) = ap suc (exported_from-length space (k + 1) place pinned kinds)
+
+pub opened-length : (config : SpaceConfig) (k place : ℕ) (effective : Bool) (a : Ask) → length (opened_by config k place effective a) ≡ opens effective a
+opened-length config k place effective (Open kind pinned) = refl
+opened-length config k place true (Finish object made listed uid) = exported_from-length config.uid k place false made
+opened-length config k place false (Finish object made listed uid) = refl
+opened-length config k place effective _ = refl
 
 none-either : {X : Type 0} (b : Bool) → ◌≡◌ {A = List X} (if b then [] else []) []
 none-either true = refl
 none-either false = refl
 
-pub adds-built : (config : SpaceConfig) (h : List Place) (e : Event) → IsBuilt e.ask → (place_of config h e).adds ≡ opened_by config (length (added h)) (length h) e.ask
+pub adds-built : (config : SpaceConfig) (h : List Place) (e : Event) → IsBuilt e.ask → (place_of config h e).adds ≡ opened_by config (length (added h)) (length h) (is_effective config h e.by e.ask) e.ask
 unfolding place_of is_effective exports
 adds-built config h e b = go e.ask b
   where
-    go : (a : Ask) → IsBuilt a → (place_of config h (record e { ask = a })).adds ≡ opened_by config (length (added h)) (length h) a
+    go : (a : Ask) → IsBuilt a → (place_of config h (record e { ask = a })).adds ≡ opened_by config (length (added h)) (length h) (is_effective config h e.by a) a
     go (Open kind pinned) b = refl
     go (Dirty x y z w) b = refl
     go (Clean x y z w) b = refl
     go Tick b = refl
     go (Begin x) b = none-either _
-    go (Finish x y z w) b = absurd b
+    go (Finish x y z w) b = refl
     go (Abandon x) b = none-either _
     go (Ack u) b = refl
     go (Bind x y) b = absurd b
@@ -73,24 +80,9 @@ adds-built config h e b = go e.ask b
     go (Lookup x y) b = absurd b
     go ListNames b = absurd b
 
-pub returned-built : (config : SpaceConfig) (h : List Place) (e : Event) → IsBuilt e.ask → returned (place_of config h e) ≡ []
-unfolding place_of
-returned-built config h e b = go e.ask b
-  where
-    go : (a : Ask) → IsBuilt a → returned (place_of config h (record e { ask = a })) ≡ []
-    go (Open kind pinned) b = refl
-    go (Dirty x y z w) b = refl
-    go (Clean x y z w) b = refl
-    go Tick b = refl
-    go (Begin x) b = refl
-    go (Finish x y z w) b = absurd b
-    go (Abandon x) b = refl
-    go (Ack u) b = refl
-    go (Bind x y) b = absurd b
-    go (Rebind x y) b = absurd b
-    go (Unbind x) b = absurd b
-    go (Lookup x y) b = absurd b
-    go ListNames b = absurd b
+-- How many they are.
+pub adds-length : (config : SpaceConfig) (h : List Place) (e : Event) → IsBuilt e.ask → length (place_of config h e).adds ≡ opens (is_effective config h e.by e.ask) e.ask
+adds-length config h e b = ap length (adds-built config h e b) ∙ opened-length config (length (added h)) (length h) (is_effective config h e.by e.ask) e.ask
 
 -- ---- all places
 

@@ -12,7 +12,7 @@ use Rattle.history.specs.declared.limits.TheConstants.{MAX_EXPORTS, MAX_AWAITING
 use Rattle.history.specs.declared.places.Place.{Place}
 use Rattle.history.specs.declared.replies.Refused.{Refused}
 use Rattle.history.specs.declared.replies.Refused.TheVariants.{HistoryFull, Full}
-use Rattle.history.specs.Awaiting.{same_returned, awaiting}
+use Rattle.history.specs.Awaiting.{same_returned, returned, awaiting}
 use Rattle.history.specs.LeaseCalls.{lease_calls}
 use Rattle.history.specs.Leases.{clients_with_time_left, same_pair, pairs_with}
 use Rattle.history.specs.Limits.{units_of, units, reserved, is_begin, is_end, limits, exports_with, awaiting_with, lease_call, clients_with, pairs_with_event, names_with, is_full, refusal}
@@ -29,7 +29,7 @@ use Rattle.space.specs.Built.{IsBuilt}
 use Rattle.space.specs.Kept.{live_calls, IsWithin}
 use Rattle.space.proofs.Clients.{fewer-left}
 use Rattle.space.proofs.LimitLaws.{awaiting-later, pairs-later, pairs-told, clients-told}
-use Rattle.space.proofs.Quiet.{IsQuiet, quiet-place, adds-built, opened-length, returned-built, no-names}
+use Rattle.space.proofs.Quiet.{IsQuiet, quiet-place, adds-length, no-names}
 use Rattle.space.proofs.WaitLaws.{count-awaiting}
 
 -- ---- the history, and the exported objects
@@ -40,21 +40,20 @@ pub full-is : (limit : ℕ) (config : SpaceConfig) (h : List Place) (e : Event) 
 unfolding is_full place_of
 full-is limit config h e = refl
 
-pub exports-is : (config : SpaceConfig) (h : List Place) (e : Event) → IsBuilt e.ask → exports_with config h e ≡ length (table config h) + opens e.ask
+pub exports-is : (config : SpaceConfig) (h : List Place) (e : Event) → IsBuilt e.ask → exports_with config h e ≡ length (table config h) + opens (is_effective config h e.by e.ask) e.ask
 unfolding exports_with
-exports-is config h e b =
-    ap (λ n. length (table config h) + n) (ap length (adds-built config h e b) ∙ opened-length config (length (added h)) (length h) e.ask)
+exports-is config h e b = ap (λ n. length (table config h) + n) (adds-length config h e b)
 
 -- ---- what stays empty
 
 none-more : {X : Type 0} (xs : List X) → xs ++ [] ≡ xs
 none-more xs = rw append-nil refl
 
-awaiting-few : (config : SpaceConfig) (h : List Place) (e : Event) → IsBuilt e.ask → IsWithin config h → awaiting_with config h e ≤ MAX_AWAITING
+pub awaiting-few : (config : SpaceConfig) (h : List Place) (e : Event) → returned (place_of config h e) ≡ [] → IsWithin config h → awaiting_with config h e ≤ MAX_AWAITING
 unfolding awaiting_with
 awaiting-few config h e b w =
     let moment = moment-place_of config h e in
-    let none = ap (λ rs. length (distinct same_returned (awaiting config.ack_ms (place_of config h e).moment h ++ rs))) (returned-built config h e b) in
+    let none = ap (λ rs. length (distinct same_returned (awaiting config.ack_ms (place_of config h e).moment h ++ rs))) b in
     let whole = ap (λ rs. length (distinct same_returned rs)) (none-more (awaiting config.ack_ms (place_of config h e).moment h)) in
     let once = count-awaiting config.ack_ms (place_of config h e).moment h (distinct same_returned (awaiting config.ack_ms (place_of config h e).moment h))
     (AllOnce-distinct same_returned returned-equality (awaiting config.ack_ms (place_of config h e).moment h))
@@ -124,30 +123,31 @@ call-is config h e w = go e.ask
 
 -- ---- the first cause
 
-chain : (a b c d e f : Bool) (more : Option Refused) → c ≡ false → f ≡ false → (if d then Some (Full Clients) else if e then Some (Full Pairs) else None) ≡ more →
+chain : (a b c d e f : Bool) (await more : Option Refused) → (if c then Some (Full Awaiting) else None) ≡ await → f ≡ false → (if d then Some (Full Clients) else if e then Some (Full Pairs) else None) ≡ more →
     (if a then Some HistoryFull else if b then Some (Full Exports) else if c then Some (Full Awaiting) else if d then Some (Full Clients) else if e then Some (Full Pairs) else if f then Some (Full Names) else None)
-    ≡ first_of_two (if a then Some HistoryFull else if b then Some (Full Exports) else None) more
-chain true b c d e f more g h m = refl
-chain false true c d e f more g h m = refl
-chain false false true d e f more g h m = absurd (cc)
-chain false false false d e true more g h m = absurd (cc)
-chain false false false true e false more g h m = m
-chain false false false false true false more g h m = m
-chain false false false false false false more g h m = m
+    ≡ first_of_two (if a then Some HistoryFull else if b then Some (Full Exports) else None) (first_of_two await more)
+chain true b c d e f await more g h m = refl
+chain false true c d e f await more g h m = refl
+chain false false true d e f await more g h m = ap (λ o. first_of_two o more) g
+chain false false false d e true await more g h m = absurd (cc)
+chain false false false true e false await more g h m = m ∙ ap (λ o. first_of_two o more) g
+chain false false false false true false await more g h m = m ∙ ap (λ o. first_of_two o more) g
+chain false false false false false false await more g h m = m ∙ ap (λ o. first_of_two o more) g
 
--- THE REFUSAL of an event is that for want of room, and then that of its lease call.
-pub refusal-is : (config : SpaceConfig) (h : List Place) (e : Event) → Every IsQuiet h → IsBuilt e.ask → IsWithin config h →
+-- THE REFUSAL of an event is that for want of room, then that of the references that it returns, and then that of its lease call.
+pub refusal-is : (config : SpaceConfig) (h : List Place) (e : Event) (await : Option Refused) → Every IsQuiet h → IsBuilt e.ask → IsWithin config h →
+    (if nat_lt MAX_AWAITING (awaiting_with config h e) then Some (Full Awaiting) else None) ≡ await →
     refusal limits config h e
     ≡ first_of_two (room_refusal (units h) (reserved h) (length (table config h)) (is_effective config h e.by e.ask) e.ask)
-    (lease_refusal config.lease_ms (max e.moment (now h)) (live_calls (table config h) (lease_calls h)) (lease_call config h e))
+    (first_of_two await (lease_refusal config.lease_ms (max e.moment (now h)) (live_calls (table config h) (lease_calls h)) (lease_call config h e)))
 unfolding refusal
-refusal-is config h e q b w =
+refusal-is config h e await q b w g =
     chain (is_full MAX_UNITS config h e) (nat_lt MAX_EXPORTS (exports_with config h e)) (nat_lt MAX_AWAITING (awaiting_with config h e)) (nat_lt MAX_CLIENTS (clients_with config h e)) (nat_lt MAX_PAIRS (pairs_with_event config h e)) (nat_lt MAX_NAMES (names_with config h e))
-    (lease_refusal config.lease_ms (max e.moment (now h)) (live_calls (table config h) (lease_calls h)) (lease_call config h e))
-    (le-ltb MAX_AWAITING (awaiting_with config h e) (awaiting-few config h e b w)) (ap (nat_lt MAX_NAMES) (names-is config h e q b)) (call-is config h e w)
+    await (lease_refusal config.lease_ms (max e.moment (now h)) (live_calls (table config h) (lease_calls h)) (lease_call config h e))
+    g (ap (nat_lt MAX_NAMES) (names-is config h e q b)) (call-is config h e w)
     ∙ two _ _ _ _ (full-is MAX_UNITS config h e) (exports-is config h e b)
   where
     two : (a b : Bool) (n m : ℕ) → a ≡ b → n ≡ m →
-        first_of_two (if a then Some HistoryFull else if nat_lt MAX_EXPORTS n then Some (Full Exports) else None) (lease_refusal config.lease_ms (max e.moment (now h)) (live_calls (table config h) (lease_calls h)) (lease_call config h e))
-        ≡ first_of_two (if b then Some HistoryFull else if nat_lt MAX_EXPORTS m then Some (Full Exports) else None) (lease_refusal config.lease_ms (max e.moment (now h)) (live_calls (table config h) (lease_calls h)) (lease_call config h e))
+        first_of_two (if a then Some HistoryFull else if nat_lt MAX_EXPORTS n then Some (Full Exports) else None) (first_of_two await (lease_refusal config.lease_ms (max e.moment (now h)) (live_calls (table config h) (lease_calls h)) (lease_call config h e)))
+        ≡ first_of_two (if b then Some HistoryFull else if nat_lt MAX_EXPORTS m then Some (Full Exports) else None) (first_of_two await (lease_refusal config.lease_ms (max e.moment (now h)) (live_calls (table config h) (lease_calls h)) (lease_call config h e)))
     two a b n m p r = rw (p, r) refl

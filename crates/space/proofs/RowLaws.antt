@@ -98,7 +98,7 @@ row-kept by object ref until config h runs ws r s =
 
 -- ---- how many pairs
 
-object-equality : IsEquality same_id
+pub object-equality : IsEquality same_id
 object-equality = record { self = same_id-self; equal = same_id-equal }
 
 client-once : (cs : List Client) → all_once same_client cs ≡ true → AllOnce same_client cs
@@ -139,7 +139,7 @@ all-pairs-once : (lease t : ℕ) (calls : List Call) → AllOnce same_pair (pair
 unfolding pairs objects_named
 all-pairs-once lease t calls = pairs_with-once lease t calls (distinct same_id (flat_map (λ x. x.objects) calls)) (AllOnce-distinct same_id object-equality (flat_map (λ x. x.objects) calls))
 
-apart-once : (xs : List Exported) → AllApart xs → AllOnce same_id (ids xs)
+pub apart-once : (xs : List Exported) → AllApart xs → AllOnce same_id (ids xs)
 apart-once [] a = tt
 apart-once (x ∷ xs) a = (any-ids xs x.id ∙ a.0, apart-once xs a.1)
 

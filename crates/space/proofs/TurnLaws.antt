@@ -1,5 +1,5 @@
 -- A turn, by what its parts answered.
-use Rattle.std.proofs.Common.{◌≡◌, ℕ, ◌+◌, ◌<◌, ◌≤◌, ◌^◌, List, [], ◌∷◌, ◌++◌, length, refl, ap, sym, subst, ◌∙◌, arith, map, max, Option, Some, None, Ok, Err}
+use Rattle.std.proofs.Common.{◌≡◌, ℕ, ◌+◌, ◌<◌, ◌≤◌, ◌^◌, List, [], ◌∷◌, ◌++◌, length, inl, inr, refl, ap, sym, subst, ◌∙◌, arith, map, max, Option, Some, None, Ok, Err}
 use Rattle.std.specs.Prelude.{Bool, true, Result, drop}
 use Rattle.history.specs.declared.asks.SpaceConfig.{SpaceConfig}
 use Rattle.history.specs.declared.asks.Event.{Event}
@@ -18,7 +18,7 @@ use Rattle.export_table.specs.Rows.{is_kept as row_kept, held_by, without_all, w
 use Rattle.export_table.specs.Table.{ExportTable, Room}
 use Rattle.export_table.specs.Waits.{waiting}
 use Rattle.space.specs.declared.runs.Run.{Run}
-use Rattle.space.specs.Acts.{effective_by, acted, acted_runs, opens, reply_at, withdrawal_at, told_after, room_refusal, lease_refusal, first_of_two, Agrees}
+use Rattle.space.specs.Acts.{effective_by, acted, acted_runs, opens, reply_at, withdrawal_at, told_after, room_refusal, await_refusal, lease_refusal, first_of_two, Agrees}
 use Rattle.space.specs.Built.{IsBuilt, SpaceHistory}
 use Rattle.space.specs.Kept.{live_calls, Keeps}
 use Rattle.std.specs.Prelude.{false, filter}
@@ -53,7 +53,8 @@ refused-as : (config : SpaceConfig) (events : List Event) (e : Event) (leases : 
     IsAsked config events e leases exports runs withdrawn told opened used moment effective →
     refusal limits config (places config events) e
     ≡ first_of_two (room_refusal used (length runs) (length exports.rows) effective e.ask)
-    (lease_refusal config.lease_ms (max e.moment moment) (live_calls (table config (places config events)) (lease_calls (places config events))) (call_with (is_exported exports.rows) (max e.moment moment) e.ask))
+    (first_of_two (await_refusal (max e.moment moment) exports.rows exports.waits effective e.ask)
+    (lease_refusal config.lease_ms (max e.moment moment) (live_calls (table config (places config events)) (lease_calls (places config events))) (call_with (is_exported exports.rows) (max e.moment moment) e.ask)))
 refused-as config events e leases exports runs withdrawn told opened used moment effective q =
     refusal-kept config events e leases exports runs withdrawn told opened used moment q.keeps q.built
     ∙ three _ _ _ _ _ _ (sym (is-effective config events e leases exports runs withdrawn told opened used moment effective q)) (ap (max e.moment) (sym q.keeps.stands.moment_is))
@@ -61,8 +62,8 @@ refused-as config events e leases exports runs withdrawn told opened used moment
     ∙ ap (λ n. call_with (is_exported exports.rows) n e.ask) (ap (max e.moment) (sym q.keeps.stands.moment_is)))
   where
     three : (a b : Bool) (n m : ℕ) (x y : List _) → a ≡ b → n ≡ m → x ≡ y →
-        first_of_two (room_refusal used (length runs) (length exports.rows) a e.ask) (lease_refusal config.lease_ms n (live_calls (table config (places config events)) (lease_calls (places config events))) x)
-        ≡ first_of_two (room_refusal used (length runs) (length exports.rows) b e.ask) (lease_refusal config.lease_ms m (live_calls (table config (places config events)) (lease_calls (places config events))) y)
+        first_of_two (room_refusal used (length runs) (length exports.rows) a e.ask) (first_of_two (await_refusal n exports.rows exports.waits a e.ask) (lease_refusal config.lease_ms n (live_calls (table config (places config events)) (lease_calls (places config events))) x))
+        ≡ first_of_two (room_refusal used (length runs) (length exports.rows) b e.ask) (first_of_two (await_refusal m exports.rows exports.waits b e.ask) (lease_refusal config.lease_ms m (live_calls (table config (places config events)) (lease_calls (places config events))) y))
     three a b n m x y p r s = rw (p, r, s) refl
 
 -- There was no room.
@@ -71,25 +72,52 @@ pub room-step : (config : SpaceConfig) (events : List Event) (e : Event) (leases
 room-step config events e leases exports runs withdrawn told opened used moment effective refused q r =
     step-refused config events e refused (
     refused-as config events e leases exports runs withdrawn told opened used moment effective q
-    ∙ ap (λ x. first_of_two x (lease_refusal config.lease_ms (max e.moment moment) (live_calls (table config (places config events)) (lease_calls (places config events))) (call_with (is_exported exports.rows) (max e.moment moment) e.ask))) r)
+    ∙ ap (λ x. first_of_two x (first_of_two (await_refusal (max e.moment moment) exports.rows exports.waits effective e.ask)
+    (lease_refusal config.lease_ms (max e.moment moment) (live_calls (table config (places config events)) (lease_calls (places config events))) (call_with (is_exported exports.rows) (max e.moment moment) e.ask)))) r)
 
--- There was room, and the lease table refused.
-pub told-step : (config : SpaceConfig) (events : List Event) (e : Event) (leases : LeaseTable) (exports : ExportTable) (runs : List Run) (withdrawn : List Withdrawal) (told opened used moment : ℕ) (effective : Bool) (refused : Refused) →
+-- The refusal where there was room.
+refused-then : (config : SpaceConfig) (events : List Event) (e : Event) (leases : LeaseTable) (exports : ExportTable) (runs : List Run) (withdrawn : List Withdrawal) (told opened used moment : ℕ) (effective : Bool) →
     IsAsked config events e leases exports runs withdrawn told opened used moment effective → room_refusal used (length runs) (length exports.rows) effective e.ask ≡ None →
-    ForEachLogBy (max e.moment moment) leases (λ lease calls. Agrees {T = Unit {0}} (lease_refusal lease (max e.moment moment) calls (call_with (is_exported exports.rows) (max e.moment moment) e.ask)) (Err refused)) → Step config events e (Err refused) events
-told-step config events e leases exports runs withdrawn told opened used moment effective refused q none answer =
+    refusal limits config (places config events) e
+    ≡ first_of_two (await_refusal (max e.moment moment) exports.rows exports.waits effective e.ask)
+    (lease_refusal config.lease_ms (max e.moment moment) (live_calls (table config (places config events)) (lease_calls (places config events))) (call_with (is_exported exports.rows) (max e.moment moment) e.ask))
+refused-then config events e leases exports runs withdrawn told opened used moment effective q none =
+    refused-as config events e leases exports runs withdrawn told opened used moment effective q
+    ∙ ap (λ x. first_of_two x (first_of_two (await_refusal (max e.moment moment) exports.rows exports.waits effective e.ask)
+    (lease_refusal config.lease_ms (max e.moment moment) (live_calls (table config (places config events)) (lease_calls (places config events))) (call_with (is_exported exports.rows) (max e.moment moment) e.ask)))) none
+
+-- There was room, and none for the references that are returned.
+pub await-step : (config : SpaceConfig) (events : List Event) (e : Event) (leases : LeaseTable) (exports : ExportTable) (runs : List Run) (withdrawn : List Withdrawal) (told opened used moment : ℕ) (effective : Bool) (refused : Refused) →
+    IsAsked config events e leases exports runs withdrawn told opened used moment effective → room_refusal used (length runs) (length exports.rows) effective e.ask ≡ None →
+    Agrees {T = Unit {0}} (await_refusal (max e.moment moment) exports.rows exports.waits effective e.ask) (Err refused) → Step config events e (Err refused) events
+await-step config events e leases exports runs withdrawn told opened used moment effective refused q none answer =
     let P : Option Refused → Type 0 = λ x. Agrees {T = Unit {0}} x (Err refused) in
     step-agrees config events e refused
-    (subst P (sym (refused-as config events e leases exports runs withdrawn told opened used moment effective q
-    ∙ ap (λ x. first_of_two x (lease_refusal config.lease_ms (max e.moment moment) (live_calls (table config (places config events)) (lease_calls (places config events))) (call_with (is_exported exports.rows) (max e.moment moment) e.ask))) none))
+    (subst P (sym (refused-then config events e leases exports runs withdrawn told opened used moment effective q none))
+    (first (await_refusal (max e.moment moment) exports.rows exports.waits effective e.ask)
+    (lease_refusal config.lease_ms (max e.moment moment) (live_calls (table config (places config events)) (lease_calls (places config events))) (call_with (is_exported exports.rows) (max e.moment moment) e.ask)) answer))
+  where
+    first : (o more : Option Refused) → Agrees {T = Unit {0}} o (Err refused) → Agrees {T = Unit {0}} (first_of_two o more) (Err refused)
+    first o more (inl r) = inl (ap (λ x. first_of_two x more) r)
+    first o more (inr r) = inr r
+
+-- There was room for both, and the lease table refused.
+pub told-step : (config : SpaceConfig) (events : List Event) (e : Event) (leases : LeaseTable) (exports : ExportTable) (runs : List Run) (withdrawn : List Withdrawal) (told opened used moment : ℕ) (effective : Bool) (refused : Refused) →
+    IsAsked config events e leases exports runs withdrawn told opened used moment effective → room_refusal used (length runs) (length exports.rows) effective e.ask ≡ None → await_refusal (max e.moment moment) exports.rows exports.waits effective e.ask ≡ None →
+    ForEachLogBy (max e.moment moment) leases (λ lease calls. Agrees {T = Unit {0}} (lease_refusal lease (max e.moment moment) calls (call_with (is_exported exports.rows) (max e.moment moment) e.ask)) (Err refused)) → Step config events e (Err refused) events
+told-step config events e leases exports runs withdrawn told opened used moment effective refused q none fit answer =
+    let P : Option Refused → Type 0 = λ x. Agrees {T = Unit {0}} x (Err refused) in
+    step-agrees config events e refused
+    (subst P (sym (refused-then config events e leases exports runs withdrawn told opened used moment effective q none
+    ∙ ap (λ x. first_of_two x (lease_refusal config.lease_ms (max e.moment moment) (live_calls (table config (places config events)) (lease_calls (places config events))) (call_with (is_exported exports.rows) (max e.moment moment) e.ask))) fit))
     (answer config.lease_ms moment (live_calls (table config (places config events)) (lease_calls (places config events))) q.keeps.stands.leases_stand (omega arith)))
 
 taken : (config : SpaceConfig) (events : List Event) (e : Event) (leases : LeaseTable) (exports : ExportTable) (runs : List Run) (withdrawn : List Withdrawal) (told opened used moment : ℕ) (effective : Bool) →
-    IsAsked config events e leases exports runs withdrawn told opened used moment effective → room_refusal used (length runs) (length exports.rows) effective e.ask ≡ None →
+    IsAsked config events e leases exports runs withdrawn told opened used moment effective → room_refusal used (length runs) (length exports.rows) effective e.ask ≡ None → await_refusal (max e.moment moment) exports.rows exports.waits effective e.ask ≡ None →
     ForEachLogBy (max e.moment moment) leases (λ lease calls. lease_refusal lease (max e.moment moment) calls (call_with (is_exported exports.rows) (max e.moment moment) e.ask) ≡ None) → refusal limits config (places config events) e ≡ None
-taken config events e leases exports runs withdrawn told opened used moment effective q none answer =
-    refused-as config events e leases exports runs withdrawn told opened used moment effective q
-    ∙ ap (λ x. first_of_two x (lease_refusal config.lease_ms (max e.moment moment) (live_calls (table config (places config events)) (lease_calls (places config events))) (call_with (is_exported exports.rows) (max e.moment moment) e.ask))) none
+taken config events e leases exports runs withdrawn told opened used moment effective q none fit answer =
+    refused-then config events e leases exports runs withdrawn told opened used moment effective q none
+    ∙ ap (λ x. first_of_two x (lease_refusal config.lease_ms (max e.moment moment) (live_calls (table config (places config events)) (lease_calls (places config events))) (call_with (is_exported exports.rows) (max e.moment moment) e.ask))) fit
     ∙ answer config.lease_ms moment (live_calls (table config (places config events)) (lease_calls (places config events))) q.keeps.stands.leases_stand (omega arith)
 
 -- WHAT IS KNOWN once it has acted, and nothing is withdrawn yet.
@@ -97,9 +125,10 @@ pub record HasActed (config : SpaceConfig) (events : List Event) (e : Event) (le
   pub asked : IsAsked config events e leases exports runs withdrawn told opened used moment effective
   pub early : e.moment < 2 ^ 62
   pub room : room_refusal used (length runs) (length exports.rows) effective e.ask ≡ None
+  pub fit : await_refusal (max e.moment moment) exports.rows exports.waits effective e.ask ≡ None
   pub unrefused : ForEachLogBy (max e.moment moment) leases (λ lease calls. lease_refusal lease (max e.moment moment) calls (call_with (is_exported exports.rows) (max e.moment moment) e.ask) ≡ None)
   pub told_leases : ForEachLogBy (max e.moment moment) leases (λ lease calls. StandsFor lease leases1 (max e.moment moment) (call_with (is_exported exports.rows) (max e.moment moment) e.ask ++ calls))
-  pub act : t ≡ acted effective e.ask exports
+  pub act : t ≡ acted effective (max e.moment moment) e.ask exports
 
 is-acted : (config : SpaceConfig) (events : List Event) (e : Event) (leases leases1 : LeaseTable) (exports t : ExportTable) (runs : List Run) (withdrawn : List Withdrawal) (told opened used moment : ℕ) (effective : Bool) →
     HasActed config events e leases leases1 exports t runs withdrawn told opened used moment effective → IsActed config events e leases1 t (acted_runs effective e.by e.ask runs)
@@ -115,8 +144,8 @@ is-acted config events e leases leases1 exports t runs withdrawn told opened use
       leases_stand = subst T k.stands.moment_is
           (subst L (call-alike (is_exported exports.rows) (has (table config (places config events))) (rows-has config events leases exports runs withdrawn told opened used moment k) (max e.moment moment) e.ask)
           (a.told_leases config.lease_ms moment (live_calls (table config (places config events)) (lease_calls (places config events))) k.stands.leases_stand (omega arith)));
-      rows_are = ap (λ (x : ExportTable). x.rows) (a.act ∙ ap (λ b. acted b e.ask exports) eff) ∙ rows-act config events e exports a.asked.built k.stands.space_is (k.stands.added_is ∙ k.stands.opened_is) k.stands.rows_are;
-      waits_stand = subst W (sym a.act) (waits-act config events e exports effective a.asked.built (subst N k.stands.moment_is k.stands.waits_stand));
+      rows_are = ap (λ (x : ExportTable). x.rows) (a.act ∙ ap (λ b. acted b (max e.moment moment) e.ask exports) eff) ∙ rows-act config events e exports (max e.moment moment) a.asked.built k.stands.space_is (k.stands.added_is ∙ k.stands.opened_is) k.stands.rows_are;
+      waits_stand = subst W (sym a.act) (waits-act config events e exports effective (max e.moment moment) a.asked.built (ap (max e.moment) k.stands.moment_is) eff k.stands.space_is k.stands.ack_is (k.stands.added_is ∙ k.stands.opened_is) k.stands.rows_are (subst N k.stands.moment_is k.stands.waits_stand));
       runs_stand = subst R (sym eff) (runs-act config events e runs a.asked.built k.stands.runs_stand);
     }
 
@@ -157,27 +186,28 @@ keeps-room config events leases x y runs withdrawn told opened used moment room 
     keeps-alike config events leases x y runs withdrawn told opened used moment (ap (λ (t : ExportTable). t.space) e) (ap (λ (t : ExportTable). t.ack) e) (ap (λ (t : ExportTable). t.added) e) (ap (λ (t : ExportTable). t.rows) e) (ap (λ (t : ExportTable). t.waits) e) k
 
 -- An ask leaves the table's space and duration, and adds as many objects as it exports.
-pub record ActsOn (a : Ask) (x t : ExportTable) : Type 0 where
+pub record ActsOn (effective : Bool) (a : Ask) (x t : ExportTable) : Type 0 where
   pub space : t.space ≡ x.space
   pub ack : t.ack ≡ x.ack
-  pub added : t.added ≡ x.added + opens a
+  pub added : t.added ≡ x.added + opens effective a
 
-pub acts-on : (effective : Bool) (a : Ask) (x : ExportTable) → IsBuilt a → ActsOn a x (acted effective a x)
-acts-on effective (Open kind pinned) x b = record { space = refl; ack = refl; added = refl }
-acts-on true (Begin o) x b = record { space = refl; ack = refl; added = omega arith }
-acts-on false (Begin o) x b = record { space = refl; ack = refl; added = omega arith }
-acts-on true (Abandon o) x b = record { space = refl; ack = refl; added = omega arith }
-acts-on false (Abandon o) x b = record { space = refl; ack = refl; added = omega arith }
-acts-on effective (Ack u) x b = record { space = refl; ack = refl; added = omega arith }
-acts-on effective (Dirty y z v w) x b = record { space = refl; ack = refl; added = omega arith }
-acts-on effective (Clean y z v w) x b = record { space = refl; ack = refl; added = omega arith }
-acts-on effective Tick x b = record { space = refl; ack = refl; added = omega arith }
-acts-on effective (Finish y z v w) x b = absurd b
-acts-on effective (Bind y z) x b = absurd b
-acts-on effective (Rebind y z) x b = absurd b
-acts-on effective (Unbind y) x b = absurd b
-acts-on effective (Lookup y z) x b = absurd b
-acts-on effective ListNames x b = absurd b
+pub acts-on : (effective : Bool) (at : ℕ) (a : Ask) (x : ExportTable) → IsBuilt a → ActsOn effective a x (acted effective at a x)
+acts-on effective at (Open kind pinned) x b = record { space = refl; ack = refl; added = refl }
+acts-on true at (Begin o) x b = record { space = refl; ack = refl; added = omega arith }
+acts-on false at (Begin o) x b = record { space = refl; ack = refl; added = omega arith }
+acts-on true at (Finish o made listed u) x b = record { space = refl; ack = refl; added = refl }
+acts-on false at (Finish o made listed u) x b = record { space = refl; ack = refl; added = omega arith }
+acts-on true at (Abandon o) x b = record { space = refl; ack = refl; added = omega arith }
+acts-on false at (Abandon o) x b = record { space = refl; ack = refl; added = omega arith }
+acts-on effective at (Ack u) x b = record { space = refl; ack = refl; added = omega arith }
+acts-on effective at (Dirty y z v w) x b = record { space = refl; ack = refl; added = omega arith }
+acts-on effective at (Clean y z v w) x b = record { space = refl; ack = refl; added = omega arith }
+acts-on effective at Tick x b = record { space = refl; ack = refl; added = omega arith }
+acts-on effective at (Bind y z) x b = absurd b
+acts-on effective at (Rebind y z) x b = absurd b
+acts-on effective at (Unbind y) x b = absurd b
+acts-on effective at (Lookup y z) x b = absurd b
+acts-on effective at ListNames x b = absurd b
 
 kept-alike : (lease n k : ℕ) (calls : List Call) (us ws : List Wait) (rs ss : List Export) → n ≡ k → us ≡ ws → rs ≡ ss →
     filter (row_kept n (held_by lease (max n k) calls) us) rs ≡ filter (row_kept k (held_by lease k calls) ws) ss
@@ -212,33 +242,33 @@ goes-now config events e leases leases1 leases2 exports t x3 runs withdrawn told
 pub turn-keeps : (config : SpaceConfig) (events : List Event) (e : Event) (leases leases1 leases2 : LeaseTable) (exports t x3 : ExportTable) (runs : List Run) (withdrawn : List Withdrawal) (told opened used moment time : ℕ) (effective : Bool) (told_gone all_gone : List ObjId) →
     HasActed config events e leases leases1 exports t runs withdrawn told opened used moment effective → time ≡ max e.moment moment → HasWithdrawn leases1 leases2 t x3 time told_gone all_gone →
     (place told' opened' used' : ℕ) (events' : List Event) (runs' : List Run) (withdrawn' : List Withdrawal) → place ≡ length events → events' ≡ events ++ e ∷ [] → runs' ≡ acted_runs effective e.by e.ask runs →
-    withdrawn' ≡ withdrawn ++ map (withdrawal_at place) (drop (length told_gone) all_gone) → told' ≡ told_after told (length withdrawn') e.ask → opened' ≡ opened + opens e.ask → used' ≡ used + units_of e.ask →
+    withdrawn' ≡ withdrawn ++ map (withdrawal_at place) (drop (length told_gone) all_gone) → told' ≡ told_after told (length withdrawn') e.ask → opened' ≡ opened + opens effective e.ask → used' ≡ used + units_of e.ask →
     Keeps config events' leases2 x3 runs' withdrawn' told' opened' used' time
 turn-keeps config events e leases leases1 leases2 exports t x3 runs withdrawn told opened used moment time effective told_gone all_gone a m w place told' opened' used' events' runs' withdrawn' at ev rn wd tl op us =
     let d = is-acted config events e leases leases1 exports t runs withdrawn told opened used moment effective a in
     let k = a.asked.keeps in
     let same : time ≡ max e.moment (now (places config events)) = m ∙ ap (max e.moment) k.stands.moment_is in
     let kept = w.kept config.lease_ms (max e.moment (now (places config events))) (told_calls config events e) d.leases_stand in
-    let on = acts-on effective e.ask exports a.asked.built in
+    let on = acts-on effective (max e.moment moment) e.ask exports a.asked.built in
     let goes = goes-alike config.lease_ms time (max e.moment (now (places config events))) (told_calls config events e) t.waits t.waits t.rows t.rows same refl refl in
     let L : List ObjId → Type 0 = λ os. StandsFor config.lease_ms leases2 (max e.moment (now (places config events))) (map (without_all os) (told_calls config events e)) in
     let rest : drop (length told_gone) all_gone ≡ going_now config events e t =
     ap (drop (length told_gone)) (goes-now config events e leases leases1 leases2 exports t x3 runs withdrawn told opened used moment time effective told_gone all_gone a m w) ∙ drop-append_seam told_gone (going_now config events e t) in
     let all : withdrawn' ≡ withdrawn_then config events e t withdrawn = wd ∙ ap (λ n. withdrawn ++ map (withdrawal_at n) (drop (length told_gone) all_gone)) at ∙ ap (λ os. withdrawn ++ map (withdrawal_at (length events)) os) rest in
     let pushed : Keeps config (events ++ e ∷ []) leases2 (left config events e t) (acted_runs effective e.by e.ask runs) (withdrawn_then config events e t withdrawn)
-    (told_after told (length (withdrawn_then config events e t withdrawn)) e.ask) (opened + opens e.ask) (used + units_of e.ask) (max e.moment (now (places config events))) =
-    keeps-push config events e leases leases1 leases2 exports t runs (acted_runs effective e.by e.ask runs) withdrawn told opened used moment k a.asked.built a.early
-    (taken config events e leases exports runs withdrawn told opened used moment effective a.asked a.room a.unrefused) d
+    (told_after told (length (withdrawn_then config events e t withdrawn)) e.ask) (opened + opens effective e.ask) (used + units_of e.ask) (max e.moment (now (places config events))) =
+    keeps-push config events e leases leases1 leases2 exports t runs (acted_runs effective e.by e.ask runs) withdrawn told opened used moment effective (is-effective config events e leases exports runs withdrawn told opened used moment effective a.asked) k a.asked.built a.early
+    (taken config events e leases exports runs withdrawn told opened used moment effective a.asked a.room a.fit a.unrefused) d
     (ap (λ (x : ExportTable). x.space) a.act ∙ on.space ∙ k.stands.space_is) (ap (λ (x : ExportTable). x.ack) a.act ∙ on.ack ∙ k.stands.ack_is)
-    (ap (λ (x : ExportTable). x.added) a.act ∙ on.added ∙ ap (λ n. n + opens e.ask) k.stands.added_is)
+    (ap (λ (x : ExportTable). x.added) a.act ∙ on.added ∙ ap (λ n. n + opens effective e.ask) k.stands.added_is)
     (subst L goes (w.dropped config.lease_ms (max e.moment (now (places config events))) (told_calls config events e) d.leases_stand)) in
     let now_kept = keeps-alike config (events ++ e ∷ []) leases2 (left config events e t) x3 (acted_runs effective e.by e.ask runs) (withdrawn_then config events e t withdrawn)
-    (told_after told (length (withdrawn_then config events e t withdrawn)) e.ask) (opened + opens e.ask) (used + units_of e.ask) (max e.moment (now (places config events)))
+    (told_after told (length (withdrawn_then config events e t withdrawn)) e.ask) (opened + opens effective e.ask) (used + units_of e.ask) (max e.moment (now (places config events)))
     (ap (λ (x : ExportTable). x.space) kept) (ap (λ (x : ExportTable). x.ack) kept) (ap (λ (x : ExportTable). x.added) kept)
     (ap (λ (x : ExportTable). x.rows) kept ∙ kept-alike config.lease_ms time (max e.moment (now (places config events))) (told_calls config events e) t.waits t.waits t.rows t.rows same refl refl)
     (ap (λ (x : ExportTable). x.waits) kept ∙ ap (λ n. waiting n t.waits) same) pushed in
-    let N : ℕ → Type 0 = λ n. Keeps config (events ++ e ∷ []) leases2 x3 (acted_runs effective e.by e.ask runs) (withdrawn_then config events e t withdrawn) (told_after told (length (withdrawn_then config events e t withdrawn)) e.ask) (opened + opens e.ask) (used + units_of e.ask) n in
-    let U : ℕ → Type 0 = λ n. Keeps config (events ++ e ∷ []) leases2 x3 (acted_runs effective e.by e.ask runs) (withdrawn_then config events e t withdrawn) (told_after told (length (withdrawn_then config events e t withdrawn)) e.ask) (opened + opens e.ask) n time in
+    let N : ℕ → Type 0 = λ n. Keeps config (events ++ e ∷ []) leases2 x3 (acted_runs effective e.by e.ask runs) (withdrawn_then config events e t withdrawn) (told_after told (length (withdrawn_then config events e t withdrawn)) e.ask) (opened + opens effective e.ask) (used + units_of e.ask) n in
+    let U : ℕ → Type 0 = λ n. Keeps config (events ++ e ∷ []) leases2 x3 (acted_runs effective e.by e.ask runs) (withdrawn_then config events e t withdrawn) (told_after told (length (withdrawn_then config events e t withdrawn)) e.ask) (opened + opens effective e.ask) n time in
     let O : ℕ → Type 0 = λ n. Keeps config (events ++ e ∷ []) leases2 x3 (acted_runs effective e.by e.ask runs) (withdrawn_then config events e t withdrawn) (told_after told (length (withdrawn_then config events e t withdrawn)) e.ask) n used' time in
     let W : List Withdrawal → Type 0 = λ ws. Keeps config (events ++ e ∷ []) leases2 x3 (acted_runs effective e.by e.ask runs) ws (told_after told (length ws) e.ask) opened' used' time in
     let T : ℕ → Type 0 = λ n. Keeps config (events ++ e ∷ []) leases2 x3 (acted_runs effective e.by e.ask runs) withdrawn' n opened' used' time in
@@ -254,7 +284,7 @@ pub turn-step : (config : SpaceConfig) (events : List Event) (e : Event) (leases
 turn-step config events e leases leases1 leases2 exports t x3 runs withdrawn told opened used moment time effective told_gone all_gone a m w place reply gone events' at ev re tg go =
     let P : List Event → Type 0 = λ es. Step config events e (Ok (record { place = place; reply = reply; gone = gone })) es in
     subst P (sym ev) (step-taken config events e (record { place = place; reply = reply; gone = gone })
-    (taken config events e leases exports runs withdrawn told opened used moment effective a.asked a.room a.unrefused)
+    (taken config events e leases exports runs withdrawn told opened used moment effective a.asked a.room a.fit a.unrefused)
     (three place (length events) reply (reply_at config opened exports.rows effective e.ask) gone (map (λ (w : Withdrawal). w.object) (drop told withdrawn) ++ going_now config events e t) at re
     (go ∙ goes-now config events e leases leases1 leases2 exports t x3 runs withdrawn told opened used moment time effective told_gone all_gone a m w ∙ ap (λ l. l ++ going_now config events e t) tg)
     ∙ sym (turn-is config events e leases leases1 exports t runs (acted_runs effective e.by e.ask runs) withdrawn told opened used moment effective a.asked.keeps a.asked.built

@@ -160,7 +160,7 @@ waits-await ref until ack m t h ws le s r =
 abbrev pub waiting_refs : {W : Type 0} → (W → Returned) → (W → ℕ) → ℕ → List W → List Returned
 waiting_refs ref until t ws = map ref (filter (λ w. nat_lt t (until w)) ws)
 
-refs-any : {W : Type 0} (ref : W → Returned) (until : W → ℕ) (t : ℕ) (r : Returned) (ws : List W) → list_any (same_returned r) (waiting_refs ref until t ws) ≡ list_any (λ w. nat_lt t (until w) && same_returned (ref w) r) ws
+pub refs-any : {W : Type 0} (ref : W → Returned) (until : W → ℕ) (t : ℕ) (r : Returned) (ws : List W) → list_any (same_returned r) (waiting_refs ref until t ws) ≡ list_any (λ w. nat_lt t (until w) && same_returned (ref w) r) ws
 refs-any ref until t r [] = refl
 refs-any {W} ref until t r (w ∷ ws) = go (nat_lt t (until w)) (refs-any ref until t r ws)
   where

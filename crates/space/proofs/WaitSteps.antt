@@ -111,23 +111,25 @@ once-last {W} ref (v ∷ ws) w once h =
     let two = or_parts (same_returned (ref v) (ref w)) (list_any (λ u. same_returned (ref u) (ref w)) ws) h in
     (list_any-append (λ u. same_returned (ref v) (ref u)) ws (w ∷ []) ∙ rw (once.0, two.0) refl, once-last ref ws w once.1 two.1)
 
+-- Each stays there once.
+pub listed-once : {W : Type 0} (ref : W → Returned) (until : W → ℕ) (make : Returned → ℕ → W) (ack m : ℕ) (r : Returned) (ws : List W) → ((s : Returned) (n : ℕ) → ref (make s n) ≡ s) → waits_once ref ws →
+    waits_once ref (listed ref until make ack m r ws)
+listed-once ref until make ack m r ws is once =
+    once-last ref (but ref r (going until m ws)) (make r (max (m + ack) (until_in ref until r ws)))
+    (AllOnce-filter (λ a b. same_returned (ref a) (ref b)) (λ v. not (same_returned (ref v) r)) (going until m ws) (AllOnce-filter (λ a b. same_returned (ref a) (ref b)) (λ v. nat_lt m (until v)) ws once))
+    (ap (λ x. list_any (λ v. same_returned (ref v) x) (but ref r (going until m ws))) (is r (max (m + ack) (until_in ref until r ws))) ∙ but-none ref r (going until m ws))
+
 -- ONE MORE WAIT.
 pub waits-listed : {W : Type 0} (ref : W → Returned) (until : W → ℕ) (make : Returned → ℕ → W) (ack m : ℕ) (f : Returned → ℕ) (r : Returned) (ws : List W) →
     ((s : Returned) (n : ℕ) → ref (make s n) ≡ s) → ((s : Returned) (n : ℕ) → until (make s n) ≡ n) → f r ≤ m + ack → WaitsFor ref until m f ws →
     WaitsFor ref until m (λ s. if same_returned r s then m + ack else f s) (listed ref until make ack m r ws)
 waits-listed {W} ref until make ack m f r ws is at bound w = record {
-  once = once-last ref (but ref r (going until m ws)) (make r k) kept_once (ap (λ x. list_any (λ v. same_returned (ref v) x) (but ref r (going until m ws))) (is r k) ∙ but-none ref r (going until m ws));
+  once = listed-once ref until make ack m r ws is w.once;
   each = λ s. each s (same_returned r s) refl;
 }
   where
     k : ℕ
     k = max (m + ack) (until_in ref until r ws)
-
-    going_once : waits_once ref (going until m ws)
-    going_once = AllOnce-filter (λ a b. same_returned (ref a) (ref b)) (λ v. nat_lt m (until v)) ws w.once
-
-    kept_once : waits_once ref (but ref r (going until m ws))
-    kept_once = AllOnce-filter (λ a b. same_returned (ref a) (ref b)) (λ v. not (same_returned (ref v) r)) (going until m ws) going_once
 
     new_until : (v : ℕ) → v ≡ max (m + ack) (until_in ref until r ws) → max m (until_in ref until r ws) ≡ max m (f r) → max m v ≡ max m (m + ack)
     new_until v e h = omega (arith, e, h, bound)

@@ -1,30 +1,37 @@
 -- What an event does to what a space keeps.
-use Rattle.std.specs.Prelude.{◌≡◌, ℕ, ◌+◌, Bool, true, List, [], ◌∷◌, ◌++◌, ◌&&◌, nat_lt, Option, Some, None, Result, Ok, Err, ◌⊎◌, if◌then◌else◌}
+use Rattle.std.specs.Prelude.{◌≡◌, ℕ, ◌+◌, Bool, true, false, not, List, [], ◌∷◌, ◌++◌, length, map, filter, ◌&&◌, nat_lt, Option, Some, None, Result, Ok, Err, ◌⊎◌, if◌then◌else◌}
 use Rattle.std.specs.List.{list_any}
+use Rattle.object_ids.specs.declared.ids.Uid.{Uid}
 use Rattle.object_ids.specs.declared.ids.ObjId.{ObjId}
-use Rattle.object_ids.specs.declared.ids.FullKind.TheVariants.{Exports, Clients, Pairs}
+use Rattle.object_ids.specs.declared.ids.FullKind.TheVariants.{Exports, Awaiting, Clients, Pairs}
+use Rattle.object_ids.specs.Same.{same_id}
 use Rattle.history.specs.declared.asks.SpaceConfig.{SpaceConfig}
 use Rattle.history.specs.declared.asks.Event.{Event}
 use Rattle.history.specs.declared.asks.Ask.{Ask}
 use Rattle.history.specs.declared.asks.Ask.TheVariants.{Open, Begin, Finish, Abandon, Dirty, Ack}
 use Rattle.history.specs.declared.calls.Call.{Call}
-use Rattle.history.specs.declared.limits.TheConstants.{MAX_EXPORTS, MAX_CLIENTS, MAX_PAIRS, MAX_UNITS}
+use Rattle.history.specs.declared.limits.TheConstants.{MAX_EXPORTS, MAX_AWAITING, MAX_CLIENTS, MAX_PAIRS, MAX_UNITS}
+use Rattle.history.specs.declared.places.Returned.{Returned}
 use Rattle.history.specs.declared.places.Withdrawal.{Withdrawal}
+use Rattle.history.specs.Awaiting.{same_returned}
 use Rattle.history.specs.declared.replies.Refused.{Refused}
 use Rattle.history.specs.declared.replies.Refused.TheVariants.{HistoryFull, Full, OutOfMemory}
 use Rattle.history.specs.declared.replies.Reply.{Reply}
-use Rattle.history.specs.declared.replies.Reply.TheVariants.{Opened, Started, NoObject, NotRunning, Granted, Done}
+use Rattle.history.specs.declared.replies.Reply.TheVariants.{Opened, Started, NoObject, Finished, NotRunning, Granted, Done}
 use Rattle.history.specs.Leases.{is_dirty}
 use Rattle.history.specs.Limits.{units_of, is_begin, is_end}
+use Rattle.history.specs.Lists.{distinct}
 use Rattle.history.specs.Places.{id_at}
 use Rattle.history.specs.Replies.{is_abandon}
 use Rattle.dgc_server.specs.Counts.{clients_with, pairs_with_call}
 use Rattle.export_table.specs.declared.rows.Export.{Export}
 use Rattle.export_table.specs.Rows.{is_exported, kind_of, new_row, changed, begun, ended}
 use Rattle.export_table.specs.Table.{ExportTable}
-use Rattle.export_table.specs.Waits.{acknowledged}
+use Rattle.export_table.specs.Waits.{waiting, is_waiting, listed as listed_once, acknowledged}
+use Rattle.export_table.specs.declared.waits.Wait.{Wait}
 use Rattle.space.specs.declared.runs.Run.{Run}
 use Rattle.space.specs.Runs.{is_run, without_first}
+use Rattle.space.specs.Waits.{reference_of}
 
 abbrev pub event_of : ℕ → ℕ → Ask → Event
 event_of by moment ask = record { by = by; moment = moment; ask = ask }
@@ -34,25 +41,66 @@ event_of by moment ask = record { by = by; moment = moment; ask = ask }
 -- Whether an ask of a connection is effective.
 abbrev pub effective_by : List Export → List Run → ℕ → Ask → Bool
 effective_by rows runs by (Begin object) = is_exported rows object
+effective_by rows runs by (Finish object made listed uid) = list_any (is_run by object) runs
 effective_by rows runs by (Abandon object) = list_any (is_run by object) runs
 effective_by rows runs by _ = true
 
 -- How many objects it exports.
-abbrev pub opens : Ask → ℕ
-opens (Open kind pinned) = 1
-opens _ = 0
+abbrev pub opens : Bool → Ask → ℕ
+opens effective (Open kind pinned) = 1
+opens effective (Finish object made listed uid) = if effective then length made else 0
+opens effective _ = 0
 
--- The export table after an ask, before anything is withdrawn.
-abbrev pub acted : Bool → Ask → ExportTable → ExportTable
-acted effective (Open kind pinned) t = record t { added = t.added + 1; rows = t.rows ++ new_row (id_at t.space t.added) kind pinned ∷ [] }
-acted effective (Begin object) t = if effective then record t { rows = changed begun object t.rows } else t
-acted effective (Abandon object) t = if effective then record t { rows = changed ended object t.rows } else t
-acted effective (Ack uid) t = record t { waits = acknowledged uid t.waits }
-acted effective _ t = t
+-- Objects of these kinds as they are added, and their identifiers, the first of them as the space's k-th.
+abbrev pub new_rows : Uid → ℕ → List ℕ → List Export
+new_rows space k [] = []
+new_rows space k (kind ∷ kinds) = new_row (id_at space k) kind false ∷ new_rows space (k + 1) kinds
+
+abbrev pub new_ids : Uid → ℕ → List ℕ → List ObjId
+new_ids space k [] = []
+new_ids space k (kind ∷ kinds) = id_at space k ∷ new_ids space (k + 1) kinds
+
+-- The objects to which an ask returns references, where the next object is the space's k-th: the new ones, and those of `listed` that are
+-- exported.
+abbrev pub returned_by : Uid → ℕ → List Export → Bool → Ask → List ObjId
+returned_by space k rows effective (Finish object made listed uid) = if effective then new_ids space k made ++ filter (is_exported rows) listed else []
+returned_by space k rows effective _ = []
+
+-- References to objects in a return, and how many references await at the moment t, these included.
+abbrev pub references : Uid → List ObjId → List Returned
+references uid os = map (λ o. record { object = o; uid = uid }) os
+
+abbrev pub awaiting_with : ℕ → Uid → List ObjId → List Wait → ℕ
+awaiting_with t uid os waits = length (distinct same_returned (map reference_of (waiting t waits) ++ references uid os))
+
+-- The waits once objects are listed in a return at the moment t, one after another.
+abbrev pub listed_each : ℕ → ℕ → Uid → List ObjId → List Wait → List Wait
+listed_each ack t uid [] waits = waits
+listed_each ack t uid (o ∷ os) waits = listed_each ack t uid os (listed_once ack t o uid waits)
+
+-- The table after a call of an object returns at the moment t: it has ended, objects of the kinds `made` are added, and references to the
+-- objects `os` await.
+abbrev pub returned_from : ℕ → ObjId → List ℕ → List ObjId → Uid → ExportTable → ExportTable
+returned_from t object made os uid x = record x {
+  added = x.added + length made;
+  rows = changed ended object x.rows ++ new_rows x.space x.added made;
+  waits = listed_each x.ack t uid os x.waits;
+}
+
+-- The export table after an ask at the moment t, before anything is withdrawn.
+abbrev pub acted : Bool → ℕ → Ask → ExportTable → ExportTable
+acted effective t (Open kind pinned) x = record x { added = x.added + 1; rows = x.rows ++ new_row (id_at x.space x.added) kind pinned ∷ [] }
+acted effective t (Begin object) x = if effective then record x { rows = changed begun object x.rows } else x
+acted effective t (Finish object made listed uid) x =
+    if effective then returned_from t object made (new_ids x.space x.added made ++ filter (is_exported x.rows) listed) uid x else x
+acted effective t (Abandon object) x = if effective then record x { rows = changed ended object x.rows } else x
+acted effective t (Ack uid) x = record x { waits = acknowledged uid x.waits }
+acted effective t _ x = x
 
 -- The running calls after an ask of a connection.
 abbrev pub acted_runs : Bool → ℕ → Ask → List Run → List Run
 acted_runs effective by (Begin object) runs = if effective then runs ++ record { by = by; object = object } ∷ [] else runs
+acted_runs effective by (Finish object made listed uid) runs = if effective then without_first (is_run by object) runs else runs
 acted_runs effective by (Abandon object) runs = if effective then without_first (is_run by object) runs else runs
 acted_runs effective by _ runs = runs
 
@@ -65,6 +113,7 @@ started_reply (Some kind) = Started kind
 abbrev pub reply_at : SpaceConfig → ℕ → List Export → Bool → Ask → Reply
 reply_at config k rows effective (Open kind pinned) = Opened (id_at config.uid k)
 reply_at config k rows effective (Begin object) = started_reply (kind_of rows object)
+reply_at config k rows effective (Finish object made listed uid) = if effective then Finished (new_ids config.uid k made) else NotRunning
 reply_at config k rows effective (Abandon object) = if effective then Done else NotRunning
 reply_at config k rows effective (Dirty client number asked objects) = Granted config.lease_ms
 reply_at config k rows effective _ = Done
@@ -84,8 +133,21 @@ told_after told all ask = if is_abandon ask then told else all
 abbrev pub room_refusal : ℕ → ℕ → ℕ → Bool → Ask → Option Refused
 room_refusal used running exported effective ask =
     if nat_lt (MAX_UNITS + (if effective && is_end ask then 1 else 0)) (used + running + units_of ask + (if effective && is_begin ask then 1 else 0)) then Some HistoryFull
-    else if nat_lt MAX_EXPORTS (exported + opens ask) then Some (Full Exports)
+    else if nat_lt MAX_EXPORTS (exported + opens effective ask) then Some (Full Exports)
     else None
+
+-- How many references await at the moment t once so many new objects, and these exported ones, are listed in a return.
+abbrev pub awaiting_after : ℕ → Uid → ℕ → List ObjId → List Wait → ℕ
+awaiting_after t uid made live waits = length (waiting t waits) + made + length (filter (λ o. not (is_waiting t o uid waits)) (distinct same_id live))
+
+abbrev pub return_refusal : ℕ → Uid → ℕ → List ObjId → List Wait → Option Refused
+return_refusal t uid made live waits = if nat_lt MAX_AWAITING (awaiting_after t uid made live waits) then Some (Full Awaiting) else None
+
+-- Whether there is no room for the references that an ask returns at the moment t.
+abbrev pub await_refusal : ℕ → List Export → List Wait → Bool → Ask → Option Refused
+await_refusal t rows waits effective (Finish object made listed uid) =
+    if effective then return_refusal t uid (length made) (filter (is_exported rows) listed) waits else None
+await_refusal t rows waits effective _ = None
 
 -- Whether a lease call is refused after others.
 abbrev pub call_refusal : ℕ → ℕ → List Call → Call → Option Refused

@@ -10,15 +10,14 @@ pub record SpaceHistory : Type 0 where
   pub configuration : SpaceConfig
   pub events : List Event
 
--- The asks that are served: the opening of an object, calls of it that return nothing, the calls of the collector, acknowledgements, and
--- the passing of time.
+-- The asks that are served: the opening of an object, calls of it, the calls of the collector, acknowledgements, and the passing of time.
 abbrev pub IsBuilt : Ask → Type 0
 IsBuilt (Open kind pinned) = Unit {0}
 IsBuilt (Dirty client number asked objects) = Unit {0}
 IsBuilt (Clean client number objects strong) = Unit {0}
 IsBuilt Tick = Unit {0}
 IsBuilt (Begin object) = Unit {0}
-IsBuilt (Finish object made listed uid) = ⊥
+IsBuilt (Finish object made listed uid) = Unit {0}
 IsBuilt (Abandon object) = Unit {0}
 IsBuilt (Ack uid) = Unit {0}
 IsBuilt (Bind name object) = ⊥

@@ -1,15 +1,19 @@
 //! What an ask does to the exported objects and to the withdrawals.
-ghost use Rattle.std.specs.Prelude.{◌≡◌, ◌≤◌, ◌<◌, ◌+◌, ◌^◌, ◌++◌, ◌∷◌, [], ℕ, Bool, true, map, drop, length, OnOk, IfOk, vec_len, vec_capacity};
+ghost use Rattle.std.specs.Prelude.{◌≡◌, ◌≤◌, ◌<◌, ◌+◌, ◌^◌, ◌++◌, ◌∷◌, [], ℕ, List, Bool, true, map, drop, length, OnOk, IfOk, vec_len, vec_capacity};
 ghost use Rattle.object_ids.specs.declared.ids.ObjId.{ObjId};
-ghost use Rattle.history.specs.declared.limits.TheConstants.{MAX_EXPORTS};
-ghost use Rattle.history.specs.declared.asks.Ask.TheVariants.{Open, Abandon};
-ghost use Rattle.export_table.specs.Rows.{running_of};
-ghost use Rattle.space.specs.Acts.{acted, opens, withdrawal_at};
+ghost use Rattle.object_ids.specs.declared.ids.Uid.{Uid};
+ghost use Rattle.history.specs.declared.limits.TheConstants.{MAX_EXPORTS, MAX_AWAITING};
+ghost use Rattle.history.specs.declared.asks.Ask.TheVariants.{Abandon, Finish};
+ghost use Rattle.history.specs.Places.{id_at};
+ghost use Rattle.history.proofs.ListLemmas.{Every};
+ghost use Rattle.export_table.specs.Rows.{is_exported, running_of, new_row};
+ghost use Rattle.space.specs.Acts.{acted, awaiting_with, listed_each, new_rows, opens, returned_by, returned_from, withdrawal_at};
+ghost use Rattle.space.specs.Waits.{waits_once, reference_of};
 
 use crate::runs::Run;
 use export_table::Exports;
 use history::{Ask, Event, Withdrawal};
-use object_ids::ObjId;
+use object_ids::{ObjId, Uid};
 use std::alloc::{AllocError, Global};
 
 /// Makes room for what one event adds.
@@ -19,11 +23,16 @@ pub(crate) fn make_room(
     withdrawn: &mut Vec<Withdrawal>,
     exports: &mut Exports,
     objects: usize,
+    opened: u64,
+    returned: usize,
 ) -> Result<(), AllocError>
+    requires few_opened { opened < 2 ^ 32 }
+    requires few_returned { returned < 2 ^ 32 }
     ensures event { OnOk result (vec_len events.new < vec_capacity events.new) }
     ensures run { OnOk result (vec_len runs.new < vec_capacity runs.new) }
     ensures withdrawals { OnOk result (vec_len withdrawn.new + objects ≤ vec_capacity withdrawn.new) }
-    ensures object { OnOk result (1 ≤ exports.new.room.exports) }
+    ensures opened { OnOk result (opened ≤ exports.new.room.exports) }
+    ensures returned { OnOk result (returned ≤ exports.new.room.waits) }
     ensures events { events.new.items ≡ events.old.items }
     ensures runs { runs.new.items ≡ runs.old.items }
     ensures withdrawn { withdrawn.new.items ≡ withdrawn.old.items }
@@ -32,7 +41,7 @@ pub(crate) fn make_room(
     events.reserve(1)?;
     runs.reserve(1)?;
     withdrawn.reserve(objects)?;
-    exports.reserve(1, 0)
+    exports.reserve(opened as u32, returned as u32)
 }
 
 /// The objects of the withdrawals that are still to be told as gone, with room for so many more.
@@ -60,20 +69,38 @@ fn objects_of(alloc: Global, withdrawn: &[Withdrawal]) -> Result<Vec<ObjId>, All
         .collect(alloc)
 }
 
-/// Does what an ask does to the exported objects, but for the withdrawals. There is room for one more.
-pub(crate) fn act(exports: &mut Exports, effective: bool, ask: &Ask)
+/// Does what an ask does to the exported objects at a moment, but for the withdrawals. There is room for what it adds, and it returns
+/// references to the objects `returned`.
+pub(crate) fn act(exports: &mut Exports, effective: bool, now: u64, returned: &[ObjId], ask: &Ask)
     requires few { (o : ObjId) → running_of exports.old.rows o < 2 ^ 31 }
     requires runs { (o : ObjId) → effective ≡ true → ask.now ≡ Abandon o → 0 < running_of exports.old.rows o }
-    requires countable { exports.old.added < 2 ^ 62 }
-    requires room { 1 ≤ exports.old.room.exports }
-    requires within { length exports.old.rows + opens ask.now ≤ MAX_EXPORTS }
-    ensures { exports.new ≡ record (acted effective ask.now exports.old) { room = exports.new.room } }
+    requires returns { (o : ObjId) (made : List ℕ) (listed : List ObjId) (u : Uid) → effective ≡ true → ask.now ≡ Finish o made listed u → 0 < running_of exports.old.rows o }
+    requires countable { exports.old.added + opens effective ask.now < 2 ^ 62 }
+    requires within { length exports.old.rows + opens effective ask.now ≤ MAX_EXPORTS }
+    requires early { now < 2 ^ 62 }
+    requires some { 1 ≤ exports.old.ack }
+    requires once { waits_once reference_of exports.old.waits }
+    requires returned { returned.now ≡ returned_by exports.old.space exports.old.added exports.old.rows effective ask.now }
+    requires awaiting { (o : ObjId) (made : List ℕ) (listed : List ObjId) (u : Uid) → effective ≡ true → ask.now ≡ Finish o made listed u → awaiting_with now u returned.now exports.old.waits ≤ MAX_AWAITING }
+    requires objects_room { opens effective ask.now ≤ exports.old.room.exports }
+    requires waits_room { length returned.now ≤ exports.old.room.waits }
+    ensures { exports.new ≡ record (acted effective now ask.now exports.old) { room = exports.new.room } }
 {
     match ask {
         Ask::Open { kind, pinned } => add(exports, *kind, *pinned),
         Ask::Begin { object } => {
             if effective {
                 let _exported = exports.begin(*object);
+            }
+        }
+        Ask::Finish {
+            object,
+            made,
+            listed: _,
+            uid,
+        } => {
+            if effective {
+                end_with(exports, now, object, made.as_slice(), returned, uid);
             }
         }
         Ask::Abandon { object } => {
@@ -86,16 +113,78 @@ pub(crate) fn act(exports: &mut Exports, effective: bool, ask: &Ask)
     }
 }
 
+/// Ends a call of an object with its return at a moment: adds objects of the kinds `made`, and has references to the objects `returned`,
+/// each of which is then exported, await. There is room for them.
+fn end_with(
+    exports: &mut Exports,
+    now: u64,
+    object: &ObjId,
+    made: &[u32],
+    returned: &[ObjId],
+    uid: &Uid,
+)
+    requires runs { 0 < running_of exports.old.rows object.now }
+    requires countable { exports.old.added + length made.now < 2 ^ 62 }
+    requires within { length exports.old.rows + length made.now ≤ MAX_EXPORTS }
+    requires early { now < 2 ^ 62 }
+    requires some { 1 ≤ exports.old.ack }
+    requires once { waits_once reference_of exports.old.waits }
+    requires exported { Every (λ o. is_exported (exports.old.rows ++ new_rows exports.old.space exports.old.added made.now) o ≡ true) returned.now }
+    requires awaiting { awaiting_with now uid.now returned.now exports.old.waits ≤ MAX_AWAITING }
+    requires objects_room { length made.now ≤ exports.old.room.exports }
+    requires waits_room { length returned.now ≤ exports.old.room.waits }
+    ensures { exports.new ≡ record (returned_from now object.now made.now returned.now uid.now exports.old) { room = exports.new.room } }
+{
+    exports.end(*object);
+    add_all(exports, made);
+    await_all(exports, now, returned, uid);
+}
+
 /// Adds an object, for which there is room.
 fn add(exports: &mut Exports, kind: u32, pinned: bool)
     requires countable { exports.old.added < 2 ^ 62 }
     requires room { 1 ≤ exports.old.room.exports }
     requires within { length exports.old.rows < MAX_EXPORTS }
-    ensures { exports.new ≡ record (acted true (Open kind pinned) exports.old) { room = exports.new.room } }
+    ensures value { let rows = exports.old.rows ++ new_row (id_at exports.old.space exports.old.added) kind pinned ∷ [] in
+        exports.new ≡ record exports.old { added = exports.old.added + 1; rows = rows; room = exports.new.room } }
+    ensures objects_room { exports.old.room.exports ≤ exports.new.room.exports + 1 }
+    ensures waits_room { exports.new.room.waits ≡ exports.old.room.waits }
 {
     match exports.add(kind, pinned) {
         Ok(_id) => {}
         Err(_refused) => {}
+    }
+}
+
+/// Adds objects of these kinds, for which there is room.
+fn add_all(exports: &mut Exports, made: &[u32])
+    requires countable { exports.old.added + length made.now < 2 ^ 62 }
+    requires room { length made.now ≤ exports.old.room.exports }
+    requires within { length exports.old.rows + length made.now ≤ MAX_EXPORTS }
+    ensures value { let rows = exports.old.rows ++ new_rows exports.old.space exports.old.added made.now in
+        exports.new ≡ record exports.old { added = exports.old.added + length made.now; rows = rows; room = exports.new.room } }
+    ensures waits_room { exports.new.room.waits ≡ exports.old.room.waits }
+{
+    for kind in made {
+        add(exports, *kind, false);
+    }
+}
+
+/// Has references to exported objects await, as listed in a return at a moment. There is room for them.
+fn await_all(exports: &mut Exports, now: u64, objects: &[ObjId], uid: &Uid)
+    requires exported { Every (λ o. is_exported exports.old.rows o ≡ true) objects.now }
+    requires early { now < 2 ^ 62 }
+    requires some { 1 ≤ exports.old.ack }
+    requires once { waits_once reference_of exports.old.waits }
+    requires awaiting { awaiting_with now uid.now objects.now exports.old.waits ≤ MAX_AWAITING }
+    requires room { length objects.now ≤ exports.old.room.waits }
+    ensures { exports.new ≡ record exports.old { waits = listed_each exports.old.ack now uid.now objects.now exports.old.waits; room = exports.new.room } }
+{
+    for object in objects {
+        match exports.wait_for(*object, *uid, now) {
+            Ok(()) => {}
+            Err(_refused) => {}
+        }
     }
 }
 

@@ -101,7 +101,11 @@ fn tell_clean(
 }
 
 /// Those of some objects that are exported.
-fn live_among(alloc: Global, exports: &Exports, named: &ObjIds) -> Result<ObjIds, AllocError>
+pub(crate) fn live_among(
+    alloc: Global,
+    exports: &Exports,
+    named: &ObjIds,
+) -> Result<ObjIds, AllocError>
     ensures { IfOk result (λ live. live ≡ filter (is_exported exports.now.rows) named.now) }
 {
     let live = named

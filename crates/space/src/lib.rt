@@ -6,6 +6,7 @@ mod acts;
 mod asks;
 mod calls;
 pub mod journal_text;
+mod returns;
 mod runs;
 #[cfg(test)]
 mod tests;

@@ -56,6 +56,12 @@ pub(crate) fn act_on_runs(runs: &mut Vec<Run>, effective: bool, by: u32, ask: &A
                     object: *object,
                 },
             ),
+            Ask::Finish {
+                object,
+                made: _,
+                listed: _,
+                uid: _,
+            } => drop_first(runs, by, object),
             Ask::Abandon { object } => drop_first(runs, by, object),
             _ => {}
         }

@@ -1,14 +1,14 @@
 //! What no contract says: that events are taken with ample memory, and the outlines of histories that were
 //! worked out by hand.
-ghost use Rattle.std.specs.Prelude.{IsTrue, IfSome};
+ghost use Rattle.std.specs.Prelude.{IsTrue, IfOk, IfSome};
 ghost use Rattle.space.specs.Built.{IsBuilt};
 ghost use Rattle.space.specs.Kept.{HasDurations};
 
-use crate::{Ask, Refused, Reply, Space, SpaceConfig, journal, outline, summary};
+use crate::{Ask, Refused, Reply, Space, SpaceConfig, Turn, journal, outline, summary};
 use history::limits::{END_OF_TIME, MAX_DURATION};
 use journal::lines::{read_event, read_first_line};
-use mod_utf::list::{ByteList, Same};
-use object_ids::{ObjId, ObjIds, Uid, Vmid};
+use mod_utf::list::{ByteList, Kinds, Same};
+use object_ids::{FullKind, ObjId, ObjIds, Uid, Vmid};
 use std::alloc::{AllocError, Global};
 use std::test::Fail;
 
@@ -31,6 +31,12 @@ fn is_served(ask: &Ask) -> bool
     match ask {
         Ask::Open { kind: _, pinned: _ } => true,
         Ask::Begin { object: _ } => true,
+        Ask::Finish {
+            object: _,
+            made: _,
+            listed: _,
+            uid: _,
+        } => true,
         Ask::Abandon { object: _ } => true,
         Ask::Ack { uid: _ } => true,
         Ask::Dirty {
@@ -107,7 +113,7 @@ fn journals_and_summaries_of_histories(rt: HostRuntime) -> Result<(), Fail> {
 #[test]
 fn outlines_of_histories(rt: HostRuntime) -> Result<(), Fail> {
     let alloc = rt.alloc();
-    let rows: [(&str, &[&str], &str); 12] = [
+    let rows: [(&str, &[&str], &str); 21] = [
         (
             "space 2 10 7 9",
             &["0 0 open 2 free", "1 1 open 3 pinned", "0 2 open 1 free"],
@@ -204,6 +210,104 @@ fn outlines_of_histories(rt: HostRuntime) -> Result<(), Fail> {
             ],
             "events 5 units 9 now 4\nobject 16 kind 1 pinned running 0 awaiting 0 held 1 names 0\nlease aa@3/4/5 until 600003\n",
         ),
+        (
+            "space 600000 300000 7 9",
+            &[
+                "0 0 open 2 pinned",
+                "1 10 begin 16",
+                "1 11 finish 16 1 - 1/0/0",
+                "1 12 dirty aa@3/4/5 5 600000 17",
+                "1 13 clean aa@3/4/5 7 weak 17",
+                "1 14 dirty aa@3/4/5 6 600000 17",
+                "1 15 ack 1/0/0",
+            ],
+            "events 7 units 11 now 15\nobject 16 kind 2 pinned running 0 awaiting 0 held 0 names 0\nlease aa@3/4/5 until 600014\nwithdrawn 17 place 6\n",
+        ),
+        (
+            "space 600000 300000 7 9",
+            &[
+                "0 0 open 2 pinned",
+                "1 0 begin 16",
+                "1 0 finish 16 1 - 1/0/0",
+                "1 0 dirty aa@3/4/5 1 600000 17",
+                "1 1 ack 1/0/0",
+                "1 600000 dirty aa@3/4/5 2 600000 17",
+            ],
+            "events 6 units 9 now 600000\nobject 16 kind 2 pinned running 0 awaiting 0 held 0 names 0\nobject 17 kind 1 free running 0 awaiting 0 held 1 names 0\nlease aa@3/4/5 until 1200000\n",
+        ),
+        (
+            "space 600000 300000 7 9",
+            &[
+                "0 0 open 2 pinned",
+                "1 0 begin 16",
+                "1 0 finish 16 1 - 1/0/0",
+                "1 0 dirty aa@3/4/5 1 600000 17",
+                "1 1 ack 1/0/0",
+                "1 600000 dirty aa@3/4/5 2 600000 -",
+            ],
+            "events 6 units 8 now 600000\nobject 16 kind 2 pinned running 0 awaiting 0 held 0 names 0\nlease aa@3/4/5 until 1200000\nwithdrawn 17 place 5\n",
+        ),
+        (
+            "space 600000 300000 7 9",
+            &[
+                "0 0 open 2 pinned",
+                "1 0 begin 16",
+                "1 0 finish 16 1 - 1/0/0",
+                "1 299999 tick",
+            ],
+            "events 4 units 5 now 299999\nobject 16 kind 2 pinned running 0 awaiting 0 held 0 names 0\nobject 17 kind 1 free running 0 awaiting 1 held 0 names 0\n",
+        ),
+        (
+            "space 600000 300000 7 9",
+            &[
+                "0 0 open 2 pinned",
+                "1 0 begin 16",
+                "1 0 finish 16 1 - 1/0/0",
+                "1 299999 tick",
+                "1 300000 tick",
+            ],
+            "events 5 units 6 now 300000\nobject 16 kind 2 pinned running 0 awaiting 0 held 0 names 0\nwithdrawn 17 place 4\n",
+        ),
+        (
+            "space 5 100 -1 -5",
+            &[
+                "0 0 open 1 pinned",
+                "2 0 begin 16",
+                "2 0 finish 16 1,1 - 1/0/0",
+                "2 105 begin 17",
+                "2 226 finish 17 - 17 1/0/1",
+            ],
+            "events 5 units 8 now 226\nobject 16 kind 1 pinned running 0 awaiting 0 held 0 names 0\nobject 17 kind 1 free running 0 awaiting 1 held 0 names 0\nwithdrawn 18 place 3\n",
+        ),
+        (
+            "space 2 50 7 9",
+            &[
+                "0 0 open 2 pinned",
+                "1 4 begin 16",
+                "1 4 finish 16 - 16 1/0/0",
+            ],
+            "events 3 units 4 now 4\nobject 16 kind 2 pinned running 0 awaiting 1 held 0 names 0\n",
+        ),
+        (
+            "space 10 2 7 9",
+            &[
+                "0 0 open 2 pinned",
+                "2 52 begin 16",
+                "1 82 finish 16 2 - 1/0/0",
+            ],
+            "events 3 units 4 now 82\nobject 16 kind 2 pinned running 1 awaiting 0 held 0 names 0\n",
+        ),
+        (
+            "space 2 10 -2147483648 -9223372036854775808",
+            &[
+                "0 0 open 2 pinned",
+                "1 1 begin 16",
+                "1 1 finish 16 1,1 - 1/0/0",
+                "1 13 begin 17",
+                "1 25 open 2 free",
+            ],
+            "events 5 units 7 now 25\nobject 16 kind 2 pinned running 0 awaiting 0 held 0 names 0\nobject 17 kind 1 free running 1 awaiting 0 held 0 names 0\nwithdrawn 18 place 3\nwithdrawn 19 place 4\n",
+        ),
     ];
     for (first, lines, want) in rows {
         let text = replayed(alloc, first, lines)?;
@@ -266,6 +370,70 @@ fn a_full_history_still_takes_a_tick(rt: HostRuntime) -> Result<(), Fail> {
     assert!(rt; turn.reply.is_same(&Reply::Done));
     assert_eq!(rt; turn.place, 64);
     assert_eq!(rt; space.len(), 65);
+    assert_eq!(rt; space.now(), 5);
+    Ok(())
+}
+
+/// The return of a call of the first object, which makes so many objects and lists the first.
+fn finish(alloc: Global, space: Uid, made: u32, count: i16) -> Result<Ask, AllocError>
+    ensures { IfOk result (λ ask. IsBuilt ask) }
+{
+    let object = ObjId { number: 16, space };
+    let mut kinds = Kinds::new(alloc);
+    for _ in 0..made {
+        kinds.push(1)?;
+    }
+    Ok(Ask::Finish {
+        object,
+        made: kinds,
+        listed: ObjIds::from_slice(alloc, &[object])?,
+        uid: Uid {
+            unique: 1,
+            time: 0,
+            count,
+        },
+    })
+}
+
+fn is_refused(answer: Result<Turn, Refused>, full: FullKind) -> bool {
+    match answer {
+        Ok(_turn) => false,
+        Err(refused) => refused == Refused::Full(full),
+    }
+}
+
+#[test]
+fn returns_are_taken_within_the_limits(rt: HostRuntime) -> Result<(), Fail> {
+    let alloc = rt.alloc();
+    let config = config_of("space 600000 300000 7 9").ok_or("no configuration")?;
+    let mut space = Space::fresh(alloc, &config);
+    let opened = Ask::Open {
+        kind: 1,
+        pinned: true,
+    };
+    let object = ObjId {
+        number: 16,
+        space: config.uid,
+    };
+    let _opened = space.turn(alloc, 0, 0, opened)?;
+    let _first = space.turn(alloc, 1, 0, Ask::Begin { object })?;
+    let _second = space.turn(alloc, 1, 0, Ask::Begin { object })?;
+    let many = finish(alloc, config.uid, 65_536, 1)?;
+    assert!(rt; is_refused(space.turn(alloc, 1, 5, many), FullKind::Exports));
+    let others = space.turn(alloc, 2, 5, finish(alloc, config.uid, 65_536, 1)?)?;
+    assert!(rt; others.reply.is_same(&Reply::NotRunning));
+    let taken = space.turn(alloc, 1, 5, finish(alloc, config.uid, 1, 1)?)?;
+    let made = ObjIds::from_slice(
+        alloc,
+        &[ObjId {
+            number: 17,
+            space: config.uid,
+        }],
+    )?;
+    assert!(rt; taken.reply.is_same(&Reply::Finished(made)));
+    let waiting = finish(alloc, config.uid, 65_534, 2)?;
+    assert!(rt; is_refused(space.turn(alloc, 1, 300_004, waiting), FullKind::Awaiting));
+    assert_eq!(rt; space.running(1, object), 1);
     assert_eq!(rt; space.now(), 5);
     Ok(())
 }

@@ -9,6 +9,7 @@ ghost use Rattle.space.specs.Built.{IsBuilt};
 use crate::acts::{act, make_room, note_withdrawn, put_event, still_to_tell};
 use crate::asks::{is_effective, opens, reply_at, room_refusal, told_after};
 use crate::calls::tell;
+use crate::returns::returned;
 use crate::runs::{Run, act_on_runs, count};
 use dgc_server::Leases;
 use export_table::Exports;
@@ -70,10 +71,10 @@ impl Space {
 
     /// Takes an event that connection `by` hands in at a moment, in milliseconds, and answers it; or refuses
     /// it, and is as it was, the present moment included. HistoryFull comes exactly where the events' units
-    /// would pass their limit; else Full(Exports), Full(Clients) and Full(Pairs), in this order, exactly where
-    /// the entries of these tables would. OutOfMemory may come in place of any answer. Served are the
-    /// opening of an object, calls of it that are abandoned, dirty and clean calls, acknowledgements, and
-    /// ticks.
+    /// would pass their limit; else Full(Exports), Full(Awaiting), Full(Clients) and Full(Pairs), in this order,
+    /// exactly where the entries of these tables would. OutOfMemory may come in place of any answer. Served are
+    /// the opening of an object, calls of it, returns of calls, calls that are abandoned, dirty and clean calls,
+    /// acknowledgements, and ticks.
     pub fn turn(&mut self, alloc: Global, by: u32, moment: u64, ask: Ask) -> Result<Turn, Refused>
         requires moment { moment < 2 ^ 62 }
         requires built { IsBuilt ask }
@@ -87,7 +88,19 @@ impl Space {
         if let Some(refused) = room_refusal(self.units, running, exported, effective, &ask) {
             return Err(refused);
         }
-        let objects = exported as usize + 1;
+        let now = moment.max(self.moment);
+        let references = returned(
+            alloc,
+            self.config.uid,
+            self.added,
+            &self.exports,
+            effective,
+            now,
+            &ask,
+        )?;
+        let opened = opens(effective, &ask);
+        let returned = references.len();
+        let objects = exported as usize + opened as usize;
         let Ok(mut gone) = still_to_tell(alloc, &self.withdrawn, self.told, objects) else {
             return Err(Refused::OutOfMemory);
         };
@@ -97,20 +110,30 @@ impl Space {
             &mut self.withdrawn,
             &mut self.exports,
             objects,
+            opened,
+            returned,
         ) else {
             return Err(Refused::OutOfMemory);
         };
-        let now = moment.max(self.moment);
+        let Ok(reply) = reply_at(
+            alloc,
+            &self.config,
+            self.added,
+            &self.exports,
+            effective,
+            &ask,
+        ) else {
+            return Err(Refused::OutOfMemory);
+        };
         tell(alloc, &mut self.leases, &self.exports, now, &ask)?;
         let place = self.events.len() as u64;
-        let reply = reply_at(&self.config, self.added, &self.exports, effective, &ask);
-        act(&mut self.exports, effective, &ask);
+        act(&mut self.exports, effective, now, &references, &ask);
         act_on_runs(&mut self.runs, effective, by, &ask);
         let untold = gone.len();
         self.exports.withdraw(now, &mut self.leases, &mut gone);
         note_withdrawn(&mut self.withdrawn, &gone, untold, place);
         self.told = told_after(self.told, self.withdrawn.len(), &ask);
-        self.added += opens(&ask);
+        self.added += opened;
         self.units += units_of(&ask);
         self.moment = now;
         put_event(&mut self.events, Event { by, moment, ask });

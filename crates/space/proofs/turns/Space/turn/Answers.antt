@@ -10,11 +10,11 @@ use Rattle.export_table.specs.Table.{ExportTable}
 use Rattle.dgc_server.proofs.Told.{error-is}
 use Rattle.dgc_server.specs.Stands.{ForEachLogBy}
 use Rattle.history.specs.declared.places.Withdrawal.{Withdrawal}
-use Rattle.space.specs.Acts.{event_of, acted, acted_runs, withdrawal_at, told_after, lease_refusal, Agrees}
+use Rattle.space.specs.Acts.{event_of, acted, acted_runs, returned_by, withdrawal_at, told_after, await_refusal, lease_refusal, Agrees}
 use Rattle.space.specs.Built.{SpaceHistory}
-use Rattle.space.proofs.TurnLaws.{none-else, room-step, told-step, turn-keeps, turn-step, step-viewed}
+use Rattle.space.proofs.TurnLaws.{none-else, room-step, await-step, told-step, turn-keeps, turn-step, step-viewed}
 use Rattle.space.proofs.EndLaws.{has-acted, has-withdrawn, goes-after, goes-few}
-use Rattle.space.proofs.AskLaws.{keeps-roomy, asked, room-as, few-run, abandon-counted, acted-few}
+use Rattle.space.proofs.AskLaws.{keeps-roomy, asked, room-as, few-run, abandon-counted, finish-counted, finish-few, room-units, returned-few, acted-few}
 use Rattle.space.proofs.turns.Space.turn.Goals as goal
 
 pub returns-in-Some-clause-step : goal.returns-in-Some-clause-step
@@ -49,7 +49,7 @@ returns-in_err-tell-clause-step c =
     let P : Result Turn Refused → Type 0 = λ r. Step c.args.self.now.configuration c.args.self.now.events (event_of c.args.by c.args.moment c.args.ask) r c.make_room.new.events.items in
     let Q : List Event → Type 0 = λ es. Step c.self.inside.config c.self.inside.events.items (event_of c.args.by c.args.moment c.args.ask) (Err c.in_err-tell.field-0.0) es in
     let N : ℕ → Type 0 = λ n. ForEachLogBy n c.self.inside.leases (λ lease calls. Agrees {T = Unit {0}} (lease_refusal lease n calls (call_with (is_exported c.make_room.new.exports.rows) n c.args.ask)) (Err c.in_err-tell.field-0.0)) in
-    subst P (sym (error-is c.from_residual.result c.in_err-tell.field-0.0 c.from_residual.ensures.1))
+    subst P (sym (error-is c.from_residual-in_err-tell.result c.in_err-tell.field-0.0 c.from_residual-in_err-tell.ensures.1))
     (step-viewed c.self.inside.config c.self.inside.events.items c.make_room.new.events.items (event_of c.args.by c.args.moment c.args.ask) (Err c.in_err-tell.field-0.0) c.args.self.now c.self.view_is
     (subst Q (sym c.make_room.ensures.events)
     (told-step c.self.inside.config c.self.inside.events.items (event_of c.args.by c.args.moment c.args.ask) c.self.inside.leases c.make_room.new.exports c.self.inside.runs.items c.self.inside.withdrawn.items
@@ -58,6 +58,7 @@ returns-in_err-tell-clause-step c =
     c.self.inside.told c.self.inside.added c.self.inside.units c.self.inside.moment c.is_effective-effective.result c.self.invariant c.requires.built c.is_effective-effective.ensures c.deref.ensures.value c.make_room.ensures.exports)
     (room-as c.self.inside.units c.len-running.result c.count-exported.result c.is_effective-effective.result c.args.ask c.self.inside.runs.items c.self.inside.exports c.make_room.new.exports c.room_refusal.result None
     c.room_refusal.ensures running c.count-exported.ensures.value c.make_room.ensures.exports (none-else c.room_refusal.result c.in_default.not-Some))
+    (ap (λ n. await_refusal n c.make_room.new.exports.rows c.make_room.new.exports.waits c.is_effective-effective.result c.args.ask) (sym time) ∙ ap (λ (t : ExportTable). await_refusal c.max-now.result t.rows t.waits c.is_effective-effective.result c.args.ask) c.make_room.ensures.exports ∙ c.in_ok-references.ensures.refusal)
     (subst N time (c.in_err-tell.ensures {u = tt}).refusal))))
 
 pub act-requires-clause-few : goal.act-requires-clause-few
@@ -76,26 +77,27 @@ act-requires-clause-runs c o t s =
 
 pub withdraw-requires : goal.withdraw-requires
 withdraw-requires c =
-    let few = acted-few c.is_effective-effective.result c.args.ask c.make_room.new.exports c.act.new.exports c.requires.built c.act.ensures in
+    let few = acted-few c.is_effective-effective.result c.max-now.result c.args.ask c.make_room.new.exports c.act.new.exports c.requires.built c.act.ensures in
     let same = ap (λ (t : ExportTable). length t.rows) c.make_room.ensures.exports in
-    let count = c.count-exported.ensures.value in
+    let count = c.count-exported.ensures.value in let opened = c.opens-opened.ensures.value in
     let room = c.in-Ok.ensures.room in
-    omega (arith, few, same, count, room)
+    omega (arith, few, same, count, opened, room)
 
 pub note_withdrawn-requires-clause-within : goal.note_withdrawn-requires-clause-within
 note_withdrawn-requires-clause-within c =
     let running : c.len-running.result ≡ length c.self.inside.runs.items = search rules in
     let time : c.max-now.result ≡ max c.args.moment c.self.inside.moment = search rules in
     let untold : c.len-untold.result ≡ length c.in-Ok.gone.items = search rules in
-    let after = goes-after c.self.inside.config c.self.inside.events.items (event_of c.args.by c.args.moment c.args.ask) c.self.inside.leases c.tell.new.leases c.withdraw.new.leases c.make_room.new.exports (acted c.is_effective-effective.result c.args.ask c.make_room.new.exports) c.withdraw.new.self
+    let after = goes-after c.self.inside.config c.self.inside.events.items (event_of c.args.by c.args.moment c.args.ask) c.self.inside.leases c.tell.new.leases c.withdraw.new.leases c.make_room.new.exports (acted c.is_effective-effective.result c.max-now.result c.args.ask c.make_room.new.exports) c.withdraw.new.self
     c.self.inside.runs.items c.self.inside.withdrawn.items c.self.inside.told c.self.inside.added c.self.inside.units c.self.inside.moment c.max-now.result c.is_effective-effective.result c.in-Ok.gone.items c.withdraw.new.gone.items
     (has-acted c.self.inside.config c.self.inside.events.items (event_of c.args.by c.args.moment c.args.ask) c.self.inside.leases c.tell.new.leases c.self.inside.exports c.make_room.new.exports c.self.inside.runs.items c.deref.result.now c.self.inside.withdrawn.items
     c.self.inside.told c.self.inside.added c.self.inside.units c.self.inside.moment c.max-now.result c.len-running.result c.count-exported.result c.is_effective-effective.result c.room_refusal.result
     c.self.invariant c.requires.built c.requires.moment c.is_effective-effective.ensures c.deref.ensures.value c.make_room.ensures.exports c.room_refusal.ensures running c.count-exported.ensures.value (none-else c.room_refusal.result c.in_default.not-Some) time
+    (ap (λ (t : ExportTable). await_refusal c.max-now.result t.rows t.waits c.is_effective-effective.result c.args.ask) c.make_room.ensures.exports ∙ c.in_ok-references.ensures.refusal)
     (c.in_ok-tell.ensures {u = tt}).refusal (c.in_ok-tell.ensures {u = tt}).ok)
-    time (has-withdrawn c.tell.new.leases c.withdraw.new.leases (acted c.is_effective-effective.result c.args.ask c.make_room.new.exports) c.act.new.exports c.withdraw.new.self c.max-now.result c.in-Ok.gone.items c.withdraw.new.gone.items
+    time (has-withdrawn c.tell.new.leases c.withdraw.new.leases (acted c.is_effective-effective.result c.max-now.result c.args.ask c.make_room.new.exports) c.act.new.exports c.withdraw.new.self c.max-now.result c.in-Ok.gone.items c.withdraw.new.gone.items
     c.act.ensures c.withdraw.ensures.kept c.withdraw.ensures.gone c.withdraw.ensures.dropped) in
-    let seen = ap length c.deref-3.ensures.value in
+    let seen = ap length c.deref-4.ensures.value in
     omega (arith, untold, after, seen)
 
 pub note_withdrawn-requires-clause-room : goal.note_withdrawn-requires-clause-room
@@ -103,22 +105,24 @@ note_withdrawn-requires-clause-room c =
     let running : c.len-running.result ≡ length c.self.inside.runs.items = search rules in
     let time : c.max-now.result ≡ max c.args.moment c.self.inside.moment = search rules in
     let untold : c.len-untold.result ≡ length c.in-Ok.gone.items = search rules in
-    let few = goes-few c.self.inside.config c.self.inside.events.items (event_of c.args.by c.args.moment c.args.ask) c.self.inside.leases c.tell.new.leases c.withdraw.new.leases c.make_room.new.exports (acted c.is_effective-effective.result c.args.ask c.make_room.new.exports) c.withdraw.new.self
+    let few = goes-few c.self.inside.config c.self.inside.events.items (event_of c.args.by c.args.moment c.args.ask) c.self.inside.leases c.tell.new.leases c.withdraw.new.leases c.make_room.new.exports (acted c.is_effective-effective.result c.max-now.result c.args.ask c.make_room.new.exports) c.withdraw.new.self
     c.self.inside.runs.items c.self.inside.withdrawn.items c.self.inside.told c.self.inside.added c.self.inside.units c.self.inside.moment c.max-now.result c.is_effective-effective.result c.in-Ok.gone.items c.withdraw.new.gone.items
     (has-acted c.self.inside.config c.self.inside.events.items (event_of c.args.by c.args.moment c.args.ask) c.self.inside.leases c.tell.new.leases c.self.inside.exports c.make_room.new.exports c.self.inside.runs.items c.deref.result.now c.self.inside.withdrawn.items
     c.self.inside.told c.self.inside.added c.self.inside.units c.self.inside.moment c.max-now.result c.len-running.result c.count-exported.result c.is_effective-effective.result c.room_refusal.result
     c.self.invariant c.requires.built c.requires.moment c.is_effective-effective.ensures c.deref.ensures.value c.make_room.ensures.exports c.room_refusal.ensures running c.count-exported.ensures.value (none-else c.room_refusal.result c.in_default.not-Some) time
+    (ap (λ (t : ExportTable). await_refusal c.max-now.result t.rows t.waits c.is_effective-effective.result c.args.ask) c.make_room.ensures.exports ∙ c.in_ok-references.ensures.refusal)
     (c.in_ok-tell.ensures {u = tt}).refusal (c.in_ok-tell.ensures {u = tt}).ok)
-    time (has-withdrawn c.tell.new.leases c.withdraw.new.leases (acted c.is_effective-effective.result c.args.ask c.make_room.new.exports) c.act.new.exports c.withdraw.new.self c.max-now.result c.in-Ok.gone.items c.withdraw.new.gone.items
+    time (has-withdrawn c.tell.new.leases c.withdraw.new.leases (acted c.is_effective-effective.result c.max-now.result c.args.ask c.make_room.new.exports) c.act.new.exports c.withdraw.new.self c.max-now.result c.in-Ok.gone.items c.withdraw.new.gone.items
     c.act.ensures c.withdraw.ensures.kept c.withdraw.ensures.gone c.withdraw.ensures.dropped) in
     let same = ap (λ (t : ExportTable). length t.rows) c.act.ensures in
-    let rows = acted-few c.is_effective-effective.result c.args.ask c.make_room.new.exports c.act.new.exports c.requires.built c.act.ensures in
+    let rows = acted-few c.is_effective-effective.result c.max-now.result c.args.ask c.make_room.new.exports c.act.new.exports c.requires.built c.act.ensures in
     let before = ap (λ (t : ExportTable). length t.rows) c.make_room.ensures.exports in
-    let seen = ap (λ l. length (drop c.len-untold.result l)) c.deref-3.ensures.value in
+    let seen = ap (λ l. length (drop c.len-untold.result l)) c.deref-4.ensures.value in
     let at = ap (λ n. length (drop n c.withdraw.new.gone.items)) untold in
     let count = c.count-exported.ensures.value in
     let room = (c.in-Ok-make_room.ensures).withdrawals in
-    omega (arith, few, same, rows, before, seen, at, count, room)
+    let opened = c.opens-opened.ensures.value in
+    omega (arith, few, same, rows, before, seen, at, count, opened, room)
 
 pub invariant_of-self-2 : goal.invariant_of-self-2
 invariant_of-self-2 c =
@@ -127,23 +131,24 @@ invariant_of-self-2 c =
     let untold : c.len-untold.result ≡ length c.in-Ok.gone.items = search rules in
     let place : c.len-place.result ≡ length c.make_room.new.events.items = search rules in
     let all : c.len.result ≡ length c.note_withdrawn.new.withdrawn.items = search rules in
-    let seen : c.deref-3.result.now ≡ c.withdraw.new.gone.items = c.deref-3.ensures.value in
-    turn-keeps c.self.inside.config c.self.inside.events.items (event_of c.args.by c.args.moment c.args.ask) c.self.inside.leases c.tell.new.leases c.withdraw.new.leases c.make_room.new.exports (acted c.is_effective-effective.result c.args.ask c.make_room.new.exports) c.withdraw.new.self
+    let seen : c.deref-4.result.now ≡ c.withdraw.new.gone.items = c.deref-4.ensures.value in
+    turn-keeps c.self.inside.config c.self.inside.events.items (event_of c.args.by c.args.moment c.args.ask) c.self.inside.leases c.tell.new.leases c.withdraw.new.leases c.make_room.new.exports (acted c.is_effective-effective.result c.max-now.result c.args.ask c.make_room.new.exports) c.withdraw.new.self
     c.self.inside.runs.items c.self.inside.withdrawn.items c.self.inside.told c.self.inside.added c.self.inside.units c.self.inside.moment c.max-now.result c.is_effective-effective.result c.in-Ok.gone.items c.withdraw.new.gone.items
     (has-acted c.self.inside.config c.self.inside.events.items (event_of c.args.by c.args.moment c.args.ask) c.self.inside.leases c.tell.new.leases c.self.inside.exports c.make_room.new.exports c.self.inside.runs.items c.deref.result.now c.self.inside.withdrawn.items
     c.self.inside.told c.self.inside.added c.self.inside.units c.self.inside.moment c.max-now.result c.len-running.result c.count-exported.result c.is_effective-effective.result c.room_refusal.result
     c.self.invariant c.requires.built c.requires.moment c.is_effective-effective.ensures c.deref.ensures.value c.make_room.ensures.exports c.room_refusal.ensures running c.count-exported.ensures.value (none-else c.room_refusal.result c.in_default.not-Some) time
+    (ap (λ (t : ExportTable). await_refusal c.max-now.result t.rows t.waits c.is_effective-effective.result c.args.ask) c.make_room.ensures.exports ∙ c.in_ok-references.ensures.refusal)
     (c.in_ok-tell.ensures {u = tt}).refusal (c.in_ok-tell.ensures {u = tt}).ok)
-    time (has-withdrawn c.tell.new.leases c.withdraw.new.leases (acted c.is_effective-effective.result c.args.ask c.make_room.new.exports) c.act.new.exports c.withdraw.new.self c.max-now.result c.in-Ok.gone.items c.withdraw.new.gone.items
+    time (has-withdrawn c.tell.new.leases c.withdraw.new.leases (acted c.is_effective-effective.result c.max-now.result c.args.ask c.make_room.new.exports) c.act.new.exports c.withdraw.new.self c.max-now.result c.in-Ok.gone.items c.withdraw.new.gone.items
     c.act.ensures c.withdraw.ensures.kept c.withdraw.ensures.gone c.withdraw.ensures.dropped)
     c.len-place.result c.told_after-self-inside.result _ _ c.put_event.new.events.items c.act_on_runs.new.runs.items c.note_withdrawn.new.withdrawn.items
     (place ∙ ap length c.make_room.ensures.events) (c.put_event.ensures ∙ ap (λ l. l ++ (event_of c.args.by c.args.moment c.args.ask) ∷ []) c.make_room.ensures.events)
     (c.act_on_runs.ensures ∙ ap (acted_runs c.is_effective-effective.result c.args.by c.args.ask) c.make_room.ensures.runs)
-    (c.note_withdrawn.ensures ∙ ap (λ l. l ++ map (withdrawal_at c.len-place.result) (drop c.len-untold.result c.deref-3.result.now)) c.make_room.ensures.withdrawn
+    (c.note_withdrawn.ensures ∙ ap (λ l. l ++ map (withdrawal_at c.len-place.result) (drop c.len-untold.result c.deref-4.result.now)) c.make_room.ensures.withdrawn
     ∙ ap (λ l. c.self.inside.withdrawn.items ++ map (withdrawal_at c.len-place.result) (drop c.len-untold.result l)) seen
     ∙ ap (λ n. c.self.inside.withdrawn.items ++ map (withdrawal_at c.len-place.result) (drop n c.withdraw.new.gone.items)) untold)
     (c.told_after-self-inside.ensures ∙ ap (λ n. told_after c.self.inside.told n c.args.ask) all)
-    (ap (λ n. c.self.inside.added + n) c.opens.ensures.value) (ap (λ n. c.self.inside.units + n) c.units_of.ensures.value)
+    (ap (λ n. c.self.inside.added + n) c.opens-opened.ensures.value) (ap (λ n. c.self.inside.units + n) c.units_of.ensures.value)
 
 pub returns-clause-step : goal.returns-clause-step
 returns-clause-step c =
@@ -152,14 +157,70 @@ returns-clause-step c =
     let untold : c.len-untold.result ≡ length c.in-Ok.gone.items = search rules in
     let place : c.len-place.result ≡ length c.make_room.new.events.items = search rules in
     step-viewed c.self.inside.config c.self.inside.events.items c.put_event.new.events.items (event_of c.args.by c.args.moment c.args.ask) _ c.args.self.now c.self.view_is
-    (turn-step c.self.inside.config c.self.inside.events.items (event_of c.args.by c.args.moment c.args.ask) c.self.inside.leases c.tell.new.leases c.withdraw.new.leases c.make_room.new.exports (acted c.is_effective-effective.result c.args.ask c.make_room.new.exports) c.withdraw.new.self
+    (turn-step c.self.inside.config c.self.inside.events.items (event_of c.args.by c.args.moment c.args.ask) c.self.inside.leases c.tell.new.leases c.withdraw.new.leases c.make_room.new.exports (acted c.is_effective-effective.result c.max-now.result c.args.ask c.make_room.new.exports) c.withdraw.new.self
     c.self.inside.runs.items c.self.inside.withdrawn.items c.self.inside.told c.self.inside.added c.self.inside.units c.self.inside.moment c.max-now.result c.is_effective-effective.result c.in-Ok.gone.items c.withdraw.new.gone.items
     (has-acted c.self.inside.config c.self.inside.events.items (event_of c.args.by c.args.moment c.args.ask) c.self.inside.leases c.tell.new.leases c.self.inside.exports c.make_room.new.exports c.self.inside.runs.items c.deref.result.now c.self.inside.withdrawn.items
     c.self.inside.told c.self.inside.added c.self.inside.units c.self.inside.moment c.max-now.result c.len-running.result c.count-exported.result c.is_effective-effective.result c.room_refusal.result
     c.self.invariant c.requires.built c.requires.moment c.is_effective-effective.ensures c.deref.ensures.value c.make_room.ensures.exports c.room_refusal.ensures running c.count-exported.ensures.value (none-else c.room_refusal.result c.in_default.not-Some) time
+    (ap (λ (t : ExportTable). await_refusal c.max-now.result t.rows t.waits c.is_effective-effective.result c.args.ask) c.make_room.ensures.exports ∙ c.in_ok-references.ensures.refusal)
     (c.in_ok-tell.ensures {u = tt}).refusal (c.in_ok-tell.ensures {u = tt}).ok)
-    time (has-withdrawn c.tell.new.leases c.withdraw.new.leases (acted c.is_effective-effective.result c.args.ask c.make_room.new.exports) c.act.new.exports c.withdraw.new.self c.max-now.result c.in-Ok.gone.items c.withdraw.new.gone.items
+    time (has-withdrawn c.tell.new.leases c.withdraw.new.leases (acted c.is_effective-effective.result c.max-now.result c.args.ask c.make_room.new.exports) c.act.new.exports c.withdraw.new.self c.max-now.result c.in-Ok.gone.items c.withdraw.new.gone.items
     c.act.ensures c.withdraw.ensures.kept c.withdraw.ensures.gone c.withdraw.ensures.dropped)
-    c.len-place.result c.reply_at-reply.result c.from_vec.result c.put_event.new.events.items
+    c.len-place.result c.in-Ok-reply_at.reply c.from_vec.result c.put_event.new.events.items
     (place ∙ ap length c.make_room.ensures.events) (c.put_event.ensures ∙ ap (λ l. l ++ (event_of c.args.by c.args.moment c.args.ask) ∷ []) c.make_room.ensures.events)
-    c.reply_at-reply.ensures (c.in-Ok.ensures.items ∙ ap (λ l. map (λ (w : Withdrawal). w.object) (drop c.self.inside.told l)) c.deref-2.ensures.value) c.from_vec.ensures)
+    c.in-Ok-reply_at.ensures (c.in-Ok.ensures.items ∙ ap (λ l. map (λ (w : Withdrawal). w.object) (drop c.self.inside.told l)) c.deref-2.ensures.value) c.from_vec.ensures)
+
+pub invariant_of-self-in_default-reply_at : goal.invariant_of-self-in_default-reply_at
+invariant_of-self-in_default-reply_at c =
+    keeps-roomy c.self.inside.config c.self.inside.events.items c.make_room.new.events.items c.self.inside.leases c.self.inside.leases c.self.inside.exports c.make_room.new.exports c.self.inside.runs.items c.make_room.new.runs.items
+    c.self.inside.withdrawn.items c.make_room.new.withdrawn.items c.self.inside.told c.self.inside.added c.self.inside.units c.self.inside.moment
+    c.self.invariant c.make_room.ensures.exports c.make_room.ensures.events refl c.make_room.ensures.runs c.make_room.ensures.withdrawn
+
+pub returns-in_err-references-clause-step : goal.returns-in_err-references-clause-step
+returns-in_err-references-clause-step c =
+    let running : c.len-running.result ≡ length c.self.inside.runs.items = search rules in
+    let time : c.max-now.result ≡ max c.args.moment c.self.inside.moment = search rules in
+    let P : Result Turn Refused → Type 0 = λ r. Step c.args.self.now.configuration c.args.self.now.events (event_of c.args.by c.args.moment c.args.ask) r c.args.self.now.events in
+    let Q : List Event → Type 0 = λ es. Step c.self.inside.config c.self.inside.events.items (event_of c.args.by c.args.moment c.args.ask) (Err c.in_err-references.field-0.0) es in
+    let N : ℕ → Type 0 = λ n. Agrees {T = Unit {0}} (await_refusal n c.self.inside.exports.rows c.self.inside.exports.waits c.is_effective-effective.result c.args.ask) (Err c.in_err-references.field-0.0) in
+    subst P (sym (error-is c.from_residual.result c.in_err-references.field-0.0 c.from_residual.ensures.1))
+    (step-viewed c.self.inside.config c.self.inside.events.items c.args.self.now.events (event_of c.args.by c.args.moment c.args.ask) (Err c.in_err-references.field-0.0) c.args.self.now c.self.view_is
+    (subst Q (ap (λ (h : SpaceHistory). h.events) c.self.view_is)
+    (await-step c.self.inside.config c.self.inside.events.items (event_of c.args.by c.args.moment c.args.ask) c.self.inside.leases c.self.inside.exports c.self.inside.runs.items c.self.inside.withdrawn.items
+    c.self.inside.told c.self.inside.added c.self.inside.units c.self.inside.moment c.is_effective-effective.result c.in_err-references.field-0.0
+    (asked c.self.inside.config c.self.inside.events.items (event_of c.args.by c.args.moment c.args.ask) c.self.inside.leases c.self.inside.exports c.self.inside.exports c.self.inside.runs.items c.deref.result.now c.self.inside.withdrawn.items
+    c.self.inside.told c.self.inside.added c.self.inside.units c.self.inside.moment c.is_effective-effective.result c.self.invariant c.requires.built c.is_effective-effective.ensures c.deref.ensures.value refl)
+    (room-as c.self.inside.units c.len-running.result c.count-exported.result c.is_effective-effective.result c.args.ask c.self.inside.runs.items c.self.inside.exports c.self.inside.exports c.room_refusal.result None
+    c.room_refusal.ensures running c.count-exported.ensures.value refl (none-else c.room_refusal.result c.in_default.not-Some))
+    (subst N time c.in_err-references.ensures.refusal))))
+
+pub make_room-requires-clause-few_returned : goal.make_room-requires-clause-few_returned
+make_room-requires-clause-few_returned c =
+    let count : c.len-returned.result ≡ length c.in_ok-references.references.items = search rules in
+    let same = ap length c.in_ok-references.ensures.objects in
+    let few = returned-few c.self.inside.config.uid c.self.inside.added c.self.inside.exports.rows c.is_effective-effective.result c.args.ask in
+    let some = room-units c.self.inside.units c.len-running.result c.count-exported.result c.is_effective-effective.result c.args.ask (sym c.room_refusal.ensures ∙ none-else c.room_refusal.result c.in_default.not-Some) in
+    omega (arith, count, same, few, some)
+
+pub act-requires-clause-returns : goal.act-requires-clause-returns
+act-requires-clause-returns c o made listed u t s =
+    finish-counted c.self.inside.config c.self.inside.events.items (event_of c.args.by c.args.moment c.args.ask) c.self.inside.leases c.make_room.new.exports c.self.inside.runs.items c.self.inside.withdrawn.items
+    c.self.inside.told c.self.inside.added c.self.inside.units c.self.inside.moment c.is_effective-effective.result
+    (asked c.self.inside.config c.self.inside.events.items (event_of c.args.by c.args.moment c.args.ask) c.self.inside.leases c.self.inside.exports c.make_room.new.exports c.self.inside.runs.items c.deref.result.now c.self.inside.withdrawn.items
+    c.self.inside.told c.self.inside.added c.self.inside.units c.self.inside.moment c.is_effective-effective.result c.self.invariant c.requires.built c.is_effective-effective.ensures c.deref.ensures.value c.make_room.ensures.exports)
+    o made listed u t s
+
+pub act-requires-clause-awaiting : goal.act-requires-clause-awaiting
+act-requires-clause-awaiting c o made listed u t s =
+    let time : c.max-now.result ≡ max c.args.moment c.self.inside.moment = search rules in
+    let kept = c.self.invariant.stands in
+    finish-few c.self.inside.config c.self.inside.events.items (event_of c.args.by c.args.moment c.args.ask) c.self.inside.leases c.make_room.new.exports c.self.inside.runs.items c.self.inside.withdrawn.items
+    c.self.inside.told c.self.inside.added c.self.inside.units c.self.inside.moment c.max-now.result c.is_effective-effective.result
+    (asked c.self.inside.config c.self.inside.events.items (event_of c.args.by c.args.moment c.args.ask) c.self.inside.leases c.self.inside.exports c.make_room.new.exports c.self.inside.runs.items c.deref.result.now c.self.inside.withdrawn.items
+    c.self.inside.told c.self.inside.added c.self.inside.units c.self.inside.moment c.is_effective-effective.result c.self.invariant c.requires.built c.is_effective-effective.ensures c.deref.ensures.value c.make_room.ensures.exports)
+    time (ap (λ (t : ExportTable). await_refusal c.max-now.result t.rows t.waits c.is_effective-effective.result c.args.ask) c.make_room.ensures.exports ∙ c.in_ok-references.ensures.refusal) c.deref-3.result.now
+    (c.deref-3.ensures.value ∙ c.in_ok-references.ensures.objects
+    ∙ ap (λ y. returned_by y c.self.inside.added c.self.inside.exports.rows c.is_effective-effective.result c.args.ask) (sym kept.space_is)
+    ∙ ap (λ n. returned_by c.self.inside.exports.space n c.self.inside.exports.rows c.is_effective-effective.result c.args.ask) (sym kept.added_is)
+    ∙ ap (λ (x : ExportTable). returned_by x.space x.added x.rows c.is_effective-effective.result c.args.ask) (sym c.make_room.ensures.exports))
+    o made listed u t s

@@ -1,0 +1,154 @@
+//! The references that an ask returns.
+ghost use Rattle.std.specs.Prelude.{◌≡◌, ◌+◌, ◌<◌, ◌≤◌, ◌^◌, ◌++◌, ◌&&◌, length, filter, not, nat_lt, IfOk};
+ghost use Rattle.std.specs.List.{list_any};
+ghost use Rattle.history.specs.declared.limits.TheConstants.{MAX_AWAITING};
+ghost use Rattle.history.specs.Lists.{distinct};
+ghost use Rattle.object_ids.specs.Same.{same_id};
+ghost use Rattle.export_table.specs.Rows.{is_exported};
+ghost use Rattle.export_table.specs.Waits.{is_waiting};
+ghost use Rattle.space.specs.Acts.{Agrees, await_refusal, awaiting_after, new_ids, opens, return_refusal, returned_by};
+
+use crate::calls::live_among;
+use export_table::Exports;
+use history::limits::MAX_AWAITING;
+use history::plain::places::id_at;
+use history::{Ask, Refused};
+use mod_utf::list::Same;
+use object_ids::{FullKind, ObjId, ObjIds, Uid};
+use std::alloc::{AllocError, Global};
+
+/// The objects to which an ask returns references, where the next object is the space's k-th. It is refused
+/// where these references would pass the limit of those that await at a moment.
+pub(crate) fn returned(
+    alloc: Global,
+    space: Uid,
+    k: u64,
+    exports: &Exports,
+    effective: bool,
+    now: u64,
+    ask: &Ask,
+) -> Result<Vec<ObjId>, Refused>
+    requires { k + opens effective ask.now < 2 ^ 62 }
+    ensures objects { IfOk result (λ objects. objects.items ≡ returned_by space k exports.now.rows effective ask.now) }
+    ensures refusal { Agrees (await_refusal now exports.now.rows exports.now.waits effective ask.now) result }
+{
+    match ask {
+        Ask::Finish {
+            object: _,
+            made,
+            listed,
+            uid,
+        } => {
+            if effective {
+                of_return(alloc, space, k, exports, now, made.as_slice(), listed, uid)
+            } else {
+                Ok(Vec::new(alloc))
+            }
+        }
+        _ => Ok(Vec::new(alloc)),
+    }
+}
+
+fn of_return(
+    alloc: Global,
+    space: Uid,
+    k: u64,
+    exports: &Exports,
+    now: u64,
+    made: &[u32],
+    listed: &ObjIds,
+    uid: &Uid,
+) -> Result<Vec<ObjId>, Refused>
+    requires { k + length made.now < 2 ^ 62 }
+    ensures objects { IfOk result (λ objects. objects.items ≡ new_ids space k made.now ++ filter (is_exported exports.now.rows) listed.now) }
+    ensures refusal { let live = filter (is_exported exports.now.rows) listed.now in
+        Agrees (return_refusal now uid.now (length made.now) live exports.now.waits) result }
+{
+    let Ok(live) = live_among(alloc, exports, listed) else {
+        return Err(Refused::OutOfMemory);
+    };
+    if is_past(exports, now, uid, made.len(), live.as_slice()) {
+        return Err(Refused::Full(FullKind::Awaiting));
+    }
+    match new_and(alloc, space, k, made, live.as_slice()) {
+        Ok(objects) => Ok(objects),
+        Err(_refused) => Err(Refused::OutOfMemory),
+    }
+}
+
+/// The identifiers of objects of these kinds, the first of them as the space's k-th, and after them those of
+/// other objects.
+fn new_and(
+    alloc: Global,
+    space: Uid,
+    k: u64,
+    made: &[u32],
+    others: &[ObjId],
+) -> Result<Vec<ObjId>, AllocError>
+    requires { k + length made.now < 2 ^ 62 }
+    ensures { IfOk result (λ objects. objects.items ≡ new_ids space k made.now ++ others.now) }
+{
+    let mut objects = new_ids(alloc, space, k, made)?;
+    objects.extend_from_slice(others)?;
+    Ok(objects)
+}
+
+/// The identifiers of objects of these kinds, the first of them as the space's k-th.
+pub(crate) fn new_ids(
+    alloc: Global,
+    space: Uid,
+    k: u64,
+    made: &[u32],
+) -> Result<Vec<ObjId>, AllocError>
+    requires { k + length made.now < 2 ^ 62 }
+    ensures { IfOk result (λ ids. ids.items ≡ new_ids space k made.now) }
+{
+    let mut ids = Vec::with_capacity(alloc, made.len())?;
+    for i in 0..made.len() {
+        ids.push(id_at(space, k + i as u64))?;
+    }
+    Ok(ids)
+}
+
+/// Whether the references that await at a moment, with those of a return to so many new objects and to these exported ones, pass their limit.
+fn is_past(exports: &Exports, now: u64, uid: &Uid, made: usize, live: &[ObjId]) -> bool
+    ensures { result ≡ nat_lt MAX_AWAITING (awaiting_after now uid.now made live.now exports.now.waits) }
+{
+    let waiting = u128::from(exports.waiting(now)) + made as u128;
+    let most = u128::from(MAX_AWAITING);
+    most < waiting + live.len() as u128
+        && most < waiting + new_waits(exports, now, uid, live) as u128
+}
+
+/// How many of these objects, each counted once, do not wait at a moment as listed in a return.
+fn new_waits(exports: &Exports, now: u64, uid: &Uid, live: &[ObjId]) -> usize
+    ensures value { result ≡ length (filter (λ o. not (is_waiting now o uid.now exports.now.waits)) (distinct same_id live.now)) }
+    ensures bound { result ≤ length live.now }
+{
+    let mut count = 0;
+    for i in 0..live.len() {
+        if is_new_wait(exports, now, uid, &live[i], &live[i + 1..]) {
+            count += 1;
+        }
+    }
+    count
+}
+
+/// Whether an object does not wait at a moment as listed in a return, and is none of the others.
+fn is_new_wait(exports: &Exports, now: u64, uid: &Uid, object: &ObjId, others: &[ObjId]) -> bool
+    ensures { result ≡ (not (list_any (same_id object.now) others.now) && not (is_waiting now object.now uid.now exports.now.waits)) }
+{
+    !is_among(object, others) && !exports.is_waiting(*object, *uid, now)
+}
+
+fn is_among(object: &ObjId, objects: &[ObjId]) -> bool
+    ensures { result ≡ list_any (same_id object.now) objects.now }
+{
+    objects.iter().any(|other| is_object(object, other))
+}
+
+fn is_object(object: &ObjId, other: &ObjId) -> bool
+    ensures { result ≡ same_id object.now other.now }
+{
+    object.is_same(other)
+}
