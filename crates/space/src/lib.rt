@@ -5,6 +5,7 @@
 mod acts;
 mod asks;
 mod calls;
+pub mod lists;
 mod runs;
 #[cfg(test)]
 mod tests;
@@ -12,5 +13,6 @@ pub mod texts;
 pub mod turns;
 
 pub use history::{Ask, Event, Refused, Reply, SpaceConfig, Turn};
+pub use lists::{ObjectKind, Turns};
 pub use texts::outline;
 pub use turns::Space;
