@@ -60,12 +60,16 @@ spells_more config (x ∷ events) e front last (rest, (line, spells, served, is)
     (rest ++ last, (line, spells, served, ap (λ f. f ++ last) is ∙ append_assoc line (10 ∷ rest) last), spells_more config events e rest last more t)
 
 -- One more line is read.
-pub one_read : (config : SpaceConfig) (lines rest more : List ℕ) (events : List Event) (e : Event) → HasRead config lines events rest → TakesLine config rest e more → HasRead config lines (events ++ e ∷ []) more
+one_read : (config : SpaceConfig) (lines rest more : List ℕ) (events : List Event) (e : Event) → HasRead config lines events rest → TakesLine config rest e more → HasRead config lines (events ++ e ∷ []) more
 one_read config lines rest more events e t (line, spells, served, is) = record {
   front = t.front ++ (line ++ 10 ∷ []);
   lines_are = t.lines_are ∙ ap (λ r. t.front ++ r) (is ∙ sym (append_assoc line (10 ∷ []) more)) ∙ sym (append_assoc t.front (line ++ 10 ∷ []) more);
   spelled = spells_more config events e t.front (line ++ 10 ∷ []) t.spelled (line, spells, served, refl);
 }
+
+pub read_next : (config : SpaceConfig) (lines rest more : List ℕ) (events events2 : List Event) (e : Event) → events2 ≡ events ++ e ∷ [] → HasRead config lines events rest → TakesLine config rest e more
+    → HasRead config lines events2 more
+read_next config lines rest more events events2 e after t took = let P : List Event → Type 0 = λ es. HasRead config lines es more in subst P (sym after) (one_read config lines rest more events e t took)
 
 -- The lines after the first are shorter.
 pub line_shorter : (config : SpaceConfig) (lines more : List ℕ) (e : Event) → TakesLine config lines e more → length more + 1 ≤ length lines
