@@ -1,4 +1,5 @@
 pub mod Answer
+pub mod Batches
 pub mod Command
 pub mod Line
 pub mod Replay

@@ -3,32 +3,20 @@ use Rattle.std.specs.Prelude.{◌≡◌, ◌≢◌, ℕ, ◌+◌, ◌⊎◌, IsT
 use Rattle.history.specs.declared.asks.SpaceConfig.{SpaceConfig}
 use Rattle.history.specs.declared.asks.Event.{Event}
 use Rattle.history.specs.declared.asks.Ask.{Ask}
-use Rattle.history.specs.declared.asks.Ask.TheVariants.{Open, Begin, Finish, Abandon, Dirty, Clean, Ack, Bind, Rebind, Unbind, Lookup, List as ListNames, Tick}
 use Rattle.history.specs.declared.replies.Refused.{Refused}
 use Rattle.history.specs.Limits.{limits, refusal}
 use Rattle.history.specs.Table.{places}
 use Rattle.history.specs.Outline.{outline}
 use Rattle.journal.specs.Grammar.{SpellsConfig, SpellsEvent}
+use Rattle.space.specs.Built.{IsBuilt}
 use Rattle.rmi_cli.specs.declared.replay.ReplayFault.{ReplayFault}
 use Rattle.rmi_cli.specs.declared.replay.ReplayFault.TheVariants.{BadLine, Refused as RefusedTurn, OutOfMemory}
 
 -- ---- lines
 
--- The kinds of lines that are served so far: the opening of a pinned object, lease calls, and that time passes.
+-- The kinds of lines that are served so far are those that the space serves: all but those that speak of names.
 abbrev pub IsServed : Ask → Type 0
-IsServed (Open kind pinned) = IsTrue pinned
-IsServed (Begin object) = ⊥
-IsServed (Finish object made listed uid) = ⊥
-IsServed (Abandon object) = ⊥
-IsServed (Dirty client number asked objects) = Unit {0}
-IsServed (Clean client number objects strong) = Unit {0}
-IsServed (Ack uid) = ⊥
-IsServed (Bind name object) = ⊥
-IsServed (Rebind name object) = ⊥
-IsServed (Unbind name) = ⊥
-IsServed (Lookup name uid) = ⊥
-IsServed ListNames = ⊥
-IsServed Tick = Unit {0}
+IsServed ask = IsBuilt ask
 
 -- After the history h the event is taken: there is no cause to refuse it.
 abbrev pub IsTaken : SpaceConfig → List Event → Event → Type 0
@@ -44,6 +32,10 @@ TakesLines config h (e ∷ events) lines =
 -- The first of these lines spells this event, which is served.
 abbrev pub BeginsWith : SpaceConfig → List ℕ → Event → Type 0
 BeginsWith config lines e = (line : List ℕ) × (rest : List ℕ) × SpellsEvent config.uid e line × IsServed e.ask × (lines ≡ line ++ 10 ∷ rest)
+
+-- There are lines, and the first of them spells no event that is served.
+abbrev pub BeginsBadly : SpaceConfig → List ℕ → Type 0
+BeginsBadly config lines = (lines ≢ []) × ((e : Event) → BeginsWith config lines e → ⊥)
 
 -- Why no more lines are taken after the history h: there are none; or the first is bad, whose number is told; or its event is refused.
 abbrev pub Stops : SpaceConfig → List Event → List ℕ → ℕ → Result (Unit {0}) ReplayFault → Type 0
@@ -61,17 +53,6 @@ pub record Goes (config : SpaceConfig) (h : List Event) (lines : List ℕ) (numb
   pub taken : TakesLines config h events front
   pub after : h2 ≡ h ++ events
   pub stops : Stops config h2 rest (number + length events) stop
-
--- The first of these lines spells an event that is served and taken; `more` are the lines after it, and h2 is the history then.
-abbrev pub TakesNext : SpaceConfig → List Event → List ℕ → List ℕ → List Event → Type 0
-TakesNext config h lines more h2 =
-    (e : Event) × (line : List ℕ) × SpellsEvent config.uid e line × IsServed e.ask × IsTaken config h e × (lines ≡ line ++ 10 ∷ more) × (h2 ≡ h ++ e ∷ [])
-
--- The event was refused after the history h; want of memory says nothing of it.
-abbrev pub WasRefused : SpaceConfig → List Event → Event → ReplayFault → Type 0
-WasRefused config h e (BadLine line) = ⊥
-WasRefused config h e RefusedTurn = (cause : Refused) × (refusal limits config (places config h) e ≡ Some cause)
-WasRefused config h e OutOfMemory = Unit {0}
 
 -- ---- the whole input
 

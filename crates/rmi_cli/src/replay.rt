@@ -1,14 +1,18 @@
 //! `replay`: the outline of the history that a journal spells.
-ghost use Rattle.std.specs.Prelude.{◌≡◌, ◌≢◌, ◌<◌, ◌^◌, ◌∷◌, [], ◌++◌, ◌↔◌, IsTrue, IfOk, IfErr, OnOk, OnErr, Err, length};
+ghost use Rattle.std.specs.Prelude.{◌≡◌, ◌≢◌, ◌<◌, ◌≤◌, ◌+◌, ◌^◌, [], ◌↔◌, true, false, IsTrue, IfOk, IfErr, OnOk, Err, length};
+ghost use Rattle.std.specs.List.{AllByRecursion};
 ghost use Rattle.space.specs.Built.{IsBuilt};
-ghost use Rattle.rmi_cli.specs.Replay.{IsServed, IsTaken, TakesNext, WasRefused, Stops, Goes, Replays};
+ghost use Rattle.rmi_cli.specs.Replay.{IsServed, BeginsBadly, Goes, Replays};
+ghost use Rattle.rmi_cli.specs.Batches.{TakesLine, WasBad, HasRead, AreTaken, Halts, TakesTo, fault_of};
 
-use history::{Ask, Event, Refused};
+use history::{Ask, Event, Refused, SpaceConfig};
 use journal::lines::{read_event, read_first_line, split_line};
 use mod_utf::list::ByteList;
-use object_ids::Uid;
 use space::{Space, outline};
-use std::alloc::Global;
+use std::alloc::{AllocError, Global};
+
+/// How many lines are read before their turns are made.
+const BATCH: usize = 4096;
 
 /// Why a journal has no outline.
 #[derive(Clone, Copy, Debug, PartialEq, Eq)]
@@ -35,7 +39,7 @@ pub fn replay(alloc: Global, input: &[u8]) -> Result<ByteList, ReplayFault>
         return Err(ReplayFault::BadLine { line: 1 });
     };
     let mut space = Space::fresh(alloc, &config);
-    match take_lines(alloc, &mut space, config.uid, lines) {
+    match take_lines(alloc, &mut space, &config, lines) {
         Ok(()) => {}
         Err(fault) => return Err(fault),
     }
@@ -46,53 +50,148 @@ pub fn replay(alloc: Global, input: &[u8]) -> Result<ByteList, ReplayFault>
 }
 
 /// Makes the turns of lines, the first of which is the journal's second, up to the first that can't be taken.
-fn take_lines(alloc: Global, space: &mut Space, uid: Uid, lines: &[u8]) -> Result<(), ReplayFault>
+fn take_lines(
+    alloc: Global,
+    space: &mut Space,
+    config: &SpaceConfig,
+    lines: &[u8],
+) -> Result<(), ReplayFault>
     requires size { length lines.now < 2 ^ 32 }
-    requires space { uid ≡ space.old.configuration.uid }
-    ensures goes { Goes space.old.configuration space.old.events lines.now 2 result space.new.events }
-    ensures config { space.new.configuration ≡ space.old.configuration }
+    requires space { space.old.configuration ≡ config.now }
+    ensures goes { Goes config.now space.old.events lines.now 2 result space.new.events }
+    ensures config { space.new.configuration ≡ config.now }
 {
     let mut rest = lines;
     let mut number: u64 = 2;
     while !rest.is_empty() {
-        match take_line(alloc, space, uid, rest, number) {
-            Ok(more) => rest = more,
+        match take_batch(alloc, space, config, rest, number) {
+            Ok((next, more)) => {
+                number = next;
+                rest = more;
+            }
             Err(fault) => return Err(fault),
         }
-        number += 1;
     }
     Ok(())
 }
 
-/// Makes the turn of the first of these lines, which has this number, and answers the lines after it.
-fn take_line<'a>(
+/// Makes the turns of some of these lines, from the first on, which has this number. It answers the number of the first
+/// line after them, and the lines from there on.
+fn take_batch<'a>(
     alloc: Global,
     space: &mut Space,
-    uid: Uid,
+    config: &SpaceConfig,
     lines: &'a [u8],
     number: u64,
-) -> Result<&'a [u8], ReplayFault>
+) -> Result<(u64, &'a [u8]), ReplayFault>
     requires some { lines.now ≢ [] }
-    requires space { uid ≡ space.old.configuration.uid }
-    ensures next { IfOk result (λ more. TakesNext space.old.configuration space.old.events lines.now more.now space.new.events) }
-    ensures stops { IfErr result (λ fault. Stops space.old.configuration space.old.events lines.now number (Err fault)) }
-    ensures err { OnErr result (space.new ≡ space.old) }
-    ensures config { space.new.configuration ≡ space.old.configuration }
+    requires size { number + length lines.now < 2 ^ 33 }
+    requires space { space.old.configuration ≡ config.now }
+    ensures next { IfOk result (λ p. TakesTo config.now space.old.events lines.now number p.1.now p.0 space.new.events) }
+    ensures stops { IfErr result (λ fault. Goes config.now space.old.events lines.now number (Err fault) space.new.events) }
+    ensures fewer { IfOk result (λ p. length p.1.now < length lines.now) }
+    ensures size { IfOk result (λ p. p.0 + length p.1.now ≤ number + length lines.now) }
+    ensures config { space.new.configuration ≡ config.now }
+{
+    let batch = match read_batch(alloc, config, lines) {
+        Ok(batch) => batch,
+        Err(_refused) => return Err(ReplayFault::OutOfMemory),
+    };
+    let Batch {
+        events,
+        rest,
+        is_bad,
+    } = batch;
+    let next = number + events.len() as u64;
+    match make_turns(alloc, space, events) {
+        Ok(()) => {
+            if is_bad {
+                Err(ReplayFault::BadLine { line: next })
+            } else {
+                Ok((next, rest))
+            }
+        }
+        Err(fault) => Err(fault),
+    }
+}
+
+/// Lines that were read.
+struct Batch<'a> {
+    /// The events that they spell.
+    events: Vec<Event>,
+    /// The lines after them.
+    rest: &'a [u8],
+    /// Whether the first line after them is bad.
+    is_bad: bool,
+}
+
+/// Reads lines, from the first on, up to a bad one, or as many as a batch has.
+fn read_batch<'a>(
+    alloc: Global,
+    config: &SpaceConfig,
+    lines: &'a [u8],
+) -> Result<Batch<'a>, AllocError>
+    requires { lines.now ≢ [] }
+    ensures read { IfOk result (λ batch. HasRead config.now lines.now batch.events.items batch.rest.now) }
+    ensures bad { IfOk result (λ batch. batch.is_bad ≡ true → BeginsBadly config.now batch.rest.now) }
+    ensures fewer { IfOk result (λ batch. batch.is_bad ≡ false → length batch.rest.now < length lines.now) }
+    ensures size { IfOk result (λ batch. length batch.events.items + length batch.rest.now ≤ length lines.now) }
+{
+    let mut events = Vec::new(alloc);
+    let mut rest = lines;
+    while !rest.is_empty() && events.len() < BATCH {
+        match read_line(alloc, config, rest) {
+            Ok((event, more)) => {
+                events.push(event)?;
+                rest = more;
+            }
+            Err(LineFault::Bad) => {
+                return Ok(Batch {
+                    events,
+                    rest,
+                    is_bad: true,
+                });
+            }
+            Err(LineFault::OutOfMemory) => return Err(AllocError),
+        }
+    }
+    Ok(Batch {
+        events,
+        rest,
+        is_bad: false,
+    })
+}
+
+/// Why a line gives no event.
+#[derive(Clone, Copy, Debug, PartialEq, Eq)]
+enum LineFault {
+    /// It is none of a journal, or of a kind that isn't served yet.
+    Bad,
+    /// There was no memory.
+    OutOfMemory,
+}
+
+/// The event of the first of these lines, and the lines after it.
+fn read_line<'a>(
+    alloc: Global,
+    config: &SpaceConfig,
+    lines: &'a [u8],
+) -> Result<(Event, &'a [u8]), LineFault>
+    ensures line { IfOk result (λ p. TakesLine config.now lines.now p.0 p.1.now) }
+    ensures bad { IfErr result (λ fault. WasBad config.now lines.now fault) }
 {
     let Some((line, more)) = split_line(lines) else {
-        return Err(ReplayFault::BadLine { line: number });
+        return Err(LineFault::Bad);
     };
-    let event = match read_event(alloc, uid, line) {
+    let event = match read_event(alloc, config.uid, line) {
         Ok(Some(event)) => event,
-        Ok(None) => return Err(ReplayFault::BadLine { line: number }),
-        Err(_) => return Err(ReplayFault::OutOfMemory),
+        Ok(None) => return Err(LineFault::Bad),
+        Err(_refused) => return Err(LineFault::OutOfMemory),
     };
-    if !is_served(&event.ask) {
-        return Err(ReplayFault::BadLine { line: number });
-    }
-    match take_event(alloc, space, event) {
-        Ok(()) => Ok(more),
-        Err(fault) => Err(fault),
+    if is_served(&event.ask) {
+        Ok((event, more))
+    } else {
+        Err(LineFault::Bad)
     }
 }
 
@@ -101,7 +200,15 @@ fn is_served(ask: &Ask) -> bool
     ensures { IsTrue result ↔ IsServed ask.now }
 {
     match ask {
-        Ask::Open { kind: _, pinned } => *pinned,
+        Ask::Open { kind: _, pinned: _ } => true,
+        Ask::Begin { object: _ } => true,
+        Ask::Finish {
+            object: _,
+            made: _,
+            listed: _,
+            uid: _,
+        } => true,
+        Ask::Abandon { object: _ } => true,
         Ask::Dirty {
             client: _,
             number: _,
@@ -114,25 +221,36 @@ fn is_served(ask: &Ask) -> bool
             objects: _,
             strong: _,
         } => true,
+        Ask::Ack { uid: _ } => true,
         Ask::Tick => true,
         _ => false,
     }
 }
 
-/// Makes the turn of an event.
-fn take_event(alloc: Global, space: &mut Space, event: Event) -> Result<(), ReplayFault>
-    requires moment { event.moment < 2 ^ 62 }
-    requires built { IsBuilt event.ask }
-    ensures ok { OnOk result (IsTaken space.old.configuration space.old.events event × (space.new.events ≡ space.old.events ++ event ∷ [])) }
-    ensures err { IfErr result (λ fault. WasRefused space.old.configuration space.old.events event fault) }
-    ensures unchanged { OnErr result (space.new ≡ space.old) }
+/// Makes the turns of events, up to the first that is refused.
+fn make_turns(alloc: Global, space: &mut Space, events: Vec<Event>) -> Result<(), ReplayFault>
+    requires moments { AllByRecursion (λ e. e.moment < 2 ^ 62) events.items }
+    requires built { AllByRecursion (λ e. IsBuilt e.ask) events.items }
+    ensures ok { OnOk result (AreTaken space.old.configuration space.old.events events.items space.new.events) }
+    ensures err { IfErr result (λ fault. Halts space.old.configuration space.old.events events.items fault space.new.events) }
     ensures config { space.new.configuration ≡ space.old.configuration }
 {
-    let Event { by, moment, ask } = event;
-    match space.turn(alloc, by, moment, ask) {
-        Ok(_turn) => Ok(()),
-        Err(Refused::OutOfMemory) => Err(ReplayFault::OutOfMemory),
-        Err(Refused::HistoryFull) => Err(ReplayFault::Refused),
-        Err(Refused::Full(_kind)) => Err(ReplayFault::Refused),
+    match space.turns(alloc, events) {
+        Ok(answered) => match answered.refused {
+            None => Ok(()),
+            Some(refused) => Err(fault_of(refused)),
+        },
+        Err(_refused) => Err(ReplayFault::OutOfMemory),
+    }
+}
+
+/// What a refused turn ends a replay with.
+fn fault_of(refused: Refused) -> ReplayFault
+    ensures { result ≡ fault_of refused }
+{
+    match refused {
+        Refused::HistoryFull => ReplayFault::Refused,
+        Refused::Full(_kind) => ReplayFault::Refused,
+        Refused::OutOfMemory => ReplayFault::OutOfMemory,
     }
 }

@@ -111,8 +111,8 @@ fn each_bad_line_has_its_number(rt: HostRuntime) -> Result<(), Fail> {
         (b"tick\n", "bad line 1\n"),
         (b"space 1 1 7 9\n0 0 tick", "bad line 2\n"),
         (
-            b"space 1 1 7 9\n0 0 tick\n0 0 open 1 free\n0 0 tock\n",
-            "bad line 3\n",
+            b"space 1 1 7 9\n0 0 tick\n0 0 open 1 free\n0 0 tock\n0 0 tack\n",
+            "bad line 4\n",
         ),
         (b"space 1 1 7 9\n0 0 tick\n\n", "bad line 3\n"),
         (
@@ -120,11 +120,58 @@ fn each_bad_line_has_its_number(rt: HostRuntime) -> Result<(), Fail> {
             "bad line 2\n",
         ),
         (b"space 1 1 7 9\n0 00 tick\n", "bad line 2\n"),
-        (b"space 1 1 7 9\n0 0 begin 16\n", "bad line 2\n"),
-        (b"space 1 1 7 9\n0 0 ack 1/0/0\n", "bad line 2\n"),
+        (b"space 1 1 7 9\n0 0 begin 16\n0 0 list\n", "bad line 3\n"),
+        (b"space 1 1 7 9\n0 0 lookup \"a\" 1/0/0\n", "bad line 2\n"),
     ];
     for (journal, line) in rows {
         check_replay(&rt, alloc, journal, b"", line, 2)?;
+    }
+    Ok(())
+}
+
+/// Journals of calls, of free objects and of moments that go back, each with its outline: the lines after `=`.
+const CALLS: &str = "space 600000 300000 7 9
+0 0 open 2 free
+=
+events 1 units 1 now 0
+withdrawn 16 place 0
+
+space 600000 300000 7 9
+0 0 open 2 pinned
+0 0 open 3 free
+1 0 begin 16
+2 5 abandon 16
+=
+events 4 units 4 now 5
+object 16 kind 2 pinned running 1 awaiting 0 held 0 names 0
+withdrawn 17 place 1
+
+space 600000 300000 7 9
+0 10 open 2 pinned
+1 0 begin 16
+1 12 begin 16
+1 11 abandon 16
+1 11 ack 1/0/0
+=
+events 5 units 5 now 12
+object 16 kind 2 pinned running 1 awaiting 0 held 0 names 0
+
+space 600000 300000 7 9
+0 0 open 2 pinned
+1 0 begin 17
+1 0 begin 16:7/9/1
+1 0 abandon 17
+=
+events 4 units 4 now 0
+object 16 kind 2 pinned running 0 awaiting 0 held 0 names 0";
+
+#[test]
+fn each_journal_of_calls_has_its_outline(rt: HostRuntime) -> Result<(), Fail> {
+    let alloc = rt.alloc();
+    for row in CALLS.split("\n\n") {
+        let (journal, outline) = row.split_once("=\n").ok_or("no outline")?;
+        let output = joined(alloc, outline.as_bytes(), b"\n")?;
+        check_replay(&rt, alloc, journal.as_bytes(), output.as_slice(), "", 0)?;
     }
     Ok(())
 }

@@ -8,6 +8,7 @@ pub mod Found
 pub mod Fresh
 pub mod Keeping
 pub mod LimitLaws
+pub mod ListLaws
 pub mod LiveLaws
 pub mod LoopLaws
 pub mod Named

@@ -6,6 +6,7 @@ mod acts;
 mod asks;
 mod calls;
 pub mod journal_text;
+pub mod lists;
 mod returns;
 mod runs;
 #[cfg(test)]
@@ -15,5 +16,6 @@ pub mod turns;
 
 pub use history::{Ask, Event, Refused, Reply, SpaceConfig, Turn};
 pub use journal_text::{journal, summary};
+pub use lists::{ObjectKind, Turns};
 pub use texts::outline;
 pub use turns::Space;

@@ -6,9 +6,8 @@ use Rattle.rmi_cli.proofs.replay.take_lines.Given as goal
 
 abbrev pub invariant-loop-rest : goal.invariant-loop-rest
 invariant-loop-rest l =
-    ((stop : Result (Unit {0}) ReplayFault) (h2 : List Event) → Goes l.fn.space.configuration l.space.events l.rest l.number stop h2
-    → Goes l.fn.space.configuration l.fn.space.events l.fn.lines 2 stop h2)
-    × (l.space.configuration ≡ l.fn.space.configuration) × (l.number + length l.rest ≤ 2 + length l.fn.lines)
+    ((stop : Result (Unit {0}) ReplayFault) (h2 : List Event) → Goes l.config l.space.events l.rest l.number stop h2 → Goes l.config l.fn.space.events l.fn.lines 2 stop h2)
+    × (l.space.configuration ≡ l.config) × (l.number + length l.rest ≤ 2 + length l.fn.lines)
 
 abbrev pub decreases-loop-rest : goal.decreases-loop-rest
 decreases-loop-rest l = length l.rest
