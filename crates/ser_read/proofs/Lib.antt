@@ -1,0 +1,10 @@
+pub mod Pulling
+pub mod Steps
+pub mod Loop
+pub mod Values
+pub mod Links
+pub mod Slots
+pub mod Blocks
+pub mod Joins
+pub mod Parts
+pub mod Bytes

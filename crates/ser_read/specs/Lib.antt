@@ -1,0 +1,9 @@
+pub mod Here
+pub mod Signed
+pub mod Lists
+pub mod Codes
+pub mod Rows
+pub mod Named
+pub mod Chains
+pub mod Tables
+pub mod Words
