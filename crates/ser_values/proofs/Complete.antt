@@ -31,11 +31,11 @@ use Rattle.ser_values.proofs.Constructs.{text_reads, desc_reads}
 use Rattle.ser_values.proofs.Classes.{proxy_reads, class_reads, object_reads, array_reads, class_of_reads, enum_reads}
 
 -- what is taken of the graph
-record Given (F : List Node) : Type 0 where
-  few : length F ≤ 65536
-  parts : parts_in F ≤ 1048576
-  numbers : NumbersFit F
-  units : UnitsFit F
+pub record Given (F : List Node) : Type 0 where
+  pub few : length F ≤ 65536
+  pub parts : parts_in F ≤ 1048576
+  pub numbers : NumbersFit F
+  pub units : UnitsFit F
 
 units_in : (nodes : List Node) → UnitsFit nodes → (k : ℕ) (i : Node) → slice_get nodes k ≡ Some i → UnitsFitIn i
 units_in (x ∷ nodes) h zero i e = let same : x ≡ i = cc in subst (λ (j : Node). UnitsFitIn j) same (h zero x (omega arith))
@@ -252,7 +252,7 @@ at_code F end left inner slot unread p s now bs rest m opens c =
       settled = r.settled;
     }
 
-slots_complete : (F : List Node) → Given F → (end d : ℕ) → IsComplete F (Spells F d) (slot_at end d)
+pub slots_complete : (F : List Node) → Given F → (end d : ℕ) → IsComplete F (Spells F d) (slot_at end d)
 unfolding slot_at Spells
 slots_complete F given end zero unread p s now bs rest m h ready =
     at_code F end zero no_slots (slot_at end zero) unread p s now bs rest m (λ code after. refl)

@@ -182,7 +182,7 @@ slot_by S T inner sound end left unread p now bs y as_one e solid bytes =
 none_sound : IsSound (λ F. never) no_slots
 none_sound unread p now bs y e solid bytes = absurd cc
 
-slots_sound : (end d : ℕ) → IsSound (λ F. Spells F d) (slot_at end d)
+pub slots_sound : (end d : ℕ) → IsSound (λ F. Spells F d) (slot_at end d)
 unfolding slot_at Spells
 slots_sound end zero unread p now bs y e solid bytes = slot_by (λ F. never) (λ F. Spells F zero) no_slots none_sound end zero unread p now bs y (λ F s bs rest m h. h) e solid bytes
 slots_sound end (suc d) unread p now bs y e solid bytes = slot_by (λ F. Spells F d) (λ F. Spells F (suc d)) (slot_at end d) (slots_sound end d) end (suc d) unread p now bs y (λ F s bs rest m h. h) e solid bytes
