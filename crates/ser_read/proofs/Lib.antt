@@ -8,3 +8,4 @@ pub mod Blocks
 pub mod Joins
 pub mod Parts
 pub mod Bytes
+pub mod Wants

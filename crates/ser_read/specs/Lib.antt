@@ -7,3 +7,6 @@ pub mod Named
 pub mod Chains
 pub mod Tables
 pub mod Words
+pub mod Heads
+pub mod Wants
+pub mod Stands

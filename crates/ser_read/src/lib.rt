@@ -1,10 +1,12 @@
 //! Graphs from serialization streams (Java Object Serialization Specification, chapter 6).
 #![tactic(auto)]
 
+mod block;
 mod fault;
 mod numbers;
 mod pieces;
 mod pulled;
+mod reader;
 mod reading;
 mod row;
 mod shape;
@@ -12,3 +14,7 @@ mod table;
 mod words;
 
 pub use fault::{Large, StreamFault, StreamKind};
+pub use reader::Reader;
+
+#[cfg(test)]
+mod tests;

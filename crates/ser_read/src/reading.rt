@@ -53,7 +53,7 @@ fn slot<S: Source>(
 /// What a code begins in a place, whose levels may be so many.
 #[cycle(reading)]
 #[tactic(auto, unfolding(ser_values::specs::Reading::coded))]
-fn coded<S: Source>(
+pub(crate) fn coded<S: Source>(
     alloc: Global,
     pull: &mut Pull<'_, S>,
     table: &mut Table,
