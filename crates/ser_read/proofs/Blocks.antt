@@ -10,8 +10,8 @@ use Rattle.std.proofs.lemmas.List.{append-nil}
 use Rattle.std.specs.Int.{w32}
 use Rattle.wire_io.proofs.Pulling.{takes_nothing, takes_more}
 use Rattle.ser_read.specs.declared.fault.StreamFault.{StreamFault}
-use Rattle.ser_read.specs.Here.{Fails, Reads}
-use Rattle.ser_read.proofs.Steps.{Leads, fails_then, fails_of}
+use Rattle.ser_read.specs.Here.{Fails, AreBytes, Reads}
+use Rattle.ser_read.proofs.Steps.{Leads, bytes_more, fails_then, fails_of}
 use Rattle.ser_read.proofs.Bytes.{ok_is, none}
 use Rattle.ser_read.specs.Named.{item_at, added}
 use Rattle.ser_read.proofs.Joins.{added_is}
@@ -30,6 +30,7 @@ after_all before read = read >>= λ x. Ok (added_all before x.0, x.1, x.2)
 -- Bytes were taken, and what reads the items after those that were read, reads all. Each item took a byte at least.
 pub record Slack (p q : Place) (inner : ℕ → Step Slot) (within : Bool) (first now : Progress) (is : List Item) : Type 0 where
   pub taken : List ℕ
+  pub bytes : AreBytes taken
   pub takes : Takes p q taken
   pub spare : ℕ
   pub reads : (rest : List ℕ) → items_at (q.at + length rest) (inner (q.at + length rest)) within first (taken ++ rest) ≡ after_all is (blocks_at (q.at + length rest) (inner (q.at + length rest)) within (suc (spare + length rest)) now rest)
@@ -43,6 +44,7 @@ pub slack_start : (p : Place) (inner : ℕ → Step Slot) (within : Bool) (first
 unfolding items_at
 slack_start p inner within first = record {
   taken = [];
+  bytes = tt;
   takes = takes_nothing p;
   spare = 0;
   reads = λ rest. let k : 0 + length rest ≡ length rest = omega arith in rw k (go (blocks_at (p.at + length rest) (inner (p.at + length rest)) within (suc (length rest)) first rest));
@@ -137,7 +139,7 @@ one_byte (b ∷ taken) c h =
 
 pub slack_leads : {p q : Place} {inner : ℕ → Step Slot} {within : Bool} {first now : Progress} {is : List Item} (s : Slack p q inner within first now is)
     → Leads p q (λ end. items_at end (inner end) within first) (λ end bs. after_all is (blocks_at end (inner end) within (suc (s.spare + length bs)) now bs))
-slack_leads s = record { taken = s.taken; takes = s.takes; is = s.reads }
+slack_leads s = record { taken = s.taken; bytes = s.bytes; takes = s.takes; is = s.reads }
 
 pub slack_more : {p q m r : Place} {inner : ℕ → Step Slot} (ref : ℕ → Step Slot) {first now later : Progress} {is : List Item} {c : ℕ} {i : Item}
     → Slack p q inner true first now is → Reads q m (λ end. byte_at) (λ rest. (c, rest)) → Reads m r (λ end. item_at end (ref end) c now) (λ rest. (i, later, rest))
@@ -147,6 +149,7 @@ slack_more {p} {q} {m} {r} {inner} ref {first} {now} {later} {is} {c} {i} s a b 
     let len : length a.taken ≡ 1 = ap (λ (x : List ℕ). length x) one in
     record {
       taken = s.taken ++ (a.taken ++ b.taken);
+      bytes = bytes_more s.taken (a.taken ++ b.taken) s.bytes (bytes_more a.taken b.taken a.bytes b.bytes);
       takes = takes_more p q r s.taken (a.taken ++ b.taken) s.takes (takes_more q m r a.taken b.taken a.takes b.takes);
       spare = s.spare + length b.taken;
       reads = λ rest.
@@ -169,6 +172,7 @@ slack_end {p} {q} {m} {inner} {first} {now} {is} {c} s a h =
     let len : length a.taken ≡ 1 = ap (λ (x : List ℕ). length x) one in
     record {
       taken = s.taken ++ a.taken;
+      bytes = bytes_more s.taken a.taken s.bytes a.bytes;
       takes = takes_more p q m s.taken a.taken s.takes a.takes;
       is = λ rest.
           let ends : m.at + length rest ≡ q.at + length (c ∷ rest) = omega (arith, len, a.takes.at) in

@@ -112,7 +112,7 @@ item_long end ref code now bs h = rw h refl
 
 -- the branch that is taken
 pub when : {Y : Type 0} {p q : pulled.Place} {b : Bool} {x : ℕ → List ℕ → Result Y Fault} (y : ℕ → List ℕ → Result Y Fault) {out : List ℕ → Y} → b ≡ true → Reads p q x out → Reads p q (λ end bs. if b then x end bs else y end bs) out
-when y h r = record { taken = r.taken; takes = r.takes; is = λ rest. rw h (r.is rest) }
+when y h r = record { taken = r.taken; bytes = r.bytes; takes = r.takes; is = λ rest. rw h (r.is rest) }
 
 pub otherwise : {Y : Type 0} {p q : pulled.Place} {b : Bool} (x : ℕ → List ℕ → Result Y Fault) {y : ℕ → List ℕ → Result Y Fault} {out : List ℕ → Y} → b ≡ false → Reads p q y out → Reads p q (λ end bs. if b then x end bs else y end bs) out
-otherwise x h r = record { taken = r.taken; takes = r.takes; is = λ rest. rw h (r.is rest) }
+otherwise x h r = record { taken = r.taken; bytes = r.bytes; takes = r.takes; is = λ rest. rw h (r.is rest) }

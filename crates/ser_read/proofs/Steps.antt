@@ -6,16 +6,21 @@ use Rattle.ser_values.specs.Reading.{◌>>=◌, Fault, Plain, Progress, plain}
 use Rattle.ser_read.specs.declared.fault.StreamFault.{StreamFault}
 use Rattle.ser_read.specs.declared.fault.StreamFault.TheVariants as faults
 use Rattle.ser_read.specs.declared.fault.Large.TheVariants as larges
-use Rattle.ser_read.specs.Here.{Env, Fails, Reads, env_at, coming_at, env, coming, IsTold}
+use Rattle.ser_read.specs.Here.{Env, Fails, AreBytes, Reads, env_at, coming_at, env, coming, IsTold}
 use Rattle.ser_read.proofs.Pulling.{takes_told, takes_env}
 use Rattle.wire_io.specs.Pulled.{place}
 use Rattle.wire_io.specs.declared.pull.Pull.{Pull}
+
+pub bytes_more : (xs ys : List ℕ) → AreBytes xs → AreBytes ys → AreBytes (xs ++ ys)
+bytes_more [] ys a b = b
+bytes_more (x ∷ xs) ys a b = (a.0, bytes_more xs ys a.1 b)
 
 -- What is read first, and what is read after it.
 pub then : {A Y : Type 0} {p q r : Place} {first : ℕ → List ℕ → Result A Fault} {mid : List ℕ → A} (k : ℕ → A → Result Y Fault) {out : List ℕ → Y}
     → Reads p q first mid → Reads q r (λ end bs. k end (mid bs)) out → Reads p r (λ end bs. first end bs >>= k end) out
 then {A} {Y} {p} {q} {r} {first} {mid} k {out} a b = record {
   taken = a.taken ++ b.taken;
+  bytes = bytes_more a.taken b.taken a.bytes b.bytes;
   takes = takes_more p q r a.taken b.taken a.takes b.takes;
   is = λ rest.
       let ends : r.at + length rest ≡ q.at + length (b.taken ++ rest) = omega (arith, b.takes.at, length-append b.taken rest) in
@@ -26,12 +31,13 @@ then {A} {Y} {p} {q} {r} {first} {mid} k {out} a b = record {
 
 -- Nothing more is read.
 pub done : {Y : Type 0} {p : Place} {read : ℕ → List ℕ → Result Y Fault} {out : List ℕ → Y} → ((end : ℕ) (bs : List ℕ) → read end bs ≡ Ok (out bs)) → Reads p p read out
-done {Y} {p} {read} {out} h = record { taken = []; takes = takes_nothing p; is = λ rest. h (p.at + length rest) rest }
+done {Y} {p} {read} {out} h = record { taken = []; bytes = tt; takes = takes_nothing p; is = λ rest. h (p.at + length rest) rest }
 
 -- the same reading, said otherwise
 pub said : {Y : Type 0} {p q : Place} {a b : ℕ → List ℕ → Result Y Fault} {out : List ℕ → Y} → ((end : ℕ) (bs : List ℕ) → end ≡ p.at + length bs → b end bs ≡ a end bs) → Reads p q a out → Reads p q b out
 said {Y} {p} {q} {a} {b} {out} same h = record {
   taken = h.taken;
+  bytes = h.bytes;
   takes = h.takes;
   is = λ rest. same _ _ (omega (arith, h.takes.at, length-append h.taken rest)) ∙ h.is rest;
 }
@@ -51,16 +57,18 @@ said_last p q out (Err e) same h = tt
 
 pub record Leads {Y : Type 0} (p q : Place) (read next : ℕ → List ℕ → Result Y Fault) : Type 0 where
   pub taken : List ℕ
+  pub bytes : AreBytes taken
   pub takes : Takes p q taken
   pub is : (rest : List ℕ) → read (q.at + length rest) (taken ++ rest) ≡ next (q.at + length rest) rest
 
 pub leads_start : {Y : Type 0} (p : Place) (read next : ℕ → List ℕ → Result Y Fault) → ((end : ℕ) (bs : List ℕ) → read end bs ≡ next end bs) → Leads p p read next
-leads_start p read next h = record { taken = []; takes = takes_nothing p; is = λ rest. h (p.at + length rest) rest }
+leads_start p read next h = record { taken = []; bytes = tt; takes = takes_nothing p; is = λ rest. h (p.at + length rest) rest }
 
 pub leads_more : {Y A : Type 0} {p q r : Place} {read next : ℕ → List ℕ → Result Y Fault} {step : ℕ → List ℕ → Result A Fault} {out : List ℕ → A} (more : ℕ → List ℕ → Result Y Fault)
     → Leads p q read next → Reads q r step out → ((end : ℕ) (bs rest : List ℕ) → end ≡ q.at + length bs → step end bs ≡ Ok (out rest) → next end bs ≡ more end rest) → Leads p r read more
 leads_more {Y} {A} {p} {q} {r} {read} {next} {step} {out} more a b h = record {
   taken = a.taken ++ b.taken;
+  bytes = bytes_more a.taken b.taken a.bytes b.bytes;
   takes = takes_more p q r a.taken b.taken a.takes b.takes;
   is = λ rest.
       let ends : r.at + length rest ≡ q.at + length (b.taken ++ rest) = omega (arith, b.takes.at, length-append b.taken rest) in
@@ -70,7 +78,7 @@ leads_more {Y} {A} {p} {q} {r} {read} {next} {step} {out} more a b h = record {
 }
 
 pub leads_done : {Y : Type 0} {p q : Place} {read next : ℕ → List ℕ → Result Y Fault} {out : List ℕ → Y} → Leads p q read next → ((end : ℕ) (bs : List ℕ) → next end bs ≡ Ok (out bs)) → Reads p q read out
-leads_done {Y} {p} {q} {read} {next} {out} a h = record { taken = a.taken; takes = a.takes; is = λ rest. a.is rest ∙ h _ rest }
+leads_done {Y} {p} {q} {read} {next} {out} a h = record { taken = a.taken; bytes = a.bytes; takes = a.takes; is = λ rest. a.is rest ∙ h _ rest }
 
 -- ---- where the bytes are told
 
@@ -134,7 +142,7 @@ leads_fails left faults p q after e l le told h = subst (λ r. Fails after e r) 
 pub reads_gives : {S Y : Type 0} (left : S → Option (List ℕ)) (faults : S → ℕ) (p q : Pull S) {read : ℕ → List ℕ → Result Y Fault} {out : List ℕ → Y}
     → Reads (place left faults p) (place left faults q) read out → q.at ≤ q.stop → IsTold left p → read (env left p).end (coming left p) ≡ Ok (out (coming left q))
 reads_gives left faults p q {read} {out} h le told =
-    let l : Leads (place left faults p) (place left faults q) read (λ end bs. Ok (out bs)) = record { taken = h.taken; takes = h.takes; is = h.is } in
+    let l : Leads (place left faults p) (place left faults q) read (λ end bs. Ok (out bs)) = record { taken = h.taken; bytes = h.bytes; takes = h.takes; is = h.is } in
     leads_told left faults p q l le told
 
 -- what changes no nodes

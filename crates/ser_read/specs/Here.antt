@@ -1,5 +1,6 @@
 -- What a call that reads from a Pull answers, beside reading as a function on lists.
-use Rattle.std.specs.Prelude.{◌≡◌, ℕ, ◌+◌, ◌-◌, ◌≤◌, Bool, true, false, List, [], ◌∷◌, ◌++◌, length, take, drop, Option, None, Some, Result, Ok, Err, IfOk}
+use Rattle.std.specs.Prelude.{◌≡◌, ℕ, ◌+◌, ◌-◌, ◌≤◌, ◌<◌, Bool, true, false, List, [], ◌∷◌, ◌++◌, length, take, drop, Option, None, Some, Result, Ok, Err, IfOk}
+use Rattle.std.specs.List.{AllByRecursion}
 use Rattle.wire_io.specs.Wire.{Rose}
 use Rattle.wire_io.specs.Pulled.{Place, place, Takes}
 use Rattle.wire_io.specs.declared.pull.Pull.{Pull}
@@ -90,9 +91,14 @@ Gives after view (Err e) read = Fails after e read
 abbrev pub GivesTold : {S X Y : Type 0} → (S → Option (List ℕ)) → Pull S → Pull S → Result X StreamFault → (ℕ → List ℕ → Result Y Fault) → (X → List ℕ → Y) → Type 0
 GivesTold left old new result read out = IsTold left old → Gives (env left old).after (λ x. out x (coming left new)) result (read (env left old).end (coming left old))
 
+-- Each is a number of 8 bits.
+abbrev pub AreBytes : List ℕ → Type 0
+AreBytes bs = AllByRecursion (λ b. b < 256) bs
+
 -- Bytes were taken, and whatever comes after them, reading gives `out` of that.
 pub record Reads {Y : Type 0} (old new : Place) (read : ℕ → List ℕ → Result Y Fault) (out : List ℕ → Y) : Type 0 where
   pub taken : List ℕ
+  pub bytes : AreBytes taken
   pub takes : Takes old new taken
   pub is : (rest : List ℕ) → read (new.at + length rest) (taken ++ rest) ≡ Ok (out rest)
 

@@ -4,7 +4,7 @@ ghost use Rattle.std.specs.Int.{w16, w32, w64};
 ghost use Rattle.ser_values.specs.Reading.{byte_at, take_at, number_at, size_at, units_at, short_at, long_at};
 ghost use Rattle.ser_read.specs.declared.fault.StreamFault.TheVariants.{Bad};
 ghost use Rattle.ser_read.specs.declared.fault.StreamKind.TheVariants.{NegativeLength};
-ghost use Rattle.ser_read.specs.Here.{env, Caused, GivesTold, ReadsTaken};
+ghost use Rattle.ser_read.specs.Here.{env, AreBytes, Caused, GivesTold, ReadsTaken};
 
 use crate::fault::{Large, StreamFault, StreamKind};
 use mod_utf::decode::{UtfFault, decode};
@@ -150,6 +150,15 @@ fn negative_length(at: u64) -> StreamFault
     }
 }
 
+/// Bytes are numbers of 8 bits.
+fn see(bytes: &[u8])
+    ensures { AreBytes bytes.now }
+{
+    for byte in bytes {
+        let _seen = *byte;
+    }
+}
+
 /// The next bytes, as one piece.
 fn piece<S: Source>(alloc: Global, pull: &mut Pull<'_, S>, n: u32) -> Result<ByteList, StreamFault>
     ensures lent { pull.new.source.ghost_name ≡ pull.old.source.ghost_name }
@@ -160,7 +169,10 @@ fn piece<S: Source>(alloc: Global, pull: &mut Pull<'_, S>, n: u32) -> Result<Byt
     ensures reads { ReadsTaken S.left S.faults pull.old pull.new result (λ end. take_at n) (λ x rest. (x, rest)) }
 {
     match pull.take(alloc, n) {
-        Ok(bytes) => Ok(bytes),
+        Ok(bytes) => {
+            see(bytes.as_slice());
+            Ok(bytes)
+        }
         Err(end) => match end {
             PullEnd::End { at } => Err(StreamFault::Truncated { at }),
             PullEnd::Limit { at } => Err(StreamFault::TooLarge {
