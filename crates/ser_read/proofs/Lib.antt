@@ -9,3 +9,5 @@ pub mod Joins
 pub mod Parts
 pub mod Bytes
 pub mod Wants
+pub mod Heads
+pub mod Runs

@@ -141,3 +141,8 @@ unfolding env coming
 leads_told left faults p q {read} {next} l le told =
     told_at (place left faults p) (place left faults q) read next l le told
     ∙ ap (λ (e : Env). next e.end (coming_at (left q.source.now) q.at q.stop)) (takes_env (place left faults p) (place left faults q) l.taken l.takes le)
+
+-- A loop stops where one step does.
+pub leads_fails : {S Y : Type 0} (left : S → Option (List ℕ)) (faults : S → ℕ) (p q : Pull S) (after e : StreamFault) {read next : ℕ → List ℕ → Result Y WantFault}
+    → Leads (place left faults p) (place left faults q) read next → q.at ≤ q.stop → IsTold left p → WantFails after e (next (env left p).end (coming left q)) → WantFails after e (read (env left p).end (coming left p))
+leads_fails left faults p q after e l le told h = subst (λ r. WantFails after e r) (sym (leads_told left faults p q l le told)) h

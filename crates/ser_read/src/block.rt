@@ -137,7 +137,7 @@ pub(crate) fn run<S: Source>(
         let more = left.min(present);
         let piece = take(alloc, pull, u64::from(more))?;
         bytes.append(piece.as_slice())?;
-        *block = present.saturating_sub(more);
+        *block = present - more;
         left -= more;
     }
     Ok(bytes)
