@@ -146,3 +146,13 @@ leads_told left faults p q {read} {next} l le told =
 pub leads_fails : {S Y : Type 0} (left : S → Option (List ℕ)) (faults : S → ℕ) (p q : Pull S) (after e : StreamFault) {read next : ℕ → List ℕ → Result Y WantFault}
     → Leads (place left faults p) (place left faults q) read next → q.at ≤ q.stop → IsTold left p → WantFails after e (next (env left p).end (coming left q)) → WantFails after e (read (env left p).end (coming left p))
 leads_fails left faults p q after e l le told h = subst (λ r. WantFails after e r) (sym (leads_told left faults p q l le told)) h
+
+-- ---- a call's last step
+
+pub want_last : {X A Y : Type 0} {p q : Place} (r : Place) {first : ℕ → List ℕ → Result A Fault} {mid : List ℕ → A} (k : ℕ → A → Result Y WantFault) (inner : ℕ → List ℕ → Result Y Fault) (out : X → List ℕ → Y) (result : Result X StreamFault)
+    → Reads p q first mid → ((end : ℕ) (bs : List ℕ) → k end (mid bs) ≡ lifted (inner end bs)) → IfOk result (λ x. Reads q r inner (out x)) → IfOk result (λ x. WantReads p r (λ end bs. lifted (first end bs) ▸ k end) (out x))
+want_last {X} {A} {Y} r k inner out (Ok x) a same b = want_then k a (record { taken = b.taken; bytes = b.bytes; takes = b.takes; is = λ rest. same _ _ ∙ ap lifted_of (b.is rest) })
+  where
+    lifted_of : Result Y Fault → Result Y WantFault
+    lifted_of r = lifted r
+want_last r k inner out (Err e) a same b = tt

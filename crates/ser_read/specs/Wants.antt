@@ -76,15 +76,48 @@ abbrev pub only_slot : ℕ → Progress → Head × List ℕ → Result (Slot ×
 only_slot end now (Block n, bs) = Err (block_left (end - length bs))
 only_slot end now (Code code at, bs) = lifted (coded end 200 (slot_at end 199) places.Reference [] at code now bs)
 
+unfoldable pub reference_at : ℕ → Progress → List ℕ → Result (Slot × Progress × List ℕ) WantFault
+reference_at end now bs = lifted (head_at end bs) ▸ only_slot end now
+
 -- a reference is wanted
 unfoldable pub slot_next : ℕ → Stand → List ℕ → Result (Slot × Stand × List ℕ) WantFault
 slot_next end s bs =
-    if nat_eq s.block 0 then (lifted (head_at end bs) ▸ only_slot end s.progress ▸ λ x. Ok (x.0, record { progress = x.1; items = s.items ++ items.Ref x.0 ∷ []; block = 0 }, x.2))
+    if nat_eq s.block 0 then (reference_at end s.progress bs ▸ λ x. Ok (x.0, record { progress = x.1; items = s.items ++ items.Ref x.0 ∷ []; block = 0 }, x.2))
     else Err (block_left (end - length bs))
 
 -- the end is wanted, at this position
 unfoldable pub close_at : ℕ → Stand → Result (List Node × List Item) WantFault
 close_at at s = if nat_eq s.block 0 then Ok (s.progress.nodes, s.items) else Err (block_left at)
+
+-- ---- wants that were served
+
+pub data Want : Type 0 where
+  some_bytes : ℕ → Want
+  a_reference : Want
+
+unfoldable pub want_at : ℕ → Want → Stand → List ℕ → Result (Item × Stand × List ℕ) WantFault
+want_at end (some_bytes n) s bs = bytes_at end n s bs ▸ λ x. Ok (items.Bytes x.0, x.1, x.2)
+want_at end a_reference s bs = slot_next end s bs ▸ λ x. Ok (items.Ref x.0, x.1, x.2)
+
+-- A want, the position at which its bytes end, those bytes, and what they gave.
+pub record Served : Type 0 where
+  pub want : Want
+  pub end : ℕ
+  pub bytes : List ℕ
+  pub answer : Item
+
+-- Wants that were served, the last one first, lead to this stand.
+abbrev pub AreServed : List Served → Stand → Type 0
+AreServed [] s = s ≡ nothing_read
+AreServed (w ∷ earlier) s = (before : Stand) × AreBytes w.bytes × (want_at w.end w.want before w.bytes ≡ Ok (w.answer, s, [])) × AreServed earlier before
+
+abbrev pub IsServed : Stand → Type 0
+IsServed s = (served : List Served) × AreServed served s
+
+-- A reader: how far it has come, and why it was refused. Then how far it has come says nothing.
+pub record ReaderState : Type 0 where
+  pub stand : Stand
+  pub refused : Option StreamFault
 
 -- ---- what is answered
 

@@ -3,7 +3,8 @@ ghost use Rattle.std.specs.Prelude.{◌≡◌, ◌-◌, ◌≤◌, [], ◌∷◌
 ghost use Rattle.ser_values.specs.Reading.{magic_at};
 ghost use Rattle.ser_read.specs.declared.fault.StreamFault.{StreamFault};
 ghost use Rattle.ser_read.specs.Here.{env, Caused, GivesTold, ReadsTaken};
-ghost use Rattle.ser_read.specs.Wants.{GivesWant, WantTaken, WantGives, bytes_at, slot_next, close_at, nothing_read};
+ghost use Rattle.ser_read.specs.Wants.{GivesWant, WantTaken, WantGives, bytes_at, reference_at, slot_next, close_at, nothing_read};
+ghost use Rattle.ser_read.specs.Tables.{now_of};
 ghost use Rattle.ser_read.specs.Stands.{stand_of};
 
 use crate::block::{Head, next_head, run};
@@ -89,11 +90,19 @@ fn bytes_in<S: Source>(
 }
 
 /// The next reference, once no block data is left.
+#[tactic(auto, unfolding(crate::specs::Wants::reference_at), using(crate::proofs::Wants::lifted_fails, crate::proofs::Pulling::here_is))]
 fn reference<S: Source>(
     alloc: Global,
     pull: &mut Pull<'_, S>,
     table: &mut Table,
 ) -> Result<Slot, StreamFault>
+    requires read { table.old.unread.items ≡ [] }
+    ensures lent { pull.new.source.ghost_name ≡ pull.old.source.ghost_name }
+    ensures cause { Caused (S.faults pull.old.source.now) (S.faults pull.new.source.now) result }
+    ensures env { OnOk result (env S.left pull.new ≡ env S.left pull.old) }
+    ensures read { OnOk result (table.new.unread.items ≡ []) }
+    ensures gives { GivesWant S.left pull.old pull.new result (λ end. reference_at end (now_of table.old)) (λ x rest. (x, now_of table.new, rest)) }
+    ensures reads { WantTaken S.left S.faults pull.old pull.new result (λ end. reference_at end (now_of table.old)) (λ x rest. (x, now_of table.new, rest)) }
 {
     match next_head(pull)? {
         Head::Block(_) => Err(bad(StreamKind::BlockLeft, pull.at)),
