@@ -11,3 +11,5 @@ pub mod Bytes
 pub mod Wants
 pub mod Heads
 pub mod Runs
+pub mod Empties
+pub mod Served

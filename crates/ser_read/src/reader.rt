@@ -142,9 +142,29 @@ pub struct Reader {
     refused: Option<StreamFault>,
 }
 
+impl Model for Reader {
+    ghost use Rattle.std.specs.Prelude.{◌≡◌, [], None};
+    ghost use Rattle.ser_read.specs.Stands.{stand_of};
+    ghost use Rattle.ser_read.specs.Wants.{ReaderState, IsServed};
+
+    ghost Value = { ReaderState };
+
+    ghost view = { λ r. record { stand = stand_of r.stand; refused = r.refused } };
+
+    ghost invariant = { λ r. r.refused ≡ None → (r.stand.table.unread.items ≡ []) × ∥ IsServed (stand_of r.stand) ∥₁ };
+}
+
 impl Reader {
     /// Reads the magic number and the version. `BadMagic` comes at the first byte that differs.
-    pub fn start<S: Source>(alloc: Global, pull: &mut Pull<'_, S>) -> Result<Reader, StreamFault> {
+    pub fn start<S: Source>(alloc: Global, pull: &mut Pull<'_, S>) -> Result<Reader, StreamFault>
+        ensures kept { IfOk result (λ reader. reader.refused ≡ None) }
+        ensures stand { IfOk result (λ reader. reader.stand ≡ nothing_read) }
+        ensures cause { Caused (S.faults pull.old.source.now) (S.faults pull.new.source.now) result }
+        ensures lent { pull.new.source.ghost_name ≡ pull.old.source.ghost_name }
+        ensures env { OnOk result (env S.left pull.new ≡ env S.left pull.old) }
+        ensures gives { GivesTold S.left pull.old pull.new result (λ end. magic_at end (0xAC ∷ 0xED ∷ 0x00 ∷ 0x05 ∷ [])) (λ x rest. rest) }
+        ensures reads { ReadsTaken S.left S.faults pull.old pull.new result (λ end. magic_at end (0xAC ∷ 0xED ∷ 0x00 ∷ 0x05 ∷ [])) (λ x rest. rest) }
+    {
         magic(pull)?;
         Ok(Reader {
             stand: Stand {
@@ -164,7 +184,16 @@ impl Reader {
         alloc: Global,
         pull: &mut Pull<'_, S>,
         n: u32,
-    ) -> Result<ByteList, StreamFault> {
+    ) -> Result<ByteList, StreamFault>
+        ensures again { (fault : StreamFault) → self.old.refused ≡ Some fault → (result ≡ Err fault) × (self.new.refused ≡ Some fault) × (pull.new.source.now ≡ pull.old.source.now) × (pull.new.at ≡ pull.old.at) × (pull.new.stop ≡ pull.old.stop) }
+        ensures kept { OnOk result (self.new.refused ≡ None) }
+        ensures refused { IfErr result (λ fault. self.new.refused ≡ Some fault) }
+        ensures cause { self.old.refused ≡ None → Caused (S.faults pull.old.source.now) (S.faults pull.new.source.now) result }
+        ensures lent { pull.new.source.ghost_name ≡ pull.old.source.ghost_name }
+        ensures env { OnOk result (env S.left pull.new ≡ env S.left pull.old) }
+        ensures gives { self.old.refused ≡ None → GivesWant S.left pull.old pull.new result (λ end. bytes_at end n self.old.stand) (λ x rest. (x, self.new.stand, rest)) }
+        ensures reads { WantTaken S.left S.faults pull.old pull.new result (λ end. bytes_at end n self.old.stand) (λ x rest. (x, self.new.stand, rest)) }
+    {
         if let Some(fault) = self.refused {
             return Err(fault);
         }
@@ -184,7 +213,16 @@ impl Reader {
         &mut self,
         alloc: Global,
         pull: &mut Pull<'_, S>,
-    ) -> Result<Slot, StreamFault> {
+    ) -> Result<Slot, StreamFault>
+        ensures again { (fault : StreamFault) → self.old.refused ≡ Some fault → (result ≡ Err fault) × (self.new.refused ≡ Some fault) × (pull.new.source.now ≡ pull.old.source.now) × (pull.new.at ≡ pull.old.at) × (pull.new.stop ≡ pull.old.stop) }
+        ensures kept { OnOk result (self.new.refused ≡ None) }
+        ensures refused { IfErr result (λ fault. self.new.refused ≡ Some fault) }
+        ensures cause { self.old.refused ≡ None → Caused (S.faults pull.old.source.now) (S.faults pull.new.source.now) result }
+        ensures lent { pull.new.source.ghost_name ≡ pull.old.source.ghost_name }
+        ensures env { OnOk result (env S.left pull.new ≡ env S.left pull.old) }
+        ensures gives { self.old.refused ≡ None → GivesWant S.left pull.old pull.new result (λ end. slot_next end self.old.stand) (λ x rest. (x, self.new.stand, rest)) }
+        ensures reads { WantTaken S.left S.faults pull.old pull.new result (λ end. slot_next end self.old.stand) (λ x rest. (x, self.new.stand, rest)) }
+    {
         if let Some(fault) = self.refused {
             return Err(fault);
         }
@@ -198,17 +236,26 @@ impl Reader {
     }
 
     /// The nodes so far.
-    pub fn nodes(&self) -> &[Node] {
+    pub fn nodes(&self) -> &[Node]
+        ensures { result.now ≡ self.now.stand.progress.nodes }
+    {
         self.stand.table.nodes.as_slice()
     }
 
     /// The items so far.
-    pub fn items(&self) -> &[Item] {
+    pub fn items(&self) -> &[Item]
+        ensures { result.now ≡ self.now.stand.items }
+    {
         self.stand.items.as_slice()
     }
 
     /// All that was read. It takes no byte. `BlockLeft` comes at the first byte that is left of the present block.
-    pub fn close<S: Source>(self, pull: &Pull<'_, S>) -> Result<Graph, StreamFault> {
+    #[tactic(auto, unfolding(crate::specs::Wants::close_at))]
+    pub fn close<S: Source>(self, pull: &Pull<'_, S>) -> Result<Graph, StreamFault>
+        ensures again { (fault : StreamFault) → self.refused ≡ Some fault → result ≡ Err fault }
+        ensures kept { OnOk result (self.refused ≡ None) }
+        ensures gives { self.refused ≡ None → WantGives (env S.left pull.now).after (λ graph. (graph.nodes, graph.items)) result (close_at pull.now.at self.stand) }
+    {
         if let Some(fault) = self.refused {
             return Err(fault);
         }
