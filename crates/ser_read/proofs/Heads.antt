@@ -1,8 +1,9 @@
 -- Heads of blocks, empty ones passed over.
 use Rattle.std.proofs.Common.{◌≡◌, ◌⊎◌, ℕ, zero, suc, ◌+◌, ◌-◌, ◌^◌, ◌≤◌, ◌<◌, Bool, true, false, cond, eqb, List, [], ◌∷◌, length, length-drop, Result, Ok, Err, refl, sym, ap, subst, ◌∙◌, arith, inl, inr}
 use Rattle.std.proofs.lemmas.Bool.{cases_lt}
+use Rattle.std.proofs.Math.Path.{fun_ext}
 use Rattle.std.specs.Int.{Width, w32, byte_len}
-use Rattle.ser_values.specs.Reading.{◌>>=◌, Fault, Plain, byte_at, take_at, number_at, size_at, short}
+use Rattle.ser_values.specs.Reading.{◌>>=◌, Fault, Plain, bad, bad_magic, byte_at, take_at, number_at, size_at, short, magic_at}
 use Rattle.ser_values.proofs.PlainSound.{bind_ok, chosen, passed, ok_is}
 use Rattle.ser_read.specs.declared.block.Head.{Head}
 use Rattle.ser_read.specs.declared.block.Head.TheVariants.{Block, Code}
@@ -113,3 +114,19 @@ head_full end (suc most) bs h e =
       | inl p ↦ head_full end most a.0.1 h p.1
       | inr p ↦ subst (λ (h : Head × List ℕ). is_empty h.0 ≡ false) (ok_is a.0 h p.1) p.0
     ]
+
+-- ---- the magic number, byte by byte
+
+magic_cons : (end w : ℕ) (ws bs : List ℕ) → magic_at end (w ∷ ws) bs ≡ (magic_at end (w ∷ []) bs >>= λ rest. magic_at end ws rest)
+unfolding magic_at
+magic_cons end w ws [] = refl
+magic_cons end w ws (b ∷ bs) = go (eqb b w)
+  where
+    go : (same : Bool) → cond same (magic_at end ws bs) (Err (bad bad_magic (end - length (b ∷ bs)))) ≡ (cond same (Ok bs) (Err (bad bad_magic (end - length (b ∷ bs)))) >>= λ rest. magic_at end ws rest)
+    go true = refl
+    go false = refl
+
+pub magic_four : (end : ℕ) (bs : List ℕ) → magic_at end (0xAC ∷ 0xED ∷ 0x00 ∷ 0x05 ∷ []) bs
+    ≡ (magic_at end (0xAC ∷ []) bs >>= λ a. magic_at end (0xED ∷ []) a >>= λ b. magic_at end (0x00 ∷ []) b >>= λ c. magic_at end (0x05 ∷ []) c)
+magic_four end bs = magic_cons end 0xAC (0xED ∷ 0x00 ∷ 0x05 ∷ []) bs ∙ ap (λ (f : List ℕ → Result (List ℕ) Fault). magic_at end (0xAC ∷ []) bs >>= f) (fun_ext (λ a.
+    magic_cons end 0xED (0x00 ∷ 0x05 ∷ []) a ∙ ap (λ (f : List ℕ → Result (List ℕ) Fault). magic_at end (0xED ∷ []) a >>= f) (fun_ext (λ b. magic_cons end 0x00 (0x05 ∷ []) b))))
