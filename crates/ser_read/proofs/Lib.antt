@@ -13,3 +13,5 @@ pub mod Heads
 pub mod Runs
 pub mod Empties
 pub mod Served
+pub mod Flat
+pub mod Asked

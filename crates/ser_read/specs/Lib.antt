@@ -10,3 +10,4 @@ pub mod Words
 pub mod Heads
 pub mod Wants
 pub mod Stands
+pub mod Asked

@@ -157,3 +157,14 @@ pub record WantReads {Y : Type 0} (old new : Place) (read : ℕ → List ℕ →
 -- Whether the bytes are told or not, what a call answers is read from those that it took.
 abbrev pub WantTaken : {S X Y : Type 0} → (S → Option (List ℕ)) → (S → ℕ) → Pull S → Pull S → Result X StreamFault → (ℕ → List ℕ → Result Y WantFault) → (X → List ℕ → Y) → Type 0
 WantTaken left faults old new result read out = IfOk result (λ x. WantReads (place left faults old) (place left faults new) read (out x))
+
+-- ---- lists of wants
+
+-- one after the other: what they gave, how far the reader has come then, and the bytes after them
+unfoldable pub serve : ℕ → List Want → Stand → List ℕ → Result (List Item × Stand × List ℕ) WantFault
+serve end [] s bs = Ok ([], s, bs)
+serve end (w ∷ ws) s bs = want_at end w s bs ▸ λ x. serve end ws x.1 x.2 ▸ λ xs. Ok (x.0 ∷ xs.0, xs.1, xs.2)
+
+-- and then the end: what they gave, the nodes and the items, and the bytes after them
+unfoldable pub serve_all : ℕ → List Want → List ℕ → Result (List Item × List Node × List Item × List ℕ) WantFault
+serve_all end ws bs = serve end ws nothing_read bs ▸ λ x. close_at (end - length x.2) x.1 ▸ λ g. Ok (x.0, g.0, g.1, x.2)
