@@ -17,7 +17,7 @@ use Rattle.ser_values.proofs.Sound.{slots_sound}
 use Rattle.ser_read.specs.declared.block.Head.{Head}
 use Rattle.ser_read.specs.declared.block.Head.TheVariants.{Block, Code}
 use Rattle.ser_read.specs.Heads.{is_empty, head_at}
-use Rattle.ser_read.specs.Named.{add_bytes}
+use Rattle.ser_read.specs.Named.{add_bytes, added}
 use Rattle.ser_read.specs.Wants.{WantFault, ◌▸◌, lifted, Stand, nothing_read, only_block, opened_at, run_at, only_slot, reference_at, bytes_at, slot_next, close_at, Want, some_bytes, a_reference, want_at, serve, serve_all}
 use Rattle.ser_read.specs.Asked.{Fits, IsSome, EndsFull, IsAsked}
 use Rattle.ser_read.proofs.Joins.{added_is}
@@ -263,3 +263,113 @@ serve_sound end (a_reference ∷ ws) s bs y e closed solid bytes =
     nil_of (b ∷ l) e = absurd (omega arith)
     eqb_zero : (k : ℕ) → eqb k 0 ≡ true → k ≡ 0
     eqb_zero k e = eqb-true k 0 e
+
+-- ---- what they gave
+
+abbrev pub FitsOne : Want → Item → Type 0
+FitsOne (some_bytes n) (items.Bytes p) = length p ≡ n
+FitsOne a_reference (items.Ref s) = Unit {0}
+FitsOne _ _ = ⊥
+
+run_length : (end n k : ℕ) (bs : List ℕ) (y : RunOk) → run_at end n k bs ≡ Ok y → length y.0 ≡ n
+unfolding run_at
+run_length end zero k bs y e = ap (λ (x : RunOk). length x.0) (sym (given_is ([], k, bs) y e))
+run_length end (suc n) k bs y e =
+    let o = want_ok (opened_at end k bs) (more_of end n) y e in
+    let c = lifted_ok (byte_at o.0.1) (λ b. run_at end n (o.0.0 - 1) b.1 ▸ λ r. Ok (b.0 ∷ r.0, r.1, r.2)) y o.2 in
+    let r = want_ok (run_at end n (o.0.0 - 1) c.0.1) (λ r. Ok (c.0.0 ∷ r.0, r.1, r.2)) y c.2 in
+    ap (λ (x : RunOk). length x.0) (sym (given_is (c.0.0 ∷ r.0.0, r.0.1, r.0.2) y r.2)) ∙ ap suc (run_length end n (o.0.0 - 1) c.0.1 r.0 r.1)
+
+abbrev WantOk : Type 0
+WantOk = Item × Stand × List ℕ
+
+want_step : (end : ℕ) (w : Want) (s : Stand) (bs : List ℕ) (y : WantOk) → want_at end w s bs ≡ Ok y → FitsOne w y.0 × (y.1.items ≡ added s.items y.0)
+unfolding want_at bytes_at slot_next
+want_step end (some_bytes n) s bs y e =
+    let d = want_ok (bytes_at end n s bs) (λ x. Ok (items.Bytes x.0, x.1, x.2)) y e in
+    let r = want_ok (run_at end n s.block bs) (λ r. Ok (r.0, record { progress = s.progress; items = add_bytes s.items r.0; block = r.1 }, r.2)) d.0 d.1 in
+    let now : Stand = record { progress = s.progress; items = add_bytes s.items r.0.0; block = r.0.1 } in
+    let one : (r.0.0, now, r.0.2) ≡ d.0 = given_is (r.0.0, now, r.0.2) d.0 r.2 in
+    let two : (items.Bytes r.0.0, now, r.0.2) ≡ y = ap (λ (x : List ℕ × Stand × List ℕ). (items.Bytes x.0, x.1, x.2)) one ∙ given_is (items.Bytes d.0.0, d.0.1, d.0.2) y d.2 in
+    subst (λ (y : WantOk). FitsOne (some_bytes n) y.0 × (y.1.items ≡ added s.items y.0)) two (run_length end n s.block bs r.0 r.1, refl)
+want_step end a_reference s bs y e =
+    let d = want_ok (slot_next end s bs) (λ x. Ok (items.Ref x.0, x.1, x.2)) y e in
+    elim (chosen (eqb s.block 0) _ _ _ d.1) [
+      | inr p ↦ absurd (let f = p.1 in cc)
+      | inl p ↦ (
+          let r = want_ok (reference_at end s.progress bs) _ d.0 p.1 in
+          let now : Stand = record { progress = r.0.1; items = s.items ++ items.Ref r.0.0 ∷ []; block = 0 } in
+          let one : (r.0.0, now, r.0.2) ≡ d.0 = given_is (r.0.0, now, r.0.2) d.0 r.2 in
+          let two : (items.Ref r.0.0, now, r.0.2) ≡ y = ap (λ (x : Slot × Stand × List ℕ). (items.Ref x.0, x.1, x.2)) one ∙ given_is (items.Ref d.0.0, d.0.1, d.0.2) y d.2 in
+          subst (λ (y : WantOk). FitsOne a_reference y.0 × (y.1.items ≡ added s.items y.0)) two (tt, refl))
+    ]
+
+fits_more : (w : Want) (i : Item) (ws : List Want) (is : List Item) → FitsOne w i → Fits ws is → Fits (w ∷ ws) (i ∷ is)
+fits_more (some_bytes n) (items.Bytes p) ws is one more = (one, more)
+fits_more (some_bytes n) (items.Ref s) ws is one more = absurd one
+fits_more a_reference (items.Bytes p) ws is one more = absurd one
+fits_more a_reference (items.Ref s) ws is one more = more
+
+pub serve_fits : (end : ℕ) (ws : List Want) (s : Stand) (bs : List ℕ) (y : ServeOk) → serve end ws s bs ≡ Ok y → Fits ws y.0
+unfolding serve
+serve_fits end [] s bs y e = subst (λ (y : ServeOk). Fits [] y.0) (given_is ([], s, bs) y e) tt
+serve_fits end (w ∷ ws) s bs y e =
+    let a = want_ok (want_at end w s bs) (λ x. serve end ws x.1 x.2 ▸ λ xs. Ok (x.0 ∷ xs.0, xs.1, xs.2)) y e in
+    let b = want_ok (serve end ws a.0.1 a.0.2) (λ xs. Ok (a.0.0 ∷ xs.0, xs.1, xs.2)) y a.2 in
+    subst (λ (y : ServeOk). Fits (w ∷ ws) y.0) (given_is (a.0.0 ∷ b.0.0, b.0.1, b.0.2) y b.2) (fits_more w a.0.0 ws b.0.0 (want_step end w s bs a.0 a.1).0 (serve_fits end ws a.0.1 a.0.2 b.0 b.1))
+
+pub serve_items : (end : ℕ) (ws : List Want) (s : Stand) (bs : List ℕ) (y : ServeOk) → serve end ws s bs ≡ Ok y → (raw : List Item) → s.items ≡ joined raw → y.1.items ≡ joined (raw ++ y.0)
+unfolding serve
+serve_items end [] s bs y e raw same = subst (λ (y : ServeOk). y.1.items ≡ joined (raw ++ y.0)) (given_is ([], s, bs) y e) (same ∙ ap joined (sym (append-nil raw)))
+serve_items end (w ∷ ws) s bs y e raw same =
+    let a = want_ok (want_at end w s bs) (λ x. serve end ws x.1 x.2 ▸ λ xs. Ok (x.0 ∷ xs.0, xs.1, xs.2)) y e in
+    let b = want_ok (serve end ws a.0.1 a.0.2) (λ xs. Ok (a.0.0 ∷ xs.0, xs.1, xs.2)) y a.2 in
+    let one : a.0.1.items ≡ joined (raw ++ a.0.0 ∷ []) = (want_step end w s bs a.0 a.1).1 ∙ ap (λ (l : List Item). added l a.0.0) same ∙ added_is raw a.0.0 in
+    let more = serve_items end ws a.0.1 a.0.2 b.0 b.1 (raw ++ a.0.0 ∷ []) one in
+    subst (λ (y : ServeOk). y.1.items ≡ joined (raw ++ y.0)) (given_is (a.0.0 ∷ b.0.0, b.0.1, b.0.2) y b.2) (more ∙ ap joined (append_assoc raw (a.0.0 ∷ []) b.0.0))
+
+-- ---- the law, in one direction
+
+abbrev pub AllOk : Type 0
+AllOk = List Item × List Node × List Item × List ℕ
+
+abbrev start : Progress
+start = record { nodes = []; parts = 0 }
+
+-- What lists of wants answer is spelled, and the items are what they gave, joined.
+pub asked_sound : (end : ℕ) (ws : List Want) (bs : List ℕ) (y : AllOk) → serve_all end ws bs ≡ Ok y → AreBytes bs → IsAsked ws y.0 y.1 bs y.3 × (y.2 ≡ joined y.0) × (parts_in y.1 ≤ 1048576)
+unfolding serve_all close_at has parts_in
+asked_sound end ws bs y e bytes =
+    let a = want_ok (serve end ws nothing_read bs) (λ x. close_at (end - length x.2) x.1 ▸ λ g. Ok (x.0, g.0, g.1, x.2)) y e in
+    let c = want_ok (close_at (end - length a.0.2) a.0.1) (λ g. Ok (a.0.0, g.0, g.1, a.0.2)) y a.2 in
+    elim (chosen (eqb a.0.1.block 0) _ _ _ c.1) [
+      | inr p ↦ absurd (let f = p.1 in cc)
+      | inl p ↦ (
+          let now = a.0.1 in
+          let N = now.progress.nodes in
+          let one : (N, now.items) ≡ c.0 = given_is (N, now.items) c.0 p.1 in
+          let two : (a.0.0, N, now.items, a.0.2) ≡ y = ap (λ (g : List Node × List Item). (a.0.0, g.0, g.1, a.0.2)) one ∙ given_is (a.0.0, c.0.0, c.0.1, a.0.2) y c.2 in
+          let solid : Solid [] start = record { above = λ k i gone is desc. absurd cc; good = λ k i gone is. absurd cc; below = λ k h. absurd cc; few = omega arith } in
+          let h = serve_sound end ws nothing_read bs a.0 a.1 (eqb-true now.block 0 p.0) solid bytes in
+          let none : h.left ≡ [] = nil_of h.left h.len in
+          let mid : bs ≡ h.mid = h.parts ∙ ap (λ (l : List ℕ). l ++ h.mid) none in
+          let flats : flat h.blocks ≡ flat a.0.0 = ap (λ (l : List ℕ). bytes_of l ++ flat h.blocks) (sym none) ∙ h.same in
+          let spelled = h.got.spelled N (record { descs = λ k i gone is desc. is; texts = λ k i is t. is; long = omega arith }) (λ k low lt. refl) in
+          let all : parts_in N ≡ parts_in h.got.added = ap parts_in h.got.grown in
+          let q = h.got.parts in
+          let most = h.got.solid.few in
+          subst (λ (y : AllOk). IsAsked ws y.0 y.1 bs y.3 × (y.2 ≡ joined y.0) × (parts_in y.1 ≤ 1048576)) two (
+            record {
+              fits = serve_fits end ws nothing_read bs a.0 a.1;
+              blocks = h.blocks;
+              spelled = subst (λ (l : List ℕ). SpellsBlocks (Spells N 200 []) h.blocks 0 l a.0.2 (length N)) (sym mid) spelled;
+              full = h.full;
+              same = joined_by a.0.0 h.blocks (sym flats);
+            },
+            serve_items end ws nothing_read bs a.0 a.1 [] refl,
+            omega arith))
+    ]
+  where
+    nil_of : (l : List ℕ) → length l ≡ 0 → l ≡ []
+    nil_of [] e = refl
+    nil_of (b ∷ l) e = absurd (omega arith)

@@ -15,3 +15,4 @@ pub mod Empties
 pub mod Served
 pub mod Flat
 pub mod Asked
+pub mod Given
