@@ -18,7 +18,9 @@ use Rattle.ser_read.specs.declared.block.Head.{Head}
 use Rattle.ser_read.specs.declared.block.Head.TheVariants.{Block, Code}
 use Rattle.ser_read.specs.Heads.{is_empty, head_at}
 use Rattle.ser_read.specs.Named.{add_bytes, added}
-use Rattle.ser_read.specs.Wants.{WantFault, ◌▸◌, lifted, Stand, nothing_read, only_block, opened_at, run_at, only_slot, reference_at, bytes_at, slot_next, close_at, Want, some_bytes, a_reference, want_at, serve, serve_all}
+use Rattle.ser_read.specs.declared.serving.Want.{Want}
+use Rattle.ser_read.specs.declared.serving.Want.TheVariants as wanted
+use Rattle.ser_read.specs.Wants.{WantFault, ◌▸◌, lifted, Stand, nothing_read, only_block, opened_at, run_at, only_slot, reference_at, bytes_at, slot_next, close_at, want_at, serve, serve_all}
 use Rattle.ser_read.specs.Asked.{Fits, IsSome, EndsFull, IsAsked}
 use Rattle.ser_read.proofs.Joins.{added_is}
 use Rattle.ser_read.proofs.Heads.{byte_is}
@@ -201,8 +203,8 @@ serve_sound end [] s bs y e closed solid bytes =
     let same : ([], s, bs) ≡ y = given_is ([], s, bs) y e in
     let none : s.block ≡ 0 = ap (λ (x : ServeOk). x.1.block) same ∙ closed in
     subst (λ (y : ServeOk). Spelt s y.1 bs y.2 y.0) same (record { left = []; len = sym none; mid = bs; parts = refl; blocks = []; full = tt; same = refl; got = got_none [] s.progress bs _ solid bytes (λ F sees. (refl, refl)) })
-serve_sound end (some_bytes n ∷ ws) s bs y e closed solid bytes =
-    let a = want_ok (want_at end (some_bytes n) s bs) (λ x. serve end ws x.1 x.2 ▸ λ xs. Ok (x.0 ∷ xs.0, xs.1, xs.2)) y e in
+serve_sound end (wanted.Bytes n ∷ ws) s bs y e closed solid bytes =
+    let a = want_ok (want_at end (wanted.Bytes n) s bs) (λ x. serve end ws x.1 x.2 ▸ λ xs. Ok (x.0 ∷ xs.0, xs.1, xs.2)) y e in
     let b = want_ok (serve end ws a.0.1 a.0.2) (λ xs. Ok (a.0.0 ∷ xs.0, xs.1, xs.2)) y a.2 in
     let d = want_ok (bytes_at end n s bs) (λ x. Ok (items.Bytes x.0, x.1, x.2)) a.0 a.1 in
     let r = want_ok (run_at end n s.block bs) (λ r. Ok (r.0, record { progress = s.progress; items = add_bytes s.items r.0; block = r.1 }, r.2)) d.0 d.1 in
@@ -225,8 +227,8 @@ serve_sound end (some_bytes n ∷ ws) s bs y e closed solid bytes =
       got = got_map [] s.progress b.0.1.progress b.0.2 _ _ h.got (λ F sees g. w.spelled (Spells F 200 []) (length s.progress.nodes) b.0.2 (length b.0.1.progress.nodes) g);
     } in
     subst (λ (y : ServeOk). Spelt s y.1 bs y.2 y.0) last (subst (λ (i : Item). Spelt s b.0.1 bs b.0.2 (i ∷ b.0.0)) (ap (λ (x : Item × Stand × List ℕ). x.0) two) mine)
-serve_sound end (a_reference ∷ ws) s bs y e closed solid bytes =
-    let a = want_ok (want_at end a_reference s bs) (λ x. serve end ws x.1 x.2 ▸ λ xs. Ok (x.0 ∷ xs.0, xs.1, xs.2)) y e in
+serve_sound end (wanted.Slot ∷ ws) s bs y e closed solid bytes =
+    let a = want_ok (want_at end wanted.Slot s bs) (λ x. serve end ws x.1 x.2 ▸ λ xs. Ok (x.0 ∷ xs.0, xs.1, xs.2)) y e in
     let b = want_ok (serve end ws a.0.1 a.0.2) (λ xs. Ok (a.0.0 ∷ xs.0, xs.1, xs.2)) y a.2 in
     let d = want_ok (slot_next end s bs) (λ x. Ok (items.Ref x.0, x.1, x.2)) a.0 a.1 in
     let last : (a.0.0 ∷ b.0.0, b.0.1, b.0.2) ≡ y = given_is (a.0.0 ∷ b.0.0, b.0.1, b.0.2) y b.2 in
@@ -267,8 +269,8 @@ serve_sound end (a_reference ∷ ws) s bs y e closed solid bytes =
 -- ---- what they gave
 
 abbrev pub FitsOne : Want → Item → Type 0
-FitsOne (some_bytes n) (items.Bytes p) = length p ≡ n
-FitsOne a_reference (items.Ref s) = Unit {0}
+FitsOne (wanted.Bytes n) (items.Bytes p) = length p ≡ n
+FitsOne wanted.Slot (items.Ref s) = Unit {0}
 FitsOne _ _ = ⊥
 
 run_length : (end n k : ℕ) (bs : List ℕ) (y : RunOk) → run_at end n k bs ≡ Ok y → length y.0 ≡ n
@@ -285,14 +287,14 @@ WantOk = Item × Stand × List ℕ
 
 want_step : (end : ℕ) (w : Want) (s : Stand) (bs : List ℕ) (y : WantOk) → want_at end w s bs ≡ Ok y → FitsOne w y.0 × (y.1.items ≡ added s.items y.0)
 unfolding want_at bytes_at slot_next
-want_step end (some_bytes n) s bs y e =
+want_step end (wanted.Bytes n) s bs y e =
     let d = want_ok (bytes_at end n s bs) (λ x. Ok (items.Bytes x.0, x.1, x.2)) y e in
     let r = want_ok (run_at end n s.block bs) (λ r. Ok (r.0, record { progress = s.progress; items = add_bytes s.items r.0; block = r.1 }, r.2)) d.0 d.1 in
     let now : Stand = record { progress = s.progress; items = add_bytes s.items r.0.0; block = r.0.1 } in
     let one : (r.0.0, now, r.0.2) ≡ d.0 = given_is (r.0.0, now, r.0.2) d.0 r.2 in
     let two : (items.Bytes r.0.0, now, r.0.2) ≡ y = ap (λ (x : List ℕ × Stand × List ℕ). (items.Bytes x.0, x.1, x.2)) one ∙ given_is (items.Bytes d.0.0, d.0.1, d.0.2) y d.2 in
-    subst (λ (y : WantOk). FitsOne (some_bytes n) y.0 × (y.1.items ≡ added s.items y.0)) two (run_length end n s.block bs r.0 r.1, refl)
-want_step end a_reference s bs y e =
+    subst (λ (y : WantOk). FitsOne (wanted.Bytes n) y.0 × (y.1.items ≡ added s.items y.0)) two (run_length end n s.block bs r.0 r.1, refl)
+want_step end wanted.Slot s bs y e =
     let d = want_ok (slot_next end s bs) (λ x. Ok (items.Ref x.0, x.1, x.2)) y e in
     elim (chosen (eqb s.block 0) _ _ _ d.1) [
       | inr p ↦ absurd (let f = p.1 in cc)
@@ -301,14 +303,14 @@ want_step end a_reference s bs y e =
           let now : Stand = record { progress = r.0.1; items = s.items ++ items.Ref r.0.0 ∷ []; block = 0 } in
           let one : (r.0.0, now, r.0.2) ≡ d.0 = given_is (r.0.0, now, r.0.2) d.0 r.2 in
           let two : (items.Ref r.0.0, now, r.0.2) ≡ y = ap (λ (x : Slot × Stand × List ℕ). (items.Ref x.0, x.1, x.2)) one ∙ given_is (items.Ref d.0.0, d.0.1, d.0.2) y d.2 in
-          subst (λ (y : WantOk). FitsOne a_reference y.0 × (y.1.items ≡ added s.items y.0)) two (tt, refl))
+          subst (λ (y : WantOk). FitsOne wanted.Slot y.0 × (y.1.items ≡ added s.items y.0)) two (tt, refl))
     ]
 
 fits_more : (w : Want) (i : Item) (ws : List Want) (is : List Item) → FitsOne w i → Fits ws is → Fits (w ∷ ws) (i ∷ is)
-fits_more (some_bytes n) (items.Bytes p) ws is one more = (one, more)
-fits_more (some_bytes n) (items.Ref s) ws is one more = absurd one
-fits_more a_reference (items.Bytes p) ws is one more = absurd one
-fits_more a_reference (items.Ref s) ws is one more = more
+fits_more (wanted.Bytes n) (items.Bytes p) ws is one more = (one, more)
+fits_more (wanted.Bytes n) (items.Ref s) ws is one more = absurd one
+fits_more wanted.Slot (items.Bytes p) ws is one more = absurd one
+fits_more wanted.Slot (items.Ref s) ws is one more = more
 
 pub serve_fits : (end : ℕ) (ws : List Want) (s : Stand) (bs : List ℕ) (y : ServeOk) → serve end ws s bs ≡ Ok y → Fits ws y.0
 unfolding serve

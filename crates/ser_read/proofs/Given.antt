@@ -20,7 +20,9 @@ use Rattle.ser_read.specs.declared.block.Head.{Head}
 use Rattle.ser_read.specs.declared.block.Head.TheVariants.{Block, Code}
 use Rattle.ser_read.specs.Heads.{one_head, any_head, head_at}
 use Rattle.ser_read.specs.Named.{add_bytes}
-use Rattle.ser_read.specs.Wants.{WantFault, ◌▸◌, lifted, Stand, nothing_read, only_block, opened_at, run_at, only_slot, reference_at, bytes_at, slot_next, close_at, Want, some_bytes, a_reference, want_at, serve, serve_all}
+use Rattle.ser_read.specs.declared.serving.Want.{Want}
+use Rattle.ser_read.specs.declared.serving.Want.TheVariants as wanted
+use Rattle.ser_read.specs.Wants.{WantFault, ◌▸◌, lifted, Stand, nothing_read, only_block, opened_at, run_at, only_slot, reference_at, bytes_at, slot_next, close_at, want_at, serve, serve_all}
 use Rattle.ser_read.specs.Asked.{Fits, EndsFull, IsAsked}
 use Rattle.ser_read.proofs.Heads.{head_goes, head_stops}
 use Rattle.ser_read.proofs.Slots.{slot_is}
@@ -178,23 +180,23 @@ serve_back : (F : List Node) → Given F → (end : ℕ) (rest : List ℕ) (m : 
     → bytes_of front ++ flat is ≡ flat answers → Ready F [] s.progress → ServeBack F end ws s answers (front ++ mid) rest m
 unfolding serve want_at bytes_at slot_next
 serve_back F given end rest m [] (i ∷ is) s front mid bl fits k h full e ready = absurd fits
-serve_back F given end rest m (some_bytes n ∷ ws) [] s front mid bl fits k h full e ready = absurd fits
-serve_back F given end rest m (some_bytes n ∷ ws) (items.Ref t ∷ is) s front mid bl fits k h full e ready = absurd fits
-serve_back F given end rest m (a_reference ∷ ws) [] s front mid bl fits k h full e ready = absurd fits
-serve_back F given end rest m (a_reference ∷ ws) (items.Bytes p ∷ is) s front mid bl fits k h full e ready = absurd fits
+serve_back F given end rest m (wanted.Bytes n ∷ ws) [] s front mid bl fits k h full e ready = absurd fits
+serve_back F given end rest m (wanted.Bytes n ∷ ws) (items.Ref t ∷ is) s front mid bl fits k h full e ready = absurd fits
+serve_back F given end rest m (wanted.Slot ∷ ws) [] s front mid bl fits k h full e ready = absurd fits
+serve_back F given end rest m (wanted.Slot ∷ ws) (items.Bytes p ∷ is) s front mid bl fits k h full e ready = absurd fits
 serve_back F given end rest m [] [] s (b ∷ front) mid bl fits k h full e ready = absurd cc
 serve_back F given end rest m [] [] s [] mid bl fits k h full e ready =
     let none = none_left bl full e in
     let g : SpellsBlocks (Spells F 200 []) [] (length s.progress.nodes) mid rest m = subst (λ (l : List Item). SpellsBlocks (Spells F 200 []) l (length s.progress.nodes) mid rest m) none h in
     record { last = s; is = ap (λ (r : List ℕ). Ok ([], s, r)) g.0; closed = k; len = sym g.1; after = after_none F [] s.progress ready }
-serve_back F given end rest m (some_bytes n ∷ ws) (items.Bytes p ∷ is) s front mid bl fits k h full e ready =
+serve_back F given end rest m (wanted.Bytes n ∷ ws) (items.Bytes p ∷ is) s front mid bl fits k h full e ready =
     let r = run_back (Spells F 200 []) end (length s.progress.nodes) rest m (flat is) p front mid bl h full e in
     let now : Stand = record { progress = s.progress; items = add_bytes s.items p; block = length r.left } in
     let more = serve_back F given end rest m ws is now r.left r.mid r.blocks fits.1 refl r.spelled r.full r.same ready in
     let run : run_at end n s.block (front ++ mid) ≡ Ok (p, length r.left, r.left ++ r.mid) = ap (λ j. run_at end j s.block (front ++ mid)) (sym fits.0) ∙ ap (λ j. run_at end (length p) j (front ++ mid)) k ∙ r.is in
     record { last = more.last; is = rw run (rw more.is refl); closed = more.closed; len = more.len; after = more.after }
-serve_back F given end rest m (a_reference ∷ ws) (items.Ref t ∷ is) s (b ∷ front) mid bl fits k h full e ready = absurd cc
-serve_back F given end rest m (a_reference ∷ ws) (items.Ref t ∷ is) s [] mid bl fits k h full e ready =
+serve_back F given end rest m (wanted.Slot ∷ ws) (items.Ref t ∷ is) s (b ∷ front) mid bl fits k h full e ready = absurd cc
+serve_back F given end rest m (wanted.Slot ∷ ws) (items.Ref t ∷ is) s [] mid bl fits k h full e ready =
     let r = reference_back F given end s.progress t rest m (flat is) bl mid h full e ready in
     let now : Stand = record { progress = r.later; items = s.items ++ items.Ref t ∷ []; block = 0 } in
     let more = serve_back F given end rest m ws is now [] r.mid r.blocks fits refl r.spelled r.full r.same r.after.ready in

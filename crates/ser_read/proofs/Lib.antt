@@ -16,3 +16,4 @@ pub mod Served
 pub mod Flat
 pub mod Asked
 pub mod Given
+pub mod InOrder

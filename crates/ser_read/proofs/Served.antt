@@ -22,7 +22,9 @@ use Rattle.ser_read.specs.declared.block.Head.TheVariants.{Block, Code}
 use Rattle.ser_read.specs.Here.{AreBytes}
 use Rattle.ser_read.specs.Heads.{head_at}
 use Rattle.ser_read.specs.Named.{add_bytes, added}
-use Rattle.ser_read.specs.Wants.{WantFault, ◌▸◌, lifted, Stand, nothing_read, run_at, only_slot, reference_at, bytes_at, slot_next, Want, some_bytes, a_reference, want_at, Served, AreServed, IsServed, WantReads}
+use Rattle.ser_read.specs.declared.serving.Want.{Want}
+use Rattle.ser_read.specs.declared.serving.Want.TheVariants as wanted
+use Rattle.ser_read.specs.Wants.{WantFault, ◌▸◌, lifted, Stand, nothing_read, run_at, only_slot, reference_at, bytes_at, slot_next, want_at, Served, AreServed, IsServed, WantReads}
 use Rattle.ser_read.proofs.Joins.{added_is}
 use Rattle.ser_read.proofs.Slots.{slot_is}
 use Rattle.ser_read.proofs.Empties.{found}
@@ -149,11 +151,11 @@ slot_so_far end before after bs slot e bytes h = elim (plain.chosen (eqb before.
 
 want_so_far : (end : ℕ) (w : Want) (before after : Stand) (bs : List ℕ) (answer : Item) → want_at end w before bs ≡ Ok (answer, after, []) → plain.AreBytes bs → SoFar before → SoFar after
 unfolding want_at
-want_so_far end (some_bytes n) before after bs answer e bytes h =
+want_so_far end (wanted.Bytes n) before after bs answer e bytes h =
     let a = want_ok (bytes_at end n before bs) _ (answer, after, []) e in
     let s = given_is (items.Bytes a.0.0, a.0.1, a.0.2) (answer, after, []) a.2 in
     subst SoFar (ap (λ (t : Item × Stand × List ℕ). t.1) s) (bytes_so_far end n before a.0.1 bs a.0.0 a.0.2 a.1 h)
-want_so_far end a_reference before after bs answer e bytes h =
+want_so_far end wanted.Slot before after bs answer e bytes h =
     let a = want_ok (slot_next end before bs) _ (answer, after, []) e in
     let s = given_is (items.Ref a.0.0, a.0.1, a.0.2) (answer, after, []) a.2 in
     let none : a.0.2 ≡ [] = ap (λ (t : Item × Stand × List ℕ). t.2) s in
@@ -186,10 +188,10 @@ pub bytes_served : {p q : Place} (n : ℕ) (before after : Stand) (x : List ℕ)
 unfolding want_at
 bytes_served {p} {q} n before after x r h =
     let one : bytes_at (q.at + 0) n before r.taken ≡ Ok (x, after, []) = ap (λ (bs : List ℕ). bytes_at (q.at + 0) n before bs) (sym (append-nil r.taken)) ∙ r.is [] in
-    (record { want = some_bytes n; end = q.at + 0; bytes = r.taken; answer = items.Bytes x } ∷ h.0, (before, r.bytes, rw one refl, h.1))
+    (record { want = wanted.Bytes n; end = q.at + 0; bytes = r.taken; answer = items.Bytes x } ∷ h.0, (before, r.bytes, rw one refl, h.1))
 
 pub slot_served : {p q : Place} (before after : Stand) (x : Slot) → WantReads p q (λ end. slot_next end before) (λ rest. (x, after, rest)) → IsServed before → IsServed after
 unfolding want_at
 slot_served {p} {q} before after x r h =
     let one : slot_next (q.at + 0) before r.taken ≡ Ok (x, after, []) = ap (λ (bs : List ℕ). slot_next (q.at + 0) before bs) (sym (append-nil r.taken)) ∙ r.is [] in
-    (record { want = a_reference; end = q.at + 0; bytes = r.taken; answer = items.Ref x } ∷ h.0, (before, r.bytes, rw one refl, h.1))
+    (record { want = wanted.Slot; end = q.at + 0; bytes = r.taken; answer = items.Ref x } ∷ h.0, (before, r.bytes, rw one refl, h.1))

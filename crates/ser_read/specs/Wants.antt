@@ -5,7 +5,7 @@ use Rattle.class_desc.specs.declared.slot.Item.{Item}
 use Rattle.class_desc.specs.declared.slot.Item.TheVariants as items
 use Rattle.ser_values.specs.declared.node.Node.{Node}
 use Rattle.ser_values.specs.declared.node.Place.TheVariants as places
-use Rattle.ser_values.specs.Reading.{Fault, short, bad, too_many, too_deep, bad_code, reset, inner_exception, Progress, byte_at, slot_at, coded}
+use Rattle.ser_values.specs.Reading.{Fault, short, bad, too_many, too_deep, bad_code, reset, inner_exception, Progress, byte_at, slot_at, coded, magic_at}
 use Rattle.wire_io.specs.Pulled.{Place, place, Takes}
 use Rattle.wire_io.specs.declared.pull.Pull.{Pull}
 use Rattle.ser_read.specs.declared.fault.StreamKind.{StreamKind}
@@ -15,6 +15,8 @@ use Rattle.ser_read.specs.declared.fault.StreamFault.TheVariants.{Bad, TooLarge,
 use Rattle.ser_read.specs.declared.fault.Large.TheVariants.{Bytes, Nodes, Depth}
 use Rattle.ser_read.specs.declared.block.Head.{Head}
 use Rattle.ser_read.specs.declared.block.Head.TheVariants.{Block, Code}
+use Rattle.ser_read.specs.declared.serving.Want.{Want}
+use Rattle.ser_read.specs.declared.serving.Want.TheVariants as wanted
 use Rattle.ser_read.specs.Here.{AreBytes, Env, kind_of, env, coming, IsTold}
 use Rattle.ser_read.specs.Heads.{head_at}
 use Rattle.ser_read.specs.Named.{add_bytes}
@@ -91,13 +93,9 @@ close_at at s = if nat_eq s.block 0 then Ok (s.progress.nodes, s.items) else Err
 
 -- ---- wants that were served
 
-pub data Want : Type 0 where
-  some_bytes : ℕ → Want
-  a_reference : Want
-
 unfoldable pub want_at : ℕ → Want → Stand → List ℕ → Result (Item × Stand × List ℕ) WantFault
-want_at end (some_bytes n) s bs = bytes_at end n s bs ▸ λ x. Ok (items.Bytes x.0, x.1, x.2)
-want_at end a_reference s bs = slot_next end s bs ▸ λ x. Ok (items.Ref x.0, x.1, x.2)
+want_at end (wanted.Bytes n) s bs = bytes_at end n s bs ▸ λ x. Ok (items.Bytes x.0, x.1, x.2)
+want_at end wanted.Slot s bs = slot_next end s bs ▸ λ x. Ok (items.Ref x.0, x.1, x.2)
 
 -- A want, the position at which its bytes end, those bytes, and what they gave.
 pub record Served : Type 0 where
@@ -168,3 +166,7 @@ serve end (w ∷ ws) s bs = want_at end w s bs ▸ λ x. serve end ws x.1 x.2 �
 -- and then the end: what they gave, the nodes and the items, and the bytes after them
 unfoldable pub serve_all : ℕ → List Want → List ℕ → Result (List Item × List Node × List Item × List ℕ) WantFault
 serve_all end ws bs = serve end ws nothing_read bs ▸ λ x. close_at (end - length x.2) x.1 ▸ λ g. Ok (x.0, g.0, g.1, x.2)
+
+-- the magic number and the version in front
+unfoldable pub wants_at : ℕ → List Want → List ℕ → Result (List Item × List Node × List Item × List ℕ) WantFault
+wants_at end ws bs = lifted (magic_at end (0xAC ∷ 0xED ∷ 0x00 ∷ 0x05 ∷ []) bs) ▸ serve_all end ws

@@ -11,10 +11,12 @@ mod reading;
 mod row;
 mod shape;
 mod table;
+mod serving;
 mod words;
 
 pub use fault::{Large, StreamFault, StreamKind};
 pub use reader::Reader;
+pub use serving::{Want, read_wants};
 
 #[cfg(test)]
 mod tests;
