@@ -20,7 +20,7 @@ use Rattle.ser_read.specs.Wants.{WantFault, ◌▸◌, lifted, Stand, nothing_re
 use Rattle.ser_read.specs.Asked.{IsAsked, TakesAsked, InLimits, IsOutside, AnswersAsked}
 use Rattle.ser_read.proofs.Heads.{byte_is}
 use Rattle.ser_read.proofs.Wants.{wants_fail, want_then, want_said}
-use Rattle.ser_read.proofs.Served.{lifted_ok, are}
+use Rattle.ser_read.proofs.Served.{lifted_ok, given_is, are}
 use Rattle.ser_read.proofs.Asked.{asked_sound}
 use Rattle.ser_read.proofs.Given.{asked_complete}
 
@@ -65,4 +65,59 @@ pub close_reads : {p q r : Place} (ws : List Want) (answers : List Item) (s : St
     → Reads p q (λ end bs. magic_at end (0xAC ∷ 0xED ∷ 0x00 ∷ 0x05 ∷ []) bs) (λ rest. rest) → WantReads q r (λ end. serve end ws nothing_read) (λ rest. (answers, s, rest)) → close_at r.at s ≡ Ok (nodes, is)
     → WantReads p r (λ end. wants_at end ws) (λ rest. (answers, nodes, is, rest))
 unfolding wants_at serve_all
-close_reads {p} {q} {r} ws answers s nodes is a b closed = want_then (λ end. serve_all end ws) a (want_said (λ end bs rest here h. rw h (refl)) b)
+close_reads {p} {q} {r} ws answers s nodes is a b closed = want_then (λ end. serve_all end ws) a (record {
+  taken = b.taken;
+  bytes = b.bytes;
+  takes = b.takes;
+  is = λ rest. let k : r.at + length rest - length rest ≡ r.at = omega arith in rw (b.is rest) (rw k (rw closed refl));
+})
+
+magic_is : (end : ℕ) (ws bs rest : List ℕ) → magic_at end ws bs ≡ Ok rest → bs ≡ ws ++ rest
+unfolding magic_at
+magic_is end [] bs rest e = ok_is bs rest e
+magic_is end (w ∷ ws) bs rest e =
+    let a = bind_ok (byte_at bs) (λ b. cond (eqb b.0 w) (magic_at end ws b.1) (Err (bad bad_magic (end - length bs)))) rest e in
+    let p = passed (eqb a.0.0 w) (magic_at end ws a.0.1) (bad bad_magic (end - length bs)) rest a.2 in
+    byte_is bs a.0 a.1 ∙ (ap (λ z. z ∷ a.0.1) (eqb-true a.0.0 w p.0) ∙ ap (λ (l : List ℕ). w ∷ l) (magic_is end ws a.0.1 rest p.1))
+
+-- what was read is what was asked
+pub takes_asked : {p q : Place} (ws : List Want) (answers : List Item) (nodes : List Node) (is : List Item) → WantReads p q (λ end. wants_at end ws) (λ rest. (answers, nodes, is, rest)) → TakesAsked p q ws answers nodes is
+unfolding wants_at
+takes_asked {p} {q} ws answers nodes is r =
+    let end = q.at + 0 in
+    let head : List ℕ = 0xAC ∷ 0xED ∷ 0x00 ∷ 0x05 ∷ [] in
+    let one : wants_at end ws r.taken ≡ Ok (answers, nodes, is, []) = ap (λ (l : List ℕ). wants_at end ws l) (sym (append-nil r.taken)) ∙ r.is [] in
+    let a = lifted_ok (magic_at end head r.taken) (serve_all end ws) (answers, nodes, is, []) one in
+    let m = magic_is end head r.taken a.0 a.1 in
+    let left = plain.bytes_left r.taken head a.0 m (are r.taken r.bytes) in
+    let s = asked_sound end ws a.0 (answers, nodes, is, []) a.2 left in
+    record { bytes = a.0; takes = subst (λ (l : List ℕ). Takes p q l) m r.takes; asked = s.0; contents_are = s.1 }
+
+abbrev Whole : Type 0
+Whole = List Item × List Node × List Item × List ℕ
+
+-- what is asked is read, unless the outside fails
+pub gives_asked : (after : StreamFault) (end : ℕ) (ws : List Want) (answers : List Item) (nodes : List Node) (bytes rest now coming : List ℕ) (result : Result (List Item × Graph) StreamFault)
+    → WantGives {Y = Whole} after (λ x. (x.0, x.1.nodes, x.1.items, now)) result (wants_at end ws coming) → coming ≡ 0xAC ∷ 0xED ∷ 0x00 ∷ 0x05 ∷ bytes → InLimits nodes → IsAsked ws answers nodes bytes rest → AnswersAsked answers nodes rest now result
+unfolding wants_at magic_at
+gives_asked after end ws answers nodes bytes rest now coming result h here limits asked =
+    let given : complete.Given nodes = record { few = limits.few; parts = limits.parts; numbers = limits.numbers; units = limits.units } in
+    let read : wants_at end ws coming ≡ Ok (answers, nodes, joined answers, rest) = ap (λ (l : List ℕ). wants_at end ws l) here ∙ asked_complete end ws answers nodes bytes rest given asked in
+    go result h read
+  where
+    go : (result : Result (List Item × Graph) StreamFault) → WantGives {Y = Whole} after (λ x. (x.0, x.1.nodes, x.1.items, now)) result (wants_at end ws coming) → wants_at end ws coming ≡ Ok (answers, nodes, joined answers, rest) → AnswersAsked answers nodes rest now result
+    go (Ok x) h read =
+        let same = given_is (x.0, x.1.nodes, x.1.items, now) (answers, nodes, joined answers, rest) (sym h ∙ read) in
+        (ap (λ (t : Whole). t.0) same, ap (λ (t : Whole). t.1) same, ap (λ (t : Whole). t.2) same, ap (λ (t : Whole). t.3) same)
+    go (Err faults.OutOfMemory) h read = tt
+    go (Err faults.ReadFault) h read = tt
+    go (Err (faults.Bad kind at)) h read = absurd (let e = sym h ∙ read in cc)
+    go (Err (faults.TooLarge larges.Bytes at)) h read = absurd (let e = sym h.0 ∙ read in cc)
+    go (Err (faults.TooLarge larges.Nodes at)) h read = absurd (let e = sym h ∙ read in cc)
+    go (Err (faults.TooLarge larges.Depth at)) h read = absurd (let e = sym h ∙ read in cc)
+    go (Err (faults.Truncated at)) h read = absurd (let e = sym h.0 ∙ read in cc)
+
+pub taken_asked : (p q : Place) (ws : List Want) (result : Result (List Item × Graph) StreamFault) → IfOk result (λ x. WantReads {Y = Whole} p q (λ end. wants_at end ws) (λ rest. (x.0, x.1.nodes, x.1.items, rest)))
+    → IfOk result (λ x. TakesAsked p q ws x.0 x.1.nodes x.1.items)
+taken_asked p q ws (Ok x) h = takes_asked ws x.0 x.1.nodes x.1.items h
+taken_asked p q ws (Err e) h = tt

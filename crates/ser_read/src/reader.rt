@@ -254,6 +254,7 @@ impl Reader {
     pub fn close<S: Source>(self, pull: &Pull<'_, S>) -> Result<Graph, StreamFault>
         ensures again { (fault : StreamFault) → self.refused ≡ Some fault → result ≡ Err fault }
         ensures kept { OnOk result (self.refused ≡ None) }
+        ensures cause { self.refused ≡ None → Caused (S.faults pull.now.source.now) (S.faults pull.now.source.now) result }
         ensures gives { self.refused ≡ None → WantGives (env S.left pull.now).after (λ graph. (graph.nodes, graph.items)) result (close_at pull.now.at self.stand) }
     {
         if let Some(fault) = self.refused {

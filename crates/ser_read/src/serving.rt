@@ -75,11 +75,9 @@ fn serve<S: Source>(
     Ok(answers)
 }
 
-/// Reads a stream of which this is asked, one want after the other and then the end: what each gave, and the graph of it all.
-///
-/// The stream need not end the input: no byte behind what was asked is taken.
+/// Reads a stream of which this is asked.
 #[tactic(auto, unfolding(crate::specs::Wants::wants_at, crate::specs::Wants::serve_all), using(crate::proofs::Wants::lifted_fails, crate::proofs::Wants::wants_fail, crate::proofs::Pulling::here_is))]
-pub fn read_wants<S: Source>(
+fn read_each<S: Source>(
     alloc: Global,
     pull: &mut Pull<'_, S>,
     wants: &[Want],
@@ -89,11 +87,26 @@ pub fn read_wants<S: Source>(
     ensures env { OnOk result (env S.left pull.new ≡ env S.left pull.old) }
     ensures gives { GivesWant S.left pull.old pull.new result (λ end. wants_at end wants.now) (λ x rest. (x.0, x.1.nodes, x.1.items, rest)) }
     ensures reads { WantTaken S.left S.faults pull.old pull.new result (λ end. wants_at end wants.now) (λ x rest. (x.0, x.1.nodes, x.1.items, rest)) }
-    ensures spelled { IfOk result (λ x. TakesAsked (place S.left S.faults pull.old) (place S.left S.faults pull.new) wants.now x.0 x.1.nodes x.1.items) }
-    ensures complete { (answers : List Item) (nodes : List Node) (bytes rest : List ℕ) → IsTold S.left pull.old → coming S.left pull.old ≡ 0xAC ∷ 0xED ∷ 0x00 ∷ 0x05 ∷ bytes → InLimits nodes → IsAsked wants.now answers nodes bytes rest → AnswersAsked answers nodes rest (coming S.left pull.new) result }
 {
     let mut reader = Reader::start(alloc, pull)?;
     let answers = serve(alloc, pull, &mut reader, wants)?;
     let graph = reader.close(pull)?;
     Ok((answers, graph))
+}
+
+/// Reads a stream of which this is asked, one want after the other and then the end: what each gave, and the graph of it all.
+///
+/// The stream need not end the input: no byte behind what was asked is taken.
+pub fn read_wants<S: Source>(
+    alloc: Global,
+    pull: &mut Pull<'_, S>,
+    wants: &[Want],
+) -> Result<(Items, Graph), StreamFault>
+    ensures lent { pull.new.source.ghost_name ≡ pull.old.source.ghost_name }
+    ensures cause { Caused (S.faults pull.old.source.now) (S.faults pull.new.source.now) result }
+    ensures gives { GivesWant S.left pull.old pull.new result (λ end. wants_at end wants.now) (λ x rest. (x.0, x.1.nodes, x.1.items, rest)) }
+    ensures spelled { IfOk result (λ x. TakesAsked (place S.left S.faults pull.old) (place S.left S.faults pull.new) wants.now x.0 x.1.nodes x.1.items) }
+    ensures complete { (answers : List Item) (nodes : List Node) (bytes rest : List ℕ) → IsTold S.left pull.old → coming S.left pull.old ≡ 0xAC ∷ 0xED ∷ 0x00 ∷ 0x05 ∷ bytes → InLimits nodes → IsAsked wants.now answers nodes bytes rest → AnswersAsked answers nodes rest (coming S.left pull.new) result }
+{
+    read_each(alloc, pull, wants)
 }
