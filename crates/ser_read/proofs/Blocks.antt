@@ -192,12 +192,12 @@ pub item_fails : (after e : StreamFault) (end : ℕ) (inner : Step Slot) (most c
     → nat_eq c 0x78 ≡ false → inner now (c ∷ bs) ≡ ref now bs → Fails after e (item_at end ref c now bs) → Fails after e (after_all is (blocks_at end inner true (suc most) now (c ∷ bs)))
 item_fails after e end inner most c is now bs ref other same h =
     subst (λ r. Fails after e (after_all is r)) (sym (blocks_is end inner most c now bs other ∙ ap (λ (r : Result (Slot × Progress × List ℕ) Fault). if nat_eq c 0x77 then sized_more more now (byte_at bs) else (if nat_eq c 0x7A then sized_more more now (size_at end w32 (2 ^ 31) bs) else ref_more more r)) same))
-    (behind (go (nat_eq c 0x77) (nat_eq c 0x7A) (subst (λ r. Fails after e r) (item_is end ref c now bs) h)))
+    (behind _ (go (nat_eq c 0x77) (nat_eq c 0x7A) (subst (λ r. Fails after e r) (item_is end ref c now bs) h)))
   where
     more : Progress → List ℕ → Items
     more = blocks_at end inner true most
-    behind : {r : Items} → Fails after e r → Fails after e (after_all is r)
-    behind {r} f = fails_then after e r (λ x. Ok (added_all is x.0, x.1, x.2)) f
+    behind : (r : Items) → Fails after e r → Fails after e (after_all is r)
+    behind r f = fails_then after e r (λ x. Ok (added_all is x.0, x.1, x.2)) f
     block : (r : Plain (List ℕ)) → Fails after e (block_item now r) → Fails after e (block_more more now r)
     block (Ok p) f = none after e (block_item now (Ok p)) (items.Bytes p.0, now, p.1) _ refl f
     block (Err g) f = fails_of after e g (block_item now (Err g)) (block_more more now (Err g)) refl refl f

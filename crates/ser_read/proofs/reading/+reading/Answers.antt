@@ -75,6 +75,15 @@ elements-returns-then-is_primitive-clause-gives g t c = λ told. c.primitives.en
 pub elements-returns-then-is_primitive-clause-reads : goal.elements-returns-then-is_primitive-clause-reads
 elements-returns-then-is_primitive-clause-reads g t c = said_last _ _ _ c.primitives.result (λ end bs here. elements_any c.args.code c.args.n (slot_at end c.args.left Reference c.args.table.now.unread.items) (slot_at 0 c.args.left Reference c.args.table.now.unread.items) (now_of c.args.table.now) bs (sym c.is_primitive.ensures ∙ c.if-is_primitive.true)) (c.primitives.ensures.reads (slot_at 0 c.args.left Reference c.args.table.now.unread.items) (now_of c.args.table.now))
 
+pub value-returns-then-is_primitive-clause-reads : goal.value-returns-then-is_primitive-clause-reads
+value-returns-then-is_primitive-clause-reads g t c = said_last _ _ _ c.primitive.result (λ end bs here. value_any c.args.code (slot_at end c.args.left Reference c.args.table.now.unread.items) (slot_at 0 c.args.left Reference c.args.table.now.unread.items) (now_of c.args.table.now) bs (sym c.is_primitive.ensures ∙ c.if-is_primitive.true)) (c.primitive.ensures.reads (slot_at 0 c.args.left Reference c.args.table.now.unread.items) (now_of c.args.table.now))
+
+pub object_in-returns-clause-gives : goal.object_in-returns-clause-gives
+object_in-returns-clause-gives g t c = ?
+
+pub object_in-returns-clause-reads : goal.object_in-returns-clause-reads
+object_in-returns-clause-reads g t c = ?
+
 pub field-returns-in-Some-clause-reads : goal.field-returns-in-Some-clause-reads
 unfolding field_at
 field-returns-in-Some-clause-reads g t c = 
@@ -244,7 +253,7 @@ items-returns-in_err-item-clause-gives g t c = λ told.
     rw (p.1, p.2) (leads_fails g.S.Source.left g.S.Source.faults c.args.pull.now c.loop-items.pull _ c.in_err-item.field-0.0 (slack_leads c.loop-items.invariant.slack) c.loop-items.pull.within told
     (rw front (item_fails _ _ (env g.S.Source.left c.args.pull.now).end (slot_at (env g.S.Source.left c.args.pull.now).end c.args.left Reference c.args.table.now.unread.items) _ c.in_ok-code.code c.loop-items.items.items (now_of c.loop-items.table) (coming g.S.Source.left c.byte.new.pull) (coded (env g.S.Source.left c.args.pull.now).end c.args.left (slot_at (env g.S.Source.left c.args.pull.now).end (c.args.left - 1)) Reference c.args.table.now.unread.items c.loop-items.pull.at c.in_ok-code.code) (ne_eqb c.in_ok-code.code 120 c.if-code-eq120.false)
     (slot_gives (env g.S.Source.left c.args.pull.now).end c.args.left Reference c.args.table.now.unread.items (now_of c.loop-items.table) _ c.loop-items.pull.at c.in_ok-code.code (coming g.S.Source.left c.byte.new.pull) ends refl)
-    (rw (c.in_ok-code.ensures.env, c.loop-items.invariant.same, c.loop-items.invariant.unread) at c.in_err-item.ensures.gives (rw c.in_ok-code.ensures.env known)))))
+    (rw (c.in_ok-code.ensures.env, c.loop-items.invariant.same, c.loop-items.invariant.unread) at c.in_err-item.ensures.gives told))))
 
 pub items-loop-items-preserved : goal.items-loop-items-preserved
 items-loop-items-preserved g t c = record {
