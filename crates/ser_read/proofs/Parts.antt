@@ -1,5 +1,5 @@
 -- Objects by the types of their fields alone, and constructs by their classes.
-use Rattle.std.proofs.Common.{◌≡◌, ℕ, ◌+◌, if◌then◌else◌, Bool, true, false, nat_lt, List, [], ◌∷◌, ◌++◌, length, map, Option, Result, Ok, Err, slice_get, refl, sym, ap, subst, ◌∙◌}
+use Rattle.std.proofs.Common.{◌≡◌, ℕ, ◌+◌, if◌then◌else◌, Bool, true, false, nat_lt, List, [], ◌∷◌, ◌++◌, length, map, Option, None, Result, Ok, Err, slice_get, refl, sym, ap, subst, ◌∙◌}
 use Rattle.std.proofs.lemmas.List.{length-map}
 use Rattle.class_desc.specs.declared.slot.Slot.{Slot}
 use Rattle.class_desc.specs.declared.slot.Slot.TheVariants as slots
@@ -10,7 +10,7 @@ use Rattle.ser_values.specs.declared.value.Part.{Part}
 use Rattle.ser_values.specs.declared.node.Node.{Node}
 use Rattle.ser_values.specs.declared.node.Node.TheVariants.{Object}
 use Rattle.ser_values.specs.declared.node.Place.TheVariants as places
-use Rattle.ser_values.specs.Reading.{◌>>=◌, Fault, too_many, Progress, Step, Slots, Row, fill, part, roomy, unless, value_at, values_at, note_at, parts_at, chain_of, rows_of, class_fault, object_after, object_at, with_class, on_class}
+use Rattle.ser_values.specs.Reading.{◌>>=◌, Fault, Kind, too_many, Progress, Step, Slots, Row, fill, part, roomy, unless, value_at, values_at, note_at, parts_at, chain_of, rows_of, class_fault, object_after, object_at, with_class, on_class}
 use Rattle.ser_read.specs.declared.row.ClassRow.{ClassRow}
 use Rattle.ser_read.specs.Codes.{codes_of}
 use Rattle.ser_read.specs.Lists.{all_at}
@@ -57,6 +57,21 @@ unfolding object_at
 object_is end at inner class rows now bs h =
     let k : length rows ≡ length (rows_of (slice_get now.nodes class) (chain_of 1048576 now.nodes (slots.Node class)).0) = ap (λ (r : List ClassRow). length r) h ∙ simp length-map refl in
     rw (k, h, ← object_same end inner class) refl
+
+abbrev Read : Type 0
+Read = Result (Slot × Progress × List ℕ) Fault
+
+-- where the parts have room and the class has objects
+pub object_here : (end at : ℕ) (inner : Step Slot) (class : ℕ) (rows : List ClassRow) (now : Progress) (bs : List ℕ)
+    → rows ≡ class_rows (rows_of (slice_get now.nodes class) (chain_of 1048576 now.nodes (slots.Node class)).0)
+    → nat_lt 1048576 (now.parts + length rows) ≡ false
+    → class_fault (slice_get now.nodes class) (chain_of 1048576 now.nodes (slots.Node class)).1 ≡ None
+    → object_at end at inner class now bs ≡ object_by end inner class rows now bs
+object_here end at inner class rows now bs h few good =
+    let read : Read = object_by end inner class rows now bs in
+    object_is end at inner class rows now bs h
+    ∙ ap (λ (b : Bool). if b then Err (too_many at) else unless (class_fault (slice_get now.nodes class) (chain_of 1048576 now.nodes (slots.Node class)).1) at read) few
+    ∙ ap (λ (f : Option Kind). unless f at read) good
 
 -- a construct that begins with its class
 pub with_class_is : (inner : Slots) (unread : List ℕ) (at : ℕ) (f : ℕ → Step Slot) (now : Progress) (bs : List ℕ) → with_class inner unread at f now bs ≡ (class_named inner unread at now bs >>= λ x. f x.0 x.1 x.2)

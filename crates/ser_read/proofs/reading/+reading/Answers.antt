@@ -1,4 +1,4 @@
-use Rattle.std.proofs.Common.{◌≡◌, ◌≤◌, ◌<◌, ◌-◌, ◌+◌, ◌∙◌, ℕ, List, length, drop, FitsSigned, suc, ◌∷◌, [], Some, true, false, arith, refl, rules, sym, ap, subst, Ok, Err, nat_eq}
+use Rattle.std.proofs.Common.{◌≡◌, ◌≤◌, ◌<◌, ◌-◌, ◌+◌, ◌∙◌, ℕ, List, length, drop, FitsSigned, suc, ◌∷◌, [], Some, true, false, arith, refl, rules, sym, ap, subst, Ok, Err, nat_eq, nat_lt, Option, option_map}
 use Rattle.std.proofs.lemmas.Result.{err_from_is_err_and}
 use Rattle.std.proofs.lemmas.Bool.{ne_eqb}
 use Rattle.class_desc.specs.declared.slot.Slot.TheVariants as slots
@@ -9,12 +9,13 @@ use Rattle.ser_read.specs.Lists.{all_at}
 use Rattle.ser_read.specs.Rows.{part_by, values_by, parts_by}
 use Rattle.ser_read.specs.Named.{item_at}
 use Rattle.ser_read.specs.Tables.{now_of}
-use Rattle.ser_read.specs.Here.{coming, env}
+use Rattle.ser_read.specs.Here.{coming, env, kind_of}
+use Rattle.ser_read.specs.declared.fault.StreamKind.{StreamKind}
 use Rattle.ser_read.proofs.Pulling.{here_is}
 use Rattle.ser_read.proofs.Steps.{then, last, said, said_last, done, leads_start, leads_more, leads_done, leads_told, leads_fails, fails_then, reads_gives, ends_at}
 use Rattle.ser_read.proofs.Loop.{many_start, many_next, many_stops, many_end, all_start, all_next, all_stops, all_end, all_next_item, all_stops_item}
 use Rattle.ser_read.proofs.Blocks.{slack_start, slack_more, slack_end, slack_leads, code_fails, item_fails, byte_cons}
-use Rattle.ser_read.proofs.Parts.{with_class_is, parts_same}
+use Rattle.ser_read.proofs.Parts.{with_class_is, object_here}
 use Rattle.ser_read.proofs.Values.{mapped_ok, mapped_fails, mapped_reads}
 use Rattle.ser_values.specs.declared.value.Value.TheVariants as values
 use Rattle.ser_values.specs.declared.value.Values.TheVariants as kinds
@@ -79,10 +80,22 @@ pub value-returns-then-is_primitive-clause-reads : goal.value-returns-then-is_pr
 value-returns-then-is_primitive-clause-reads g t c = said_last _ _ _ c.primitive.result (λ end bs here. value_any c.args.code (slot_at end c.args.left Reference c.args.table.now.unread.items) (slot_at 0 c.args.left Reference c.args.table.now.unread.items) (now_of c.args.table.now) bs (sym c.is_primitive.ensures ∙ c.if-is_primitive.true)) (c.primitive.ensures.reads (slot_at 0 c.args.left Reference c.args.table.now.unread.items) (now_of c.args.table.now))
 
 pub object_in-returns-clause-gives : goal.object_in-returns-clause-gives
-object_in-returns-clause-gives g t c = ?
+object_in-returns-clause-gives g t c = λ told.
+    let rows = c.as_slice.ensures.value ∙ c.in_ok-shape.ensures.rows in
+    let many : c.len.result ≡ length c.as_slice.result.now = omega (arith, c.len.ensures, c.as_slice.ensures.len) in
+    let few = subst (λ (n : ℕ). nat_lt 1048576 (c.args.table.now.parts + n) ≡ false) many (sym c.lacks_parts.ensures ∙ c.if-lacks_parts.false) in
+    let good = sym c.in_ok-shape.ensures.fault ∙ ap (λ (f : Option StreamKind). option_map kind_of f) c.in-None.is in
+    let end = (env g.S.Source.left c.args.pull.now).end in
+    let bs = coming g.S.Source.left c.args.pull.now in
+    rw (object_here end c.args.at (slot_at end c.args.left Reference c.args.table.now.unread.items) c.args.class c.as_slice.result.now (now_of c.args.table.now) bs rows few good) (c.object_after.ensures.gives told)
 
 pub object_in-returns-clause-reads : goal.object_in-returns-clause-reads
-object_in-returns-clause-reads g t c = ?
+object_in-returns-clause-reads g t c =
+    let rows = c.as_slice.ensures.value ∙ c.in_ok-shape.ensures.rows in
+    let many : c.len.result ≡ length c.as_slice.result.now = omega (arith, c.len.ensures, c.as_slice.ensures.len) in
+    let few = subst (λ (n : ℕ). nat_lt 1048576 (c.args.table.now.parts + n) ≡ false) many (sym c.lacks_parts.ensures ∙ c.if-lacks_parts.false) in
+    let good = sym c.in_ok-shape.ensures.fault ∙ ap (λ (f : Option StreamKind). option_map kind_of f) c.in-None.is in
+    said_last _ _ _ c.object_after.result (λ end bs here. object_here end c.args.at (slot_at end c.args.left Reference c.args.table.now.unread.items) c.args.class c.as_slice.result.now (now_of c.args.table.now) bs rows few good) c.object_after.ensures.reads
 
 pub field-returns-in-Some-clause-reads : goal.field-returns-in-Some-clause-reads
 unfolding field_at
