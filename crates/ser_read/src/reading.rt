@@ -937,14 +937,6 @@ fn item<S: Source>(
         let n = count(pull)?;
         Ok(Item::Bytes(take(alloc, pull, u64::from(n))?))
     } else {
-        Ok(Item::Ref(coded(
-            alloc,
-            pull,
-            table,
-            Place::Reference,
-            left,
-            at,
-            code,
-        )?))
+        Ok(Item::Ref(coded(alloc, pull, table, Place::Reference, left, at, code)?))
     }
 }

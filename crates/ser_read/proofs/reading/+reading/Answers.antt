@@ -1,25 +1,18 @@
-use Rattle.std.proofs.Common.{◌≡◌, ◌≤◌, ◌<◌, ◌-◌, ◌+◌, ◌∙◌, ℕ, List, length, drop, FitsSigned, suc, ◌∷◌, [], Some, true, false, arith, refl, rules, sym, ap, subst, Ok, Err, nat_eq, nat_lt, Option, option_map}
+use Rattle.std.proofs.Common.{◌≡◌, ◌-◌, ◌+◌, ◌∙◌, ℕ, length, FitsSigned, suc, ◌∷◌, [], Some, true, false, arith, refl, rules, sym, ap, subst, nat_lt, Option, option_map}
 use Rattle.std.proofs.lemmas.Result.{err_from_is_err_and}
 use Rattle.std.proofs.lemmas.Bool.{ne_eqb}
 use Rattle.class_desc.specs.declared.slot.Slot.TheVariants as slots
-use Rattle.ser_values.specs.declared.node.Place.TheVariants.{Reference, Text, Class, Parent}
-use Rattle.wire_io.specs.Pulled.{place}
-use Rattle.ser_values.specs.Reading.{◌>>=◌, slot_at, coded, many_at, field_at, field_of, value_at, elements_at, items_at, blocks_at, byte_at, Progress, push, fill, blank, desc_at, desc_after, proxy_at, array_of}
-use Rattle.ser_read.specs.Lists.{all_at}
+use Rattle.ser_values.specs.declared.node.Place.TheVariants.{Reference, Text}
+use Rattle.ser_values.specs.Reading.{slot_at, coded, field_at, field_of, value_at, Progress, push, fill, blank, desc_at, desc_after, proxy_at, array_of}
 use Rattle.ser_read.specs.Rows.{part_by, values_by, parts_by}
-use Rattle.ser_read.specs.Named.{item_at}
 use Rattle.ser_read.specs.Tables.{now_of}
 use Rattle.ser_read.specs.Here.{coming, env, kind_of}
 use Rattle.ser_read.specs.declared.fault.StreamKind.{StreamKind}
-use Rattle.ser_read.proofs.Pulling.{here_is}
-use Rattle.ser_read.proofs.Steps.{then, last, said, said_last, done, leads_start, leads_more, leads_done, leads_told, leads_fails, fails_then, reads_gives, ends_at}
-use Rattle.ser_read.proofs.Loop.{many_start, many_next, many_stops, many_end, all_start, all_next, all_stops, all_end, all_next_item, all_stops_item}
+use Rattle.ser_read.proofs.Steps.{then, last, said, said_last, done, leads_start, leads_more, leads_done, leads_told, leads_fails, reads_gives, ends_at}
+use Rattle.ser_read.proofs.Loop.{many_next, many_stops, many_end, all_start, all_next, all_stops, all_end, all_next_item, all_stops_item}
 use Rattle.ser_read.proofs.Blocks.{slack_start, slack_more, slack_end, slack_leads, code_fails, item_fails, byte_cons}
 use Rattle.ser_read.proofs.Parts.{with_class_is, object_here}
-use Rattle.ser_read.proofs.Values.{mapped_ok, mapped_fails, mapped_reads}
-use Rattle.ser_values.specs.declared.value.Value.TheVariants as values
-use Rattle.ser_values.specs.declared.value.Values.TheVariants as kinds
-use Rattle.ser_read.proofs.Slots.{made, slot_here, slot_gives, slot_fails, null_reads, value_any, value_ref, item_block, item_long, when, otherwise, elements_any, elements_ref}
+use Rattle.ser_read.proofs.Slots.{made, slot_here, slot_gives, slot_fails, null_reads, value_any, item_block, item_long, when, otherwise, elements_any}
 use Rattle.ser_read.proofs.reading.+reading.Goals as goal
 use Rattle.std.proofs.lemmas.Int.{to_z-of_z}
 use Rattle.std.specs.Int.{w64, cast_signed}
@@ -64,7 +57,7 @@ proxy-returns-clause-reads g t c = then _ c.in_ok-n.ensures.reads (then _ (c.in_
 
 pub desc_after-returns-clause-reads : goal.desc_after-returns-clause-reads
 unfolding desc_after
-desc_after-returns-clause-reads g t c = 
+desc_after-returns-clause-reads g t c =
     let good : is_good_desc (record { name = c.args.name; suid = cast_signed w64 c.args.suid; flags = c.args.flags; fields = c.in_ok-fields.fields; note = []; parent = slots.Null }) ≡ true = search rules in
     let fits : FitsSigned w64 c.cast_signed.result = search rules in
     rw (to_z-of_z w64 c.cast_signed.result fits, c.cast_signed.ensures) (then _ c.in_ok-n.ensures.reads (then _ c.in_ok-fields.ensures.reads (when _ good (then _ (rw c.in_ok-fields.ensures.unread at c.in_ok-desc.ensures.reads)
@@ -99,13 +92,13 @@ object_in-returns-clause-reads g t c =
 
 pub field-returns-in-Some-clause-reads : goal.field-returns-in-Some-clause-reads
 unfolding field_at
-field-returns-in-Some-clause-reads g t c = 
+field-returns-in-Some-clause-reads g t c =
     let e : code_of c.in_ok-letter.letter ≡ Some c.in-Some.code = sym c.from_letter.ensures.value ∙ c.in-Some.is in
     last _ _ _ c.field_of.result c.in_ok-letter.ensures.reads (rw (← e) at c.field_of.ensures.reads)
 
 pub field_of-returns-clause-reads : goal.field_of-returns-clause-reads
 unfolding field_of
-field_of-returns-clause-reads g t c = 
+field_of-returns-clause-reads g t c =
     let prim : is_primitive c.args.code ≡ false = sym c.is_primitive.ensures ∙ c.if-is_primitive.false in
     let fits : fits_type c.slot.new.table.nodes.items c.args.code c.in_ok-type_text.type_text ≡ true = search rules in
     then _ c.in_ok-name.ensures.reads (otherwise _ prim (then _ c.in_ok-type_text.ensures.reads (when _ fits (done (λ end bs. refl)))))
@@ -182,7 +175,12 @@ fields-returns-clause-reads g t c = leads_done c.loop.invariant.leads (λ end bs
 pub values-loop-code-init : goal.values-loop-code-init
 unfolding values_by
 values-loop-code-init g t c = record {
-  lent = refl; faults = omega arith; nears = omega arith; same = refl; grows = omega arith; unread = refl;
+  lent = refl;
+  faults = omega arith;
+  nears = omega arith;
+  same = refl;
+  grows = omega arith;
+  unread = refl;
   leads = rw c.new-values.ensures (leads_start _ _ _ (λ end bs. all_start (value_at (slot_at end c.args.left Reference c.args.table.now.unread.items)) c.args.codes.now (now_of c.args.table.now) bs));
 }
 
@@ -212,7 +210,12 @@ values-returns-clause-reads g t c = leads_done c.loop-code.invariant.leads (λ e
 pub parts-loop-row-init : goal.parts-loop-row-init
 unfolding parts_by
 parts-loop-row-init g t c = record {
-  lent = refl; faults = omega arith; nears = omega arith; same = refl; grows = omega arith; unread = refl;
+  lent = refl;
+  faults = omega arith;
+  nears = omega arith;
+  same = refl;
+  grows = omega arith;
+  unread = refl;
   leads = rw c.new-parts.ensures (leads_start _ _ _ (λ end bs. all_start (part_by end (slot_at end c.args.left Reference c.args.table.now.unread.items)) c.args.rows.now (now_of c.args.table.now) bs));
 }
 
@@ -241,7 +244,12 @@ parts-returns-clause-reads g t c = leads_done c.loop-row.invariant.leads (λ end
 
 pub items-loop-items-init : goal.items-loop-items-init
 items-loop-items-init g t c = record {
-  lent = refl; faults = omega arith; nears = omega arith; same = refl; grows = omega arith; unread = refl;
+  lent = refl;
+  faults = omega arith;
+  nears = omega arith;
+  same = refl;
+  grows = omega arith;
+  unread = refl;
   slack = rw c.new-items.ensures.items (slack_start _ _ _ _);
 }
 
