@@ -1,6 +1,6 @@
 -- The chain of a class, step by step.
-use Rattle.std.proofs.Common.{◌≡◌, ℕ, suc, zero, ◌&&◌, Bool, true, false, List, [], ◌∷◌, ◌++◌, reverse, map, Some, Option, None, refl, sym, ap, subst, ◌∙◌, append_assoc, ◌-◌, ◌<◌, arith}
-use Rattle.std.proofs.lemmas.List.{map_push, reverse-append, append-nil}
+use Rattle.std.proofs.Common.{◌≡◌, ℕ, suc, zero, ◌&&◌, Bool, true, false, List, [], ◌∷◌, ◌++◌, reverse, Some, refl, sym, ap, ◌∙◌, append_assoc, ◌-◌, ◌<◌, arith}
+use Rattle.std.proofs.lemmas.List.{map_push, reverse-append}
 use Rattle.class_desc.specs.declared.slot.Slot.{Slot}
 use Rattle.class_desc.specs.declared.slot.Slot.TheVariants as slots
 use Rattle.class_desc.specs.declared.desc.ClassDesc.{ClassDesc}
@@ -12,7 +12,7 @@ use Rattle.ser_values.specs.declared.node.Node.TheVariants.{Desc, Proxy}
 use Rattle.ser_values.specs.Reading.{Row, chain_above, chain_of}
 use Rattle.ser_read.specs.declared.row.ClassRow.{ClassRow}
 use Rattle.ser_read.specs.declared.shape.Climb.{Climb}
-use Rattle.ser_read.specs.declared.shape.Climb.TheVariants.{Top, NoClass, Class}
+use Rattle.ser_read.specs.declared.shape.Climb.TheVariants.{Class}
 use Rattle.ser_read.specs.Codes.{codes_of}
 use Rattle.ser_read.specs.Rows.{row_of, class_rows}
 use Rattle.ser_read.specs.Chains.{shown, climbed}
@@ -35,9 +35,6 @@ and_assoc false b c = refl
 -- one step of the walk up
 pub rows_more : (above : List ClassRow) (row : ClassRow) (up : List ClassRow) → (above ++ row ∷ []) ++ reverse up ≡ above ++ reverse (up ++ row ∷ [])
 rows_more above row up = append_assoc above (row ∷ []) (reverse up) ∙ ap (λ (r : List ClassRow). above ++ r) (sym (reverse-append up (row ∷ [])))
-
-pub serial_more : (a b c : Bool) → (a && b) && c ≡ a && (b && c)
-serial_more a b c = and_assoc a b c
 
 abbrev pub Up : Type 0
 Up = List ClassRow × Bool

@@ -1,5 +1,5 @@
 -- Reading one thing after the other.
-use Rattle.std.proofs.Common.{◌≡◌, ℕ, ◌+◌, List, [], ◌∷◌, ◌++◌, length, Result, Ok, Err, IfOk, refl, sym, ap, subst, ◌∙◌, ◌-◌, ◌≤◌, true, Option, append_assoc, length-append, arith}
+use Rattle.std.proofs.Common.{◌≡◌, ℕ, ◌+◌, List, [], ◌∷◌, ◌++◌, length, Result, Ok, Err, IfOk, refl, sym, ap, subst, ◌∙◌, ◌≤◌, true, Option, append_assoc, length-append, arith}
 use Rattle.wire_io.specs.Pulled.{Place, Takes}
 use Rattle.wire_io.proofs.Pulling.{takes_nothing, takes_more}
 use Rattle.ser_values.specs.Reading.{◌>>=◌, Fault, Plain, Progress, plain}
@@ -25,7 +25,7 @@ then {A} {Y} {p} {q} {r} {first} {mid} k {out} a b = record {
   is = λ rest.
       let ends : r.at + length rest ≡ q.at + length (b.taken ++ rest) = omega (arith, b.takes.at, length-append b.taken rest) in
       let one : first (r.at + length rest) ((a.taken ++ b.taken) ++ rest) ≡ Ok (mid (b.taken ++ rest)) =
-          rw (append_assoc a.taken b.taken rest) (rw ends (a.is (b.taken ++ rest))) in
+      rw (append_assoc a.taken b.taken rest) (rw ends (a.is (b.taken ++ rest))) in
       rw one (b.is rest);
 }
 
@@ -73,7 +73,7 @@ leads_more {Y} {A} {p} {q} {r} {read} {next} {step} {out} more a b h = record {
   is = λ rest.
       let ends : r.at + length rest ≡ q.at + length (b.taken ++ rest) = omega (arith, b.takes.at, length-append b.taken rest) in
       let one : read (r.at + length rest) ((a.taken ++ b.taken) ++ rest) ≡ next (r.at + length rest) (b.taken ++ rest) =
-          rw (append_assoc a.taken b.taken rest) (rw ends (a.is (b.taken ++ rest))) in
+      rw (append_assoc a.taken b.taken rest) (rw ends (a.is (b.taken ++ rest))) in
       one ∙ h (r.at + length rest) (b.taken ++ rest) rest ends (b.is rest);
 }
 
@@ -104,10 +104,6 @@ unfolding env coming
 leads_told left faults p q {read} {next} l le told =
     told_at (place left faults p) (place left faults q) read next l le told
     ∙ ap (λ (e : Env). next e.end (coming_at (left q.source.now) q.at q.stop)) (takes_env (place left faults p) (place left faults q) l.taken l.takes le)
-
-pub leads_gives : {S Y : Type 0} (left : S → Option (List ℕ)) (faults : S → ℕ) (p q : Pull S) {read next : ℕ → List ℕ → Result Y Fault} {out : List ℕ → Y}
-    → Leads (place left faults p) (place left faults q) read next → q.at ≤ q.stop → ((end : ℕ) (bs : List ℕ) → next end bs ≡ Ok (out bs)) → IsTold left p → read (env left p).end (coming left p) ≡ Ok (out (coming left q))
-leads_gives left faults p q l le h told = leads_told left faults p q l le told ∙ h _ _
 
 pub fails_then : {A B : Type 0} (after e : StreamFault) (r : Result A Fault) (f : A → Result B Fault) → Fails after e r → Fails after e (r >>= f)
 fails_then after faults.OutOfMemory r f h = tt
