@@ -5,7 +5,9 @@ use Rattle.std.proofs.lemmas.List.{take_all, drop_all, length-take-le, length-dr
 use Rattle.class_desc.specs.declared.slot.Slot.{Slot}
 use Rattle.class_desc.specs.declared.slot.Item.{Item}
 use Rattle.wire_io.specs.Wire.{NothingLeft}
-use Rattle.wire_io.specs.Pulled.{Place, Takes}
+use Rattle.wire_io.specs.Pulled.{Place, Takes, GivesByte}
+use Rattle.wire_io.specs.declared.pull.PullEnd.{PullEnd}
+use Rattle.wire_io.specs.declared.pull.PullEnd.TheVariants.{End}
 use Rattle.wire_io.proofs.Pulling.{takes_more, takes_stop}
 use Rattle.ser_values.specs.declared.graph.Graph.{Graph}
 use Rattle.ser_values.specs.declared.node.Node.{Node}
@@ -19,9 +21,10 @@ use Rattle.ser_read.specs.declared.fault.Large.TheVariants as larges
 use Rattle.wire_io.specs.declared.pull.Pull.{Pull}
 use Rattle.ser_read.specs.Here.{Fails, Gives, Reads, Env, fault_after, env_at, coming_at, env, coming, IsTold}
 use Rattle.ser_read.specs.Whole.{nothing_read, stream_at, going_on, to_end, code_at, ReadsAll, TakesStream, AnswersGraph}
+use Rattle.ser_read.proofs.Pulling.{takes_told, told_end}
 use Rattle.ser_read.proofs.Bytes.{none, ok_is}
 use Rattle.ser_read.proofs.Steps.{bytes_more, fails_then, fails_of}
-use Rattle.ser_read.proofs.Blocks.{Items, Slack, added_all, after_all}
+use Rattle.ser_read.proofs.Blocks.{Items, Slack, added_all, after_all, byte_cons}
 use Rattle.ser_read.proofs.Streams.{Answer, stream_at_sound, stream_at_complete}
 
 -- ---- the magic number
@@ -38,9 +41,6 @@ magic_more end w v ws (b ∷ bs) = go (nat_eq b w)
     go true = refl
     go false = refl
 
-abbrev behind : {B : Type 0} → (List ℕ → Result B Fault) → Result (List ℕ) Fault → Result B Fault
-behind f r = r >>= f
-
 -- byte by byte
 pub magic_is : (end : ℕ) (bs : List ℕ) → magic_at end (0xAC ∷ 0xED ∷ 0x00 ∷ 0x05 ∷ []) bs
     ≡ (magic_at end (0xAC ∷ []) bs >>= λ a. magic_at end (0xED ∷ []) a >>= λ b. magic_at end (0x00 ∷ []) b >>= λ c. magic_at end (0x05 ∷ []) c)
@@ -49,6 +49,38 @@ magic_is end bs = magic_more end 0xAC 0xED (0x00 ∷ 0x05 ∷ []) bs ∙ under (
     under : {f g : List ℕ → Result (List ℕ) Fault} (r : Result (List ℕ) Fault) → ((x : List ℕ) → f x ≡ g x) → (r >>= f) ≡ (r >>= g)
     under (Ok x) h = h x
     under (Err e) h = refl
+
+abbrev after_third : ℕ → List ℕ → Result (List ℕ) Fault
+after_third end c = expected end 0x05 c
+
+abbrev after_second : ℕ → List ℕ → Result (List ℕ) Fault
+after_second end b = expected end 0x00 b >>= λ c. after_third end c
+
+abbrev after_first : ℕ → List ℕ → Result (List ℕ) Fault
+after_first end a = expected end 0xED a >>= λ b. after_second end b
+
+abbrev all_four : ℕ → List ℕ → Result (List ℕ) Fault
+all_four end bs = magic_at end (0xAC ∷ 0xED ∷ 0x00 ∷ 0x05 ∷ []) bs
+
+at_second : (end : ℕ) (bs a : List ℕ) → expected end 0xAC bs ≡ Ok a → all_four end bs ≡ after_first end a
+at_second end bs a h = magic_is end bs ∙ ap (λ (r : Result (List ℕ) Fault). r >>= λ a. after_first end a) h
+
+at_third : (end : ℕ) (bs a b : List ℕ) → expected end 0xAC bs ≡ Ok a → expected end 0xED a ≡ Ok b → all_four end bs ≡ after_second end b
+at_third end bs a b h1 h2 = at_second end bs a h1 ∙ ap (λ (r : Result (List ℕ) Fault). r >>= λ b. after_second end b) h2
+
+-- where the last one is expected
+pub magic_gives : (end : ℕ) (bs a b c : List ℕ) → magic_at end (0xAC ∷ []) bs ≡ Ok a → magic_at end (0xED ∷ []) a ≡ Ok b → magic_at end (0x00 ∷ []) b ≡ Ok c → magic_at end (0xAC ∷ 0xED ∷ 0x00 ∷ 0x05 ∷ []) bs ≡ magic_at end (0x05 ∷ []) c
+magic_gives end bs a b c h1 h2 h3 = at_third end bs a b h1 h2 ∙ ap (λ (r : Result (List ℕ) Fault). r >>= λ c. after_third end c) h3
+
+-- where one before it is wanting
+pub magic_fails_first : (after e : StreamFault) (end : ℕ) (bs : List ℕ) → Fails after e (magic_at end (0xAC ∷ []) bs) → Fails after e (magic_at end (0xAC ∷ 0xED ∷ 0x00 ∷ 0x05 ∷ []) bs)
+magic_fails_first after e end bs f = subst (λ r. Fails after e r) (sym (magic_is end bs)) (fails_then after e (expected end 0xAC bs) (λ a. after_first end a) f)
+
+pub magic_fails_second : (after e : StreamFault) (end : ℕ) (bs a : List ℕ) → magic_at end (0xAC ∷ []) bs ≡ Ok a → Fails after e (magic_at end (0xED ∷ []) a) → Fails after e (magic_at end (0xAC ∷ 0xED ∷ 0x00 ∷ 0x05 ∷ []) bs)
+magic_fails_second after e end bs a h1 f = subst (λ r. Fails after e r) (sym (at_second end bs a h1)) (fails_then after e (expected end 0xED a) (λ b. after_second end b) f)
+
+pub magic_fails_third : (after e : StreamFault) (end : ℕ) (bs a b : List ℕ) → magic_at end (0xAC ∷ []) bs ≡ Ok a → magic_at end (0xED ∷ []) a ≡ Ok b → Fails after e (magic_at end (0x00 ∷ []) b) → Fails after e (magic_at end (0xAC ∷ 0xED ∷ 0x00 ∷ 0x05 ∷ []) bs)
+magic_fails_third after e end bs a b h1 h2 f = subst (λ r. Fails after e r) (sym (at_third end bs a b h1 h2)) (fails_then after e (expected end 0x00 b) (λ c. after_third end c) f)
 
 -- ---- up to the end
 
@@ -91,23 +123,57 @@ wanting {X} {Y} (TooLarge what at) e x y h = fails_of (TooLarge what at) e short
 wanting {X} {Y} ReadFault e x y h = fails_of ReadFault e short (to_end {Y = X} ReadFault (Ok x)) (to_end {Y = Y} ReadFault (Ok y)) refl refl h
 wanting {X} {Y} faults.OutOfMemory e x y h = fails_of faults.OutOfMemory e short (to_end {Y = X} faults.OutOfMemory (Ok x)) (to_end {Y = Y} faults.OutOfMemory (Ok y)) refl refl h
 
+some_none : {b : ℕ} → Some b ≡ None → ⊥
+some_none e = absurd cc
+
 pub end_gives : (after : StreamFault) (end : ℕ) (inner : Step Slot) (most : ℕ) (now : Progress) (is : List Item) (bs rest : List ℕ) → code_at after bs ≡ Ok (None, rest) → to_end after (after_all is (blocks_at end inner false (suc most) now bs)) ≡ Ok (is, now, [])
 unfolding blocks_at added_all
 end_gives after end inner most now is [] rest h = all_read after rest (is, now, []) h
-end_gives after end inner most now is (b ∷ bs) rest h = absurd cc
+end_gives after end inner most now is (b ∷ bs) rest h = absurd (some_none (ap (λ (x : Option ℕ × List ℕ). x.0) (ok_is (Some b, bs) (None, rest) (code_at after (b ∷ bs)) refl h)))
 
 pub end_fails : (after e : StreamFault) (end : ℕ) (inner : Step Slot) (most : ℕ) (now : Progress) (is : List Item) (bs : List ℕ) → Fails after e (code_at after bs) → Fails after e (to_end after (after_all is (blocks_at end inner false (suc most) now bs)))
 unfolding blocks_at added_all
 end_fails after e end inner most now is [] h = wanting after e _ _ h
 end_fails after e end inner most now is (b ∷ bs) h = none after e (code_at after (b ∷ bs)) (Some b, bs) _ refl h
 
+-- ---- a code, or the end
+
+pub code_back : (after : StreamFault) (bs : List ℕ) (c : ℕ) (rest : List ℕ) → byte_at bs ≡ Ok (c, rest) → code_at after bs ≡ Ok (Some c, rest)
+code_back after bs c rest h = rw (byte_cons bs c rest h) refl
+
+no_byte : (bs : List ℕ) → byte_at bs ≡ Err short → bs ≡ []
+no_byte [] h = refl
+no_byte (b ∷ bs) h = absurd cc
+
+nothing_taken : (old new : Place) (e : PullEnd) (at : ℕ) → e ≡ End at → GivesByte old new (Err e) → Takes old new []
+nothing_taken old new e at is h = go (subst (λ e. GivesByte old new (Err e)) is h)
+  where
+    go : GivesByte old new (Err (End at)) → Takes old new []
+    go h = h.1
+
+pub code_ends : (old new : Place) (e : PullEnd) (at : ℕ) → e ≡ End at → GivesByte old new (Err e) → new.at ≤ new.stop → (env_at old.left old.at old.stop).told ≡ true
+    → code_at (env_at old.left old.at old.stop).after (coming_at old.left old.at old.stop) ≡ Ok (None, coming_at new.left new.at new.stop)
+code_ends old new e at is h le told =
+    let wants = told_end old new e at is h told in
+    let nothing = no_byte (coming_at old.left old.at old.stop) wants.0 in
+    let same = takes_told old new [] (nothing_taken old new e at is h) le told in
+    rw (wants.1, nothing) (ap (λ (rest : List ℕ). Ok (None, rest)) (sym nothing ∙ same))
+
+pub code_wants : (after : StreamFault) (at : ℕ) (bs : List ℕ) → Fails after (TooLarge Bytes at) (byte_at bs) → Fails after (TooLarge Bytes at) (code_at after bs)
+code_wants after at [] h = (rw h.1 refl, h.1)
+code_wants after at (b ∷ bs) h = none after (TooLarge Bytes at) (byte_at (b ∷ bs)) (b, bs) (code_at after (b ∷ bs)) refl h
+
 pub code_cons : (after : StreamFault) (bs : List ℕ) (c : ℕ) (rest : List ℕ) → code_at after bs ≡ Ok (Some c, rest) → bs ≡ c ∷ rest
 code_cons (Bad kind at) [] c rest h = absurd cc
 code_cons (TooLarge what at) [] c rest h = absurd cc
-code_cons (Truncated at) [] c rest h = absurd cc
+code_cons (Truncated at) [] c rest h = absurd (some_none (ap (λ (x : Option ℕ × List ℕ). x.0) (ok_is (Some c, rest) (None, []) (code_at (Truncated at) []) h refl)))
 code_cons ReadFault [] c rest h = absurd cc
 code_cons faults.OutOfMemory [] c rest h = absurd cc
-code_cons after (b ∷ bs) c rest h = cc
+code_cons after (b ∷ bs) c rest h = let e : (Some b, bs) ≡ (Some c, rest) = ok_is (Some b, bs) (Some c, rest) (code_at after (b ∷ bs)) refl h in
+    let same : Some b ≡ Some c = ap (λ (x : Option ℕ × List ℕ). x.0) e in
+    let left : bs ≡ rest = ap (λ (x : Option ℕ × List ℕ). x.1) e in
+    let one : b ≡ c = cc in
+    rw (one, left) refl
 
 -- ---- what was taken
 
