@@ -12,6 +12,7 @@ use Rattle.wire_io.proofs.Pulling.{takes_more, takes_stop}
 use Rattle.ser_values.specs.declared.graph.Graph.{Graph}
 use Rattle.ser_values.specs.declared.node.Node.{Node}
 use Rattle.ser_values.specs.declared.node.Place.TheVariants as places
+use Rattle.ser_values.specs.Numbered.{IsGraph}
 use Rattle.ser_values.specs.Reading.{◌>>=◌, Fault, short, bad, bad_magic, Progress, Step, byte_at, magic_at, blocks_at, items_at, slot_at}
 use Rattle.ser_read.specs.declared.fault.StreamFault.{StreamFault}
 use Rattle.ser_read.specs.declared.fault.StreamFault.TheVariants.{Bad, TooLarge, Truncated, ReadFault}
@@ -25,7 +26,7 @@ use Rattle.ser_read.proofs.Pulling.{takes_told, told_end}
 use Rattle.ser_read.proofs.Bytes.{none, ok_is}
 use Rattle.ser_read.proofs.Steps.{bytes_more, fails_then, fails_of}
 use Rattle.ser_read.proofs.Blocks.{Items, Slack, added_all, after_all, byte_cons}
-use Rattle.ser_read.proofs.Streams.{Answer, stream_at_sound, stream_at_complete}
+use Rattle.ser_read.proofs.Streams.{Answer, stream_at_sound, graph_at}
 
 -- ---- the magic number
 
@@ -274,9 +275,12 @@ gives_past left p bytes view result h le more g = past (left p.source.now) p.at 
 pub takes_stream : {p q : Place} {nodes : List Node} {items : List Item} → ReadsAll p q stream_at (nodes, items) → TakesStream p q nodes items
 takes_stream {p} {q} {nodes} {items} a =
     let s = stream_at_sound q.at a.taken (nodes, items) a.bytes a.is in
-    record { taken = a.taken; takes = a.takes; nothing = a.nothing; stream = s.0; parts = s.1 }
+    record { taken = a.taken; takes = a.takes; nothing = a.nothing; read = a.is; stream = s.0; parts = s.1 }
 
-abbrev graph_parts : Graph → Answer
+pub graph_of : {p q : Place} {nodes : List Node} {items : List Item} → ReadsAll p q stream_at (nodes, items) → IsGraph nodes items
+graph_of {p} {q} {nodes} {items} a = graph_at q.at a.taken (nodes, items) a.bytes a.is
+
+abbrev pub graph_parts : Graph → Answer
 graph_parts graph = (graph.nodes, graph.items)
 
 same_parts : (nodes : List Node) (items : List Item) (x : Answer) → given (nodes, items) ≡ given x → (x.0 ≡ nodes) × (x.1 ≡ items)
@@ -296,3 +300,7 @@ is_read after end bytes nodes items (Err (Truncated at)) e h = never (sym e ∙ 
 is_read after end bytes nodes items (Err (TooLarge Bytes at)) e h = never (sym e ∙ h.0)
 is_read after end bytes nodes items (Err (TooLarge larges.Nodes at)) e h = never (sym e ∙ h)
 is_read after end bytes nodes items (Err (TooLarge larges.Depth at)) e h = never (sym e ∙ h)
+
+pub taken_streams : (p q : Place) (result : Result Graph StreamFault) → IfOk result (λ graph. ReadsAll p q stream_at (graph.nodes, graph.items)) → IfOk result (λ graph. TakesStream p q graph.nodes graph.items)
+taken_streams p q (Ok graph) h = takes_stream h
+taken_streams p q (Err e) h = tt

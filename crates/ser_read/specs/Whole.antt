@@ -52,6 +52,7 @@ pub record TakesStream (old new : Place) (nodes : List Node) (items : List Item)
   pub taken : List ℕ
   pub takes : Takes old new taken
   pub nothing : NothingLeft new.left
+  pub read : stream_at new.at taken ≡ Ok (nodes, items)
   pub stream : IsStream nodes items taken
   pub parts : parts_in nodes ≤ 1048576
 

@@ -21,7 +21,7 @@ use crate::pulled::byte;
 use crate::reading::item;
 use crate::table::Table;
 use class_desc::Items;
-use ser_values::{Graph, NodeList};
+use ser_values::Graph;
 use std::alloc::Global;
 use wire_io::pull::{Pull, PullEnd};
 use wire_io::source::Source;
@@ -109,21 +109,17 @@ fn items_to_end<S: Source>(
     }
 }
 
-/// The nodes and the items of a stream.
-#[tactic(auto, unfolding(crate::specs::Whole::stream_at))]
-fn stream<S: Source>(
-    alloc: Global,
-    pull: &mut Pull<'_, S>,
-) -> Result<(NodeList, Items), StreamFault>
+/// The graph of a stream.
+fn graph<S: Source>(alloc: Global, pull: &mut Pull<'_, S>) -> Result<Graph, StreamFault>
     ensures lent { pull.new.source.ghost_name ≡ pull.old.source.ghost_name }
     ensures cause { Caused (S.faults pull.old.source.now) (S.faults pull.new.source.now) result }
-    ensures gives { IsTold S.left pull.old → Gives (env S.left pull.old).after (λ x. (x.0, x.1)) result (to_end (env S.left pull.old).after (stream_at (env S.left pull.old).end (coming S.left pull.old))) }
-    ensures reads { IfOk result (λ x. ReadsAll (place S.left S.faults pull.old) (place S.left S.faults pull.new) stream_at (x.0, x.1)) }
+    ensures gives { IsTold S.left pull.old → Gives (env S.left pull.old).after (λ graph. (graph.nodes, graph.items)) result (to_end (env S.left pull.old).after (stream_at (env S.left pull.old).end (coming S.left pull.old))) }
+    ensures reads { IfOk result (λ graph. ReadsAll (place S.left S.faults pull.old) (place S.left S.faults pull.new) stream_at (graph.nodes, graph.items)) }
 {
     magic(pull)?;
     let mut table = Table::new(alloc);
     let items = items_to_end(alloc, pull, &mut table)?;
-    Ok((table.into_nodes(), items))
+    Ok(Graph::from_parts(table.into_nodes(), items))
 }
 
 /// Reads a whole stream, from the Pull's position to the end of its input: the magic, and every item.
@@ -149,6 +145,5 @@ pub fn read_to_end<S: Source>(
     ensures complete { (bytes : List ℕ) (nodes : List Node) (items : List OneItem) → S.left pull.old.source.now ≡ Some bytes → length bytes ≤ pull.old.stop - pull.old.at
         → NumbersFit nodes → UnitsFit nodes → parts_in nodes ≤ 1048576 → IsStream nodes items bytes → AnswersGraph nodes items result }
 {
-    let (nodes, items) = stream(alloc, pull)?;
-    Ok(Graph::from_parts(nodes, items))
+    graph(alloc, pull)
 }
