@@ -6,10 +6,6 @@ use Rattle.class_desc.specs.declared.slot.Item.TheVariants as items
 use Rattle.ser_values.specs.Spelled.{put_block, joined}
 use Rattle.ser_read.specs.Named.{add_bytes, added}
 
-pub add_nil : (is : List Item) (p : List ℕ) → p ≡ [] → is ≡ add_bytes is p
-unfolding add_bytes
-add_nil is p h = rw h refl
-
 behind_one : (x : Item) (is : List Item) (y : Item) (b : ℕ) (p : List ℕ) → add_bytes (x ∷ (is ++ y ∷ [])) (b ∷ p) ≡ x ∷ add_bytes (is ++ y ∷ []) (b ∷ p)
 unfolding add_bytes
 behind_one x [] y b p = refl

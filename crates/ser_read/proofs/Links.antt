@@ -36,9 +36,6 @@ and_assoc false b c = refl
 pub rows_more : (above : List ClassRow) (row : ClassRow) (up : List ClassRow) → (above ++ row ∷ []) ++ reverse up ≡ above ++ reverse (up ++ row ∷ [])
 rows_more above row up = append_assoc above (row ∷ []) (reverse up) ∙ ap (λ (r : List ClassRow). above ++ r) (sym (reverse-append up (row ∷ [])))
 
-pub serial_more : (a b c : Bool) → (a && b) && c ≡ a && (b && c)
-serial_more a b c = and_assoc a b c
-
 abbrev pub Up : Type 0
 Up = List ClassRow × Bool
 

@@ -5,12 +5,10 @@ use Rattle.class_desc.specs.declared.slot.Slot.TheVariants as slots
 use Rattle.class_desc.specs.declared.field.TypeCode.{TypeCode}
 use Rattle.class_desc.specs.declared.field.TypeCode.TheVariants as codes
 use Rattle.class_desc.specs.TypeCode.{is_primitive}
-use Rattle.ser_values.specs.declared.value.Value.TheVariants as values
-use Rattle.ser_values.specs.declared.value.Values.TheVariants as kinds
 use Rattle.ser_values.specs.declared.node.Node.{Node}
 use Rattle.ser_values.specs.declared.node.Place.{Place}
 use Rattle.wire_io.specs.Pulled as pulled
-use Rattle.ser_values.specs.Reading.{◌>>=◌, Fault, Progress, Step, Slots, fill, mapped, byte_at, take_at, size_at, value_at, elements_at, many_at, null_at, coded, slot_at}
+use Rattle.ser_values.specs.Reading.{◌>>=◌, Fault, Progress, Step, Slots, fill, byte_at, take_at, size_at, value_at, elements_at, null_at, coded, slot_at}
 use Rattle.ser_read.specs.declared.fault.StreamFault.{StreamFault}
 use Rattle.ser_read.specs.declared.fault.StreamFault.TheVariants as faults
 use Rattle.ser_read.specs.Here.{Fails, Gives, Reads}
@@ -74,33 +72,6 @@ elements_any codes.S n a b now bs h = refl
 elements_any codes.Z n a b now bs h = refl
 elements_any codes.Array n a b now bs h = absurd cc
 elements_any codes.Object n a b now bs h = absurd cc
-
--- those of the others are references
-pub value_ref : (code : TypeCode) (a : Step Slot) (now : Progress) (bs : List ℕ) → is_primitive code ≡ false → value_at a code now bs ≡ mapped values.Ref a now bs
-unfolding value_at
-value_ref codes.Array a now bs h = refl
-value_ref codes.Object a now bs h = refl
-value_ref codes.B a now bs h = absurd cc
-value_ref codes.C a now bs h = absurd cc
-value_ref codes.D a now bs h = absurd cc
-value_ref codes.F a now bs h = absurd cc
-value_ref codes.I a now bs h = absurd cc
-value_ref codes.J a now bs h = absurd cc
-value_ref codes.S a now bs h = absurd cc
-value_ref codes.Z a now bs h = absurd cc
-
-pub elements_ref : (code : TypeCode) (n : ℕ) (a : Step Slot) (now : Progress) (bs : List ℕ) → is_primitive code ≡ false → elements_at a code n now bs ≡ mapped kinds.Refs (many_at a n) now bs
-unfolding elements_at
-elements_ref codes.Array n a now bs h = refl
-elements_ref codes.Object n a now bs h = refl
-elements_ref codes.B n a now bs h = absurd cc
-elements_ref codes.C n a now bs h = absurd cc
-elements_ref codes.D n a now bs h = absurd cc
-elements_ref codes.F n a now bs h = absurd cc
-elements_ref codes.I n a now bs h = absurd cc
-elements_ref codes.J n a now bs h = absurd cc
-elements_ref codes.S n a now bs h = absurd cc
-elements_ref codes.Z n a now bs h = absurd cc
 
 pub item_block : (end : ℕ) (ref : Step Slot) (code : ℕ) (now : Progress) (bs : List ℕ) → code ≡ 0x77 → item_at end ref code now bs ≡ (byte_at bs >>= λ n. take_at n.0 n.1 >>= λ p. Ok (items.Bytes p.0, now, p.1))
 unfolding item_at

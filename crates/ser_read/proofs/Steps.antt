@@ -105,10 +105,6 @@ leads_told left faults p q {read} {next} l le told =
     told_at (place left faults p) (place left faults q) read next l le told
     ∙ ap (λ (e : Env). next e.end (coming_at (left q.source.now) q.at q.stop)) (takes_env (place left faults p) (place left faults q) l.taken l.takes le)
 
-pub leads_gives : {S Y : Type 0} (left : S → Option (List ℕ)) (faults : S → ℕ) (p q : Pull S) {read next : ℕ → List ℕ → Result Y Fault} {out : List ℕ → Y}
-    → Leads (place left faults p) (place left faults q) read next → q.at ≤ q.stop → ((end : ℕ) (bs : List ℕ) → next end bs ≡ Ok (out bs)) → IsTold left p → read (env left p).end (coming left p) ≡ Ok (out (coming left q))
-leads_gives left faults p q l le h told = leads_told left faults p q l le told ∙ h _ _
-
 pub fails_then : {A B : Type 0} (after e : StreamFault) (r : Result A Fault) (f : A → Result B Fault) → Fails after e r → Fails after e (r >>= f)
 fails_then after faults.OutOfMemory r f h = tt
 fails_then after faults.ReadFault r f h = tt
