@@ -6,7 +6,7 @@ mod host;
 mod journal_input;
 mod replay;
 mod run;
-mod show_input;
+mod stream_input;
 mod words;
 
 use host::Host;

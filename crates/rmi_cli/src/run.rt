@@ -13,7 +13,7 @@ ghost use Rattle.rmi_cli.specs.declared.words.Command.{Command as Commands};
 use crate::end::RunEnd;
 use crate::host::Host;
 use crate::journal_input::replay_input;
-use crate::show_input::show_input;
+use crate::stream_input::show_input;
 use crate::words::{Command, Words};
 use call_dispatch::end::ConnEnd;
 use call_dispatch::serve::serve_connection;

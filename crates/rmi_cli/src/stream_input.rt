@@ -47,6 +47,20 @@ fn read_input<S: Source>(alloc: Global, source: &mut S) -> Result<Graph, StreamF
     ensures fault { IfErr result (IsFaultOf (S.left source.old)) }
 {
     let mut pull = Pull::new(source);
+    read_marked(alloc, &mut pull)
+}
+
+/// Reads a stream of at most so many bytes from a Pull at its first byte.
+fn read_marked<S: Source>(
+    alloc: Global,
+    pull: &mut Pull<'_, S>,
+) -> Result<Graph, StreamFault>
+    requires { pull.old.at ≡ 0 }
+    ensures lent { pull.new.source.ghost_name ≡ pull.old.source.ghost_name }
+    ensures cause { Caused (S.faults pull.old.source.now) (S.faults pull.new.source.now) result }
+    ensures taken { IfOk result (λ graph. TakesGraph (S.left pull.old.source.now) (S.left pull.new.source.now) graph.nodes graph.items) }
+    ensures fault { IfErr result (IsFaultOf (S.left pull.old.source.now)) }
+{
     pull.mark(STREAM_BYTES);
-    read_to_end(alloc, &mut pull)
+    read_to_end(alloc, pull)
 }
