@@ -1,5 +1,5 @@
 -- Blocks and references one after the other, up to the end of an annotation.
-use Rattle.std.proofs.Common.{◌≡◌, ℕ, if◌then◌else◌, ◌^◌, suc, ◌+◌, Bool, true, false, nat_eq, List, [], ◌∷◌, ◌++◌, length, Result, Ok, Err, refl, sym, ap, subst, ◌∙◌, append_assoc, length-append, arith}
+use Rattle.std.proofs.Common.{◌≡◌, ℕ, if◌then◌else◌, ◌^◌, suc, ◌+◌, Bool, true, false, ◌&&◌, nat_eq, List, [], ◌∷◌, ◌++◌, length, Result, Ok, Err, refl, sym, ap, subst, ◌∙◌, append_assoc, length-append, arith}
 use Rattle.class_desc.specs.declared.slot.Slot.{Slot}
 use Rattle.class_desc.specs.declared.slot.Item.{Item}
 use Rattle.class_desc.specs.declared.slot.Item.TheVariants as items
@@ -66,11 +66,11 @@ abbrev typed : OneItem → OneItem
 typed r = r
 
 -- the same item, nodes and bytes
-ends_as : (is : List Item) (end : ℕ) (inner : Step Slot) (most : ℕ) (i j : Item) (now later : Progress) (bs rest : List ℕ) → typed (Ok (i, now, bs)) ≡ Ok (j, later, rest)
-    → after_all (added is i) (blocks_at end inner true most now bs) ≡ after_all (added is j) (blocks_at end inner true most later rest)
-ends_as is end inner most i j now later bs rest e =
+ends_as : (is : List Item) (end : ℕ) (inner : Step Slot) (within : Bool) (most : ℕ) (i j : Item) (now later : Progress) (bs rest : List ℕ) → typed (Ok (i, now, bs)) ≡ Ok (j, later, rest)
+    → after_all (added is i) (blocks_at end inner within most now bs) ≡ after_all (added is j) (blocks_at end inner within most later rest)
+ends_as is end inner within most i j now later bs rest e =
     let t : (i, now, bs) ≡ (j, later, rest) = ok_is (i, now, bs) (j, later, rest) (typed (Ok (i, now, bs))) refl e in
-    ap (λ (x : Item × Progress × List ℕ). after_all (added is x.0) (blocks_at end inner true most x.1 x.2)) t
+    ap (λ (x : Item × Progress × List ℕ). after_all (added is x.0) (blocks_at end inner within most x.1 x.2)) t
 
 abbrev block_item : Progress → Plain (List ℕ) → OneItem
 block_item now r = r >>= λ p. Ok (items.Bytes p.0, now, p.1)
@@ -97,24 +97,24 @@ item_is : (end : ℕ) (ref : Step Slot) (c : ℕ) (now : Progress) (bs : List �
 unfolding item_at
 item_is end ref c now bs = refl
 
-blocks_is : (end : ℕ) (inner : Step Slot) (most c : ℕ) (now : Progress) (bs : List ℕ) → nat_eq c 0x78 ≡ false → blocks_at end inner true (suc most) now (c ∷ bs)
-    ≡ (if nat_eq c 0x77 then sized_more (blocks_at end inner true most) now (byte_at bs) else (if nat_eq c 0x7A then sized_more (blocks_at end inner true most) now (size_at end w32 (2 ^ 31) bs) else ref_more (blocks_at end inner true most) (inner now (c ∷ bs))))
+blocks_is : (end : ℕ) (inner : Step Slot) (within : Bool) (most c : ℕ) (now : Progress) (bs : List ℕ) → (within && nat_eq c 0x78) ≡ false → blocks_at end inner within (suc most) now (c ∷ bs)
+    ≡ (if nat_eq c 0x77 then sized_more (blocks_at end inner within most) now (byte_at bs) else (if nat_eq c 0x7A then sized_more (blocks_at end inner within most) now (size_at end w32 (2 ^ 31) bs) else ref_more (blocks_at end inner within most) (inner now (c ∷ bs))))
 unfolding blocks_at
-blocks_is end inner most c now bs other = rw other refl
+blocks_is end inner within most c now bs other = rw other refl
 
 -- one item more, behind its code
-pub block_step : (end : ℕ) (inner : Step Slot) (most c : ℕ) (is : List Item) (now : Progress) (bs : List ℕ) (ref : Step Slot) (i : Item) (later : Progress) (rest : List ℕ)
-    → nat_eq c 0x78 ≡ false → inner now (c ∷ bs) ≡ ref now bs → item_at end ref c now bs ≡ Ok (i, later, rest)
-    → after_all is (blocks_at end inner true (suc most) now (c ∷ bs)) ≡ after_all (added is i) (blocks_at end inner true most later rest)
-block_step end inner most c is now bs ref i later rest other same h =
-    ap (after_all is) (blocks_is end inner most c now bs other ∙ ap (λ (r : Result (Slot × Progress × List ℕ) Fault). if nat_eq c 0x77 then sized_more more now (byte_at bs) else (if nat_eq c 0x7A then sized_more more now (size_at end w32 (2 ^ 31) bs) else ref_more more r)) same)
+pub block_step : (end : ℕ) (inner : Step Slot) (within : Bool) (most c : ℕ) (is : List Item) (now : Progress) (bs : List ℕ) (ref : Step Slot) (i : Item) (later : Progress) (rest : List ℕ)
+    → (within && nat_eq c 0x78) ≡ false → inner now (c ∷ bs) ≡ ref now bs → item_at end ref c now bs ≡ Ok (i, later, rest)
+    → after_all is (blocks_at end inner within (suc most) now (c ∷ bs)) ≡ after_all (added is i) (blocks_at end inner within most later rest)
+block_step end inner within most c is now bs ref i later rest other same h =
+    ap (after_all is) (blocks_is end inner within most c now bs other ∙ ap (λ (r : Result (Slot × Progress × List ℕ) Fault). if nat_eq c 0x77 then sized_more more now (byte_at bs) else (if nat_eq c 0x7A then sized_more more now (size_at end w32 (2 ^ 31) bs) else ref_more more r)) same)
     ∙ go (nat_eq c 0x77) (nat_eq c 0x7A) (sym (item_is end ref c now bs) ∙ h)
   where
     more : Progress → List ℕ → Items
-    more = blocks_at end inner true most
+    more = blocks_at end inner within most
 
     block : (r : Plain (List ℕ)) → block_item now r ≡ Ok (i, later, rest) → after_all is (block_more more now r) ≡ after_all (added is i) (more later rest)
-    block (Ok p) e = regroup is (items.Bytes p.0) (more now p.1) ∙ ends_as is end inner most _ _ _ _ _ _ e
+    block (Ok p) e = regroup is (items.Bytes p.0) (more now p.1) ∙ ends_as is end inner within most _ _ _ _ _ _ e
     block (Err f) e = absurd cc
 
     two : (r : Plain ℕ) → sized_item now r ≡ Ok (i, later, rest) → after_all is (sized_more more now r) ≡ after_all (added is i) (more later rest)
@@ -122,7 +122,7 @@ block_step end inner most c is now bs ref i later rest other same h =
     two (Err f) e = absurd cc
 
     one : (r : Result (Slot × Progress × List ℕ) Fault) → ref_item r ≡ Ok (i, later, rest) → after_all is (ref_more more r) ≡ after_all (added is i) (more later rest)
-    one (Ok s) e = regroup is (items.Ref s.0) (more s.1 s.2) ∙ ends_as is end inner most _ _ _ _ _ _ e
+    one (Ok s) e = regroup is (items.Ref s.0) (more s.1 s.2) ∙ ends_as is end inner within most _ _ _ _ _ _ e
     one (Err f) e = absurd cc
 
     go : (a b : Bool) → (if a then sized_item now (byte_at bs) else (if b then sized_item now (size_at end w32 (2 ^ 31) bs) else ref_item (ref now bs))) ≡ Ok (i, later, rest)
@@ -145,10 +145,10 @@ pub slack_leads : {p q : Place} {inner : ℕ → Step Slot} {within : Bool} {fir
     → Leads p q (λ end. items_at end (inner end) within first) (λ end bs. after_all is (blocks_at end (inner end) within (suc (s.spare + length bs)) now bs))
 slack_leads s = record { taken = s.taken; bytes = s.bytes; takes = s.takes; is = s.reads }
 
-pub slack_more : {p q m r : Place} {inner : ℕ → Step Slot} (ref : ℕ → Step Slot) {first now later : Progress} {is : List Item} {c : ℕ} {i : Item}
-    → Slack p q inner true first now is → Reads q m (λ end. byte_at) (λ rest. (c, rest)) → Reads m r (λ end. item_at end (ref end) c now) (λ rest. (i, later, rest))
-    → nat_eq c 0x78 ≡ false → ((end : ℕ) (bs : List ℕ) → end ≡ q.at + suc (length bs) → inner end now (c ∷ bs) ≡ ref end now bs) → Slack p r inner true first later (added is i)
-slack_more {p} {q} {m} {r} {inner} ref {first} {now} {later} {is} {c} {i} s a b other same =
+pub slack_next : {p q m r : Place} {inner : ℕ → Step Slot} {within : Bool} (ref : ℕ → Step Slot) {first now later : Progress} {is : List Item} {c : ℕ} {i : Item}
+    → Slack p q inner within first now is → Reads q m (λ end. byte_at) (λ rest. (c, rest)) → Reads m r (λ end. item_at end (ref end) c now) (λ rest. (i, later, rest))
+    → (within && nat_eq c 0x78) ≡ false → ((end : ℕ) (bs : List ℕ) → end ≡ q.at + suc (length bs) → inner end now (c ∷ bs) ≡ ref end now bs) → Slack p r inner within first later (added is i)
+slack_next {p} {q} {m} {r} {inner} {within} ref {first} {now} {later} {is} {c} {i} s a b other same =
     let one : a.taken ≡ c ∷ [] = one_byte a.taken c a.is in
     let len : length a.taken ≡ 1 = ap (λ (x : List ℕ). length x) one in
     record {
@@ -165,8 +165,13 @@ slack_more {p} {q} {m} {r} {inner} ref {first} {now} {later} {is} {c} {i} s a b 
           let first_is = rw (← ends) at (s.reads (c ∷ (b.taken ++ rest))) in
           let mid : r.at + length rest ≡ m.at + length (b.taken ++ rest) = omega (arith, b.takes.at, length-append b.taken rest) in
           let most : s.spare + length (c ∷ (b.taken ++ rest)) ≡ suc (s.spare + length b.taken + length rest) = omega (arith, length-append b.taken rest) in
-          rw whole (first_is ∙ block_step end (inner end) (s.spare + length (c ∷ (b.taken ++ rest))) c is now (b.taken ++ rest) (ref end) i later rest other (same end (b.taken ++ rest) here) (b.is rest) ∙ ap (λ n. after_all (added is i) (blocks_at end (inner end) true n later rest)) most);
+          rw whole (first_is ∙ block_step end (inner end) within (s.spare + length (c ∷ (b.taken ++ rest))) c is now (b.taken ++ rest) (ref end) i later rest other (same end (b.taken ++ rest) here) (b.is rest) ∙ ap (λ n. after_all (added is i) (blocks_at end (inner end) within n later rest)) most);
     }
+
+pub slack_more : {p q m r : Place} {inner : ℕ → Step Slot} (ref : ℕ → Step Slot) {first now later : Progress} {is : List Item} {c : ℕ} {i : Item}
+    → Slack p q inner true first now is → Reads q m (λ end. byte_at) (λ rest. (c, rest)) → Reads m r (λ end. item_at end (ref end) c now) (λ rest. (i, later, rest))
+    → nat_eq c 0x78 ≡ false → ((end : ℕ) (bs : List ℕ) → end ≡ q.at + suc (length bs) → inner end now (c ∷ bs) ≡ ref end now bs) → Slack p r inner true first later (added is i)
+slack_more ref s a b other same = slack_next {within = true} ref s a b other same
 
 pub slack_end : {p q m : Place} {inner : ℕ → Step Slot} {first now : Progress} {is : List Item} {c : ℕ}
     → Slack p q inner true first now is → Reads q m (λ end. byte_at) (λ rest. (c, rest)) → c ≡ 0x78 → Reads p m (λ end. items_at end (inner end) true first) (λ rest. (is, now, rest))
@@ -192,14 +197,14 @@ code_fails after e end inner most now is [] h = fails_then after e (byte_at []) 
 code_fails after e end inner most now is (b ∷ bs) h = none after e (byte_at (b ∷ bs)) (b, bs) _ refl h
 
 -- where an item is wanting
-pub item_fails : (after e : StreamFault) (end : ℕ) (inner : Step Slot) (most c : ℕ) (is : List Item) (now : Progress) (bs : List ℕ) (ref : Step Slot)
-    → nat_eq c 0x78 ≡ false → inner now (c ∷ bs) ≡ ref now bs → Fails after e (item_at end ref c now bs) → Fails after e (after_all is (blocks_at end inner true (suc most) now (c ∷ bs)))
-item_fails after e end inner most c is now bs ref other same h =
-    subst (λ r. Fails after e (after_all is r)) (sym (blocks_is end inner most c now bs other ∙ ap (λ (r : Result (Slot × Progress × List ℕ) Fault). if nat_eq c 0x77 then sized_more more now (byte_at bs) else (if nat_eq c 0x7A then sized_more more now (size_at end w32 (2 ^ 31) bs) else ref_more more r)) same))
+pub item_fails_in : (after e : StreamFault) (end : ℕ) (inner : Step Slot) (within : Bool) (most c : ℕ) (is : List Item) (now : Progress) (bs : List ℕ) (ref : Step Slot)
+    → (within && nat_eq c 0x78) ≡ false → inner now (c ∷ bs) ≡ ref now bs → Fails after e (item_at end ref c now bs) → Fails after e (after_all is (blocks_at end inner within (suc most) now (c ∷ bs)))
+item_fails_in after e end inner within most c is now bs ref other same h =
+    subst (λ r. Fails after e (after_all is r)) (sym (blocks_is end inner within most c now bs other ∙ ap (λ (r : Result (Slot × Progress × List ℕ) Fault). if nat_eq c 0x77 then sized_more more now (byte_at bs) else (if nat_eq c 0x7A then sized_more more now (size_at end w32 (2 ^ 31) bs) else ref_more more r)) same))
     (behind _ (go (nat_eq c 0x77) (nat_eq c 0x7A) (subst (λ r. Fails after e r) (item_is end ref c now bs) h)))
   where
     more : Progress → List ℕ → Items
-    more = blocks_at end inner true most
+    more = blocks_at end inner within most
 
     behind : (r : Items) → Fails after e r → Fails after e (after_all is r)
     behind r f = fails_then after e r (λ x. Ok (added_all is x.0, x.1, x.2)) f
@@ -221,6 +226,10 @@ item_fails after e end inner most c is now bs ref other same h =
     go true b f = two (byte_at bs) f
     go false true f = two (size_at end w32 (2 ^ 31) bs) f
     go false false f = one (ref now bs) f
+
+pub item_fails : (after e : StreamFault) (end : ℕ) (inner : Step Slot) (most c : ℕ) (is : List Item) (now : Progress) (bs : List ℕ) (ref : Step Slot)
+    → nat_eq c 0x78 ≡ false → inner now (c ∷ bs) ≡ ref now bs → Fails after e (item_at end ref c now bs) → Fails after e (after_all is (blocks_at end inner true (suc most) now (c ∷ bs)))
+item_fails after e end inner most c is now bs ref other same h = item_fails_in after e end inner true most c is now bs ref other same h
 
 pub byte_cons : (bs : List ℕ) (c : ℕ) (rest : List ℕ) → byte_at bs ≡ Ok (c, rest) → bs ≡ c ∷ rest
 byte_cons [] c rest h = absurd cc

@@ -17,3 +17,5 @@ pub mod Flat
 pub mod Asked
 pub mod Given
 pub mod InOrder
+pub mod Streams
+pub mod ToEnd

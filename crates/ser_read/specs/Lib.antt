@@ -6,6 +6,7 @@ pub mod Rows
 pub mod Named
 pub mod Chains
 pub mod Tables
+pub mod Whole
 pub mod Words
 pub mod Heads
 pub mod Wants

@@ -3,20 +3,23 @@
 
 mod block;
 mod fault;
+mod header;
 mod numbers;
 mod pieces;
 mod pulled;
 mod reader;
 mod reading;
 mod row;
+mod serving;
 mod shape;
 mod table;
-mod serving;
+mod whole;
 mod words;
 
 pub use fault::{Large, StreamFault, StreamKind};
 pub use reader::Reader;
 pub use serving::{Want, read_wants};
+pub use whole::read_to_end;
 
 #[cfg(test)]
 mod tests;

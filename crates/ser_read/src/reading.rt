@@ -912,7 +912,7 @@ fn items<S: Source>(
 /// A block, or a reference, after its code.
 #[cycle(reading)]
 #[tactic(auto, unfolding(crate::specs::Named::item_at))]
-fn item<S: Source>(
+pub(crate) fn item<S: Source>(
     alloc: Global,
     pull: &mut Pull<'_, S>,
     table: &mut Table,

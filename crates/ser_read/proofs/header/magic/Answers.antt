@@ -1,6 +1,6 @@
 use Rattle.ser_read.proofs.Steps.{last, said_last}
 use Rattle.ser_read.proofs.Heads.{magic_four}
-use Rattle.ser_read.proofs.reader.magic.Goals as goal
+use Rattle.ser_read.proofs.header.magic.Goals as goal
 
 pub returns-clause-reads : goal.returns-clause-reads
 returns-clause-reads g c =
