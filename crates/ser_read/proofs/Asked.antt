@@ -1,33 +1,30 @@
 -- What lists of wants read is spelled.
-use Rattle.std.proofs.Common.{◌≡◌, ℕ, zero, suc, ◌+◌, ◌-◌, ◌^◌, ◌<◌, ◌≤◌, Bool, true, false, cond, eqb, List, [], ◌∷◌, ◌++◌, length, Result, Ok, Err, refl, sym, ap, subst, ◌∙◌, append_assoc, append-nil, arith, inl, inr}
+use Rattle.std.proofs.Common.{◌≡◌, ℕ, zero, suc, ◌-◌, ◌<◌, ◌≤◌, true, eqb, List, [], ◌∷◌, ◌++◌, length, Result, Ok, refl, sym, ap, subst, ◌∙◌, append_assoc, append-nil, arith, inl, inr}
 use Rattle.std.proofs.lemmas.Bool.{eqb-true}
 use Rattle.std.specs.Int.{w32, to_be_bytes}
 use Rattle.class_desc.specs.declared.slot.Slot.{Slot}
 use Rattle.class_desc.specs.declared.slot.Item.{Item}
 use Rattle.class_desc.specs.declared.slot.Item.TheVariants as items
 use Rattle.ser_values.specs.declared.node.Node.{Node}
-use Rattle.ser_values.specs.declared.node.Place.TheVariants as places
 use Rattle.ser_values.specs.Node.{has}
 use Rattle.ser_values.specs.Shape.{parts_in}
 use Rattle.ser_values.specs.Spelled.{joined, One, IsBlock, Spells, SpellsBlocks}
-use Rattle.ser_values.specs.Reading.{Fault, Progress, byte_at, slot_at, coded}
-use Rattle.ser_values.proofs.PlainSound.{AreBytes, bytes_left, chosen}
-use Rattle.ser_values.proofs.Solid.{Solid, Sees, Agrees, Got, got_none, got_map, got_two}
-use Rattle.ser_values.proofs.Sound.{slots_sound}
+use Rattle.ser_values.specs.Reading.{Progress, byte_at}
+use Rattle.ser_values.proofs.PlainSound.{AreBytes, chosen}
+use Rattle.ser_values.proofs.Solid.{Solid, Got, got_none, got_map, got_two}
 use Rattle.ser_read.specs.declared.block.Head.{Head}
 use Rattle.ser_read.specs.declared.block.Head.TheVariants.{Block, Code}
-use Rattle.ser_read.specs.Heads.{is_empty, head_at}
+use Rattle.ser_read.specs.Heads.{head_at}
 use Rattle.ser_read.specs.Named.{add_bytes, added}
 use Rattle.ser_read.specs.declared.serving.Want.{Want}
 use Rattle.ser_read.specs.declared.serving.Want.TheVariants as wanted
-use Rattle.ser_read.specs.Wants.{WantFault, ◌▸◌, lifted, Stand, nothing_read, only_block, opened_at, run_at, only_slot, reference_at, bytes_at, slot_next, close_at, want_at, serve, serve_all}
+use Rattle.ser_read.specs.Wants.{WantFault, ◌▸◌, lifted, Stand, nothing_read, only_block, opened_at, run_at, reference_at, bytes_at, slot_next, close_at, want_at, serve, serve_all}
 use Rattle.ser_read.specs.Asked.{Fits, IsSome, EndsFull, IsAsked}
 use Rattle.ser_read.proofs.Joins.{added_is}
 use Rattle.ser_read.proofs.Heads.{byte_is}
 use Rattle.ser_read.proofs.Runs.{opened_here, opened_some}
-use Rattle.ser_read.proofs.Slots.{slot_is}
-use Rattle.ser_read.proofs.Empties.{Header, Empties, IsHead, Found, found}
-use Rattle.ser_read.proofs.Served.{want_ok, lifted_ok, given_is, lifted_is}
+use Rattle.ser_read.proofs.Empties.{Header, Empties, found}
+use Rattle.ser_read.proofs.Served.{want_ok, lifted_ok, given_is, reference_sound}
 use Rattle.ser_read.proofs.Flat.{Piece, a_byte, a_slot, bytes_of, flat, joined_by}
 
 -- ---- empty blocks in front
@@ -169,30 +166,6 @@ pub record Spelt (s s2 : Stand) (bs rest : List ℕ) (answers : List Item) : Typ
   full : EndsFull blocks
   same : bytes_of left ++ flat blocks ≡ flat answers
   got : Got [] s.progress s2.progress rest (λ F. SpellsBlocks (Spells F 200 []) blocks (length s.progress.nodes) mid rest (length s2.progress.nodes))
-
--- a reference behind empty blocks
-record RefSound (now : Progress) (bs : List ℕ) (y : Slot × Progress × List ℕ) : Type 0 where
-  count : ℕ
-  mid : List ℕ
-  empties : Empties count bs mid
-  got : Got [] now y.1 y.2 (λ F. Spells F 200 [] (places.Reference, y.0) (length now.nodes) mid y.2 (length y.1.nodes))
-
-reference_sound : (end : ℕ) (now : Progress) (bs : List ℕ) (y : Slot × Progress × List ℕ) → reference_at end now bs ≡ Ok y → Solid [] now → AreBytes bs → RefSound now bs y
-unfolding reference_at
-reference_sound end now bs y e solid bytes =
-    let a = lifted_ok (head_at end bs) (only_slot end now) y e in
-    go a.0 a.1 a.2
-  where
-    go : (h : Head × List ℕ) → head_at end bs ≡ Ok h → only_slot end now h ≡ Ok y → RefSound now bs y
-    go (Block k, rest) is e = absurd cc
-    go (Code code at, rest) is e =
-        let f = found end (suc (length bs)) bs (Code code at, rest) is bytes in
-        let whole : AreBytes (code ∷ rest) = subst AreBytes f.is.0 f.whole in
-        let here : at ≡ end - length (code ∷ rest) = f.is.3 ∙ ap (λ (l : List ℕ). end - length l) f.is.0 in
-        let read : slot_at end 200 places.Reference [] now (code ∷ rest) ≡ Ok y =
-            slot_is end 200 places.Reference [] now (code ∷ rest) ∙ ap (λ at. coded end 200 (slot_at end 199) places.Reference [] at code now rest) (sym here) ∙ lifted_is (coded end 200 (slot_at end 199) places.Reference [] at code now rest) y e in
-        let s = slots_sound end 200 [] places.Reference now (code ∷ rest) y read solid whole in
-        record { count = f.count; mid = code ∷ rest; empties = subst (λ (l : List ℕ). Empties f.count bs l) f.is.0 f.empties; got = s.got }
 
 abbrev ServeOk : Type 0
 ServeOk = List Item × Stand × List ℕ

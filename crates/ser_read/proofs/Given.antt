@@ -1,5 +1,5 @@
 -- What is spelled is read by lists of wants.
-use Rattle.std.proofs.Common.{◌≡◌, ℕ, zero, suc, ◌+◌, ◌-◌, ◌^◌, ◌<◌, ◌≤◌, Bool, true, false, cond, eqb, List, [], ◌∷◌, ◌++◌, length, Result, Ok, Err, refl, sym, ap, subst, ◌∙◌, append_assoc, append-nil, arith, inl, inr}
+use Rattle.std.proofs.Common.{◌≡◌, ℕ, suc, ◌-◌, ◌^◌, false, eqb, List, [], ◌∷◌, ◌++◌, length, Result, Ok, refl, sym, ap, subst, ◌∙◌, append_assoc, arith, inl, inr}
 use Rattle.std.proofs.Math.Dec.{eqb-suc-zero}
 use Rattle.std.specs.Int.{w32, to_be_bytes}
 use Rattle.class_desc.specs.declared.slot.Slot.{Slot}
@@ -22,7 +22,7 @@ use Rattle.ser_read.specs.Heads.{one_head, any_head, head_at}
 use Rattle.ser_read.specs.Named.{add_bytes}
 use Rattle.ser_read.specs.declared.serving.Want.{Want}
 use Rattle.ser_read.specs.declared.serving.Want.TheVariants as wanted
-use Rattle.ser_read.specs.Wants.{WantFault, ◌▸◌, lifted, Stand, nothing_read, only_block, opened_at, run_at, only_slot, reference_at, bytes_at, slot_next, close_at, want_at, serve, serve_all}
+use Rattle.ser_read.specs.Wants.{◌▸◌, lifted, Stand, nothing_read, opened_at, run_at, only_slot, reference_at, bytes_at, slot_next, close_at, want_at, serve, serve_all}
 use Rattle.ser_read.specs.Asked.{Fits, EndsFull, IsAsked}
 use Rattle.ser_read.proofs.Heads.{head_goes, head_stops}
 use Rattle.ser_read.proofs.Slots.{slot_is}

@@ -1,12 +1,11 @@
 -- Heads of blocks, empty ones passed over.
-use Rattle.std.proofs.Common.{◌≡◌, ◌⊎◌, ℕ, zero, suc, ◌+◌, ◌-◌, ◌^◌, ◌≤◌, ◌<◌, Bool, true, false, cond, eqb, List, [], ◌∷◌, length, length-drop, Result, Ok, Err, refl, sym, ap, subst, ◌∙◌, arith, inl, inr}
+use Rattle.std.proofs.Common.{◌≡◌, ℕ, zero, suc, ◌+◌, ◌-◌, ◌^◌, ◌≤◌, ◌<◌, Bool, true, false, cond, eqb, List, [], ◌∷◌, length, length-drop, Result, Ok, Err, refl, sym, ap, subst, ◌∙◌, arith, inl, inr}
 use Rattle.std.proofs.lemmas.Bool.{cases_lt}
 use Rattle.std.proofs.Math.Path.{fun_ext}
 use Rattle.std.specs.Int.{Width, w32, byte_len}
-use Rattle.ser_values.specs.Reading.{◌>>=◌, Fault, Plain, bad, bad_magic, byte_at, take_at, number_at, size_at, short, magic_at}
+use Rattle.ser_values.specs.Reading.{◌>>=◌, Fault, Plain, bad, bad_magic, byte_at, take_at, number_at, size_at, magic_at}
 use Rattle.ser_values.proofs.PlainSound.{bind_ok, chosen, passed, ok_is}
 use Rattle.ser_read.specs.declared.block.Head.{Head}
-use Rattle.ser_read.specs.declared.block.Head.TheVariants.{Block, Code}
 use Rattle.ser_read.specs.declared.fault.StreamFault.{StreamFault}
 use Rattle.ser_read.specs.Here.{Fails}
 use Rattle.ser_read.specs.Heads.{one_head, any_head, is_empty, head_within, head_at}

@@ -1,5 +1,5 @@
 -- Wants in their order.
-use Rattle.std.proofs.Common.{◌≡◌, ℕ, zero, suc, ◌+◌, ◌-◌, ◌<◌, ◌≤◌, Bool, true, false, cond, eqb, List, [], ◌∷◌, ◌++◌, length, drop, get_or, Result, Ok, Err, IfOk, refl, sym, ap, subst, ◌∙◌, append_assoc, arith, drop-cons, add-one, length-drop}
+use Rattle.std.proofs.Common.{◌≡◌, ℕ, ◌+◌, ◌-◌, ◌<◌, ◌≤◌, cond, eqb, List, [], ◌∷◌, ◌++◌, length, drop, get_or, Result, Ok, Err, IfOk, refl, sym, ap, subst, ◌∙◌, append_assoc, arith, drop-cons, add-one, length-drop}
 use Rattle.std.proofs.lemmas.List.{append-nil, nil_from_length}
 use Rattle.std.proofs.lemmas.Bool.{eqb-true}
 use Rattle.wire_io.specs.Pulled.{Place, Takes}
@@ -7,7 +7,7 @@ use Rattle.class_desc.specs.declared.slot.Item.{Item}
 use Rattle.ser_values.specs.declared.node.Node.{Node}
 use Rattle.ser_values.specs.declared.graph.Graph.{Graph}
 use Rattle.ser_values.specs.Spelled.{joined}
-use Rattle.ser_values.specs.Reading.{◌>>=◌, Fault, bad, bad_magic, byte_at, magic_at}
+use Rattle.ser_values.specs.Reading.{bad, bad_magic, byte_at, magic_at}
 use Rattle.ser_values.proofs.PlainSound as plain
 use Rattle.ser_values.proofs.PlainSound.{bind_ok, passed, ok_is}
 use Rattle.ser_values.proofs.Complete as complete
@@ -15,11 +15,11 @@ use Rattle.ser_read.specs.declared.fault.StreamFault.{StreamFault}
 use Rattle.ser_read.specs.declared.fault.StreamFault.TheVariants as faults
 use Rattle.ser_read.specs.declared.fault.Large.TheVariants as larges
 use Rattle.ser_read.specs.declared.serving.Want.{Want}
-use Rattle.ser_read.specs.Here.{AreBytes, Reads}
-use Rattle.ser_read.specs.Wants.{WantFault, ◌▸◌, lifted, Stand, nothing_read, close_at, want_at, serve, serve_all, wants_at, WantFails, WantGives, WantReads}
-use Rattle.ser_read.specs.Asked.{IsAsked, TakesAsked, InLimits, IsOutside, AnswersAsked}
+use Rattle.ser_read.specs.Here.{Reads}
+use Rattle.ser_read.specs.Wants.{WantFault, ◌▸◌, Stand, nothing_read, close_at, want_at, serve, serve_all, wants_at, WantFails, WantGives, WantReads}
+use Rattle.ser_read.specs.Asked.{IsAsked, TakesAsked, InLimits, AnswersAsked}
 use Rattle.ser_read.proofs.Heads.{byte_is}
-use Rattle.ser_read.proofs.Wants.{wants_fail, want_then, want_said}
+use Rattle.ser_read.proofs.Wants.{wants_fail, want_then}
 use Rattle.ser_read.proofs.Served.{lifted_ok, given_is, are}
 use Rattle.ser_read.proofs.Asked.{asked_sound}
 use Rattle.ser_read.proofs.Given.{asked_complete}

@@ -1,15 +1,14 @@
 -- Block data, piece by piece.
-use Rattle.std.proofs.Common.{◌≡◌, ◌⊎◌, ℕ, zero, suc, ◌+◌, ◌-◌, ◌≤◌, ◌<◌, Bool, true, false, cond, eqb, List, [], ◌∷◌, ◌++◌, length, take, drop, length-drop, Result, Ok, Err, refl, sym, ap, subst, ◌∙◌, append_assoc, arith, inl, inr}
+use Rattle.std.proofs.Common.{◌≡◌, ℕ, zero, suc, ◌+◌, ◌-◌, ◌≤◌, ◌<◌, List, [], ◌∷◌, ◌++◌, length, take, drop, Result, Ok, Err, refl, sym, ap, subst, ◌∙◌, append_assoc, arith, inl, inr}
 use Rattle.std.proofs.Math.Dec.{eqb-suc-zero}
 use Rattle.std.proofs.lemmas.Bool.{cases_lt}
 use Rattle.std.proofs.lemmas.List.{length-take, take-append-drop, append-nil}
-use Rattle.ser_values.specs.Reading.{Fault, byte_at, take_at, short}
-use Rattle.ser_values.proofs.PlainSound.{chosen}
+use Rattle.ser_values.specs.Reading.{Fault, take_at, short}
 use Rattle.ser_read.specs.declared.block.Head.{Head}
 use Rattle.ser_read.specs.declared.block.Head.TheVariants.{Block, Code}
 use Rattle.ser_read.specs.declared.fault.StreamFault.{StreamFault}
 use Rattle.ser_read.specs.Here.{Fails}
-use Rattle.ser_read.specs.Heads.{is_empty, head_within, head_at}
+use Rattle.ser_read.specs.Heads.{head_at}
 use Rattle.ser_read.specs.Wants.{WantFault, inside, ◌▸◌, lifted, only_block, opened_at, run_at, WantFails}
 use Rattle.ser_read.proofs.Heads.{head_full}
 use Rattle.ser_read.proofs.Wants.{lifted_fails, wants_fail}

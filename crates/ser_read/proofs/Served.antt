@@ -1,33 +1,31 @@
 -- What was read by wants that were served is a graph.
-use Rattle.std.proofs.Common.{◌≡◌, ℕ, zero, suc, ◌+◌, ◌-◌, ◌<◌, ◌≤◌, Bool, true, false, cond, eqb, List, [], ◌∷◌, ◌++◌, length, Result, Ok, Err, refl, sym, ap, subst, ◌∙◌, append-nil, arith, inl, inr}
-use Rattle.std.proofs.Math.Logic.{∥∥₁_map}
+use Rattle.std.proofs.Common.{◌≡◌, ℕ, suc, ◌+◌, ◌-◌, ◌≤◌, eqb, List, [], ◌∷◌, ◌++◌, length, Result, Ok, Err, refl, sym, ap, subst, ◌∙◌, append-nil, arith, inl, inr}
 use Rattle.wire_io.specs.Pulled.{Place}
 use Rattle.class_desc.specs.declared.slot.Slot.{Slot}
 use Rattle.class_desc.specs.declared.slot.Item.{Item}
 use Rattle.class_desc.specs.declared.slot.Item.TheVariants as items
-use Rattle.ser_values.specs.declared.node.Node.{Node}
 use Rattle.ser_values.specs.declared.node.Place.TheVariants as places
 use Rattle.ser_values.specs.Node as node
 use Rattle.ser_values.specs.Node.{has, item_wants}
 use Rattle.ser_values.specs.Shape.{is_joined, parts_in}
 use Rattle.ser_values.specs.Numbered.{NumberAll, Numbered, IsGraph}
 use Rattle.ser_values.specs.Spelled.{joined, Spells}
-use Rattle.ser_values.specs.Reading.{Fault, Progress, byte_at, slot_at, coded}
+use Rattle.ser_values.specs.Reading.{Fault, Progress, slot_at, coded}
 use Rattle.ser_values.proofs.PlainSound as plain
-use Rattle.ser_values.proofs.Solid.{Solid, Sees, Agrees, Got, got_none, got_map, got_two}
+use Rattle.ser_values.proofs.Solid.{Solid, Got, got_none, got_map, got_two}
 use Rattle.ser_values.proofs.Sound.{slots_sound}
 use Rattle.ser_values.proofs.Spelling.{spells_numbered, joined_joined}
 use Rattle.ser_read.specs.declared.block.Head.{Head}
 use Rattle.ser_read.specs.declared.block.Head.TheVariants.{Block, Code}
 use Rattle.ser_read.specs.Here.{AreBytes}
 use Rattle.ser_read.specs.Heads.{head_at}
-use Rattle.ser_read.specs.Named.{add_bytes, added}
+use Rattle.ser_read.specs.Named.{add_bytes}
 use Rattle.ser_read.specs.declared.serving.Want.{Want}
 use Rattle.ser_read.specs.declared.serving.Want.TheVariants as wanted
 use Rattle.ser_read.specs.Wants.{WantFault, ◌▸◌, lifted, Stand, nothing_read, run_at, only_slot, reference_at, bytes_at, slot_next, want_at, Served, AreServed, IsServed, WantReads}
 use Rattle.ser_read.proofs.Joins.{added_is}
 use Rattle.ser_read.proofs.Slots.{slot_is}
-use Rattle.ser_read.proofs.Empties.{found}
+use Rattle.ser_read.proofs.Empties.{Empties, found}
 
 -- ---- steps that did not fail
 
@@ -55,16 +53,20 @@ are (b ∷ bs) h = (h.0, are bs h.1)
 
 -- ---- a reference
 
-abbrev pub GotRef : Progress → Slot × Progress × List ℕ → Type 0
-GotRef now y = Got [] now y.1 y.2 (λ F. Numbered F 200 [] (places.Reference, y.0) (length now.nodes) (length y.1.nodes))
+-- a reference behind empty blocks
+pub record RefSound (now : Progress) (bs : List ℕ) (y : Slot × Progress × List ℕ) : Type 0 where
+  pub count : ℕ
+  pub mid : List ℕ
+  pub empties : Empties count bs mid
+  pub got : Got [] now y.1 y.2 (λ F. Spells F 200 [] (places.Reference, y.0) (length now.nodes) mid y.2 (length y.1.nodes))
 
-pub reference_got : (end : ℕ) (now : Progress) (bs : List ℕ) (y : Slot × Progress × List ℕ) → reference_at end now bs ≡ Ok y → Solid [] now → plain.AreBytes bs → GotRef now y
+pub reference_sound : (end : ℕ) (now : Progress) (bs : List ℕ) (y : Slot × Progress × List ℕ) → reference_at end now bs ≡ Ok y → Solid [] now → plain.AreBytes bs → RefSound now bs y
 unfolding reference_at
-reference_got end now bs y e solid bytes =
+reference_sound end now bs y e solid bytes =
     let a = lifted_ok (head_at end bs) (only_slot end now) y e in
     go a.0 a.1 a.2
   where
-    go : (h : Head × List ℕ) → head_at end bs ≡ Ok h → only_slot end now h ≡ Ok y → GotRef now y
+    go : (h : Head × List ℕ) → head_at end bs ≡ Ok h → only_slot end now h ≡ Ok y → RefSound now bs y
     go (Block k, rest) is e = absurd cc
     go (Code code at, rest) is e =
         let f = found end (suc (length bs)) bs (Code code at, rest) is bytes in
@@ -73,7 +75,15 @@ reference_got end now bs y e solid bytes =
         let read : slot_at end 200 places.Reference [] now (code ∷ rest) ≡ Ok y =
             slot_is end 200 places.Reference [] now (code ∷ rest) ∙ ap (λ at. coded end 200 (slot_at end 199) places.Reference [] at code now rest) (sym here) ∙ lifted_is (coded end 200 (slot_at end 199) places.Reference [] at code now rest) y e in
         let s = slots_sound end 200 [] places.Reference now (code ∷ rest) y read solid whole in
-        got_map [] now y.1 y.2 _ _ s.got (λ F sees h. spells_numbered F 200 [] (places.Reference, y.0) (length now.nodes) (code ∷ rest) y.2 (length y.1.nodes) h)
+        record { count = f.count; mid = code ∷ rest; empties = subst (λ (l : List ℕ). Empties f.count bs l) f.is.0 f.empties; got = s.got }
+
+abbrev pub GotRef : Progress → Slot × Progress × List ℕ → Type 0
+GotRef now y = Got [] now y.1 y.2 (λ F. Numbered F 200 [] (places.Reference, y.0) (length now.nodes) (length y.1.nodes))
+
+reference_got : (end : ℕ) (now : Progress) (bs : List ℕ) (y : Slot × Progress × List ℕ) → reference_at end now bs ≡ Ok y → Solid [] now → plain.AreBytes bs → GotRef now y
+reference_got end now bs y e solid bytes =
+    let s = reference_sound end now bs y e solid bytes in
+    got_map [] now y.1 y.2 _ _ s.got (λ F sees h. spells_numbered F 200 [] (places.Reference, y.0) (length now.nodes) s.mid y.2 (length y.1.nodes) h)
 
 -- ---- items and what they want
 

@@ -1,7 +1,7 @@
 -- Wants, one after the other.
-use Rattle.std.proofs.Common.{◌≡◌, ℕ, ◌+◌, ◌-◌, ◌≤◌, true, List, [], ◌∷◌, ◌++◌, length, Option, Result, Ok, Err, IfOk, refl, sym, ap, subst, ◌∙◌, append_assoc, length-append, arith}
+use Rattle.std.proofs.Common.{◌≡◌, ℕ, ◌+◌, ◌≤◌, true, List, ◌++◌, length, Option, Result, Ok, Err, IfOk, refl, sym, ap, subst, ◌∙◌, append_assoc, length-append, arith}
 use Rattle.wire_io.specs.Pulled.{Place, Takes, place}
-use Rattle.wire_io.proofs.Pulling.{takes_nothing, takes_more}
+use Rattle.wire_io.proofs.Pulling.{takes_more}
 use Rattle.wire_io.specs.declared.pull.Pull.{Pull}
 use Rattle.ser_values.specs.Reading.{Fault}
 use Rattle.ser_read.specs.declared.fault.StreamFault.{StreamFault}
@@ -58,19 +58,6 @@ want_then {A} {Y} {p} {q} {r} {first} {mid} k {out} a b = record {
       rw one (b.is rest);
 }
 
-pub want_done : {Y : Type 0} {p : Place} {read : ℕ → List ℕ → Result Y WantFault} {out : List ℕ → Y} → ((end : ℕ) (bs : List ℕ) → read end bs ≡ Ok (out bs)) → WantReads p p read out
-want_done {Y} {p} {read} {out} h = record { taken = []; bytes = tt; takes = takes_nothing p; is = λ rest. h (p.at + length rest) rest }
-
--- the same reading, said otherwise
-pub want_said : {Y Z : Type 0} {p q : Place} {a : ℕ → List ℕ → Result Y WantFault} {b : ℕ → List ℕ → Result Z WantFault} {out : List ℕ → Y} {also : List ℕ → Z}
-    → ((end : ℕ) (bs rest : List ℕ) → end ≡ p.at + length bs → a end bs ≡ Ok (out rest) → b end bs ≡ Ok (also rest)) → WantReads p q a out → WantReads p q b also
-want_said {Y} {Z} {p} {q} {a} {b} {out} {also} same h = record {
-  taken = h.taken;
-  bytes = h.bytes;
-  takes = h.takes;
-  is = λ rest. same _ _ rest (omega (arith, h.takes.at, length-append h.taken rest)) (h.is rest);
-}
-
 -- ---- loops: bytes were taken, and what reads the rest after what was read, reads all
 
 pub record Leads {Y : Type 0} (p q : Place) (read next : ℕ → List ℕ → Y) : Type 0 where
@@ -78,9 +65,6 @@ pub record Leads {Y : Type 0} (p q : Place) (read next : ℕ → List ℕ → Y)
   pub bytes : AreBytes taken
   pub takes : Takes p q taken
   pub is : (rest : List ℕ) → read (q.at + length rest) (taken ++ rest) ≡ next (q.at + length rest) rest
-
-pub leads_start : {Y : Type 0} (p : Place) (read next : ℕ → List ℕ → Y) → ((end : ℕ) (bs : List ℕ) → read end bs ≡ next end bs) → Leads p p read next
-leads_start p read next h = record { taken = []; bytes = tt; takes = takes_nothing p; is = λ rest. h (p.at + length rest) rest }
 
 pub leads_two : {Y : Type 0} {p q r : Place} {read next more : ℕ → List ℕ → Y} → Leads p q read next → Leads q r next more → Leads p r read more
 leads_two {Y} {p} {q} {r} {read} {next} {more} a b = record {
@@ -115,9 +99,6 @@ leads_want {Y} {A} {q} {r} {next} {step} {out} more b h = record {
 
 pub leads_done : {Y : Type 0} {p q : Place} {read next : ℕ → List ℕ → Result Y WantFault} {out : List ℕ → Y} → Leads p q read next → ((end : ℕ) (bs : List ℕ) → next end bs ≡ Ok (out bs)) → WantReads p q read out
 leads_done {Y} {p} {q} {read} {next} {out} a h = record { taken = a.taken; bytes = a.bytes; takes = a.takes; is = λ rest. a.is rest ∙ h _ rest }
-
-pub leads_plain : {Y : Type 0} {p q : Place} {read next : ℕ → List ℕ → Result Y Fault} {out : List ℕ → Y} → Leads p q read next → ((end : ℕ) (bs : List ℕ) → next end bs ≡ Ok (out bs)) → Reads p q read out
-leads_plain {Y} {p} {q} {read} {next} {out} a h = record { taken = a.taken; bytes = a.bytes; takes = a.takes; is = λ rest. a.is rest ∙ h _ rest }
 
 told_at : {Y : Type 0} (p q : Place) (read next : ℕ → List ℕ → Y) → Leads p q read next → q.at ≤ q.stop → (env_at p.left p.at p.stop).told ≡ true
     → read (env_at p.left p.at p.stop).end (coming_at p.left p.at p.stop) ≡ next (env_at q.left q.at q.stop).end (coming_at q.left q.at q.stop)

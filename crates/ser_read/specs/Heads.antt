@@ -1,5 +1,5 @@
 -- What codes begin in the outermost place: blocks, and what is none.
-use Rattle.std.specs.Prelude.{ℕ, zero, suc, ◌-◌, ◌^◌, Bool, true, false, nat_eq, List, [], ◌∷◌, length, Ok, Err, if◌then◌else◌}
+use Rattle.std.specs.Prelude.{ℕ, zero, suc, ◌-◌, ◌^◌, Bool, true, false, nat_eq, List, length, Ok, Err, if◌then◌else◌}
 use Rattle.std.specs.Int.{w32}
 use Rattle.ser_read.specs.declared.block.Head.{Head}
 use Rattle.ser_read.specs.declared.block.Head.TheVariants.{Block, Code}

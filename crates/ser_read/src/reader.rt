@@ -161,8 +161,8 @@ impl Reader {
         ensures gives { self.old.refused ≡ None → GivesWant S.left pull.old pull.new result (λ end. bytes_at end n self.old.stand) (λ x rest. (x, self.new.stand, rest)) }
         ensures reads { WantTaken S.left S.faults pull.old pull.new result (λ end. bytes_at end n self.old.stand) (λ x rest. (x, self.new.stand, rest)) }
     {
-        if let Some(fault) = self.refused {
-            return Err(fault);
+        if let Some(earlier) = self.refused {
+            return Err(earlier);
         }
         match bytes_in(alloc, pull, &mut self.stand, n) {
             Ok(bytes) => Ok(bytes),

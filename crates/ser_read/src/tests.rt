@@ -1,4 +1,4 @@
-use crate::{Reader, StreamFault};
+use crate::{Reader, StreamFault, Want, read_wants};
 use mod_utf::list::{ByteList, Kinds};
 use std::alloc::{AllocError, Global};
 use std::test::Fail;
@@ -94,5 +94,24 @@ fn wants_are_served(rt: HostRuntime) -> Result<(), Fail> {
         };
         assert_eq!(rt; answer.as_str(), *expected, "{wants} of {bytes}");
     }
+    Ok(())
+}
+
+#[test]
+fn a_list_of_wants_is_read(rt: HostRuntime) -> Result<(), Fail> {
+    let alloc = rt.alloc();
+    let bytes = bytes_of(alloc, "ACED0005 770109 7A000000020807 7700 74000161 71007E0000 70")?;
+    let mut source = MemSource::new(bytes, Kinds::new(alloc), Kinds::new(alloc));
+    let mut pull = Pull::new(&mut source);
+    let wants = [Want::Bytes(3), Want::Slot, Want::Slot];
+    match read_wants(alloc, &mut pull, &wants) {
+        Ok((answers, graph)) => {
+            assert_eq!(rt; answers.len(), 3);
+            assert_eq!(rt; graph.items().len(), 3);
+            assert_eq!(rt; graph.count(), 1);
+        }
+        Err(fault) => return Err(Fail::from(format!(in alloc; "{fault}")?)),
+    }
+    assert_eq!(rt; pull.at(), 25);
     Ok(())
 }

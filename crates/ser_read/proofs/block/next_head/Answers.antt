@@ -1,6 +1,5 @@
-use Rattle.std.proofs.Common.{◌≡◌, ◌≤◌, ◌∙◌, refl, sym, arith, Ok}
+use Rattle.std.proofs.Common.{◌∙◌, refl, sym, Ok}
 use Rattle.std.proofs.lemmas.Result.{err_from_is_err_and}
-use Rattle.ser_read.specs.Here.{coming, env}
 use Rattle.ser_read.proofs.Steps.{leads_more, leads_done, leads_env, leads_told, leads_fails}
 use Rattle.ser_read.proofs.Heads.{head_goes, head_stops, head_fails}
 use Rattle.ser_read.proofs.block.next_head.Goals as goal

@@ -1,10 +1,9 @@
-use Rattle.std.proofs.Common.{◌≡◌, ◌≤◌, ◌<◌, ◌++◌, ◌∙◌, refl, sym, ap, arith, min, Ok, List, [], ℕ}
+use Rattle.std.proofs.Common.{◌≡◌, ◌∙◌, ap, arith, []}
 use Rattle.std.proofs.lemmas.Result.{err_from_is_err_and}
-use Rattle.wire_io.specs.Pulled.{place}
 use Rattle.ser_read.specs.Here.{coming, env}
-use Rattle.ser_read.specs.Wants.{run_at, WantFails}
-use Rattle.ser_read.proofs.Wants.{Leads, leads_two, leads_read, leads_want, leads_done, leads_env, leads_told, leads_fails, wants_fail}
-use Rattle.ser_read.proofs.Runs.{Run, behind, opened_some, run_opens, run_unopened, piece_next, piece_stops, run_end}
+use Rattle.ser_read.specs.Wants.{run_at}
+use Rattle.ser_read.proofs.Wants.{leads_two, leads_read, leads_want, leads_done, leads_env, leads_told, leads_fails, wants_fail}
+use Rattle.ser_read.proofs.Runs.{behind, opened_some, run_opens, run_unopened, piece_next, piece_stops, run_end}
 use Rattle.ser_read.proofs.block.run.Goals as goal
 
 pub returns-in_err-present-clause-gives : goal.returns-in_err-present-clause-gives

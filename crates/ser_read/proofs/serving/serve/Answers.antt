@@ -1,6 +1,5 @@
-use Rattle.std.proofs.Common.{◌≡◌, ◌≤◌, ◌∙◌, refl, rules, arith, Ok}
+use Rattle.std.proofs.Common.{◌∙◌, rules}
 use Rattle.std.proofs.lemmas.Result.{err_from_is_err_and}
-use Rattle.ser_read.specs.Here.{coming, env}
 use Rattle.ser_read.proofs.Wants.{leads_two, leads_want, leads_done, leads_told, leads_fails}
 use Rattle.ser_read.proofs.InOrder.{serve_next, serve_stops, serve_end}
 use Rattle.ser_read.proofs.serving.serve.Goals as goal
