@@ -1,8 +1,6 @@
-use Rattle.std.proofs.Common.{◌≡◌, ◌∷◌, [], ◌∙◌, true, Ok, List, ℕ}
 use Rattle.std.proofs.lemmas.Result.{err_from_is_err_and}
-use Rattle.ser_values.specs.Reading.{◌>>=◌, magic_at}
 use Rattle.ser_read.specs.Here.{coming, env}
-use Rattle.ser_read.proofs.Steps.{then, last, said_last, fails_then}
+use Rattle.ser_read.proofs.Steps.{last, said_last}
 use Rattle.ser_read.proofs.ToEnd.{magic_is, magic_fails_first, magic_fails_second, magic_fails_third, magic_gives}
 use Rattle.ser_read.proofs.whole.magic.Goals as goal
 
