@@ -20,7 +20,7 @@ use Rattle.ser_read.specs.declared.fault.StreamFault.TheVariants as faults
 use Rattle.ser_read.specs.declared.fault.Large.TheVariants.{Bytes}
 use Rattle.ser_read.specs.declared.fault.Large.TheVariants as larges
 use Rattle.wire_io.specs.declared.pull.Pull.{Pull}
-use Rattle.ser_read.specs.Here.{Fails, Gives, Reads, Env, fault_after, env_at, coming_at, env, coming, IsTold}
+use Rattle.ser_read.specs.Here.{Fails, Gives, Reads, fault_after, env_at, coming_at, env, coming, IsTold}
 use Rattle.ser_read.specs.Whole.{nothing_read, stream_at, going_on, to_end, code_at, ReadsAll, TakesStream, AnswersGraph}
 use Rattle.ser_read.proofs.Pulling.{takes_told, told_end}
 use Rattle.ser_read.proofs.Bytes.{none, ok_is}

@@ -95,10 +95,7 @@ fn graph<S: Source>(alloc: Global, pull: &mut Pull<'_, S>) -> Result<Graph, Stre
 /// `Truncated` comes where the input ends inside the stream, `TooLarge` of bytes where the message's limit is reached and
 /// the input goes on, and each other fault at the first position at which the bytes are wrong. After an error a front of
 /// the stream was taken.
-pub fn read_to_end<S: Source>(
-    alloc: Global,
-    pull: &mut Pull<'_, S>,
-) -> Result<Graph, StreamFault>
+pub fn read_to_end<S: Source>(alloc: Global, pull: &mut Pull<'_, S>) -> Result<Graph, StreamFault>
     ensures lent { pull.new.source.ghost_name ≡ pull.old.source.ghost_name }
     ensures cause { Caused (S.faults pull.old.source.now) (S.faults pull.new.source.now) result }
     // Of told bytes that end before the stop, what is answered is what reading from left to right gives.

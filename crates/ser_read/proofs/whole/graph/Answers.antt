@@ -1,11 +1,8 @@
-use Rattle.std.proofs.Common.{◌≡◌, ◌∷◌, [], false, Ok}
 use Rattle.std.proofs.lemmas.Result.{err_from_is_err_and}
-use Rattle.ser_values.specs.declared.node.Place.TheVariants.{Reference}
-use Rattle.ser_values.specs.Reading.{magic_at, items_at, slot_at}
 use Rattle.ser_read.specs.Tables.{now_of}
-use Rattle.ser_read.specs.Here.{coming, env}
+use Rattle.ser_read.specs.Here.{coming}
 use Rattle.wire_io.specs.Pulled.{place}
-use Rattle.ser_read.specs.Whole.{stream_at, to_end, ReadsAll}
+use Rattle.ser_read.specs.Whole.{stream_at, ReadsAll}
 use Rattle.ser_read.proofs.ToEnd.{magic_fails, items_fail, stream_gives, stream_reads, graph_of}
 use Rattle.ser_read.proofs.whole.graph.Goals as goal
 
@@ -34,5 +31,5 @@ returns-clause-reads g c =
 pub from_parts-requires : goal.from_parts-requires
 from_parts-requires g c =
     let reads : ReadsAll (place g.S.Source.left g.S.Source.faults c.args.pull.now) (place g.S.Source.left g.S.Source.faults c.items_to_end.new.pull) stream_at (c.into_nodes.result, c.in_ok-items.items) =
-        rw c.into_nodes.ensures (stream_reads c.in_ok-items.items (now_of c.items_to_end.new.table) c.in_ok-magic.ensures.reads (rw (c.new-table.ensures.nodes, c.new-table.ensures.parts, c.new-table.ensures.unread) at c.in_ok-items.ensures.reads)) in
+    rw c.into_nodes.ensures (stream_reads c.in_ok-items.items (now_of c.items_to_end.new.table) c.in_ok-magic.ensures.reads (rw (c.new-table.ensures.nodes, c.new-table.ensures.parts, c.new-table.ensures.unread) at c.in_ok-items.ensures.reads)) in
     ∣ graph_of reads ∣₁

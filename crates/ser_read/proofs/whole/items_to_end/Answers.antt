@@ -1,4 +1,4 @@
-use Rattle.std.proofs.Common.{◌≡◌, ◌∷◌, ◌∙◌, ◌-◌, ◌+◌, suc, length, false, true, refl, arith, rules, subst, sym, Ok, Some}
+use Rattle.std.proofs.Common.{◌≡◌, ◌∷◌, ◌∙◌, ◌-◌, ◌+◌, suc, length, false, refl, arith, rules, subst, sym, Ok, Some}
 use Rattle.std.proofs.lemmas.Result.{err_from_is_err_and}
 use Rattle.ser_values.specs.declared.node.Place.TheVariants.{Reference}
 use Rattle.ser_values.specs.Reading.{slot_at, coded}

@@ -1,5 +1,4 @@
-use Rattle.std.proofs.Common.{◌≡◌, ◌+◌, length}
-use Rattle.ser_read.specs.Here.{coming, env}
+use Rattle.std.proofs.Common.{◌+◌, length}
 use Rattle.ser_read.proofs.Streams.{stream_at_complete}
 use Rattle.ser_read.proofs.ToEnd.{gives_within, gives_past, is_read, graph_parts, taken_streams}
 use Rattle.ser_read.proofs.whole.read_to_end.Goals as goal
