@@ -140,6 +140,7 @@ run_sound end (suc n) k bs y e bytes =
         by : (x : Head × List ℕ) → head_at end bs ≡ Ok x → only_block x ≡ Ok o → head_at end bs ≡ Ok (Block o.0, o.1)
         by (Block j, rest) is h = let s : (j, rest) ≡ o = given_is (j, rest) o h in is ∙ ap (λ (x : ℕ × List ℕ). Ok (Block x.0, x.1)) s
         by (Code code at, rest) is h = absurd cc
+
     go : (k : ℕ) (o : ℕ × List ℕ) → opened_at end k bs ≡ Ok o → (c : ℕ × List ℕ) → byte_at o.1 ≡ Ok c → (r : RunOk) → (AreBytes c.1 → SoundAs (o.0 - 1) c.1 r) → SoundAs k bs (c.0 ∷ r.0, r.1, r.2)
     go (suc j) o is c read r rec =
         let same : (suc j, bs) ≡ o = given_is (suc j, bs) o (sym (opened_here end (suc j) bs (omega arith)) ∙ is) in
@@ -236,6 +237,7 @@ serve_sound end (wanted.Slot ∷ ws) s bs y e closed solid bytes =
     nil_of : (l : List ℕ) → length l ≡ 0 → l ≡ []
     nil_of [] e = refl
     nil_of (b ∷ l) e = absurd (omega arith)
+
     eqb_zero : (k : ℕ) → eqb k 0 ≡ true → k ≡ 0
     eqb_zero k e = eqb-true k 0 e
 
@@ -342,7 +344,8 @@ asked_sound end ws bs y e bytes =
               same = joined_by a.0.0 h.blocks (sym flats);
             },
             serve_items end ws nothing_read bs a.0 a.1 [] refl,
-            omega arith))
+            omega arith,
+          ))
     ]
   where
     nil_of : (l : List ℕ) → length l ≡ 0 → l ≡ []

@@ -29,23 +29,23 @@ pub any_sound : (end : ℕ) (bs : List ℕ) (y : Head × List ℕ) → any_head 
 unfolding any_head one_head
 any_sound end [] y e bytes = absurd cc
 any_sound end (c ∷ bs) y e bytes = elim (chosen (eqb c 0x77) _ _ _ e) [
-    | inl p ↦ (
-        let a = bind_ok (byte_at bs) _ y p.1 in
-        let n = byte_sound bs a.0 a.1 in
-        let left = subst AreBytes n bytes.1 in
+  | inl p ↦ (
+      let a = bind_ok (byte_at bs) _ y p.1 in
+      let n = byte_sound bs a.0 a.1 in
+      let left = subst AreBytes n bytes.1 in
+      subst (λ (y : Head × List ℕ). Sounds end (c ∷ bs) y) (ok_is (Block a.0.0, a.0.1) y a.2)
+      (record { is = inl (left.0, ap (λ k. k ∷ bs) (eqb-true c 0x77 p.0) ∙ ap (λ (l : List ℕ). 0x77 ∷ l) n); left = left.1 }))
+  | inr p ↦ elim (chosen (eqb c 0x7A) _ _ _ p.1) [
+    | inl q ↦ (
+        let a = bind_ok (size_at end w32 (2 ^ 31) bs) _ y q.1 in
+        let n = size_sound end w32 (2 ^ 31) (2 ^ 32) number_sound_32 bs a.0 a.1 bytes.1 in
         subst (λ (y : Head × List ℕ). Sounds end (c ∷ bs) y) (ok_is (Block a.0.0, a.0.1) y a.2)
-        (record { is = inl (left.0, ap (λ k. k ∷ bs) (eqb-true c 0x77 p.0) ∙ ap (λ (l : List ℕ). 0x77 ∷ l) n); left = left.1 }))
-    | inr p ↦ elim (chosen (eqb c 0x7A) _ _ _ p.1) [
-      | inl q ↦ (
-          let a = bind_ok (size_at end w32 (2 ^ 31) bs) _ y q.1 in
-          let n = size_sound end w32 (2 ^ 31) (2 ^ 32) number_sound_32 bs a.0 a.1 bytes.1 in
-          subst (λ (y : Head × List ℕ). Sounds end (c ∷ bs) y) (ok_is (Block a.0.0, a.0.1) y a.2)
-          (record { is = inr (n.below, ap (λ k. k ∷ bs) (eqb-true c 0x7A q.0) ∙ ap (λ (l : List ℕ). 0x7A ∷ l) n.parts); left = n.left }))
-      | inr q ↦
-          subst (λ (y : Head × List ℕ). Sounds end (c ∷ bs) y) (ok_is (Code c (end - length (c ∷ bs)), bs) y q.1)
-          (record { is = (refl, eqb-false c 0x77 p.0, eqb-false c 0x7A q.0, refl); left = bytes.1 })
-    ]
+        (record { is = inr (n.below, ap (λ k. k ∷ bs) (eqb-true c 0x7A q.0) ∙ ap (λ (l : List ℕ). 0x7A ∷ l) n.parts); left = n.left }))
+    | inr q ↦
+        subst (λ (y : Head × List ℕ). Sounds end (c ∷ bs) y) (ok_is (Code c (end - length (c ∷ bs)), bs) y q.1)
+        (record { is = (refl, eqb-false c 0x77 p.0, eqb-false c 0x7A q.0, refl); left = bytes.1 })
   ]
+]
 
 -- empty blocks, and what stands behind them
 pub record Found (end : ℕ) (bs : List ℕ) (y : Head × List ℕ) : Type 0 where

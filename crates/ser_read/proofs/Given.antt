@@ -33,7 +33,6 @@ use Rattle.ser_read.proofs.Asked.{serve_items}
 
 -- ---- heads
 
-
 header_of : (p block bs b : List ℕ) → IsBlock p block → bs ≡ block ++ b → Header (length p) bs (p ++ b)
 header_of p block bs b (inl x) e = inl (x.0, e ∙ ap (λ (l : List ℕ). l ++ b) x.1)
 header_of p block bs b (inr x) e = inr (x.0, e ∙ ap (λ (l : List ℕ). l ++ b) x.1 ∙ ap (λ (l : List ℕ). 0x7A ∷ l) (append_assoc (to_be_bytes w32 (length p)) p b))
@@ -148,7 +147,7 @@ reference_back F given end now s rest m tail (items.Ref t ∷ is) bs h full e re
     let code_at : slot_at end 200 places.Reference [] now (b.code ∷ b.after) ≡ coded end 200 (slot_at end 199) places.Reference [] (end - length (b.code ∷ b.after)) b.code now b.after = slot_is end 200 places.Reference [] now (b.code ∷ b.after) in
     let read : slot_at end 200 places.Reference [] now (b.code ∷ b.after) ≡ Ok (t, r.later, h.0) = ap (slot_at end 200 places.Reference [] now) (sym b.is) ∙ r.is in
     let whole : (lifted (head_at end (b.code ∷ b.after)) ▸ only_slot end now) ≡ Ok (t, r.later, h.0) =
-        ap (λ (x : Result (Head × List ℕ) Fault). lifted x ▸ only_slot end now) (code_head end b.code b.after b.not_block b.not_long_block) ∙ ap (λ (x : Result (Slot × Progress × List ℕ) Fault). lifted x) (sym code_at ∙ read) in
+    ap (λ (x : Result (Head × List ℕ) Fault). lifted x ▸ only_slot end now) (code_head end b.code b.after b.not_block b.not_long_block) ∙ ap (λ (x : Result (Slot × Progress × List ℕ) Fault). lifted x) (sym code_at ∙ read) in
     record {
       later = r.later;
       mid = h.0;

@@ -33,9 +33,9 @@ byte_less bs y e = let h : length bs ≡ length (y.0 ∷ y.1) = ap (λ (l : List
 
 take_less : (n : ℕ) (bs : List ℕ) (y : List ℕ × List ℕ) → take_at n bs ≡ Ok y → length y.1 ≤ length bs
 take_less n bs y e = elim (cases_lt (length bs) n) [
-    | inl lt ↦ absurd (let s = takes_short n bs lt in cc)
-    | inr le ↦ (let s = ok_is _ y (sym (takes_all n bs le) ∙ e) in subst (λ (y : List ℕ × List ℕ). length y.1 ≤ length bs) s (omega (arith, length-drop n bs)))
-  ]
+  | inl lt ↦ absurd (let s = takes_short n bs lt in cc)
+  | inr le ↦ (let s = ok_is _ y (sym (takes_all n bs le) ∙ e) in subst (λ (y : List ℕ × List ℕ). length y.1 ≤ length bs) s (omega (arith, length-drop n bs)))
+]
 
 number_less : (w : Width) (bs : List ℕ) (y : ℕ × List ℕ) → number_at w bs ≡ Ok y → length y.1 ≤ length bs
 number_less w bs y e =
@@ -52,15 +52,15 @@ size_less end w bound bs y e =
 one_less : (end code at : ℕ) (bs : List ℕ) (y : Head × List ℕ) → one_head end code at bs ≡ Ok y → length y.1 ≤ length bs
 unfolding one_head
 one_less end code at bs y e = elim (chosen (eqb code 0x77) _ _ _ e) [
-    | inl p ↦ (let a = bind_ok (byte_at bs) _ y p.1 in
+  | inl p ↦ (let a = bind_ok (byte_at bs) _ y p.1 in
       let less = byte_less bs a.0 a.1 in
       subst (λ (y : Head × List ℕ). length y.1 ≤ length bs) (ok_is _ y a.2) (omega (arith, less)))
-    | inr p ↦ elim (chosen (eqb code 0x7A) _ _ _ p.1) [
-      | inl q ↦ (let a = bind_ok (size_at end w32 (2 ^ 31) bs) _ y q.1 in
+  | inr p ↦ elim (chosen (eqb code 0x7A) _ _ _ p.1) [
+    | inl q ↦ (let a = bind_ok (size_at end w32 (2 ^ 31) bs) _ y q.1 in
         subst (λ (y : Head × List ℕ). length y.1 ≤ length bs) (ok_is _ y a.2) (size_less end w32 (2 ^ 31) bs a.0 a.1))
-      | inr q ↦ subst (λ (y : Head × List ℕ). length y.1 ≤ length bs) (ok_is _ y q.1) (omega arith)
-    ]
+    | inr q ↦ subst (λ (y : Head × List ℕ). length y.1 ≤ length bs) (ok_is _ y q.1) (omega arith)
   ]
+]
 
 pub any_less : (end : ℕ) (bs : List ℕ) (y : Head × List ℕ) → any_head end bs ≡ Ok y → length y.1 < length bs
 unfolding any_head

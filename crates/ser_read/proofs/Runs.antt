@@ -97,14 +97,14 @@ run_short end (suc more) (suc n) k (c ∷ bs) few a b = rw (opened_here end k (c
 
 pub run_split : (end more n k : ℕ) (bs : List ℕ) → more ≤ n → more ≤ k → run_at end n k bs ≡ (lifted (take_at more bs) ▸ λ t. behind t.0 (run_at end (n - more) (k - more) t.1))
 run_split end more n k bs a b = elim (cases_lt (length bs) more) [
-    | inl lt ↦ rw (takes_short more bs lt) (run_short end more n k bs lt a b)
-    | inr le ↦ rw (takes_all more bs le) (
-        let len : length (take more bs) ≡ more = omega (arith, length-take more bs) in
-        let en : n ≡ length (take more bs) + (n - more) = omega (arith, len) in
-        let ek : k ≡ length (take more bs) + (k - more) = omega (arith, len) in
-        ap (λ bs. run_at end n k bs) (sym (take-append-drop more bs)) ∙ ap (λ n. run_at end n k (take more bs ++ drop more bs)) en
-        ∙ ap (λ k. run_at end (length (take more bs) + (n - more)) k (take more bs ++ drop more bs)) ek ∙ run_piece end (take more bs) (drop more bs) (n - more) (k - more))
-  ]
+  | inl lt ↦ rw (takes_short more bs lt) (run_short end more n k bs lt a b)
+  | inr le ↦ rw (takes_all more bs le) (
+      let len : length (take more bs) ≡ more = omega (arith, length-take more bs) in
+      let en : n ≡ length (take more bs) + (n - more) = omega (arith, len) in
+      let ek : k ≡ length (take more bs) + (k - more) = omega (arith, len) in
+      ap (λ bs. run_at end n k bs) (sym (take-append-drop more bs)) ∙ ap (λ n. run_at end n k (take more bs ++ drop more bs)) en
+      ∙ ap (λ k. run_at end (length (take more bs) + (n - more)) k (take more bs ++ drop more bs)) ek ∙ run_piece end (take more bs) (drop more bs) (n - more) (k - more))
+]
 
 -- ---- what the loop does
 

@@ -73,7 +73,7 @@ reference_sound end now bs y e solid bytes =
         let whole : plain.AreBytes (code ∷ rest) = subst plain.AreBytes f.is.0 f.whole in
         let here : at ≡ end - length (code ∷ rest) = f.is.3 ∙ ap (λ (l : List ℕ). end - length l) f.is.0 in
         let read : slot_at end 200 places.Reference [] now (code ∷ rest) ≡ Ok y =
-            slot_is end 200 places.Reference [] now (code ∷ rest) ∙ ap (λ at. coded end 200 (slot_at end 199) places.Reference [] at code now rest) (sym here) ∙ lifted_is (coded end 200 (slot_at end 199) places.Reference [] at code now rest) y e in
+        slot_is end 200 places.Reference [] now (code ∷ rest) ∙ ap (λ at. coded end 200 (slot_at end 199) places.Reference [] at code now rest) (sym here) ∙ lifted_is (coded end 200 (slot_at end 199) places.Reference [] at code now rest) y e in
         let s = slots_sound end 200 [] places.Reference now (code ∷ rest) y read solid whole in
         record { count = f.count; mid = code ∷ rest; empties = subst (λ (l : List ℕ). Empties f.count bs l) f.is.0 f.empties; got = s.got }
 
@@ -142,22 +142,22 @@ bytes_so_far end n before after bs x rest e h =
 slot_so_far : (end : ℕ) (before after : Stand) (bs : List ℕ) (slot : Slot) → slot_next end before bs ≡ Ok (slot, after, []) → plain.AreBytes bs → SoFar before → SoFar after
 unfolding slot_next
 slot_so_far end before after bs slot e bytes h = elim (plain.chosen (eqb before.block 0) _ _ _ e) [
-    | inr p ↦ absurd (let f = p.1 in cc)
-    | inl p ↦ (
-        let a = want_ok (reference_at end before.progress bs) _ (slot, after, []) p.1 in
-        let y = a.0 in
-        let now : Stand = record { progress = y.1; items = before.items ++ items.Ref y.0 ∷ []; block = 0 } in
-        let same : (y.0, now, y.2) ≡ (slot, after, []) = given_is (y.0, now, y.2) (slot, after, []) a.2 in
-        let g = reference_got end before.progress bs y a.1 h.got.solid bytes in
-        let none : y.2 ≡ [] = ap (λ (t : Slot × Stand × List ℕ). t.2) same in
-        let mine : SoFar now = record {
-          raw = h.raw ++ items.Ref y.0 ∷ [];
-          same = ap (λ (l : List Item). l ++ items.Ref y.0 ∷ []) h.same ∙ added_is h.raw (items.Ref y.0);
-          got = subst (λ (r : List ℕ). Got [] start y.1 r (λ F. NumberAll (Numbered F 200 []) (item_wants (before.items ++ items.Ref y.0 ∷ [])) 0 (length y.1.nodes))) none
-              (got_two [] start before.progress y.1 [] y.2 _ _ _ h.got g (λ F sees a b. subst (λ ws. NumberAll (Numbered F 200 []) ws 0 (length y.1.nodes)) (sym (ref_wants before.items y.0)) (number_last (Numbered F 200 []) (item_wants before.items) (places.Reference, y.0) 0 (length before.progress.nodes) (length y.1.nodes) a b)));
-        } in
-        subst SoFar (ap (λ (t : Slot × Stand × List ℕ). t.1) same) mine)
-  ]
+  | inr p ↦ absurd (let f = p.1 in cc)
+  | inl p ↦ (
+      let a = want_ok (reference_at end before.progress bs) _ (slot, after, []) p.1 in
+      let y = a.0 in
+      let now : Stand = record { progress = y.1; items = before.items ++ items.Ref y.0 ∷ []; block = 0 } in
+      let same : (y.0, now, y.2) ≡ (slot, after, []) = given_is (y.0, now, y.2) (slot, after, []) a.2 in
+      let g = reference_got end before.progress bs y a.1 h.got.solid bytes in
+      let none : y.2 ≡ [] = ap (λ (t : Slot × Stand × List ℕ). t.2) same in
+      let mine : SoFar now = record {
+        raw = h.raw ++ items.Ref y.0 ∷ [];
+        same = ap (λ (l : List Item). l ++ items.Ref y.0 ∷ []) h.same ∙ added_is h.raw (items.Ref y.0);
+        got = subst (λ (r : List ℕ). Got [] start y.1 r (λ F. NumberAll (Numbered F 200 []) (item_wants (before.items ++ items.Ref y.0 ∷ [])) 0 (length y.1.nodes))) none
+            (got_two [] start before.progress y.1 [] y.2 _ _ _ h.got g (λ F sees a b. subst (λ ws. NumberAll (Numbered F 200 []) ws 0 (length y.1.nodes)) (sym (ref_wants before.items y.0)) (number_last (Numbered F 200 []) (item_wants before.items) (places.Reference, y.0) 0 (length before.progress.nodes) (length y.1.nodes) a b)));
+      } in
+      subst SoFar (ap (λ (t : Slot × Stand × List ℕ). t.1) same) mine)
+]
 
 want_so_far : (end : ℕ) (w : Want) (before after : Stand) (bs : List ℕ) (answer : Item) → want_at end w before bs ≡ Ok (answer, after, []) → plain.AreBytes bs → SoFar before → SoFar after
 unfolding want_at

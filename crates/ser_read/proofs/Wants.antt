@@ -54,7 +54,7 @@ want_then {A} {Y} {p} {q} {r} {first} {mid} k {out} a b = record {
   is = λ rest.
       let ends : r.at + length rest ≡ q.at + length (b.taken ++ rest) = omega (arith, b.takes.at, length-append b.taken rest) in
       let one : first (r.at + length rest) ((a.taken ++ b.taken) ++ rest) ≡ Ok (mid (b.taken ++ rest)) =
-          rw (append_assoc a.taken b.taken rest) (rw ends (a.is (b.taken ++ rest))) in
+      rw (append_assoc a.taken b.taken rest) (rw ends (a.is (b.taken ++ rest))) in
       rw one (b.is rest);
 }
 
@@ -74,7 +74,7 @@ leads_two {Y} {p} {q} {r} {read} {next} {more} a b = record {
   is = λ rest.
       let ends : r.at + length rest ≡ q.at + length (b.taken ++ rest) = omega (arith, b.takes.at, length-append b.taken rest) in
       let one : read (r.at + length rest) ((a.taken ++ b.taken) ++ rest) ≡ next (r.at + length rest) (b.taken ++ rest) =
-          rw (append_assoc a.taken b.taken rest) (rw ends (a.is (b.taken ++ rest))) in
+      rw (append_assoc a.taken b.taken rest) (rw ends (a.is (b.taken ++ rest))) in
       one ∙ b.is rest;
 }
 

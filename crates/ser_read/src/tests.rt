@@ -7,7 +7,12 @@ use wire_io::pull::Pull;
 
 /// Wants (a digit: so many bytes; `r`: a reference), what the source gives in hexadecimal digits, the limit, and the answer.
 const CASES: [(&str, &str, u64, &str); 25] = [
-    ("3rr", "ACED0005 770109 7A000000020807 7700 74000161 71007E0000 70", 99, "read"),
+    (
+        "3rr",
+        "ACED0005 770109 7A000000020807 7700 74000161 71007E0000 70",
+        99,
+        "read",
+    ),
     ("", "ACED0005 770109", 99, "read"),
     ("0", "ACED0005 770109", 99, "read"),
     ("0r", "ACED0005 7700 7A00000000 70", 99, "read"),
@@ -21,11 +26,21 @@ const CASES: [(&str, &str, u64, &str); 25] = [
     ("r", "ACED0005 7700 7703", 99, "bad stream block left at 8"),
     ("2", "ACED0005 77020909", 7, "too large bytes at 7"),
     ("2", "ACED0005 770209", 99, "truncated at 7"),
-    ("2", "ACED0005 7AFFFFFFFF", 99, "bad stream negative length at 5"),
+    (
+        "2",
+        "ACED0005 7AFFFFFFFF",
+        99,
+        "bad stream negative length at 5",
+    ),
     ("2", "ACED0005 7AFFFF", 99, "truncated at 7"),
     ("r", "ACED0005 71007E0000", 99, "bad stream bad handle at 4"),
     ("1", "ACED0005 70", 99, "bad stream missing block at 4"),
-    ("2", "ACED0005 770109 7E", 99, "bad stream missing block at 7"),
+    (
+        "2",
+        "ACED0005 770109 7E",
+        99,
+        "bad stream missing block at 7",
+    ),
     ("1", "ACED0005 79", 99, "bad stream reset at 4"),
     ("1", "ACED0005 7B", 99, "bad stream inner exception at 4"),
     ("1", "ACED0005 7F", 99, "bad stream bad code at 4"),
@@ -61,11 +76,7 @@ fn bytes_of(alloc: Global, digits: &str) -> Result<ByteList, AllocError> {
 }
 
 /// What reading these wants answers.
-fn read(
-    alloc: Global,
-    pull: &mut Pull<'_, MemSource>,
-    wants: &str,
-) -> Result<(), StreamFault> {
+fn read(alloc: Global, pull: &mut Pull<'_, MemSource>, wants: &str) -> Result<(), StreamFault> {
     let mut reader = Reader::start(alloc, pull)?;
     for want in wants.as_bytes() {
         match digit(*want) {
@@ -85,7 +96,11 @@ fn read(
 fn wants_are_served(rt: HostRuntime) -> Result<(), Fail> {
     let alloc = rt.alloc();
     for (wants, bytes, limit, expected) in &CASES {
-        let mut source = MemSource::new(bytes_of(alloc, bytes)?, Kinds::new(alloc), Kinds::new(alloc));
+        let mut source = MemSource::new(
+            bytes_of(alloc, bytes)?,
+            Kinds::new(alloc),
+            Kinds::new(alloc),
+        );
         let mut pull = Pull::new(&mut source);
         pull.mark(*limit);
         let answer = match read(alloc, &mut pull, wants) {
@@ -100,7 +115,10 @@ fn wants_are_served(rt: HostRuntime) -> Result<(), Fail> {
 #[test]
 fn a_list_of_wants_is_read(rt: HostRuntime) -> Result<(), Fail> {
     let alloc = rt.alloc();
-    let bytes = bytes_of(alloc, "ACED0005 770109 7A000000020807 7700 74000161 71007E0000 70")?;
+    let bytes = bytes_of(
+        alloc,
+        "ACED0005 770109 7A000000020807 7700 74000161 71007E0000 70",
+    )?;
     let mut source = MemSource::new(bytes, Kinds::new(alloc), Kinds::new(alloc));
     let mut pull = Pull::new(&mut source);
     let wants = [Want::Bytes(3), Want::Slot, Want::Slot];

@@ -35,7 +35,7 @@ loop-left-preserved g c =
       leads =
           let opens = leads_want (λ end bs. behind c.loop-left.bytes (run_at end c.loop-left.left c.in_ok-present.present bs)) c.in_ok-present.ensures.reads (λ end bs rest here h. ap (behind c.loop-left.bytes) (run_opens end c.loop-left.left c.loop-left.block bs c.in_ok-present.present rest c.loop-left-test.true h)) in
           leads_two (leads_two c.loop-left.invariant.leads opens) (leads_read _ c.in_ok-piece.ensures.reads (λ end bs rest here h. rw (c.in_ok-append.ensures.ok, c.as_slice.ensures)
-              (piece_next c.loop-left.bytes end c.min-more.result c.loop-left.left c.in_ok-present.present bs c.in_ok-piece.piece rest (omega (arith, c.min-more.ensures)) (omega (arith, c.min-more.ensures)) (rw c.from.ensures at h))));
+          (piece_next c.loop-left.bytes end c.min-more.result c.loop-left.left c.in_ok-present.present bs c.in_ok-piece.piece rest (omega (arith, c.min-more.ensures)) (omega (arith, c.min-more.ensures)) (rw c.from.ensures at h))));
     }
 
 pub returns-clause-env : goal.returns-clause-env
