@@ -4,3 +4,4 @@ pub mod Command
 pub mod Line
 pub mod Replay
 pub mod Replayed
+pub mod Shown

@@ -2,8 +2,11 @@
 use Rattle.std.specs.Prelude.{ℕ, codes, List, ◌++◌, decimal}
 use Rattle.call_dispatch.specs.End.{status_of}
 use Rattle.call_dispatch.specs.Words.{words_of}
+use Rattle.ser_read.specs.declared.fault.StreamFault.{StreamFault}
+use Rattle.ser_read.specs.declared.fault.StreamFault.TheVariants as faults
+use Rattle.ser_read.specs.Words as streams
 use Rattle.rmi_cli.specs.declared.end.RunEnd.{RunEnd}
-use Rattle.rmi_cli.specs.declared.end.RunEnd.TheVariants.{Usage, Answered, Done, BadLine, Refused, TooLarge, ReadFault, WriteFault, OutOfMemory}
+use Rattle.rmi_cli.specs.declared.end.RunEnd.TheVariants.{Usage, Answered, Done, BadLine, Refused, TooLarge, NotShown, ReadFault, WriteFault, OutOfMemory}
 
 -- The words of a run's end.
 abbrev pub line_of : RunEnd → List ℕ
@@ -13,9 +16,18 @@ line_of Done = codes "done"
 line_of (BadLine line) = codes "bad line " ++ decimal line
 line_of Refused = codes "refused"
 line_of (TooLarge limit) = codes "too large bytes at " ++ decimal limit
+line_of (NotShown fault) = streams.words_of fault
 line_of ReadFault = codes "read fault"
 line_of WriteFault = codes "write fault"
 line_of OutOfMemory = codes "out of memory"
+
+-- The status of the process where a stream could not be read.
+abbrev pub status_of_fault : StreamFault → ℕ
+status_of_fault (faults.Bad kind at) = 2
+status_of_fault (faults.Truncated at) = 2
+status_of_fault faults.ReadFault = 3
+status_of_fault faults.OutOfMemory = 5
+status_of_fault (faults.TooLarge what at) = 6
 
 -- The status of the process.
 abbrev pub status_of_run : RunEnd → ℕ
@@ -25,6 +37,7 @@ status_of_run Done = 0
 status_of_run (BadLine line) = 2
 status_of_run Refused = 6
 status_of_run (TooLarge limit) = 6
+status_of_run (NotShown fault) = status_of_fault fault
 status_of_run ReadFault = 3
 status_of_run WriteFault = 4
 status_of_run OutOfMemory = 5

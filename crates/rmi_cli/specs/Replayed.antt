@@ -5,7 +5,7 @@ use Rattle.call_dispatch.specs.Progress.{Halves}
 use Rattle.rmi_cli.specs.Line.{status_of_run}
 use Rattle.rmi_cli.specs.Replay.{Outlines, IsBadLine, IsRefused}
 use Rattle.rmi_cli.specs.declared.end.RunEnd.{RunEnd}
-use Rattle.rmi_cli.specs.declared.end.RunEnd.TheVariants.{Done, Usage, Answered, BadLine, Refused, TooLarge, ReadFault, WriteFault, OutOfMemory}
+use Rattle.rmi_cli.specs.declared.end.RunEnd.TheVariants.{Done, Usage, Answered, BadLine, Refused, TooLarge, NotShown, ReadFault, WriteFault, OutOfMemory}
 
 -- how many bytes a journal has at most
 abbrev pub journal_bytes : ℕ
@@ -27,6 +27,7 @@ ReplayEnds old new (BadLine line) = (input : List ℕ) × TakesWhole old new inp
 ReplayEnds old new Refused = (input : List ℕ) × TakesWhole old new input × IsRefused input × (new.held ≡ old.held)
 ReplayEnds old new (TooLarge limit) =
     (limit ≡ journal_bytes) × ((front : List ℕ) × (journal_bytes < length front) × (old.left ≡ with_front front new.left)) × (new.held ≡ old.held)
+ReplayEnds old new (NotShown fault) = ⊥
 ReplayEnds old new ReadFault = (new.held ≡ old.held)
 ReplayEnds old new WriteFault =
     (input : List ℕ) × (output : List ℕ) × (sent : ℕ) × TakesWhole old new input × Outlines input output

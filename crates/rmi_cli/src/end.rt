@@ -1,5 +1,9 @@
 //! How a run of the program ends.
+ghost use Rattle.std.specs.Prelude.{◌≡◌};
+ghost use Rattle.rmi_cli.specs.Line.{status_of_fault};
+
 use call_dispatch::end::ConnEnd;
+use ser_read::StreamFault;
 use std::fmt;
 
 /// How a run of the program ends. As text it is the line on the errors' sink, without its line feed.
@@ -17,6 +21,8 @@ pub enum RunEnd {
     Refused,
     /// The input has more bytes than this limit.
     TooLarge { limit: u64 },
+    /// The input could not be read as a stream.
+    NotShown(StreamFault),
     /// Reading the input failed.
     ReadFault,
     /// Writing the output failed.
@@ -39,6 +45,7 @@ impl RunEnd {
             RunEnd::Done => 0,
             RunEnd::Usage => 1,
             RunEnd::BadLine { line: _ } => 2,
+            RunEnd::NotShown(fault) => status_of_fault(fault),
             RunEnd::ReadFault => 3,
             RunEnd::WriteFault => 4,
             RunEnd::OutOfMemory => 5,
@@ -51,6 +58,19 @@ impl RunEnd {
         ensures { IsTrue result ↔ (self ≡ RunEnds.Done) }
     {
         matches!(self, RunEnd::Done)
+    }
+}
+
+/// The status of the process where a stream could not be read.
+fn status_of_fault(fault: StreamFault) -> u8
+    ensures { result ≡ status_of_fault fault }
+{
+    match fault {
+        StreamFault::Bad { .. } => 2,
+        StreamFault::Truncated { .. } => 2,
+        StreamFault::ReadFault => 3,
+        StreamFault::OutOfMemory => 5,
+        StreamFault::TooLarge { .. } => 6,
     }
 }
 
@@ -68,6 +88,7 @@ impl fmt::Display for RunEnd {
             RunEnd::BadLine { line } => write!(f, "bad line {line}"),
             RunEnd::Refused => write!(f, "refused"),
             RunEnd::TooLarge { limit } => write!(f, "too large bytes at {limit}"),
+            RunEnd::NotShown(fault) => write!(f, "{fault}"),
             RunEnd::ReadFault => write!(f, "read fault"),
             RunEnd::WriteFault => write!(f, "write fault"),
             RunEnd::OutOfMemory => write!(f, "out of memory"),

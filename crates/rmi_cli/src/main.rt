@@ -6,6 +6,7 @@ mod host;
 mod journal_input;
 mod replay;
 mod run;
+mod stream_input;
 mod words;
 
 use host::Host;
@@ -28,5 +29,7 @@ fn main(rt: HostRuntime) -> io::Result<ExitCode> {
 
 #[cfg(test)]
 mod replay_tests;
+#[cfg(test)]
+mod show_tests;
 #[cfg(test)]
 mod tests;

@@ -7,11 +7,13 @@ ghost use Rattle.rmi_cli.specs.Answer.{Answers, AnswersExactly, answer_setup};
 ghost use Rattle.rmi_cli.specs.Command.{AskFor};
 ghost use Rattle.rmi_cli.specs.Line.{status_of_run};
 ghost use Rattle.rmi_cli.specs.Replayed.{ReplaysInput};
+ghost use Rattle.rmi_cli.specs.Shown.{ShowsInput};
 ghost use Rattle.rmi_cli.specs.declared.words.Command.{Command as Commands};
 
 use crate::end::RunEnd;
 use crate::host::Host;
 use crate::journal_input::replay_input;
+use crate::stream_input::show_input;
 use crate::words::{Command, Words};
 use call_dispatch::end::ConnEnd;
 use call_dispatch::serve::serve_connection;
@@ -57,6 +59,11 @@ pub fn run<I: Source, O: Sink, E: Sink>(
         (halves I.left O.held host.old.input host.old.output)
         (halves I.left O.held host.new.input host.new.output) result }
 
+    // `show` takes the whole input as a stream, and writes the text of its graph, or says at which fault reading it stops.
+    ensures show { AskFor words.now Command.Show → ShowsInput
+        (halves I.left O.held host.old.input host.old.output)
+        (halves I.left O.held host.new.input host.new.output) result }
+
     // The outside's failures.
     ensures read_fault { result ≡ 3 → Rose (I.faults host.old.input) (I.faults host.new.input) }
     ensures write_fault { result ≡ 4 → Rose (O.faults host.old.output) (O.faults host.new.output) }
@@ -68,6 +75,10 @@ pub fn run<I: Source, O: Sink, E: Sink>(
         }
         Some(Command::Replay) => {
             let end = replay_input(alloc, &mut host.input, &mut host.output);
+            told(alloc, &mut host.errors, end)
+        }
+        Some(Command::Show) => {
+            let end = show_input(alloc, &mut host.input, &mut host.output);
             told(alloc, &mut host.errors, end)
         }
         None => {

@@ -24,6 +24,8 @@ pub enum Command {
     Answer,
     /// `replay`: print the outline of the history that the input spells as a journal.
     Replay,
+    /// `show`: print the text of the graph that the input spells as a stream.
+    Show,
 }
 
 impl Words {
@@ -46,6 +48,8 @@ impl Words {
             Some(Command::Answer)
         } else if self.are("replay") {
             Some(Command::Replay)
+        } else if self.are("show") {
+            Some(Command::Show)
         } else {
             None
         }

@@ -1,6 +1,6 @@
 use Rattle.std.proofs.Common.{inl, inr}
 use Rattle.rmi_cli.proofs.Exactly.{status_settles, no_line}
-use Rattle.rmi_cli.specs.declared.words.Command.TheVariants.{Answer, Replay}
+use Rattle.rmi_cli.specs.declared.words.Command.TheVariants.{Answer, Replay, Show}
 use Rattle.rmi_cli.proofs.run.run.Goals as goal
 
 pub returns-in-Some-Answer-clause-exact : goal.returns-in-Some-Answer-clause-exact
@@ -17,3 +17,6 @@ returns-in-None-clause-exact g c is = absurd (c.in-None.ensures.none Answer is)
 
 pub returns-in-None-clause-replay : goal.returns-in-None-clause-replay
 returns-in-None-clause-replay g c is = absurd (c.in-None.ensures.none Replay is)
+
+pub returns-in-None-clause-show : goal.returns-in-None-clause-show
+returns-in-None-clause-show g c is = absurd (c.in-None.ensures.none Show is)

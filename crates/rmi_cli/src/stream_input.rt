@@ -1,0 +1,66 @@
+//! `show` over the program's input and output.
+ghost use Rattle.std.specs.Prelude.{◌≡◌, ◌≢◌, ◌≤◌, ◌<◌, length, List, ℕ, Some, IfOk, IfErr};
+ghost use Rattle.wire_io.specs.Wire.{Rose};
+ghost use Rattle.ser_read.specs.Here.{Caused};
+ghost use Rattle.call_dispatch.specs.Progress.{Halves, halves};
+ghost use Rattle.rmi_cli.specs.Line.{status_of_run};
+ghost use Rattle.rmi_cli.specs.Shown.{TakesGraph, IsFaultOf, ShowEnds};
+
+use crate::end::RunEnd;
+use graph_text::graph_text;
+use ser_read::{StreamFault, read_to_end};
+use ser_values::Graph;
+use std::alloc::Global;
+use wire_io::pull::Pull;
+use wire_io::put::put_all;
+use wire_io::sink::Sink;
+use wire_io::source::Source;
+
+/// How many bytes a stream has at most.
+pub const STREAM_BYTES: u64 = 16_777_216;
+
+/// Takes the whole input as a stream, and writes the text of its graph.
+pub fn show_input<S: Source, K: Sink>(alloc: Global, source: &mut S, sink: &mut K) -> RunEnd
+    ensures ends { ShowEnds (halves S.left K.held source.old sink.old) (halves S.left K.held source.new sink.new) result }
+    ensures known { status_of_run result ≢ 1 }
+    ensures read_fault { status_of_run result ≡ 3 → Rose (S.faults source.old) (S.faults source.new) }
+    ensures write_fault { status_of_run result ≡ 4 → Rose (K.faults sink.old) (K.faults sink.new) }
+{
+    let graph = match read_input(alloc, source) {
+        Ok(graph) => graph,
+        Err(fault) => return RunEnd::NotShown(fault),
+    };
+    let text = match graph_text(alloc, &graph) {
+        Ok(text) => text,
+        Err(_) => return RunEnd::OutOfMemory,
+    };
+    match put_all(sink, text.as_slice()) {
+        Ok(()) => RunEnd::Done,
+        Err(_) => RunEnd::WriteFault,
+    }
+}
+
+/// Reads the whole input as a stream of at most so many bytes.
+fn read_input<S: Source>(alloc: Global, source: &mut S) -> Result<Graph, StreamFault>
+    ensures cause { Caused (S.faults source.old) (S.faults source.new) result }
+    ensures taken { IfOk result (λ graph. TakesGraph (S.left source.old) (S.left source.new) graph.nodes graph.items) }
+    ensures fault { IfErr result (IsFaultOf (S.left source.old)) }
+{
+    let mut pull = Pull::new(source);
+    read_marked(alloc, &mut pull)
+}
+
+/// Reads a stream of at most so many bytes from a Pull at its first byte.
+fn read_marked<S: Source>(
+    alloc: Global,
+    pull: &mut Pull<'_, S>,
+) -> Result<Graph, StreamFault>
+    requires { pull.old.at ≡ 0 }
+    ensures lent { pull.new.source.ghost_name ≡ pull.old.source.ghost_name }
+    ensures cause { Caused (S.faults pull.old.source.now) (S.faults pull.new.source.now) result }
+    ensures taken { IfOk result (λ graph. TakesGraph (S.left pull.old.source.now) (S.left pull.new.source.now) graph.nodes graph.items) }
+    ensures fault { IfErr result (IsFaultOf (S.left pull.old.source.now)) }
+{
+    pull.mark(STREAM_BYTES);
+    read_to_end(alloc, pull)
+}

@@ -1,0 +1,238 @@
+-- Blocks and references one after the other, up to the end of an annotation.
+use Rattle.std.proofs.Common.{◌≡◌, ℕ, if◌then◌else◌, ◌^◌, suc, ◌+◌, Bool, true, false, ◌&&◌, nat_eq, List, [], ◌∷◌, ◌++◌, length, Result, Ok, Err, refl, sym, ap, subst, ◌∙◌, append_assoc, length-append, arith}
+use Rattle.class_desc.specs.declared.slot.Slot.{Slot}
+use Rattle.class_desc.specs.declared.slot.Item.{Item}
+use Rattle.class_desc.specs.declared.slot.Item.TheVariants as items
+use Rattle.wire_io.specs.Pulled.{Place, Takes}
+use Rattle.ser_values.specs.Reading.{◌>>=◌, Fault, Progress, Plain, Step, take_at, size_at, byte_at, blocks_at, items_at}
+use Rattle.ser_values.specs.Spelled.{joined}
+use Rattle.std.proofs.lemmas.List.{append-nil}
+use Rattle.std.specs.Int.{w32}
+use Rattle.wire_io.proofs.Pulling.{takes_nothing, takes_more}
+use Rattle.ser_read.specs.declared.fault.StreamFault.{StreamFault}
+use Rattle.ser_read.specs.Here.{Fails, AreBytes, Reads}
+use Rattle.ser_read.proofs.Steps.{Leads, bytes_more, fails_then, fails_of}
+use Rattle.ser_read.proofs.Bytes.{ok_is, none}
+use Rattle.ser_read.specs.Named.{item_at, added}
+use Rattle.ser_read.proofs.Joins.{added_is}
+
+abbrev pub Items : Type 0
+Items = Result (List Item × Progress × List ℕ) Fault
+
+-- items behind those that were read before
+unfoldable pub added_all : List Item → List Item → List Item
+added_all before [] = before
+added_all before (i ∷ is) = added_all (added before i) is
+
+abbrev pub after_all : List Item → Items → Items
+after_all before read = read >>= λ x. Ok (added_all before x.0, x.1, x.2)
+
+-- Bytes were taken, and what reads the items after those that were read, reads all. Each item took a byte at least.
+pub record Slack (p q : Place) (inner : ℕ → Step Slot) (within : Bool) (first now : Progress) (is : List Item) : Type 0 where
+  pub taken : List ℕ
+  pub bytes : AreBytes taken
+  pub takes : Takes p q taken
+  pub spare : ℕ
+  pub reads : (rest : List ℕ) → items_at (q.at + length rest) (inner (q.at + length rest)) within first (taken ++ rest) ≡ after_all is (blocks_at (q.at + length rest) (inner (q.at + length rest)) within (suc (spare + length rest)) now rest)
+
+added_joined : (xs ys : List Item) → added_all (joined xs) ys ≡ joined (xs ++ ys)
+unfolding added_all
+added_joined xs [] = ap joined (sym (append-nil xs))
+added_joined xs (i ∷ is) = ap (λ (b : List Item). added_all b is) (added_is xs i) ∙ added_joined (xs ++ i ∷ []) is ∙ ap joined (append_assoc xs (i ∷ []) is)
+
+pub slack_start : (p : Place) (inner : ℕ → Step Slot) (within : Bool) (first : Progress) → Slack p p inner within first first []
+unfolding items_at
+slack_start p inner within first = record {
+  taken = [];
+  bytes = tt;
+  takes = takes_nothing p;
+  spare = 0;
+  reads = λ rest. let k : 0 + length rest ≡ length rest = omega arith in rw k (go (blocks_at (p.at + length rest) (inner (p.at + length rest)) within (suc (length rest)) first rest));
+}
+  where
+    go : (r : Items) → ◌>>=◌ {B = List Item × Progress × List ℕ} r (λ x. Ok (joined x.0, x.1, x.2)) ≡ after_all [] r
+    go (Ok x) = ap (λ (is : List Item). Ok (is, x.1, x.2)) (sym (added_joined [] x.0))
+    go (Err e) = refl
+
+regroup : (is : List Item) (i : Item) (r : Items) → after_all is (r >>= λ x. Ok (i ∷ x.0, x.1, x.2)) ≡ after_all (added is i) r
+unfolding added_all
+regroup is i (Ok x) = refl
+regroup is i (Err e) = refl
+
+abbrev OneItem : Type 0
+OneItem = Result (Item × Progress × List ℕ) Fault
+
+abbrev typed : OneItem → OneItem
+typed r = r
+
+-- the same item, nodes and bytes
+ends_as : (is : List Item) (end : ℕ) (inner : Step Slot) (within : Bool) (most : ℕ) (i j : Item) (now later : Progress) (bs rest : List ℕ) → typed (Ok (i, now, bs)) ≡ Ok (j, later, rest)
+    → after_all (added is i) (blocks_at end inner within most now bs) ≡ after_all (added is j) (blocks_at end inner within most later rest)
+ends_as is end inner within most i j now later bs rest e =
+    let t : (i, now, bs) ≡ (j, later, rest) = ok_is (i, now, bs) (j, later, rest) (typed (Ok (i, now, bs))) refl e in
+    ap (λ (x : Item × Progress × List ℕ). after_all (added is x.0) (blocks_at end inner within most x.1 x.2)) t
+
+abbrev block_item : Progress → Plain (List ℕ) → OneItem
+block_item now r = r >>= λ p. Ok (items.Bytes p.0, now, p.1)
+
+abbrev sized_item : Progress → Plain ℕ → OneItem
+sized_item now r = r >>= λ n. block_item now (take_at n.0 n.1)
+
+abbrev ref_item : Result (Slot × Progress × List ℕ) Fault → OneItem
+ref_item r = r >>= λ s. Ok (items.Ref s.0, s.1, s.2)
+
+abbrev cons : Item → Items → Items
+cons i r = r >>= λ x. Ok (i ∷ x.0, x.1, x.2)
+
+abbrev block_more : (Progress → List ℕ → Items) → Progress → Plain (List ℕ) → Items
+block_more more now r = r >>= λ p. cons (items.Bytes p.0) (more now p.1)
+
+abbrev sized_more : (Progress → List ℕ → Items) → Progress → Plain ℕ → Items
+sized_more more now r = r >>= λ n. block_more more now (take_at n.0 n.1)
+
+abbrev ref_more : (Progress → List ℕ → Items) → Result (Slot × Progress × List ℕ) Fault → Items
+ref_more more r = r >>= λ s. cons (items.Ref s.0) (more s.1 s.2)
+
+item_is : (end : ℕ) (ref : Step Slot) (c : ℕ) (now : Progress) (bs : List ℕ) → item_at end ref c now bs ≡ (if nat_eq c 0x77 then sized_item now (byte_at bs) else (if nat_eq c 0x7A then sized_item now (size_at end w32 (2 ^ 31) bs) else ref_item (ref now bs)))
+unfolding item_at
+item_is end ref c now bs = refl
+
+blocks_is : (end : ℕ) (inner : Step Slot) (within : Bool) (most c : ℕ) (now : Progress) (bs : List ℕ) → (within && nat_eq c 0x78) ≡ false → blocks_at end inner within (suc most) now (c ∷ bs)
+    ≡ (if nat_eq c 0x77 then sized_more (blocks_at end inner within most) now (byte_at bs) else (if nat_eq c 0x7A then sized_more (blocks_at end inner within most) now (size_at end w32 (2 ^ 31) bs) else ref_more (blocks_at end inner within most) (inner now (c ∷ bs))))
+unfolding blocks_at
+blocks_is end inner within most c now bs other = rw other refl
+
+-- one item more, behind its code
+pub block_step : (end : ℕ) (inner : Step Slot) (within : Bool) (most c : ℕ) (is : List Item) (now : Progress) (bs : List ℕ) (ref : Step Slot) (i : Item) (later : Progress) (rest : List ℕ)
+    → (within && nat_eq c 0x78) ≡ false → inner now (c ∷ bs) ≡ ref now bs → item_at end ref c now bs ≡ Ok (i, later, rest)
+    → after_all is (blocks_at end inner within (suc most) now (c ∷ bs)) ≡ after_all (added is i) (blocks_at end inner within most later rest)
+block_step end inner within most c is now bs ref i later rest other same h =
+    ap (after_all is) (blocks_is end inner within most c now bs other ∙ ap (λ (r : Result (Slot × Progress × List ℕ) Fault). if nat_eq c 0x77 then sized_more more now (byte_at bs) else (if nat_eq c 0x7A then sized_more more now (size_at end w32 (2 ^ 31) bs) else ref_more more r)) same)
+    ∙ go (nat_eq c 0x77) (nat_eq c 0x7A) (sym (item_is end ref c now bs) ∙ h)
+  where
+    more : Progress → List ℕ → Items
+    more = blocks_at end inner within most
+
+    block : (r : Plain (List ℕ)) → block_item now r ≡ Ok (i, later, rest) → after_all is (block_more more now r) ≡ after_all (added is i) (more later rest)
+    block (Ok p) e = regroup is (items.Bytes p.0) (more now p.1) ∙ ends_as is end inner within most _ _ _ _ _ _ e
+    block (Err f) e = absurd cc
+
+    two : (r : Plain ℕ) → sized_item now r ≡ Ok (i, later, rest) → after_all is (sized_more more now r) ≡ after_all (added is i) (more later rest)
+    two (Ok n) e = block (take_at n.0 n.1) e
+    two (Err f) e = absurd cc
+
+    one : (r : Result (Slot × Progress × List ℕ) Fault) → ref_item r ≡ Ok (i, later, rest) → after_all is (ref_more more r) ≡ after_all (added is i) (more later rest)
+    one (Ok s) e = regroup is (items.Ref s.0) (more s.1 s.2) ∙ ends_as is end inner within most _ _ _ _ _ _ e
+    one (Err f) e = absurd cc
+
+    go : (a b : Bool) → (if a then sized_item now (byte_at bs) else (if b then sized_item now (size_at end w32 (2 ^ 31) bs) else ref_item (ref now bs))) ≡ Ok (i, later, rest)
+        → after_all is (if a then sized_more more now (byte_at bs) else (if b then sized_more more now (size_at end w32 (2 ^ 31) bs) else ref_more more (ref now bs))) ≡ after_all (added is i) (more later rest)
+    go true b e = two (byte_at bs) e
+    go false true e = two (size_at end w32 (2 ^ 31) bs) e
+    go false false e = one (ref now bs) e
+
+-- ---- the loop
+
+one_byte : (taken : List ℕ) (c : ℕ) → ((rest : List ℕ) → byte_at (taken ++ rest) ≡ Ok (c, rest)) → taken ≡ c ∷ []
+one_byte [] c h = absurd (let e = h [] in cc)
+one_byte (b ∷ taken) c h =
+    let e : (b, taken ++ []) ≡ (c, []) = ok_is _ _ (byte_at ((b ∷ taken) ++ [])) refl (h []) in
+    let head : b ≡ c = ap (λ (x : ℕ × List ℕ). x.0) e in
+    let tail : taken ++ [] ≡ [] = ap (λ (x : ℕ × List ℕ). x.1) e in
+    rw (head, sym (append-nil taken) ∙ tail) refl
+
+pub slack_leads : {p q : Place} {inner : ℕ → Step Slot} {within : Bool} {first now : Progress} {is : List Item} (s : Slack p q inner within first now is)
+    → Leads p q (λ end. items_at end (inner end) within first) (λ end bs. after_all is (blocks_at end (inner end) within (suc (s.spare + length bs)) now bs))
+slack_leads s = record { taken = s.taken; bytes = s.bytes; takes = s.takes; is = s.reads }
+
+pub slack_next : {p q m r : Place} {inner : ℕ → Step Slot} {within : Bool} (ref : ℕ → Step Slot) {first now later : Progress} {is : List Item} {c : ℕ} {i : Item}
+    → Slack p q inner within first now is → Reads q m (λ end. byte_at) (λ rest. (c, rest)) → Reads m r (λ end. item_at end (ref end) c now) (λ rest. (i, later, rest))
+    → (within && nat_eq c 0x78) ≡ false → ((end : ℕ) (bs : List ℕ) → end ≡ q.at + suc (length bs) → inner end now (c ∷ bs) ≡ ref end now bs) → Slack p r inner within first later (added is i)
+slack_next {p} {q} {m} {r} {inner} {within} ref {first} {now} {later} {is} {c} {i} s a b other same =
+    let one : a.taken ≡ c ∷ [] = one_byte a.taken c a.is in
+    let len : length a.taken ≡ 1 = ap (λ (x : List ℕ). length x) one in
+    record {
+      taken = s.taken ++ (a.taken ++ b.taken);
+      bytes = bytes_more s.taken (a.taken ++ b.taken) s.bytes (bytes_more a.taken b.taken a.bytes b.bytes);
+      takes = takes_more p q r s.taken (a.taken ++ b.taken) s.takes (takes_more q m r a.taken b.taken a.takes b.takes);
+      spare = s.spare + length b.taken;
+      reads = λ rest.
+          let end = r.at + length rest in
+          let whole : (s.taken ++ (a.taken ++ b.taken)) ++ rest ≡ s.taken ++ (c ∷ (b.taken ++ rest)) =
+          append_assoc s.taken (a.taken ++ b.taken) rest ∙ ap (λ (x : List ℕ). s.taken ++ x) (append_assoc a.taken b.taken rest ∙ ap (λ (x : List ℕ). x ++ (b.taken ++ rest)) one) in
+          let ends : r.at + length rest ≡ q.at + length (c ∷ (b.taken ++ rest)) = omega (arith, len, a.takes.at, b.takes.at, length-append b.taken rest) in
+          let here : r.at + length rest ≡ q.at + suc (length (b.taken ++ rest)) = ends in
+          let first_is = rw (← ends) at (s.reads (c ∷ (b.taken ++ rest))) in
+          let mid : r.at + length rest ≡ m.at + length (b.taken ++ rest) = omega (arith, b.takes.at, length-append b.taken rest) in
+          let most : s.spare + length (c ∷ (b.taken ++ rest)) ≡ suc (s.spare + length b.taken + length rest) = omega (arith, length-append b.taken rest) in
+          rw whole (first_is ∙ block_step end (inner end) within (s.spare + length (c ∷ (b.taken ++ rest))) c is now (b.taken ++ rest) (ref end) i later rest other (same end (b.taken ++ rest) here) (b.is rest) ∙ ap (λ n. after_all (added is i) (blocks_at end (inner end) within n later rest)) most);
+    }
+
+pub slack_more : {p q m r : Place} {inner : ℕ → Step Slot} (ref : ℕ → Step Slot) {first now later : Progress} {is : List Item} {c : ℕ} {i : Item}
+    → Slack p q inner true first now is → Reads q m (λ end. byte_at) (λ rest. (c, rest)) → Reads m r (λ end. item_at end (ref end) c now) (λ rest. (i, later, rest))
+    → nat_eq c 0x78 ≡ false → ((end : ℕ) (bs : List ℕ) → end ≡ q.at + suc (length bs) → inner end now (c ∷ bs) ≡ ref end now bs) → Slack p r inner true first later (added is i)
+slack_more ref s a b other same = slack_next {within = true} ref s a b other same
+
+pub slack_end : {p q m : Place} {inner : ℕ → Step Slot} {first now : Progress} {is : List Item} {c : ℕ}
+    → Slack p q inner true first now is → Reads q m (λ end. byte_at) (λ rest. (c, rest)) → c ≡ 0x78 → Reads p m (λ end. items_at end (inner end) true first) (λ rest. (is, now, rest))
+unfolding blocks_at added_all
+slack_end {p} {q} {m} {inner} {first} {now} {is} {c} s a h =
+    let one : a.taken ≡ c ∷ [] = one_byte a.taken c a.is in
+    let len : length a.taken ≡ 1 = ap (λ (x : List ℕ). length x) one in
+    record {
+      taken = s.taken ++ a.taken;
+      bytes = bytes_more s.taken a.taken s.bytes a.bytes;
+      takes = takes_more p q m s.taken a.taken s.takes a.takes;
+      is = λ rest.
+          let ends : m.at + length rest ≡ q.at + length (c ∷ rest) = omega (arith, len, a.takes.at) in
+          let whole : (s.taken ++ a.taken) ++ rest ≡ s.taken ++ (c ∷ rest) = append_assoc s.taken a.taken rest ∙ ap (λ (x : List ℕ). s.taken ++ (x ++ rest)) one in
+          let first_is = rw (← ends) at (s.reads (c ∷ rest)) in
+          rw whole (first_is ∙ rw h refl);
+    }
+
+-- where the code is wanting
+pub code_fails : (after e : StreamFault) (end : ℕ) (inner : Step Slot) (most : ℕ) (now : Progress) (is : List Item) (bs : List ℕ) → Fails after e (byte_at bs) → Fails after e (after_all is (blocks_at end inner true (suc most) now bs))
+unfolding blocks_at
+code_fails after e end inner most now is [] h = fails_then after e (byte_at []) (λ (x : ℕ × List ℕ). Ok ([], now, x.1)) h
+code_fails after e end inner most now is (b ∷ bs) h = none after e (byte_at (b ∷ bs)) (b, bs) _ refl h
+
+-- where an item is wanting
+pub item_fails_in : (after e : StreamFault) (end : ℕ) (inner : Step Slot) (within : Bool) (most c : ℕ) (is : List Item) (now : Progress) (bs : List ℕ) (ref : Step Slot)
+    → (within && nat_eq c 0x78) ≡ false → inner now (c ∷ bs) ≡ ref now bs → Fails after e (item_at end ref c now bs) → Fails after e (after_all is (blocks_at end inner within (suc most) now (c ∷ bs)))
+item_fails_in after e end inner within most c is now bs ref other same h =
+    subst (λ r. Fails after e (after_all is r)) (sym (blocks_is end inner within most c now bs other ∙ ap (λ (r : Result (Slot × Progress × List ℕ) Fault). if nat_eq c 0x77 then sized_more more now (byte_at bs) else (if nat_eq c 0x7A then sized_more more now (size_at end w32 (2 ^ 31) bs) else ref_more more r)) same))
+    (behind _ (go (nat_eq c 0x77) (nat_eq c 0x7A) (subst (λ r. Fails after e r) (item_is end ref c now bs) h)))
+  where
+    more : Progress → List ℕ → Items
+    more = blocks_at end inner within most
+
+    behind : (r : Items) → Fails after e r → Fails after e (after_all is r)
+    behind r f = fails_then after e r (λ x. Ok (added_all is x.0, x.1, x.2)) f
+
+    block : (r : Plain (List ℕ)) → Fails after e (block_item now r) → Fails after e (block_more more now r)
+    block (Ok p) f = none after e (block_item now (Ok p)) (items.Bytes p.0, now, p.1) _ refl f
+    block (Err g) f = fails_of after e g (block_item now (Err g)) (block_more more now (Err g)) refl refl f
+
+    two : (r : Plain ℕ) → Fails after e (sized_item now r) → Fails after e (sized_more more now r)
+    two (Ok n) f = block (take_at n.0 n.1) f
+    two (Err g) f = fails_of after e g (sized_item now (Err g)) (sized_more more now (Err g)) refl refl f
+
+    one : (r : Result (Slot × Progress × List ℕ) Fault) → Fails after e (ref_item r) → Fails after e (ref_more more r)
+    one (Ok s) f = none after e (ref_item (Ok s)) (items.Ref s.0, s.1, s.2) _ refl f
+    one (Err g) f = fails_of after e g (ref_item (Err g)) (ref_more more (Err g)) refl refl f
+
+    go : (a b : Bool) → Fails after e (if a then sized_item now (byte_at bs) else (if b then sized_item now (size_at end w32 (2 ^ 31) bs) else ref_item (ref now bs)))
+        → Fails after e (if a then sized_more more now (byte_at bs) else (if b then sized_more more now (size_at end w32 (2 ^ 31) bs) else ref_more more (ref now bs)))
+    go true b f = two (byte_at bs) f
+    go false true f = two (size_at end w32 (2 ^ 31) bs) f
+    go false false f = one (ref now bs) f
+
+pub item_fails : (after e : StreamFault) (end : ℕ) (inner : Step Slot) (most c : ℕ) (is : List Item) (now : Progress) (bs : List ℕ) (ref : Step Slot)
+    → nat_eq c 0x78 ≡ false → inner now (c ∷ bs) ≡ ref now bs → Fails after e (item_at end ref c now bs) → Fails after e (after_all is (blocks_at end inner true (suc most) now (c ∷ bs)))
+item_fails after e end inner most c is now bs ref other same h = item_fails_in after e end inner true most c is now bs ref other same h
+
+pub byte_cons : (bs : List ℕ) (c : ℕ) (rest : List ℕ) → byte_at bs ≡ Ok (c, rest) → bs ≡ c ∷ rest
+byte_cons [] c rest h = absurd cc
+byte_cons (b ∷ bs) c rest h =
+    let e : (b, bs) ≡ (c, rest) = ok_is _ _ (byte_at (b ∷ bs)) refl h in
+    ap (λ (x : ℕ × List ℕ). x.0 ∷ x.1) e

@@ -1,0 +1,123 @@
+-- Wants in their order.
+use Rattle.std.proofs.Common.{◌≡◌, ℕ, ◌+◌, ◌-◌, ◌<◌, ◌≤◌, cond, eqb, List, [], ◌∷◌, ◌++◌, length, drop, get_or, Result, Ok, Err, IfOk, refl, sym, ap, subst, ◌∙◌, append_assoc, arith, drop-cons, add-one, length-drop}
+use Rattle.std.proofs.lemmas.List.{append-nil, nil_from_length}
+use Rattle.std.proofs.lemmas.Bool.{eqb-true}
+use Rattle.wire_io.specs.Pulled.{Place, Takes}
+use Rattle.class_desc.specs.declared.slot.Item.{Item}
+use Rattle.ser_values.specs.declared.node.Node.{Node}
+use Rattle.ser_values.specs.declared.graph.Graph.{Graph}
+use Rattle.ser_values.specs.Spelled.{joined}
+use Rattle.ser_values.specs.Reading.{bad, bad_magic, byte_at, magic_at}
+use Rattle.ser_values.proofs.PlainSound as plain
+use Rattle.ser_values.proofs.PlainSound.{bind_ok, passed, ok_is}
+use Rattle.ser_values.proofs.Complete as complete
+use Rattle.ser_read.specs.declared.fault.StreamFault.{StreamFault}
+use Rattle.ser_read.specs.declared.fault.StreamFault.TheVariants as faults
+use Rattle.ser_read.specs.declared.fault.Large.TheVariants as larges
+use Rattle.ser_read.specs.declared.serving.Want.{Want}
+use Rattle.ser_read.specs.Here.{Reads}
+use Rattle.ser_read.specs.Wants.{WantFault, ◌▸◌, Stand, nothing_read, close_at, want_at, serve, serve_all, wants_at, WantFails, WantGives, WantReads}
+use Rattle.ser_read.specs.Asked.{IsAsked, TakesAsked, InLimits, AnswersAsked}
+use Rattle.ser_read.proofs.Heads.{byte_is}
+use Rattle.ser_read.proofs.Wants.{wants_fail, want_then}
+use Rattle.ser_read.proofs.Served.{lifted_ok, given_is, are}
+use Rattle.ser_read.proofs.Asked.{asked_sound}
+use Rattle.ser_read.proofs.Given.{asked_complete}
+
+abbrev pub Serving : Type 0
+Serving = Result (List Item × Stand × List ℕ) WantFault
+
+-- what was given before, and what is still given
+abbrev pub given_before : List Item → Serving → Serving
+given_before front read = read ▸ λ x. Ok (front ++ x.0, x.1, x.2)
+
+regroup : (front : List Item) (x : Item) (read : Serving) → given_before front (read ▸ λ xs. Ok (x ∷ xs.0, xs.1, xs.2)) ≡ given_before (front ++ x ∷ []) read
+regroup front x (Ok y) = ap (λ (xs : List Item). Ok (xs, y.1, y.2)) (sym (append_assoc front (x ∷ []) y.0))
+regroup front x (Err f) = refl
+
+pub serve_next : (end : ℕ) (front : List Item) (ws : List Want) (i : ℕ) (d : Want) (s : Stand) (bs : List ℕ) (x : Item) (later : Stand) (rest : List ℕ) → i < length ws → want_at end (get_or ws i d) s bs ≡ Ok (x, later, rest)
+    → given_before front (serve end (drop i ws) s bs) ≡ given_before (front ++ x ∷ []) (serve end (drop (i + 1) ws) later rest)
+unfolding serve
+serve_next end front ws i d s bs x later rest lt h =
+    let k : drop i ws ≡ get_or ws i d ∷ drop (i + 1) ws = rw (add-one, drop-cons ws i d) refl in
+    rw (k, h) (regroup front x (serve end (drop (i + 1) ws) later rest))
+
+pub serve_stops : (after e : StreamFault) (end : ℕ) (front : List Item) (ws : List Want) (i : ℕ) (d : Want) (s : Stand) (bs : List ℕ) → i < length ws → WantFails after e (want_at end (get_or ws i d) s bs) → WantFails after e (given_before front (serve end (drop i ws) s bs))
+unfolding serve
+serve_stops after e end front ws i d s bs lt h =
+    let k : drop i ws ≡ get_or ws i d ∷ drop (i + 1) ws = rw (add-one, drop-cons ws i d) refl in
+    subst (λ ws. WantFails after e (given_before front (serve end ws s bs))) (sym k) (wants_fail after e _ _ (wants_fail after e (want_at end (get_or ws i d) s bs) _ h))
+
+pub serve_end : (end : ℕ) (front : List Item) (ws : List Want) (i : ℕ) (s : Stand) (bs : List ℕ) → length ws ≤ i → given_before front (serve end (drop i ws) s bs) ≡ Ok (front, s, bs)
+unfolding serve
+serve_end end front ws i s bs le = let k : drop i ws ≡ [] = nil_from_length (drop i ws) (omega (arith, length-drop i ws)) in rw k (ap (λ (xs : List Item). Ok (xs, s, bs)) (append-nil front))
+
+pub serve_start : (end : ℕ) (ws : List Want) (s : Stand) (bs : List ℕ) → serve end ws s bs ≡ given_before [] (serve end (drop 0 ws) s bs)
+serve_start end ws s bs = same (serve end ws s bs)
+  where
+    same : (r : Serving) → r ≡ given_before [] r
+    same (Ok x) = refl
+    same (Err f) = refl
+
+-- ---- the whole stream
+
+pub close_reads : {p q r : Place} (ws : List Want) (answers : List Item) (s : Stand) (nodes : List Node) (is : List Item)
+    → Reads p q (λ end bs. magic_at end (0xAC ∷ 0xED ∷ 0x00 ∷ 0x05 ∷ []) bs) (λ rest. rest) → WantReads q r (λ end. serve end ws nothing_read) (λ rest. (answers, s, rest)) → close_at r.at s ≡ Ok (nodes, is)
+    → WantReads p r (λ end. wants_at end ws) (λ rest. (answers, nodes, is, rest))
+unfolding wants_at serve_all
+close_reads {p} {q} {r} ws answers s nodes is a b closed = want_then (λ end. serve_all end ws) a (record {
+  taken = b.taken;
+  bytes = b.bytes;
+  takes = b.takes;
+  is = λ rest. let k : r.at + length rest - length rest ≡ r.at = omega arith in rw (b.is rest) (rw k (rw closed refl));
+})
+
+magic_is : (end : ℕ) (ws bs rest : List ℕ) → magic_at end ws bs ≡ Ok rest → bs ≡ ws ++ rest
+unfolding magic_at
+magic_is end [] bs rest e = ok_is bs rest e
+magic_is end (w ∷ ws) bs rest e =
+    let a = bind_ok (byte_at bs) (λ b. cond (eqb b.0 w) (magic_at end ws b.1) (Err (bad bad_magic (end - length bs)))) rest e in
+    let p = passed (eqb a.0.0 w) (magic_at end ws a.0.1) (bad bad_magic (end - length bs)) rest a.2 in
+    byte_is bs a.0 a.1 ∙ (ap (λ z. z ∷ a.0.1) (eqb-true a.0.0 w p.0) ∙ ap (λ (l : List ℕ). w ∷ l) (magic_is end ws a.0.1 rest p.1))
+
+-- what was read is what was asked
+pub takes_asked : {p q : Place} (ws : List Want) (answers : List Item) (nodes : List Node) (is : List Item) → WantReads p q (λ end. wants_at end ws) (λ rest. (answers, nodes, is, rest)) → TakesAsked p q ws answers nodes is
+unfolding wants_at
+takes_asked {p} {q} ws answers nodes is r =
+    let end = q.at + 0 in
+    let head : List ℕ = 0xAC ∷ 0xED ∷ 0x00 ∷ 0x05 ∷ [] in
+    let one : wants_at end ws r.taken ≡ Ok (answers, nodes, is, []) = ap (λ (l : List ℕ). wants_at end ws l) (sym (append-nil r.taken)) ∙ r.is [] in
+    let a = lifted_ok (magic_at end head r.taken) (serve_all end ws) (answers, nodes, is, []) one in
+    let m = magic_is end head r.taken a.0 a.1 in
+    let left = plain.bytes_left r.taken head a.0 m (are r.taken r.bytes) in
+    let s = asked_sound end ws a.0 (answers, nodes, is, []) a.2 left in
+    record { bytes = a.0; takes = subst (λ (l : List ℕ). Takes p q l) m r.takes; asked = s.0; contents_are = s.1 }
+
+abbrev Whole : Type 0
+Whole = List Item × List Node × List Item × List ℕ
+
+-- what is asked is read, unless the outside fails
+pub gives_asked : (after : StreamFault) (end : ℕ) (ws : List Want) (answers : List Item) (nodes : List Node) (bytes rest now coming : List ℕ) (result : Result (List Item × Graph) StreamFault)
+    → WantGives {Y = Whole} after (λ x. (x.0, x.1.nodes, x.1.items, now)) result (wants_at end ws coming) → coming ≡ 0xAC ∷ 0xED ∷ 0x00 ∷ 0x05 ∷ bytes → InLimits nodes → IsAsked ws answers nodes bytes rest → AnswersAsked answers nodes rest now result
+unfolding wants_at magic_at
+gives_asked after end ws answers nodes bytes rest now coming result h here limits asked =
+    let given : complete.Given nodes = record { few = limits.few; parts = limits.parts; numbers = limits.numbers; units = limits.units } in
+    let read : wants_at end ws coming ≡ Ok (answers, nodes, joined answers, rest) = ap (λ (l : List ℕ). wants_at end ws l) here ∙ asked_complete end ws answers nodes bytes rest given asked in
+    go result h read
+  where
+    go : (result : Result (List Item × Graph) StreamFault) → WantGives {Y = Whole} after (λ x. (x.0, x.1.nodes, x.1.items, now)) result (wants_at end ws coming) → wants_at end ws coming ≡ Ok (answers, nodes, joined answers, rest) → AnswersAsked answers nodes rest now result
+    go (Ok x) h read =
+        let same = given_is (x.0, x.1.nodes, x.1.items, now) (answers, nodes, joined answers, rest) (sym h ∙ read) in
+        (ap (λ (t : Whole). t.0) same, ap (λ (t : Whole). t.1) same, ap (λ (t : Whole). t.2) same, ap (λ (t : Whole). t.3) same)
+    go (Err faults.OutOfMemory) h read = tt
+    go (Err faults.ReadFault) h read = tt
+    go (Err (faults.Bad kind at)) h read = absurd (let e = sym h ∙ read in cc)
+    go (Err (faults.TooLarge larges.Bytes at)) h read = absurd (let e = sym h.0 ∙ read in cc)
+    go (Err (faults.TooLarge larges.Nodes at)) h read = absurd (let e = sym h ∙ read in cc)
+    go (Err (faults.TooLarge larges.Depth at)) h read = absurd (let e = sym h ∙ read in cc)
+    go (Err (faults.Truncated at)) h read = absurd (let e = sym h.0 ∙ read in cc)
+
+pub taken_asked : (p q : Place) (ws : List Want) (result : Result (List Item × Graph) StreamFault) → IfOk result (λ x. WantReads {Y = Whole} p q (λ end. wants_at end ws) (λ rest. (x.0, x.1.nodes, x.1.items, rest)))
+    → IfOk result (λ x. TakesAsked p q ws x.0 x.1.nodes x.1.items)
+taken_asked p q ws (Ok x) h = takes_asked ws x.0 x.1.nodes x.1.items h
+taken_asked p q ws (Err e) h = tt

@@ -1,0 +1,16 @@
+use Rattle.std.proofs.Common.{◌≡◌}
+use Rattle.wire_io.specs.Pulled.{place}
+use Rattle.ser_read.specs.Wants.{run_at}
+use Rattle.ser_read.proofs.Wants.{Leads}
+use Rattle.ser_read.proofs.Runs.{Run, behind}
+use Rattle.ser_read.proofs.block.run.Given as goal
+
+abbrev pub invariant-loop-left : goal.invariant-loop-left
+invariant-loop-left g l =
+    record {
+      lent : l.pull.source.ghost_name ≡ l.fn.pull.source.ghost_name;
+      leads : Leads {Y = Run} (place g.S.Source.left g.S.Source.faults l.fn.pull) (place g.S.Source.left g.S.Source.faults l.pull) (λ end. run_at end l.n l.fn.block) (λ end bs. behind l.bytes (run_at end l.left l.block bs));
+    }
+
+abbrev pub decreases-loop-left : goal.decreases-loop-left
+decreases-loop-left g l = l.left

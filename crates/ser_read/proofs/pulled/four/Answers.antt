@@ -1,0 +1,7 @@
+use Rattle.std.proofs.Common.{refl}
+use Rattle.ser_read.proofs.Steps.{then, done, said}
+use Rattle.ser_read.proofs.Bytes.{four_is}
+use Rattle.ser_read.proofs.pulled.four.Goals as goal
+
+pub returns-clause-reads : goal.returns-clause-reads
+returns-clause-reads g c = rw c.from_be_bytes.ensures (said (λ end bs here. four_is bs) (then _ c.in_ok-a.ensures.reads (then _ c.in_ok-b.ensures.reads (then _ c.in_ok-c.ensures.reads (then _ c.in_ok-d.ensures.reads (done (λ end bs. refl)))))))

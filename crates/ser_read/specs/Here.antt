@@ -1,0 +1,107 @@
+-- What a call that reads from a Pull answers, beside reading as a function on lists.
+use Rattle.std.specs.Prelude.{◌≡◌, ℕ, ◌+◌, ◌-◌, ◌≤◌, ◌<◌, Bool, true, false, List, [], ◌∷◌, ◌++◌, length, take, drop, Option, None, Some, Result, Ok, Err, IfOk}
+use Rattle.std.specs.List.{AllByRecursion}
+use Rattle.wire_io.specs.Wire.{Rose}
+use Rattle.wire_io.specs.Pulled.{Place, place, Takes}
+use Rattle.wire_io.specs.declared.pull.Pull.{Pull}
+use Rattle.ser_read.specs.declared.fault.StreamKind.{StreamKind}
+use Rattle.ser_read.specs.declared.fault.StreamKind.TheVariants as kinds
+use Rattle.ser_read.specs.declared.fault.StreamFault.{StreamFault}
+use Rattle.ser_read.specs.declared.fault.StreamFault.TheVariants.{Bad, TooLarge, Truncated, ReadFault, OutOfMemory}
+use Rattle.ser_read.specs.declared.fault.Large.TheVariants.{Bytes, Nodes, Depth}
+use Rattle.ser_values.specs.Reading.{Fault, short, bad, too_many, too_deep, Kind, bad_magic, bad_code, bad_handle, wrong_handle_kind, bad_desc, bad_utf, negative_length, reset, inner_exception, old_external}
+
+-- ---- the bytes before a Pull, where they are told
+
+-- those to come, up to the message's limit
+abbrev pub coming_at : Option (List ℕ) → ℕ → ℕ → List ℕ
+coming_at None at stop = []
+coming_at (Some bs) at stop = take (stop - at) bs
+
+-- the fault of who wants one byte more: the input ends, or goes on past the limit
+abbrev pub fault_after : List ℕ → ℕ → StreamFault
+fault_after [] at = Truncated at
+fault_after (b ∷ bs) at = TooLarge Bytes at
+
+-- Whether the bytes are told, the position at which they end, and the fault of who wants one more.
+pub record Env : Type 0 where
+  pub told : Bool
+  pub end : ℕ
+  pub after : StreamFault
+
+abbrev pub env_at : Option (List ℕ) → ℕ → ℕ → Env
+env_at None at stop = record { told = false; end = 0; after = Truncated 0 }
+env_at (Some bs) at stop = record { told = true; end = at + length (take (stop - at) bs); after = fault_after (drop (stop - at) bs) (at + length (take (stop - at) bs)) }
+
+unfoldable pub coming : {S : Type 0} → (S → Option (List ℕ)) → Pull S → List ℕ
+coming left p = coming_at (left p.source.now) p.at p.stop
+
+unfoldable pub env : {S : Type 0} → (S → Option (List ℕ)) → Pull S → Env
+env left p = env_at (left p.source.now) p.at p.stop
+
+abbrev pub IsTold : {S : Type 0} → (S → Option (List ℕ)) → Pull S → Type 0
+IsTold left p = (env left p).told ≡ true
+
+-- ---- what is answered
+
+-- A read fault comes only where the count of faults rose, and it never falls.
+abbrev pub Caused : {A : Type 0} → ℕ → ℕ → Result A StreamFault → Type 0
+Caused before after (Ok x) = before ≤ after
+Caused before after (Err ReadFault) = Rose before after
+Caused before after (Err e) = before ≤ after
+
+-- the kind of a fault in the bytes of a stream that is read whole
+abbrev pub kind_of : StreamKind → Kind
+kind_of kinds.BadMagic = bad_magic
+kind_of kinds.BadCode = bad_code
+kind_of kinds.BadHandle = bad_handle
+kind_of kinds.WrongHandleKind = wrong_handle_kind
+kind_of kinds.BadDesc = bad_desc
+kind_of kinds.BadUtf = bad_utf
+kind_of kinds.NegativeLength = negative_length
+kind_of kinds.BlockLeft = bad_code
+kind_of kinds.MissingBlock = bad_code
+kind_of kinds.Reset = reset
+kind_of kinds.InnerException = inner_exception
+kind_of kinds.OldExternal = old_external
+
+-- a kind that comes where a stream is read whole
+abbrev pub IsInBytes : StreamKind → Type 0
+IsInBytes kinds.BlockLeft = ⊥
+IsInBytes kinds.MissingBlock = ⊥
+IsInBytes _ = Unit {0}
+
+-- Reading gives this fault; `after` is the fault of who wants one byte more. Want of memory and failed reads are the outside's.
+abbrev pub Fails : {Y : Type 0} → StreamFault → StreamFault → Result Y Fault → Type 0
+Fails after OutOfMemory read = Unit {0}
+Fails after ReadFault read = Unit {0}
+Fails after (Truncated at) read = (read ≡ Err short) × (after ≡ Truncated at)
+Fails after (TooLarge Bytes at) read = (read ≡ Err short) × (after ≡ TooLarge Bytes at)
+Fails after (TooLarge Nodes at) read = read ≡ Err (too_many at)
+Fails after (TooLarge Depth at) read = read ≡ Err (too_deep at)
+Fails after (Bad kind at) read = (read ≡ Err (bad (kind_of kind) at)) × IsInBytes kind
+
+-- What a call answers, seen by `view`, is what reading gives.
+abbrev pub Gives : {X Y : Type 0} → StreamFault → (X → Y) → Result X StreamFault → Result Y Fault → Type 0
+Gives after view (Ok x) read = read ≡ Ok (view x)
+Gives after view (Err e) read = Fails after e read
+
+-- Where the bytes are told, a call answers what reading gives of those to come: `out` of what is answered and of those that come then.
+-- `read` is told the position at which the bytes end.
+abbrev pub GivesTold : {S X Y : Type 0} → (S → Option (List ℕ)) → Pull S → Pull S → Result X StreamFault → (ℕ → List ℕ → Result Y Fault) → (X → List ℕ → Y) → Type 0
+GivesTold left old new result read out = IsTold left old → Gives (env left old).after (λ x. out x (coming left new)) result (read (env left old).end (coming left old))
+
+-- Each is a number of 8 bits.
+abbrev pub AreBytes : List ℕ → Type 0
+AreBytes bs = AllByRecursion (λ b. b < 256) bs
+
+-- Bytes were taken, and whatever comes after them, reading gives `out` of that.
+pub record Reads {Y : Type 0} (old new : Place) (read : ℕ → List ℕ → Result Y Fault) (out : List ℕ → Y) : Type 0 where
+  pub taken : List ℕ
+  pub bytes : AreBytes taken
+  pub takes : Takes old new taken
+  pub is : (rest : List ℕ) → read (new.at + length rest) (taken ++ rest) ≡ Ok (out rest)
+
+-- Whether the bytes are told or not, what a call answers is read from those that it took.
+abbrev pub ReadsTaken : {S X Y : Type 0} → (S → Option (List ℕ)) → (S → ℕ) → Pull S → Pull S → Result X StreamFault → (ℕ → List ℕ → Result Y Fault) → (X → List ℕ → Y) → Type 0
+ReadsTaken left faults old new result read out = IfOk result (λ x. Reads (place left faults old) (place left faults new) read (out x))

@@ -1,0 +1,14 @@
+pub mod Here
+pub mod Signed
+pub mod Lists
+pub mod Codes
+pub mod Rows
+pub mod Named
+pub mod Chains
+pub mod Tables
+pub mod Whole
+pub mod Words
+pub mod Heads
+pub mod Wants
+pub mod Stands
+pub mod Asked

@@ -1,0 +1,7 @@
+-- The nodes that are being read.
+use Rattle.ser_values.specs.Reading.{Progress}
+use Rattle.ser_read.specs.declared.table.Table.{Table}
+
+-- how far reading has come
+abbrev pub now_of : Table → Progress
+now_of t = record { nodes = t.nodes.items; parts = t.parts }

@@ -1,0 +1,144 @@
+//! Block data in the outermost place.
+ghost use Rattle.std.specs.Prelude.{◌≡◌, ◌-◌, ◌≤◌, ◌<◌, ℕ, OnOk};
+ghost use Rattle.ser_read.specs.Here.{env, Caused, GivesTold, ReadsTaken};
+ghost use Rattle.ser_read.specs.Heads.{one_head, any_head, is_empty, head_at};
+ghost use Rattle.ser_read.specs.Wants.{GivesWant, WantTaken, fault_at, no_block, opened_at, run_at};
+
+use crate::fault::{StreamFault, StreamKind};
+use crate::pieces::bad;
+use crate::pulled::{byte, count, take};
+use mod_utf::list::ByteList;
+use std::alloc::Global;
+use wire_io::pull::Pull;
+use wire_io::source::Source;
+
+/// What a code begins in the outermost place.
+#[derive(Clone, Copy, Debug, PartialEq, Eq)]
+pub(crate) enum Head {
+    /// A block of so many bytes.
+    Block(u32),
+    /// Another code, and its position.
+    Code(u8, u64),
+}
+
+/// What a code at a position begins. A block's length is taken.
+#[tactic(auto, unfolding(crate::specs::Heads::one_head))]
+fn one_head<S: Source>(pull: &mut Pull<'_, S>, code: u8, at: u64) -> Result<Head, StreamFault>
+    ensures lent { pull.new.source.ghost_name ≡ pull.old.source.ghost_name }
+    ensures cause { Caused (S.faults pull.old.source.now) (S.faults pull.new.source.now) result }
+    ensures nears { OnOk result (pull.new.stop - pull.new.at ≤ pull.old.stop - pull.old.at) }
+    ensures env { OnOk result (env S.left pull.new ≡ env S.left pull.old) }
+    ensures gives { GivesTold S.left pull.old pull.new result (λ end. one_head end code at) (λ x rest. (x, rest)) }
+    ensures reads { ReadsTaken S.left S.faults pull.old pull.new result (λ end. one_head end code at) (λ x rest. (x, rest)) }
+{
+    if code == 0x77 {
+        let n = byte(pull)?;
+        Ok(Head::Block(u32::from(n)))
+    } else if code == 0x7A {
+        let n = count(pull)?;
+        Ok(Head::Block(n))
+    } else {
+        Ok(Head::Code(code, at))
+    }
+}
+
+/// What the next code begins.
+#[tactic(auto, unfolding(crate::specs::Heads::any_head), using(crate::proofs::Pulling::here_is))]
+fn any_head<S: Source>(pull: &mut Pull<'_, S>) -> Result<Head, StreamFault>
+    ensures lent { pull.new.source.ghost_name ≡ pull.old.source.ghost_name }
+    ensures cause { Caused (S.faults pull.old.source.now) (S.faults pull.new.source.now) result }
+    ensures nears { OnOk result (pull.new.stop - pull.new.at < pull.old.stop - pull.old.at) }
+    ensures env { OnOk result (env S.left pull.new ≡ env S.left pull.old) }
+    ensures gives { GivesTold S.left pull.old pull.new result (λ end. any_head end) (λ x rest. (x, rest)) }
+    ensures reads { ReadsTaken S.left S.faults pull.old pull.new result (λ end. any_head end) (λ x rest. (x, rest)) }
+{
+    let at = pull.at;
+    let code = byte(pull)?;
+    one_head(pull, code, at)
+}
+
+/// Whether it is an empty block's.
+fn is_empty(head: Head) -> bool
+    ensures { result ≡ is_empty head }
+{
+    match head {
+        Head::Block(n) => n == 0,
+        Head::Code(_, _) => false,
+    }
+}
+
+/// What comes next, empty blocks passed over.
+pub(crate) fn next_head<S: Source>(pull: &mut Pull<'_, S>) -> Result<Head, StreamFault>
+    ensures lent { pull.new.source.ghost_name ≡ pull.old.source.ghost_name }
+    ensures cause { Caused (S.faults pull.old.source.now) (S.faults pull.new.source.now) result }
+    ensures env { OnOk result (env S.left pull.new ≡ env S.left pull.old) }
+    ensures gives { GivesTold S.left pull.old pull.new result (λ end. head_at end) (λ x rest. (x, rest)) }
+    ensures reads { ReadsTaken S.left S.faults pull.old pull.new result (λ end. head_at end) (λ x rest. (x, rest)) }
+{
+    loop {
+        let head = any_head(pull)?;
+        if !is_empty(head) {
+            return Ok(head);
+        }
+    }
+}
+
+/// Why a code does not stand where block data is wanted.
+#[tactic(auto, unfolding(crate::specs::Wants::no_block))]
+fn no_block(code: u8) -> StreamKind
+    ensures { (at : ℕ) → fault_at result at ≡ no_block code at }
+{
+    if code == 0x79 {
+        StreamKind::Reset
+    } else if code == 0x7B {
+        StreamKind::InnerException
+    } else if 0x70 <= code && code <= 0x7E {
+        StreamKind::MissingBlock
+    } else {
+        StreamKind::BadCode
+    }
+}
+
+/// How many bytes of a block are next, at least one, where so many of the present block are left.
+#[tactic(auto, unfolding(crate::specs::Wants::opened_at), using(crate::proofs::Wants::lifted_fails))]
+fn opened<S: Source>(pull: &mut Pull<'_, S>, block: u32) -> Result<u32, StreamFault>
+    ensures lent { pull.new.source.ghost_name ≡ pull.old.source.ghost_name }
+    ensures cause { Caused (S.faults pull.old.source.now) (S.faults pull.new.source.now) result }
+    ensures env { OnOk result (env S.left pull.new ≡ env S.left pull.old) }
+    ensures gives { GivesWant S.left pull.old pull.new result (λ end. opened_at end block) (λ x rest. (x, rest)) }
+    ensures reads { WantTaken S.left S.faults pull.old pull.new result (λ end. opened_at end block) (λ x rest. (x, rest)) }
+{
+    if block > 0 {
+        return Ok(block);
+    }
+    match next_head(pull)? {
+        Head::Block(n) => Ok(n),
+        Head::Code(code, at) => Err(bad(no_block(code), at)),
+    }
+}
+
+/// The next `n` bytes of block data, across blocks, where so many of the present block are left.
+pub(crate) fn run<S: Source>(
+    alloc: Global,
+    pull: &mut Pull<'_, S>,
+    block: &mut u32,
+    n: u32,
+) -> Result<ByteList, StreamFault>
+    ensures lent { pull.new.source.ghost_name ≡ pull.old.source.ghost_name }
+    ensures cause { Caused (S.faults pull.old.source.now) (S.faults pull.new.source.now) result }
+    ensures env { OnOk result (env S.left pull.new ≡ env S.left pull.old) }
+    ensures gives { GivesWant S.left pull.old pull.new result (λ end. run_at end n block.old) (λ x rest. (x, block.new, rest)) }
+    ensures reads { WantTaken S.left S.faults pull.old pull.new result (λ end. run_at end n block.old) (λ x rest. (x, block.new, rest)) }
+{
+    let mut bytes = ByteList::new(alloc);
+    let mut left = n;
+    while left > 0 {
+        let present = opened(pull, *block)?;
+        let more = left.min(present);
+        let piece = take(alloc, pull, u64::from(more))?;
+        bytes.append(piece.as_slice())?;
+        *block = present - more;
+        left -= more;
+    }
+    Ok(bytes)
+}

@@ -1,0 +1,188 @@
+//! Numbers and truth values, each of a fixed number of bytes.
+ghost use Rattle.std.specs.Prelude.{◌≡◌, ◌-◌, ◌≤◌, ◌<◌, OnOk, true};
+ghost use Rattle.std.specs.Int.{w16, w32, w64};
+ghost use Rattle.class_desc.specs.declared.slot.Slot.{Slot};
+ghost use Rattle.class_desc.specs.TypeCode.{is_primitive};
+ghost use Rattle.ser_values.specs.Reading.{Progress, Step, plain, byte_at, number_at, many_at, value_at, elements_at};
+ghost use Rattle.ser_read.specs.Signed.{signed_at, truth_at};
+ghost use Rattle.ser_read.specs.Here.{env, Caused, GivesTold, ReadsTaken};
+
+use crate::fault::StreamFault;
+use crate::pulled::{byte, eight, four, take, two};
+use class_desc::TypeCode;
+use mod_utf::list::{ByteList, Sequence};
+use ser_values::{Value, Values};
+use std::alloc::Global;
+use wire_io::pull::Pull;
+use wire_io::source::Source;
+
+/// What is read from a fixed number of bytes.
+pub(crate) trait Number: Drop {
+    /// Reading it from bytes.
+    ghost read: { Step Self };
+
+    /// The next one.
+    fn pull<S: Source>(pull: &mut Pull<'_, S>) -> Result<Self, StreamFault>
+        ensures lent { pull.new.source.ghost_name ≡ pull.old.source.ghost_name }
+        ensures cause { Caused (S.faults pull.old.source.now) (S.faults pull.new.source.now) result }
+        ensures nears { OnOk result (pull.new.stop - pull.new.at < pull.old.stop - pull.old.at) }
+        ensures env { OnOk result (env S.left pull.new ≡ env S.left pull.old) }
+        ensures gives { (now : Progress) → GivesTold S.left pull.old pull.new result (λ end. read now) (λ x rest. (x, now, rest)) }
+        ensures reads { (now : Progress) → ReadsTaken S.left S.faults pull.old pull.new result (λ end. read now) (λ x rest. (x, now, rest)) };
+}
+
+impl Number for u8 {
+    ghost read = { plain byte_at };
+
+    fn pull<S: Source>(pull: &mut Pull<'_, S>) -> Result<u8, StreamFault> {
+        byte(pull)
+    }
+}
+
+impl Number for u16 {
+    ghost read = { plain (number_at w16) };
+
+    fn pull<S: Source>(pull: &mut Pull<'_, S>) -> Result<u16, StreamFault> {
+        two(pull)
+    }
+}
+
+impl Number for u32 {
+    ghost read = { plain (number_at w32) };
+
+    fn pull<S: Source>(pull: &mut Pull<'_, S>) -> Result<u32, StreamFault> {
+        four(pull)
+    }
+}
+
+impl Number for u64 {
+    ghost read = { plain (number_at w64) };
+
+    fn pull<S: Source>(pull: &mut Pull<'_, S>) -> Result<u64, StreamFault> {
+        eight(pull)
+    }
+}
+
+impl Number for i16 {
+    ghost read = { signed_at w16 };
+
+    fn pull<S: Source>(pull: &mut Pull<'_, S>) -> Result<i16, StreamFault> {
+        Ok(two(pull)?.cast_signed())
+    }
+}
+
+impl Number for i32 {
+    ghost read = { signed_at w32 };
+
+    fn pull<S: Source>(pull: &mut Pull<'_, S>) -> Result<i32, StreamFault> {
+        Ok(four(pull)?.cast_signed())
+    }
+}
+
+impl Number for i64 {
+    ghost read = { signed_at w64 };
+
+    fn pull<S: Source>(pull: &mut Pull<'_, S>) -> Result<i64, StreamFault> {
+        Ok(eight(pull)?.cast_signed())
+    }
+}
+
+impl Number for bool {
+    ghost read = { truth_at };
+
+    fn pull<S: Source>(pull: &mut Pull<'_, S>) -> Result<bool, StreamFault> {
+        Ok(byte(pull)? != 0)
+    }
+}
+
+/// The next `n` numbers.
+fn numbers<T: Number, S: Source>(
+    alloc: Global,
+    pull: &mut Pull<'_, S>,
+    n: u32,
+) -> Result<Sequence<T>, StreamFault>
+    ensures lent { pull.new.source.ghost_name ≡ pull.old.source.ghost_name }
+    ensures cause { Caused (S.faults pull.old.source.now) (S.faults pull.new.source.now) result }
+    ensures nears { OnOk result (pull.new.stop - pull.new.at ≤ pull.old.stop - pull.old.at) }
+    ensures env { OnOk result (env S.left pull.new ≡ env S.left pull.old) }
+    ensures gives { (now : Progress) → GivesTold S.left pull.old pull.new result (λ end. many_at T.read n now) (λ x rest. (x, now, rest)) }
+    ensures reads { (now : Progress) → ReadsTaken S.left S.faults pull.old pull.new result (λ end. many_at T.read n now) (λ x rest. (x, now, rest)) }
+{
+    let mut numbers = Sequence::new(alloc);
+    for _ in 0..n {
+        let number = T::pull(pull)?;
+        numbers.push(number)?;
+    }
+    Ok(numbers)
+}
+
+/// The next `n` bytes, as elements.
+fn bytes<S: Source>(alloc: Global, pull: &mut Pull<'_, S>, n: u32) -> Result<ByteList, StreamFault>
+    ensures lent { pull.new.source.ghost_name ≡ pull.old.source.ghost_name }
+    ensures cause { Caused (S.faults pull.old.source.now) (S.faults pull.new.source.now) result }
+    ensures nears { OnOk result (pull.new.stop - pull.new.at ≤ pull.old.stop - pull.old.at) }
+    ensures env { OnOk result (env S.left pull.new ≡ env S.left pull.old) }
+    ensures gives { (now : Progress) → GivesTold S.left pull.old pull.new result (λ end. many_at (plain byte_at) n now) (λ x rest. (x, now, rest)) }
+    ensures reads { (now : Progress) → ReadsTaken S.left S.faults pull.old pull.new result (λ end. many_at (plain byte_at) n now) (λ x rest. (x, now, rest)) }
+{
+    let bytes = take(alloc, pull, u64::from(n))?;
+    Ok(bytes)
+}
+
+/// The value of a field of a primitive type.
+#[tactic(auto, unfolding(ser_values::specs::Reading::value_at))]
+pub(crate) fn primitive<S: Source>(
+    pull: &mut Pull<'_, S>,
+    code: TypeCode,
+) -> Result<Value, StreamFault>
+    requires { is_primitive code ≡ true }
+    ensures lent { pull.new.source.ghost_name ≡ pull.old.source.ghost_name }
+    ensures cause { Caused (S.faults pull.old.source.now) (S.faults pull.new.source.now) result }
+    ensures nears { OnOk result (pull.new.stop - pull.new.at ≤ pull.old.stop - pull.old.at) }
+    ensures env { OnOk result (env S.left pull.new ≡ env S.left pull.old) }
+    ensures gives { (inner : Step Slot) (now : Progress) → GivesTold S.left pull.old pull.new result (λ end. value_at inner code now) (λ x rest. (x, now, rest)) }
+    ensures reads { (inner : Step Slot) (now : Progress) → ReadsTaken S.left S.faults pull.old pull.new result (λ end. value_at inner code now) (λ x rest. (x, now, rest)) }
+{
+    match code {
+        TypeCode::B => Ok(Value::B(u8::pull(pull)?)),
+        TypeCode::C => Ok(Value::C(u16::pull(pull)?)),
+        TypeCode::D => Ok(Value::D(u64::pull(pull)?)),
+        TypeCode::F => Ok(Value::F(u32::pull(pull)?)),
+        TypeCode::I => Ok(Value::I(i32::pull(pull)?)),
+        TypeCode::J => Ok(Value::J(i64::pull(pull)?)),
+        TypeCode::S => Ok(Value::S(i16::pull(pull)?)),
+        TypeCode::Z => Ok(Value::Z(bool::pull(pull)?)),
+        TypeCode::Array => unreachable!(),
+        TypeCode::Object => unreachable!(),
+    }
+}
+
+/// The elements of an array of a primitive type.
+#[tactic(auto, unfolding(ser_values::specs::Reading::elements_at))]
+pub(crate) fn primitives<S: Source>(
+    alloc: Global,
+    pull: &mut Pull<'_, S>,
+    code: TypeCode,
+    n: u32,
+) -> Result<Values, StreamFault>
+    requires { is_primitive code ≡ true }
+    ensures lent { pull.new.source.ghost_name ≡ pull.old.source.ghost_name }
+    ensures cause { Caused (S.faults pull.old.source.now) (S.faults pull.new.source.now) result }
+    ensures nears { OnOk result (pull.new.stop - pull.new.at ≤ pull.old.stop - pull.old.at) }
+    ensures env { OnOk result (env S.left pull.new ≡ env S.left pull.old) }
+    ensures gives { (inner : Step Slot) (now : Progress) → GivesTold S.left pull.old pull.new result (λ end. elements_at inner code n now) (λ x rest. (x, now, rest)) }
+    ensures reads { (inner : Step Slot) (now : Progress) → ReadsTaken S.left S.faults pull.old pull.new result (λ end. elements_at inner code n now) (λ x rest. (x, now, rest)) }
+{
+    match code {
+        TypeCode::B => Ok(Values::Bytes(bytes(alloc, pull, n)?)),
+        TypeCode::C => Ok(Values::Chars(numbers(alloc, pull, n)?)),
+        TypeCode::D => Ok(Values::Doubles(numbers(alloc, pull, n)?)),
+        TypeCode::F => Ok(Values::Floats(numbers(alloc, pull, n)?)),
+        TypeCode::I => Ok(Values::Ints(numbers(alloc, pull, n)?)),
+        TypeCode::J => Ok(Values::Longs(numbers(alloc, pull, n)?)),
+        TypeCode::S => Ok(Values::Shorts(numbers(alloc, pull, n)?)),
+        TypeCode::Z => Ok(Values::Bools(numbers(alloc, pull, n)?)),
+        TypeCode::Array => unreachable!(),
+        TypeCode::Object => unreachable!(),
+    }
+}

@@ -1,0 +1,172 @@
+//! Codes, handles, names and items by themselves.
+ghost use Rattle.std.specs.Prelude.{◌≡◌, ◌≢◌, ◌-◌, ◌≤◌, ◌<◌, List, ℕ, IfOk, OnOk};
+ghost use Rattle.class_desc.specs.declared.slot.Slot.TheVariants.{Null};
+ghost use Rattle.ser_values.specs.declared.node.Place.TheVariants.{Text};
+ghost use Rattle.ser_values.specs.declared.node.Node.TheVariants.{Desc};
+ghost use Rattle.ser_values.specs.Reading.{Progress, many_at, plain, short_at, null_at, handle_at, admits_code, code_fault, blank};
+ghost use Rattle.ser_read.specs.Named.{add_bytes, added};
+ghost use Rattle.ser_read.specs.Tables.{now_of};
+ghost use Rattle.ser_read.specs.declared.fault.StreamFault.{StreamFault};
+ghost use Rattle.ser_read.specs.declared.fault.StreamFault.TheVariants.{Bad};
+ghost use Rattle.ser_read.specs.Here.{env, Caused, Gives, GivesTold, ReadsTaken, kind_of, IsInBytes};
+
+use crate::fault::{StreamFault, StreamKind};
+use crate::pulled::{four, short_text};
+use crate::table::Table;
+use class_desc::{ClassDesc, FieldList, Item, Items, Slot};
+use mod_utf::list::{ByteList, NameList, Units};
+use ser_values::{Node, Place};
+use std::alloc::{AllocError, Global};
+use wire_io::pull::Pull;
+use wire_io::source::Source;
+
+/// The handle of the first node.
+const FIRST_HANDLE: u32 = 0x7E_0000;
+
+/// A fault at a position.
+pub(crate) fn bad(kind: StreamKind, at: u64) -> StreamFault
+    ensures { result ≡ Bad kind at }
+{
+    StreamFault::Bad { kind, at }
+}
+
+/// Whether a node of a code may stand in a place for the first time.
+pub(crate) fn admits_code(place: Place, code: u8) -> bool
+    ensures { result ≡ admits_code place code }
+{
+    match place {
+        Place::Reference => {
+            0x72 <= code && code <= 0x76 || (code == 0x7C || (code == 0x7D || code == 0x7E))
+        }
+        Place::Class => code == 0x72 || code == 0x7D,
+        Place::Parent => code == 0x72 || code == 0x7D,
+        Place::Text => code == 0x74 || code == 0x7C,
+    }
+}
+
+/// Why a code stands in no place.
+pub(crate) fn code_fault(code: u8) -> StreamKind
+    ensures kind { kind_of result ≡ code_fault code }
+    ensures known { IsInBytes result }
+{
+    if code == 0x79 {
+        StreamKind::Reset
+    } else if code == 0x7B {
+        StreamKind::InnerException
+    } else {
+        StreamKind::BadCode
+    }
+}
+
+/// A description that is still being read.
+pub(crate) fn blank(alloc: Global) -> Node
+    ensures { result ≡ Desc blank }
+{
+    Node::Desc(ClassDesc {
+        name: Units::new(alloc),
+        suid: 0,
+        flags: 0,
+        fields: FieldList::new(alloc),
+        note: Items::new(alloc),
+        parent: Slot::Null,
+    })
+}
+
+/// Null, whose code at this position was read.
+pub(crate) fn null(place: Place, at: u64) -> Result<Slot, StreamFault>
+    ensures gives { (after : StreamFault) (now : Progress) (bs : List ℕ) → Gives after (λ slot. (slot, now, bs)) result (null_at place at now bs) }
+    ensures cause { (faults : ℕ) → Caused faults faults result }
+    ensures some { place ≡ Text → IfOk result (λ slot. slot ≢ Null) }
+{
+    match place {
+        Place::Reference => Ok(Slot::Null),
+        Place::Parent => Ok(Slot::Null),
+        Place::Class => Err(bad(StreamKind::BadCode, at)),
+        Place::Text => Err(bad(StreamKind::BadCode, at)),
+    }
+}
+
+/// A handle, whose code at this position was read.
+#[tactic(auto, unfolding(ser_values::specs::Reading::handle_at))]
+pub(crate) fn handle<S: Source>(
+    pull: &mut Pull<'_, S>,
+    table: &Table,
+    place: Place,
+    at: u64,
+) -> Result<Slot, StreamFault>
+    ensures some { IfOk result (λ slot. slot ≢ Null) }
+    ensures lent { pull.new.source.ghost_name ≡ pull.old.source.ghost_name }
+    ensures cause { Caused (S.faults pull.old.source.now) (S.faults pull.new.source.now) result }
+    ensures nears { OnOk result (pull.new.stop - pull.new.at ≤ pull.old.stop - pull.old.at) }
+    ensures env { OnOk result (env S.left pull.new ≡ env S.left pull.old) }
+    ensures gives { GivesTold S.left pull.old pull.new result (λ end. handle_at place table.now.unread.items at (now_of table.now)) (λ x rest. (x, now_of table.now, rest)) }
+    ensures reads { ReadsTaken S.left S.faults pull.old pull.new result (λ end. handle_at place table.now.unread.items at (now_of table.now)) (λ x rest. (x, now_of table.now, rest)) }
+{
+    let handle = four(pull)?;
+    if handle < FIRST_HANDLE {
+        return Err(bad(StreamKind::BadHandle, at));
+    }
+    let number = handle - FIRST_HANDLE;
+    match table.handle_fault(place, number) {
+        Some(kind) => Err(bad(kind, at)),
+        None => Ok(Slot::Node(number)),
+    }
+}
+
+/// The names of a proxy's interfaces.
+pub(crate) fn names<S: Source>(
+    alloc: Global,
+    pull: &mut Pull<'_, S>,
+    n: u32,
+) -> Result<NameList, StreamFault>
+    ensures lent { pull.new.source.ghost_name ≡ pull.old.source.ghost_name }
+    ensures cause { Caused (S.faults pull.old.source.now) (S.faults pull.new.source.now) result }
+    ensures nears { OnOk result (pull.new.stop - pull.new.at ≤ pull.old.stop - pull.old.at) }
+    ensures env { OnOk result (env S.left pull.new ≡ env S.left pull.old) }
+    ensures gives { (now : Progress) → GivesTold S.left pull.old pull.new result (λ end. many_at (plain (short_at end)) n now) (λ x rest. (x, now, rest)) }
+    ensures reads { (now : Progress) → ReadsTaken S.left S.faults pull.old pull.new result (λ end. many_at (plain (short_at end)) n now) (λ x rest. (x, now, rest)) }
+{
+    let mut names = NameList::new(alloc);
+    for _ in 0..n {
+        let name = short_text(alloc, pull)?;
+        names.push(name)?;
+    }
+    Ok(names)
+}
+
+/// Adds block data behind items: it joins block data that stands last, and no bytes are no item.
+#[tactic(auto, unfolding(crate::specs::Named::add_bytes))]
+fn add_bytes(items: &mut Vec<Item>, bytes: ByteList) -> Result<(), AllocError>
+    ensures { OnOk result (items.new.items ≡ add_bytes items.old.items bytes) }
+{
+    if bytes.is_empty() {
+        return Ok(());
+    }
+    match items.pop() {
+        None => items.push(Item::Bytes(bytes))?,
+        Some(last) => match last {
+            Item::Bytes(mut joined) => {
+                joined.append(bytes.as_slice())?;
+                items.push(Item::Bytes(joined))?;
+            }
+            Item::Ref(slot) => {
+                items.push(Item::Ref(slot))?;
+                items.push(Item::Bytes(bytes))?;
+            }
+        },
+    }
+    Ok(())
+}
+
+/// Adds an item behind items.
+pub(crate) fn add(items: &mut Vec<Item>, item: Item) -> Result<(), AllocError>
+    ensures { OnOk result (items.new.items ≡ added items.old.items item) }
+{
+    match item {
+        Item::Ref(slot) => {
+            items.push(Item::Ref(slot))?;
+            Ok(())
+        }
+        Item::Bytes(bytes) => add_bytes(items, bytes),
+    }
+}

@@ -1,0 +1,267 @@
+//! Bytes, numbers and texts from a Pull.
+ghost use Rattle.std.specs.Prelude.{◌≡◌, ◌-◌, ◌≤◌, ◌<◌, ◌^◌, OnOk};
+ghost use Rattle.std.specs.Int.{w16, w32, w64};
+ghost use Rattle.ser_values.specs.Reading.{byte_at, take_at, number_at, size_at, units_at, short_at, long_at};
+ghost use Rattle.ser_read.specs.declared.fault.StreamFault.TheVariants.{Bad};
+ghost use Rattle.ser_read.specs.declared.fault.StreamKind.TheVariants.{NegativeLength};
+ghost use Rattle.ser_read.specs.Here.{env, AreBytes, Caused, GivesTold, ReadsTaken};
+
+use crate::fault::{Large, StreamFault, StreamKind};
+use mod_utf::decode::{UtfFault, decode};
+use mod_utf::list::{ByteList, Units};
+use std::alloc::Global;
+use wire_io::pull::{Pull, PullEnd};
+use wire_io::source::Source;
+
+/// How many bytes are asked for at once at most.
+const PIECE: u64 = 0x1_0000;
+
+/// The next byte.
+pub(crate) fn byte<S: Source>(pull: &mut Pull<'_, S>) -> Result<u8, StreamFault>
+    ensures lent { pull.new.source.ghost_name ≡ pull.old.source.ghost_name }
+    ensures cause { Caused (S.faults pull.old.source.now) (S.faults pull.new.source.now) result }
+    ensures nears { OnOk result (pull.new.stop - pull.new.at < pull.old.stop - pull.old.at) }
+    ensures env { OnOk result (env S.left pull.new ≡ env S.left pull.old) }
+    ensures gives { GivesTold S.left pull.old pull.new result (λ end. byte_at) (λ x rest. (x, rest)) }
+    ensures reads { ReadsTaken S.left S.faults pull.old pull.new result (λ end. byte_at) (λ x rest. (x, rest)) }
+{
+    match pull.byte() {
+        Ok(b) => Ok(b),
+        Err(end) => match end {
+            PullEnd::End { at } => Err(StreamFault::Truncated { at }),
+            PullEnd::Limit { at } => Err(StreamFault::TooLarge {
+                what: Large::Bytes,
+                at,
+            }),
+            PullEnd::ReadFault => Err(StreamFault::ReadFault),
+            PullEnd::OutOfMemory => Err(StreamFault::OutOfMemory),
+        },
+    }
+}
+
+/// The next two bytes as a number, the highest first.
+pub(crate) fn two<S: Source>(pull: &mut Pull<'_, S>) -> Result<u16, StreamFault>
+    ensures lent { pull.new.source.ghost_name ≡ pull.old.source.ghost_name }
+    ensures cause { Caused (S.faults pull.old.source.now) (S.faults pull.new.source.now) result }
+    ensures nears { OnOk result (pull.new.stop - pull.new.at < pull.old.stop - pull.old.at) }
+    ensures env { OnOk result (env S.left pull.new ≡ env S.left pull.old) }
+    ensures gives { GivesTold S.left pull.old pull.new result (λ end. number_at w16) (λ x rest. (x, rest)) }
+    ensures reads { ReadsTaken S.left S.faults pull.old pull.new result (λ end. number_at w16) (λ x rest. (x, rest)) }
+{
+    let a = byte(pull)?;
+    let b = byte(pull)?;
+    Ok(u16::from_be_bytes([a, b]))
+}
+
+/// The next four bytes as a number, the highest first.
+pub(crate) fn four<S: Source>(pull: &mut Pull<'_, S>) -> Result<u32, StreamFault>
+    ensures lent { pull.new.source.ghost_name ≡ pull.old.source.ghost_name }
+    ensures cause { Caused (S.faults pull.old.source.now) (S.faults pull.new.source.now) result }
+    ensures nears { OnOk result (pull.new.stop - pull.new.at < pull.old.stop - pull.old.at) }
+    ensures env { OnOk result (env S.left pull.new ≡ env S.left pull.old) }
+    ensures gives { GivesTold S.left pull.old pull.new result (λ end. number_at w32) (λ x rest. (x, rest)) }
+    ensures reads { ReadsTaken S.left S.faults pull.old pull.new result (λ end. number_at w32) (λ x rest. (x, rest)) }
+{
+    let a = byte(pull)?;
+    let b = byte(pull)?;
+    let c = byte(pull)?;
+    let d = byte(pull)?;
+    Ok(u32::from_be_bytes([a, b, c, d]))
+}
+
+/// The next eight bytes as a number, the highest first.
+pub(crate) fn eight<S: Source>(pull: &mut Pull<'_, S>) -> Result<u64, StreamFault>
+    ensures lent { pull.new.source.ghost_name ≡ pull.old.source.ghost_name }
+    ensures cause { Caused (S.faults pull.old.source.now) (S.faults pull.new.source.now) result }
+    ensures nears { OnOk result (pull.new.stop - pull.new.at < pull.old.stop - pull.old.at) }
+    ensures env { OnOk result (env S.left pull.new ≡ env S.left pull.old) }
+    ensures gives { GivesTold S.left pull.old pull.new result (λ end. number_at w64) (λ x rest. (x, rest)) }
+    ensures reads { ReadsTaken S.left S.faults pull.old pull.new result (λ end. number_at w64) (λ x rest. (x, rest)) }
+{
+    let high = four(pull)?;
+    let low = four(pull)?;
+    Ok(u64::from(high) * 0x1_0000_0000 + u64::from(low))
+}
+
+/// A count of fields: below 2^15, or `NegativeLength` at its first byte.
+#[tactic(auto, unfolding(ser_values::specs::Reading::size_at), using(crate::proofs::Pulling::here_is))]
+pub(crate) fn field_count<S: Source>(pull: &mut Pull<'_, S>) -> Result<u16, StreamFault>
+    ensures lent { pull.new.source.ghost_name ≡ pull.old.source.ghost_name }
+    ensures cause { Caused (S.faults pull.old.source.now) (S.faults pull.new.source.now) result }
+    ensures nears { OnOk result (pull.new.stop - pull.new.at < pull.old.stop - pull.old.at) }
+    ensures env { OnOk result (env S.left pull.new ≡ env S.left pull.old) }
+    ensures gives { GivesTold S.left pull.old pull.new result (λ end. size_at end w16 32768) (λ x rest. (x, rest)) }
+    ensures reads { ReadsTaken S.left S.faults pull.old pull.new result (λ end. size_at end w16 32768) (λ x rest. (x, rest)) }
+{
+    let at = pull.at;
+    let count = two(pull)?;
+    if count < 0x8000 {
+        Ok(count)
+    } else {
+        Err(negative_length(at))
+    }
+}
+
+/// A length or a count: below 2^31, or `NegativeLength` at its first byte.
+#[tactic(auto, unfolding(ser_values::specs::Reading::size_at), using(crate::proofs::Pulling::here_is))]
+pub(crate) fn count<S: Source>(pull: &mut Pull<'_, S>) -> Result<u32, StreamFault>
+    ensures lent { pull.new.source.ghost_name ≡ pull.old.source.ghost_name }
+    ensures cause { Caused (S.faults pull.old.source.now) (S.faults pull.new.source.now) result }
+    ensures nears { OnOk result (pull.new.stop - pull.new.at < pull.old.stop - pull.old.at) }
+    ensures env { OnOk result (env S.left pull.new ≡ env S.left pull.old) }
+    ensures gives { GivesTold S.left pull.old pull.new result (λ end. size_at end w32 (2 ^ 31)) (λ x rest. (x, rest)) }
+    ensures reads { ReadsTaken S.left S.faults pull.old pull.new result (λ end. size_at end w32 (2 ^ 31)) (λ x rest. (x, rest)) }
+{
+    let at = pull.at;
+    let count = four(pull)?;
+    if count < 0x8000_0000 {
+        Ok(count)
+    } else {
+        Err(negative_length(at))
+    }
+}
+
+/// A long length: below 2^63, or `NegativeLength` at its first byte.
+#[tactic(auto, unfolding(ser_values::specs::Reading::size_at), using(crate::proofs::Pulling::here_is))]
+fn long_length<S: Source>(pull: &mut Pull<'_, S>) -> Result<u64, StreamFault>
+    ensures lent { pull.new.source.ghost_name ≡ pull.old.source.ghost_name }
+    ensures cause { Caused (S.faults pull.old.source.now) (S.faults pull.new.source.now) result }
+    ensures nears { OnOk result (pull.new.stop - pull.new.at < pull.old.stop - pull.old.at) }
+    ensures env { OnOk result (env S.left pull.new ≡ env S.left pull.old) }
+    ensures gives { GivesTold S.left pull.old pull.new result (λ end. size_at end w64 (2 ^ 63)) (λ x rest. (x, rest)) }
+    ensures reads { ReadsTaken S.left S.faults pull.old pull.new result (λ end. size_at end w64 (2 ^ 63)) (λ x rest. (x, rest)) }
+{
+    let at = pull.at;
+    let length = eight(pull)?;
+    if length < 0x8000_0000_0000_0000 {
+        Ok(length)
+    } else {
+        Err(negative_length(at))
+    }
+}
+
+/// The fault of a length or a count that is too great to be signed.
+fn negative_length(at: u64) -> StreamFault
+    ensures { result ≡ Bad NegativeLength at }
+{
+    StreamFault::Bad {
+        kind: StreamKind::NegativeLength,
+        at,
+    }
+}
+
+/// Bytes are numbers of 8 bits.
+fn see(bytes: &[u8])
+    ensures { AreBytes bytes.now }
+{
+    for byte in bytes {
+        let _seen = *byte;
+    }
+}
+
+/// The next bytes, as one piece.
+fn piece<S: Source>(alloc: Global, pull: &mut Pull<'_, S>, n: u32) -> Result<ByteList, StreamFault>
+    ensures lent { pull.new.source.ghost_name ≡ pull.old.source.ghost_name }
+    ensures cause { Caused (S.faults pull.old.source.now) (S.faults pull.new.source.now) result }
+    ensures nears { OnOk result (pull.new.stop - pull.new.at ≤ pull.old.stop - pull.old.at) }
+    ensures env { OnOk result (env S.left pull.new ≡ env S.left pull.old) }
+    ensures gives { GivesTold S.left pull.old pull.new result (λ end. take_at n) (λ x rest. (x, rest)) }
+    ensures reads { ReadsTaken S.left S.faults pull.old pull.new result (λ end. take_at n) (λ x rest. (x, rest)) }
+{
+    match pull.take(alloc, n) {
+        Ok(bytes) => {
+            see(bytes.as_slice());
+            Ok(bytes)
+        }
+        Err(end) => match end {
+            PullEnd::End { at } => Err(StreamFault::Truncated { at }),
+            PullEnd::Limit { at } => Err(StreamFault::TooLarge {
+                what: Large::Bytes,
+                at,
+            }),
+            PullEnd::ReadFault => Err(StreamFault::ReadFault),
+            PullEnd::OutOfMemory => Err(StreamFault::OutOfMemory),
+        },
+    }
+}
+
+/// The next `n` bytes. There is room for at most one piece ahead of what was read.
+pub(crate) fn take<S: Source>(
+    alloc: Global,
+    pull: &mut Pull<'_, S>,
+    n: u64,
+) -> Result<ByteList, StreamFault>
+    ensures lent { pull.new.source.ghost_name ≡ pull.old.source.ghost_name }
+    ensures cause { Caused (S.faults pull.old.source.now) (S.faults pull.new.source.now) result }
+    ensures nears { OnOk result (pull.new.stop - pull.new.at ≤ pull.old.stop - pull.old.at) }
+    ensures env { OnOk result (env S.left pull.new ≡ env S.left pull.old) }
+    ensures gives { GivesTold S.left pull.old pull.new result (λ end. take_at n) (λ x rest. (x, rest)) }
+    ensures reads { ReadsTaken S.left S.faults pull.old pull.new result (λ end. take_at n) (λ x rest. (x, rest)) }
+{
+    let mut bytes = ByteList::new(alloc);
+    let mut left = n;
+    while left > 0 {
+        let more = left.min(PIECE);
+        let piece = piece(alloc, pull, more as u32)?;
+        bytes.append(piece.as_slice())?;
+        left -= more;
+    }
+    Ok(bytes)
+}
+
+/// A text of so many bytes of modified UTF, which are all there before they are judged. `BadUtf` comes at the first byte of
+/// the spelling that is none.
+#[tactic(auto, unfolding(ser_values::specs::Reading::units_at), using(crate::proofs::Pulling::here_is))]
+fn units<S: Source>(alloc: Global, pull: &mut Pull<'_, S>, n: u64) -> Result<Units, StreamFault>
+    ensures lent { pull.new.source.ghost_name ≡ pull.old.source.ghost_name }
+    ensures cause { Caused (S.faults pull.old.source.now) (S.faults pull.new.source.now) result }
+    ensures nears { OnOk result (pull.new.stop - pull.new.at ≤ pull.old.stop - pull.old.at) }
+    ensures env { OnOk result (env S.left pull.new ≡ env S.left pull.old) }
+    ensures gives { GivesTold S.left pull.old pull.new result (λ end. units_at end n) (λ x rest. (x, rest)) }
+    ensures reads { ReadsTaken S.left S.faults pull.old pull.new result (λ end. units_at end n) (λ x rest. (x, rest)) }
+{
+    let start = pull.at;
+    let bytes = take(alloc, pull, n)?;
+    match decode(alloc, bytes.as_slice()) {
+        Ok(units) => Ok(units),
+        Err(UtfFault::OutOfMemory) => Err(StreamFault::OutOfMemory),
+        Err(UtfFault::BadUtf { at }) => Err(StreamFault::Bad {
+            kind: StreamKind::BadUtf,
+            at: start + at as u64,
+        }),
+    }
+}
+
+/// A text with a length of 16 bits.
+#[tactic(auto, unfolding(ser_values::specs::Reading::short_at))]
+pub(crate) fn short_text<S: Source>(
+    alloc: Global,
+    pull: &mut Pull<'_, S>,
+) -> Result<Units, StreamFault>
+    ensures lent { pull.new.source.ghost_name ≡ pull.old.source.ghost_name }
+    ensures cause { Caused (S.faults pull.old.source.now) (S.faults pull.new.source.now) result }
+    ensures nears { OnOk result (pull.new.stop - pull.new.at ≤ pull.old.stop - pull.old.at) }
+    ensures env { OnOk result (env S.left pull.new ≡ env S.left pull.old) }
+    ensures gives { GivesTold S.left pull.old pull.new result (λ end. short_at end) (λ x rest. (x, rest)) }
+    ensures reads { ReadsTaken S.left S.faults pull.old pull.new result (λ end. short_at end) (λ x rest. (x, rest)) }
+{
+    let n = two(pull)?;
+    units(alloc, pull, u64::from(n))
+}
+
+/// A text with a length of 64 bits.
+#[tactic(auto, unfolding(ser_values::specs::Reading::long_at))]
+pub(crate) fn long_text<S: Source>(
+    alloc: Global,
+    pull: &mut Pull<'_, S>,
+) -> Result<Units, StreamFault>
+    ensures lent { pull.new.source.ghost_name ≡ pull.old.source.ghost_name }
+    ensures cause { Caused (S.faults pull.old.source.now) (S.faults pull.new.source.now) result }
+    ensures nears { OnOk result (pull.new.stop - pull.new.at ≤ pull.old.stop - pull.old.at) }
+    ensures env { OnOk result (env S.left pull.new ≡ env S.left pull.old) }
+    ensures gives { GivesTold S.left pull.old pull.new result (λ end. long_at end) (λ x rest. (x, rest)) }
+    ensures reads { ReadsTaken S.left S.faults pull.old pull.new result (λ end. long_at end) (λ x rest. (x, rest)) }
+{
+    let n = long_length(pull)?;
+    units(alloc, pull, n)
+}

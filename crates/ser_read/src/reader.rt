@@ -1,0 +1,240 @@
+//! Reading a stream want by want.
+ghost use Rattle.std.specs.Prelude.{◌≡◌, ◌-◌, ◌≤◌, [], ◌∷◌, ◌++◌, List, ℕ, OnOk, IfOk, IfErr, Some, None, Err};
+ghost use Rattle.ser_values.specs.Reading.{magic_at};
+ghost use Rattle.ser_read.specs.declared.fault.StreamFault.{StreamFault};
+ghost use Rattle.ser_read.specs.Here.{env, Caused, GivesTold, ReadsTaken};
+ghost use Rattle.ser_read.specs.Wants.{GivesWant, WantTaken, WantGives, bytes_at, reference_at, slot_next, close_at, nothing_read};
+ghost use Rattle.ser_read.specs.Tables.{now_of};
+ghost use Rattle.ser_read.specs.Stands.{stand_of};
+
+use crate::block::{Head, next_head, run};
+use crate::fault::{StreamFault, StreamKind};
+use crate::header::magic;
+use crate::pieces::{add, bad};
+use crate::reading::coded;
+use crate::table::Table;
+use class_desc::{Item, Items, Slot};
+use mod_utf::list::{ByteList, TryCopy};
+use ser_values::{Graph, Node, Place};
+use std::alloc::Global;
+use std::marker::Model;
+use wire_io::pull::Pull;
+use wire_io::source::Source;
+
+/// The greatest number of levels.
+const LEVELS: u32 = 200;
+
+/// How far a reader has come.
+#[derive(Drop)]
+pub(crate) struct Stand {
+    /// The nodes so far.
+    table: Table,
+    /// The items so far.
+    items: Vec<Item>,
+    /// How many bytes of the present block are left.
+    block: u32,
+}
+
+/// The next bytes of block data, across blocks.
+#[tactic(auto, unfolding(crate::specs::Wants::bytes_at), using(crate::proofs::Wants::wants_fail))]
+fn bytes_in<S: Source>(
+    alloc: Global,
+    pull: &mut Pull<'_, S>,
+    stand: &mut Stand,
+    n: u32,
+) -> Result<ByteList, StreamFault>
+    ensures lent { pull.new.source.ghost_name ≡ pull.old.source.ghost_name }
+    ensures cause { Caused (S.faults pull.old.source.now) (S.faults pull.new.source.now) result }
+    ensures env { OnOk result (env S.left pull.new ≡ env S.left pull.old) }
+    ensures table { stand.new.table ≡ stand.old.table }
+    ensures gives { GivesWant S.left pull.old pull.new result (λ end. bytes_at end n (stand_of stand.old)) (λ x rest. (x, stand_of stand.new, rest)) }
+    ensures reads { WantTaken S.left S.faults pull.old pull.new result (λ end. bytes_at end n (stand_of stand.old)) (λ x rest. (x, stand_of stand.new, rest)) }
+{
+    let bytes = run(alloc, pull, &mut stand.block, n)?;
+    let copy = bytes.copy(alloc)?;
+    add(&mut stand.items, Item::Bytes(copy))?;
+    Ok(bytes)
+}
+
+/// The next reference, once no block data is left.
+#[tactic(auto, unfolding(crate::specs::Wants::reference_at), using(crate::proofs::Wants::lifted_fails, crate::proofs::Pulling::here_is))]
+fn reference<S: Source>(
+    alloc: Global,
+    pull: &mut Pull<'_, S>,
+    table: &mut Table,
+) -> Result<Slot, StreamFault>
+    requires read { table.old.unread.items ≡ [] }
+    ensures lent { pull.new.source.ghost_name ≡ pull.old.source.ghost_name }
+    ensures cause { Caused (S.faults pull.old.source.now) (S.faults pull.new.source.now) result }
+    ensures env { OnOk result (env S.left pull.new ≡ env S.left pull.old) }
+    ensures read { OnOk result (table.new.unread.items ≡ []) }
+    ensures gives { GivesWant S.left pull.old pull.new result (λ end. reference_at end (now_of table.old)) (λ x rest. (x, now_of table.new, rest)) }
+    ensures reads { WantTaken S.left S.faults pull.old pull.new result (λ end. reference_at end (now_of table.old)) (λ x rest. (x, now_of table.new, rest)) }
+{
+    match next_head(pull)? {
+        Head::Block(_) => Err(bad(StreamKind::BlockLeft, pull.at)),
+        Head::Code(code, at) => coded(alloc, pull, table, Place::Reference, LEVELS, at, code),
+    }
+}
+
+/// The next reference or null.
+#[tactic(auto, unfolding(crate::specs::Wants::slot_next), using(crate::proofs::Wants::wants_fail, crate::proofs::Pulling::here_is))]
+fn slot_in<S: Source>(
+    alloc: Global,
+    pull: &mut Pull<'_, S>,
+    stand: &mut Stand,
+) -> Result<Slot, StreamFault>
+    requires read { stand.old.table.unread.items ≡ [] }
+    ensures lent { pull.new.source.ghost_name ≡ pull.old.source.ghost_name }
+    ensures cause { Caused (S.faults pull.old.source.now) (S.faults pull.new.source.now) result }
+    ensures env { OnOk result (env S.left pull.new ≡ env S.left pull.old) }
+    ensures read { OnOk result (stand.new.table.unread.items ≡ []) }
+    ensures gives { GivesWant S.left pull.old pull.new result (λ end. slot_next end (stand_of stand.old)) (λ x rest. (x, stand_of stand.new, rest)) }
+    ensures reads { WantTaken S.left S.faults pull.old pull.new result (λ end. slot_next end (stand_of stand.old)) (λ x rest. (x, stand_of stand.new, rest)) }
+{
+    if stand.block > 0 {
+        return Err(bad(StreamKind::BlockLeft, pull.at));
+    }
+    let slot = reference(alloc, pull, &mut stand.table)?;
+    stand.items.push(Item::Ref(slot))?;
+    Ok(slot)
+}
+
+/// Reads a stream, want by want: block data and references, as its caller asks for them. It is handed its Pull at each call.
+///
+/// Once a call was refused, every later call answers the same refusal and takes nothing.
+#[derive(Drop)]
+pub struct Reader {
+    stand: Stand,
+    refused: Option<StreamFault>,
+}
+
+impl Model for Reader {
+    ghost use Rattle.std.specs.Prelude.{◌≡◌, [], None};
+    ghost use Rattle.ser_read.specs.Stands.{stand_of};
+    ghost use Rattle.ser_read.specs.Wants.{ReaderState, IsServed};
+
+    ghost Value = { ReaderState };
+
+    ghost view = { λ r. record { stand = stand_of r.stand; refused = r.refused } };
+
+    ghost invariant = { λ r. r.refused ≡ None → (r.stand.table.unread.items ≡ []) × ∥ IsServed (stand_of r.stand) ∥₁ };
+}
+
+impl Reader {
+    /// Reads the magic number and the version. `BadMagic` comes at the first byte that differs.
+    pub fn start<S: Source>(alloc: Global, pull: &mut Pull<'_, S>) -> Result<Reader, StreamFault>
+        ensures kept { IfOk result (λ reader. reader.refused ≡ None) }
+        ensures stand { IfOk result (λ reader. reader.stand ≡ nothing_read) }
+        ensures cause { Caused (S.faults pull.old.source.now) (S.faults pull.new.source.now) result }
+        ensures lent { pull.new.source.ghost_name ≡ pull.old.source.ghost_name }
+        ensures env { OnOk result (env S.left pull.new ≡ env S.left pull.old) }
+        ensures gives { GivesTold S.left pull.old pull.new result (λ end. magic_at end (0xAC ∷ 0xED ∷ 0x00 ∷ 0x05 ∷ [])) (λ x rest. rest) }
+        ensures reads { ReadsTaken S.left S.faults pull.old pull.new result (λ end. magic_at end (0xAC ∷ 0xED ∷ 0x00 ∷ 0x05 ∷ [])) (λ x rest. rest) }
+    {
+        magic(pull)?;
+        Ok(Reader {
+            stand: Stand {
+                table: Table::new(alloc),
+                items: Vec::new(alloc),
+                block: 0,
+            },
+            refused: None,
+        })
+    }
+
+    /// The next `n` bytes of block data, across blocks. None are taken, and no block is begun, where `n` is 0.
+    ///
+    /// `MissingBlock`, or what else the code says, comes at a code that stands where block data is wanted.
+    pub fn bytes<S: Source>(
+        &mut self,
+        alloc: Global,
+        pull: &mut Pull<'_, S>,
+        n: u32,
+    ) -> Result<ByteList, StreamFault>
+        ensures again { (fault : StreamFault) → self.old.refused ≡ Some fault → (result ≡ Err fault) × (self.new.refused ≡ Some fault) × (pull.new.source.now ≡ pull.old.source.now) × (pull.new.at ≡ pull.old.at) × (pull.new.stop ≡ pull.old.stop) }
+        ensures kept { OnOk result (self.new.refused ≡ None) }
+        ensures refused { IfErr result (λ fault. self.new.refused ≡ Some fault) }
+        ensures cause { self.old.refused ≡ None → Caused (S.faults pull.old.source.now) (S.faults pull.new.source.now) result }
+        ensures lent { pull.new.source.ghost_name ≡ pull.old.source.ghost_name }
+        ensures env { OnOk result (env S.left pull.new ≡ env S.left pull.old) }
+        ensures gives { self.old.refused ≡ None → GivesWant S.left pull.old pull.new result (λ end. bytes_at end n self.old.stand) (λ x rest. (x, self.new.stand, rest)) }
+        ensures reads { WantTaken S.left S.faults pull.old pull.new result (λ end. bytes_at end n self.old.stand) (λ x rest. (x, self.new.stand, rest)) }
+    {
+        if let Some(earlier) = self.refused {
+            return Err(earlier);
+        }
+        match bytes_in(alloc, pull, &mut self.stand, n) {
+            Ok(bytes) => Ok(bytes),
+            Err(fault) => {
+                self.refused = Some(fault);
+                Err(fault)
+            }
+        }
+    }
+
+    /// The next reference or null. Empty blocks before it are passed over.
+    ///
+    /// `BlockLeft` comes at the first byte of block data that is left.
+    pub fn slot<S: Source>(
+        &mut self,
+        alloc: Global,
+        pull: &mut Pull<'_, S>,
+    ) -> Result<Slot, StreamFault>
+        ensures again { (fault : StreamFault) → self.old.refused ≡ Some fault → (result ≡ Err fault) × (self.new.refused ≡ Some fault) × (pull.new.source.now ≡ pull.old.source.now) × (pull.new.at ≡ pull.old.at) × (pull.new.stop ≡ pull.old.stop) }
+        ensures kept { OnOk result (self.new.refused ≡ None) }
+        ensures refused { IfErr result (λ fault. self.new.refused ≡ Some fault) }
+        ensures cause { self.old.refused ≡ None → Caused (S.faults pull.old.source.now) (S.faults pull.new.source.now) result }
+        ensures lent { pull.new.source.ghost_name ≡ pull.old.source.ghost_name }
+        ensures env { OnOk result (env S.left pull.new ≡ env S.left pull.old) }
+        ensures gives { self.old.refused ≡ None → GivesWant S.left pull.old pull.new result (λ end. slot_next end self.old.stand) (λ x rest. (x, self.new.stand, rest)) }
+        ensures reads { WantTaken S.left S.faults pull.old pull.new result (λ end. slot_next end self.old.stand) (λ x rest. (x, self.new.stand, rest)) }
+    {
+        if let Some(fault) = self.refused {
+            return Err(fault);
+        }
+        match slot_in(alloc, pull, &mut self.stand) {
+            Ok(slot) => Ok(slot),
+            Err(fault) => {
+                self.refused = Some(fault);
+                Err(fault)
+            }
+        }
+    }
+
+    /// The nodes so far.
+    pub fn nodes(&self) -> &[Node]
+        ensures { result.now ≡ self.now.stand.progress.nodes }
+    {
+        self.stand.table.nodes.as_slice()
+    }
+
+    /// The items so far.
+    pub fn items(&self) -> &[Item]
+        ensures { result.now ≡ self.now.stand.items }
+    {
+        self.stand.items.as_slice()
+    }
+
+    /// All that was read. It takes no byte. `BlockLeft` comes at the first byte that is left of the present block.
+    #[tactic(auto, unfolding(crate::specs::Wants::close_at))]
+    pub fn close<S: Source>(self, pull: &Pull<'_, S>) -> Result<Graph, StreamFault>
+        ensures again { (fault : StreamFault) → self.refused ≡ Some fault → result ≡ Err fault }
+        ensures kept { OnOk result (self.refused ≡ None) }
+        ensures cause { self.refused ≡ None → Caused (S.faults pull.now.source.now) (S.faults pull.now.source.now) result }
+        ensures gives { self.refused ≡ None → WantGives (env S.left pull.now).after (λ graph. (graph.nodes, graph.items)) result (close_at pull.now.at self.stand) }
+    {
+        if let Some(fault) = self.refused {
+            return Err(fault);
+        }
+        let Stand {
+            table,
+            items,
+            block,
+        } = self.stand;
+        if block > 0 {
+            return Err(bad(StreamKind::BlockLeft, pull.at));
+        }
+        Ok(Graph::from_parts(table.into_nodes(), Items::from_vec(items)))
+    }
+}

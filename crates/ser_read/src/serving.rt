@@ -1,0 +1,112 @@
+//! Lists of wants.
+ghost use Rattle.std.specs.Prelude.{◌≡◌, ◌∷◌, ◌++◌, [], List, ℕ, OnOk, IfOk, None};
+ghost use Rattle.wire_io.specs.Pulled.{place};
+ghost use Rattle.class_desc.specs.declared.slot.Item.{Item};
+ghost use Rattle.ser_values.specs.declared.node.Node.{Node};
+ghost use Rattle.ser_read.specs.Here.{env, coming, IsTold, Caused};
+ghost use Rattle.ser_read.specs.Wants.{GivesWant, WantTaken, want_at, serve, wants_at};
+ghost use Rattle.ser_read.specs.Asked.{IsAsked, TakesAsked, InLimits, AnswersAsked};
+
+use crate::fault::StreamFault;
+use crate::reader::Reader;
+use class_desc::{Item, Items};
+use ser_values::Graph;
+use std::alloc::Global;
+use wire_io::pull::Pull;
+use wire_io::source::Source;
+
+/// What is asked of a stream next.
+#[derive(Clone, Copy, Debug, PartialEq, Eq)]
+pub enum Want {
+    /// So many bytes of block data.
+    Bytes(u32),
+    /// A reference or null.
+    Slot,
+}
+
+/// What a reader gives for a want.
+#[tactic(auto, unfolding(crate::specs::Wants::want_at), using(crate::proofs::Wants::wants_fail))]
+fn serve_one<S: Source>(
+    alloc: Global,
+    pull: &mut Pull<'_, S>,
+    reader: &mut Reader,
+    want: Want,
+) -> Result<Item, StreamFault>
+    requires kept { reader.old.refused ≡ None }
+    ensures kept { OnOk result (reader.new.refused ≡ None) }
+    ensures lent { pull.new.source.ghost_name ≡ pull.old.source.ghost_name }
+    ensures cause { Caused (S.faults pull.old.source.now) (S.faults pull.new.source.now) result }
+    ensures env { OnOk result (env S.left pull.new ≡ env S.left pull.old) }
+    ensures gives { GivesWant S.left pull.old pull.new result (λ end. want_at end want reader.old.stand) (λ x rest. (x, reader.new.stand, rest)) }
+    ensures reads { WantTaken S.left S.faults pull.old pull.new result (λ end. want_at end want reader.old.stand) (λ x rest. (x, reader.new.stand, rest)) }
+{
+    match want {
+        Want::Bytes(n) => {
+            let bytes = reader.bytes(alloc, pull, n)?;
+            Ok(Item::Bytes(bytes))
+        }
+        Want::Slot => {
+            let slot = reader.slot(alloc, pull)?;
+            Ok(Item::Ref(slot))
+        }
+    }
+}
+
+/// What a reader gives for wants, one after the other.
+fn serve<S: Source>(
+    alloc: Global,
+    pull: &mut Pull<'_, S>,
+    reader: &mut Reader,
+    wants: &[Want],
+) -> Result<Items, StreamFault>
+    requires kept { reader.old.refused ≡ None }
+    ensures kept { OnOk result (reader.new.refused ≡ None) }
+    ensures lent { pull.new.source.ghost_name ≡ pull.old.source.ghost_name }
+    ensures cause { Caused (S.faults pull.old.source.now) (S.faults pull.new.source.now) result }
+    ensures env { OnOk result (env S.left pull.new ≡ env S.left pull.old) }
+    ensures gives { GivesWant S.left pull.old pull.new result (λ end. serve end wants.now reader.old.stand) (λ x rest. (x, reader.new.stand, rest)) }
+    ensures reads { WantTaken S.left S.faults pull.old pull.new result (λ end. serve end wants.now reader.old.stand) (λ x rest. (x, reader.new.stand, rest)) }
+{
+    let mut answers = Items::new(alloc);
+    for want in wants {
+        let answer = serve_one(alloc, pull, reader, *want)?;
+        answers.push(answer)?;
+    }
+    Ok(answers)
+}
+
+/// Reads a stream of which this is asked.
+#[tactic(auto, unfolding(crate::specs::Wants::wants_at, crate::specs::Wants::serve_all), using(crate::proofs::Wants::lifted_fails, crate::proofs::Wants::wants_fail, crate::proofs::Pulling::here_is))]
+fn read_each<S: Source>(
+    alloc: Global,
+    pull: &mut Pull<'_, S>,
+    wants: &[Want],
+) -> Result<(Items, Graph), StreamFault>
+    ensures lent { pull.new.source.ghost_name ≡ pull.old.source.ghost_name }
+    ensures cause { Caused (S.faults pull.old.source.now) (S.faults pull.new.source.now) result }
+    ensures env { OnOk result (env S.left pull.new ≡ env S.left pull.old) }
+    ensures gives { GivesWant S.left pull.old pull.new result (λ end. wants_at end wants.now) (λ x rest. (x.0, x.1.nodes, x.1.items, rest)) }
+    ensures reads { WantTaken S.left S.faults pull.old pull.new result (λ end. wants_at end wants.now) (λ x rest. (x.0, x.1.nodes, x.1.items, rest)) }
+{
+    let mut reader = Reader::start(alloc, pull)?;
+    let answers = serve(alloc, pull, &mut reader, wants)?;
+    let graph = reader.close(pull)?;
+    Ok((answers, graph))
+}
+
+/// Reads a stream of which this is asked, one want after the other and then the end: what each gave, and the graph of it all.
+///
+/// The stream need not end the input: no byte behind what was asked is taken.
+pub fn read_wants<S: Source>(
+    alloc: Global,
+    pull: &mut Pull<'_, S>,
+    wants: &[Want],
+) -> Result<(Items, Graph), StreamFault>
+    ensures lent { pull.new.source.ghost_name ≡ pull.old.source.ghost_name }
+    ensures cause { Caused (S.faults pull.old.source.now) (S.faults pull.new.source.now) result }
+    ensures gives { GivesWant S.left pull.old pull.new result (λ end. wants_at end wants.now) (λ x rest. (x.0, x.1.nodes, x.1.items, rest)) }
+    ensures spelled { IfOk result (λ x. TakesAsked (place S.left S.faults pull.old) (place S.left S.faults pull.new) wants.now x.0 x.1.nodes x.1.items) }
+    ensures complete { (answers : List Item) (nodes : List Node) (bytes rest : List ℕ) → IsTold S.left pull.old → coming S.left pull.old ≡ 0xAC ∷ 0xED ∷ 0x00 ∷ 0x05 ∷ bytes → InLimits nodes → IsAsked wants.now answers nodes bytes rest → AnswersAsked answers nodes rest (coming S.left pull.new) result }
+{
+    read_each(alloc, pull, wants)
+}

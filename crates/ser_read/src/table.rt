@@ -1,0 +1,274 @@
+//! The nodes of a stream that is being read.
+ghost use Rattle.std.specs.Prelude.{◌≡◌, ◌+◌, ◌<◌, ◌≤◌, ◌++◌, ◌∷◌, [], map, not, nat_lt, length, option_map, slice_get, IfOk, IfSome, OnOk, Some, None, List, ℕ, ◌^◌, if◌then◌else◌};
+ghost use Rattle.ser_values.specs.Loose.{elements_in, elements_at};
+ghost use Rattle.ser_values.specs.Node.{has, is_desc, is_text};
+
+use crate::fault::StreamKind;
+use class_desc::{ENUM, Slot, TypeCode, check_type_text, element_code, is_primitive};
+use ser_values::{Node, NodeList, Place};
+use std::alloc::{AllocError, Global};
+
+/// The greatest number of nodes.
+const NODES: usize = 0x1_0000;
+/// The greatest number of parts of all objects.
+const PARTS: usize = 0x10_0000;
+
+/// The nodes so far. One that is still being read stands there empty, and is written over when it was read.
+#[derive(Drop)]
+pub(crate) struct Table {
+    /// The nodes in the order of their handles.
+    pub(crate) nodes: Vec<Node>,
+    /// The type of the elements of the array class that each node's text or name says, so that no text is looked through
+    /// at each node that names it.
+    elements: Vec<Option<TypeCode>>,
+    /// How many parts the objects have.
+    parts: usize,
+    /// The descriptions that are still being read, the outermost first.
+    unread: Vec<u32>,
+    ghost known: { elements.items ≡ map elements_in nodes.items },
+    ghost few_nodes: { length nodes.items ≤ 65536 },
+    ghost few_parts: { parts ≤ 1048576 },
+}
+
+/// The type of the elements of the array class that a text or a description names.
+fn elements_in(node: &Node) -> Option<TypeCode>
+    ensures { result ≡ elements_in node.now }
+{
+    match node {
+        Node::Text(text) => element_code(text),
+        Node::Desc(desc) => element_code(&desc.name),
+        _ => None,
+    }
+}
+
+/// Whether a number is among some, at most 200.
+#[tactic(auto, unfolding(ser_values::specs::Node::has))]
+fn has(numbers: &[u32], number: u32) -> bool
+    ensures { result ≡ has numbers.now number }
+{
+    match numbers {
+        [] => false,
+        [first, rest @ ..] => *first == number || has(rest, number),
+    }
+}
+
+/// Whether a node is a description.
+#[tactic(auto, unfolding(ser_values::specs::Node::is_desc))]
+fn is_desc(node: &Node) -> bool
+    ensures { result ≡ is_desc node.now }
+{
+    match node {
+        Node::Desc(_) => true,
+        Node::Proxy(_) => true,
+        Node::Text(_) => false,
+        Node::Object { .. } => false,
+        Node::Array { .. } => false,
+        Node::Class { .. } => false,
+        Node::Enum { .. } => false,
+    }
+}
+
+/// Whether a node is a text.
+#[tactic(auto, unfolding(ser_values::specs::Node::is_text))]
+fn is_text(node: &Node) -> bool
+    ensures { result ≡ is_text node.now }
+{
+    match node {
+        Node::Text(_) => true,
+        Node::Desc(_) => false,
+        Node::Proxy(_) => false,
+        Node::Object { .. } => false,
+        Node::Array { .. } => false,
+        Node::Class { .. } => false,
+        Node::Enum { .. } => false,
+    }
+}
+
+impl Table {
+    ghost use Rattle.ser_values.specs.Shape.{is_enum, fits_type};
+    ghost use Rattle.ser_values.specs.Reading.{push, fill, type_in, handle_fault, bad_desc, wrong_handle_kind};
+    ghost use Rattle.ser_read.specs.Tables.{now_of};
+    ghost use Rattle.ser_read.specs.Here.{kind_of, IsInBytes};
+
+    /// No nodes.
+    pub(crate) fn new(alloc: Global) -> Table
+        ensures nodes { result.nodes.items ≡ [] }
+        ensures parts { result.parts ≡ 0 }
+        ensures unread { result.unread.items ≡ [] }
+    {
+        Table {
+            nodes: Vec::new(alloc),
+            elements: Vec::new(alloc),
+            parts: 0,
+            unread: Vec::new(alloc),
+        }
+    }
+
+    /// Whether no further node has room.
+    pub(crate) fn is_full(&self) -> bool
+        ensures { result ≡ not (nat_lt (length self.now.nodes.items) 65536) }
+    {
+        self.nodes.len() >= NODES
+    }
+
+    /// Gives a node the next handle. The answer is its number.
+    pub(crate) fn begin(&mut self, node: Node) -> Result<u32, AllocError>
+        requires { length self.old.nodes.items < 65536 }
+        ensures number { IfOk result (λ number. number ≡ length self.old.nodes.items) }
+        ensures now { OnOk result (now_of self.new ≡ push (now_of self.old) node) }
+        ensures unread { self.new.unread.items ≡ self.old.unread.items }
+        ensures grows { length self.old.nodes.items ≤ length self.new.nodes.items }
+        ensures below { IfOk result (λ number. number < length self.new.nodes.items) }
+    {
+        let number = self.nodes.len() as u32;
+        self.elements.reserve(1)?;
+        self.nodes.reserve(1)?;
+        self.elements.push_reserved(elements_in(&node));
+        self.nodes.push_reserved(node);
+        Ok(number)
+    }
+
+    /// Writes a node, which was read, in the place that it has.
+    pub(crate) fn fill(&mut self, number: u32, node: Node)
+        requires { number < length self.old.nodes.items }
+        ensures now { now_of self.new ≡ fill (now_of self.old) number node }
+        ensures unread { self.new.unread.items ≡ self.old.unread.items }
+        ensures grows { length self.new.nodes.items ≡ length self.old.nodes.items }
+    {
+        let place = number as usize;
+        self.elements[place] = elements_in(&node);
+        self.nodes[place] = node;
+    }
+
+    /// The description of this number is being read.
+    pub(crate) fn open(&mut self, number: u32) -> Result<(), AllocError>
+        ensures now { now_of self.new ≡ now_of self.old }
+        ensures unread { OnOk result (self.new.unread.items ≡ self.old.unread.items ++ number ∷ []) }
+    {
+        self.unread.push(number)?;
+        Ok(())
+    }
+
+    /// The last description that is being read was read.
+    pub(crate) fn close(&mut self)
+        ensures now { now_of self.new ≡ now_of self.old }
+        ensures unread { (others : List ℕ) (last : ℕ) → self.old.unread.items ≡ others ++ last ∷ [] → self.new.unread.items ≡ others }
+    {
+        let _last = self.unread.pop();
+    }
+
+    /// Whether an object of so many parts has no room.
+    pub(crate) fn lacks_parts(&self, more: usize) -> bool
+        requires { more ≤ 2 ^ 62 }
+        ensures { result ≡ nat_lt 1048576 (self.now.parts + more) }
+    {
+        self.parts + more > PARTS
+    }
+
+    /// Counts an object's parts.
+    pub(crate) fn add_parts(&mut self, more: usize)
+        requires { self.old.parts + more ≤ 1048576 }
+        ensures now { now_of self.new ≡ record { nodes = self.old.nodes.items; parts = self.old.parts + more } }
+        ensures unread { self.new.unread.items ≡ self.old.unread.items }
+    {
+        self.parts += more;
+    }
+
+    /// The node of a number.
+    pub(crate) fn node(&self, number: u32) -> Option<&Node>
+        ensures { slice_get self.now.nodes.items number ≡ option_map (λ node. node.now) result }
+    {
+        self.nodes.get(number as usize)
+    }
+
+    /// What the text or the name of the node of a number says of an array's elements.
+    pub(crate) fn elements_at(&self, number: u32) -> Option<TypeCode>
+        ensures { result ≡ elements_at (slice_get self.now.nodes.items number) }
+    {
+        match self.elements.as_slice().get(number as usize) {
+            Some(code) => *code,
+            None => None,
+        }
+    }
+
+    /// The type of the elements of an array class. None where the node is no array class.
+    pub(crate) fn element_type(&self, number: u32) -> Option<TypeCode>
+        ensures { result ≡ type_in (slice_get self.now.nodes.items number) }
+    {
+        match self.node(number) {
+            Some(Node::Desc(_)) => self.elements_at(number),
+            _ => None,
+        }
+    }
+
+    /// Whether a node is the description of an enum's class.
+    pub(crate) fn is_enum(&self, number: u32) -> bool
+        ensures { result ≡ is_enum (slice_get self.now.nodes.items number) }
+    {
+        match self.node(number) {
+            Some(Node::Desc(desc)) => desc.flags & ENUM == ENUM,
+            _ => false,
+        }
+    }
+
+    /// Whether a field of a code may have such a type text.
+    pub(crate) fn fits_type(&self, code: TypeCode, slot: Slot) -> bool
+        ensures { result ≡ fits_type self.now.nodes.items code slot }
+    {
+        match slot {
+            Slot::Null => is_primitive(code),
+            Slot::Node(number) => match self.node(number) {
+                Some(Node::Text(text)) => match code {
+                    TypeCode::Array => self.elements_at(number).is_some(),
+                    TypeCode::Object => check_type_text(code, text).is_ok(),
+                    _ => false,
+                },
+                _ => false,
+            },
+        }
+    }
+
+    /// Why a description that has a handle is not taken.
+    fn desc_fault(&self, number: u32, node: &Node) -> Option<StreamKind>
+        ensures kind { option_map kind_of result ≡ (if has self.now.unread.items number then Some bad_desc else (if is_desc node.now then None else Some wrong_handle_kind)) }
+        ensures known { IfSome result IsInBytes }
+    {
+        if has(&self.unread, number) {
+            Some(StreamKind::BadDesc)
+        } else if is_desc(node) {
+            None
+        } else {
+            Some(StreamKind::WrongHandleKind)
+        }
+    }
+
+    /// Why the node of a handle is not taken in a place.
+    pub(crate) fn handle_fault(&self, place: Place, number: u32) -> Option<StreamKind>
+        ensures kind { option_map kind_of result ≡ handle_fault place (has self.now.unread.items number) (slice_get self.now.nodes.items number) }
+        ensures known { IfSome result IsInBytes }
+    {
+        match self.node(number) {
+            None => Some(StreamKind::BadHandle),
+            Some(node) => match place {
+                Place::Reference => None,
+                Place::Text => {
+                    if is_text(node) {
+                        None
+                    } else {
+                        Some(StreamKind::WrongHandleKind)
+                    }
+                }
+                Place::Class => self.desc_fault(number, node),
+                Place::Parent => self.desc_fault(number, node),
+            },
+        }
+    }
+
+    /// The nodes.
+    pub(crate) fn into_nodes(self) -> NodeList
+        ensures { result ≡ self.nodes.items }
+    {
+        let Table { nodes, .. } = self;
+        NodeList::from_vec(nodes)
+    }
+}
