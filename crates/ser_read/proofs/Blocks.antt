@@ -1,5 +1,5 @@
 -- Blocks and references one after the other, up to the end of an annotation.
-use Rattle.std.proofs.Common.{◌≡◌, ℕ, if◌then◌else◌, ◌^◌, zero, suc, ◌+◌, ◌-◌, ◌<◌, ◌≤◌, Bool, true, false, ◌&&◌, nat_eq, List, [], ◌∷◌, ◌++◌, length, Result, Ok, Err, refl, sym, ap, subst, ◌∙◌, append_assoc, length-append, arith}
+use Rattle.std.proofs.Common.{◌≡◌, ℕ, if◌then◌else◌, ◌^◌, suc, ◌+◌, Bool, true, false, nat_eq, List, [], ◌∷◌, ◌++◌, length, Result, Ok, Err, refl, sym, ap, subst, ◌∙◌, append_assoc, length-append, arith}
 use Rattle.class_desc.specs.declared.slot.Slot.{Slot}
 use Rattle.class_desc.specs.declared.slot.Item.{Item}
 use Rattle.class_desc.specs.declared.slot.Item.TheVariants as items
@@ -112,15 +112,19 @@ block_step end inner most c is now bs ref i later rest other same h =
   where
     more : Progress → List ℕ → Items
     more = blocks_at end inner true most
+
     block : (r : Plain (List ℕ)) → block_item now r ≡ Ok (i, later, rest) → after_all is (block_more more now r) ≡ after_all (added is i) (more later rest)
     block (Ok p) e = regroup is (items.Bytes p.0) (more now p.1) ∙ ends_as is end inner most _ _ _ _ _ _ e
     block (Err f) e = absurd cc
+
     two : (r : Plain ℕ) → sized_item now r ≡ Ok (i, later, rest) → after_all is (sized_more more now r) ≡ after_all (added is i) (more later rest)
     two (Ok n) e = block (take_at n.0 n.1) e
     two (Err f) e = absurd cc
+
     one : (r : Result (Slot × Progress × List ℕ) Fault) → ref_item r ≡ Ok (i, later, rest) → after_all is (ref_more more r) ≡ after_all (added is i) (more later rest)
     one (Ok s) e = regroup is (items.Ref s.0) (more s.1 s.2) ∙ ends_as is end inner most _ _ _ _ _ _ e
     one (Err f) e = absurd cc
+
     go : (a b : Bool) → (if a then sized_item now (byte_at bs) else (if b then sized_item now (size_at end w32 (2 ^ 31) bs) else ref_item (ref now bs))) ≡ Ok (i, later, rest)
         → after_all is (if a then sized_more more now (byte_at bs) else (if b then sized_more more now (size_at end w32 (2 ^ 31) bs) else ref_more more (ref now bs))) ≡ after_all (added is i) (more later rest)
     go true b e = two (byte_at bs) e
@@ -155,7 +159,7 @@ slack_more {p} {q} {m} {r} {inner} ref {first} {now} {later} {is} {c} {i} s a b 
       reads = λ rest.
           let end = r.at + length rest in
           let whole : (s.taken ++ (a.taken ++ b.taken)) ++ rest ≡ s.taken ++ (c ∷ (b.taken ++ rest)) =
-              append_assoc s.taken (a.taken ++ b.taken) rest ∙ ap (λ (x : List ℕ). s.taken ++ x) (append_assoc a.taken b.taken rest ∙ ap (λ (x : List ℕ). x ++ (b.taken ++ rest)) one) in
+          append_assoc s.taken (a.taken ++ b.taken) rest ∙ ap (λ (x : List ℕ). s.taken ++ x) (append_assoc a.taken b.taken rest ∙ ap (λ (x : List ℕ). x ++ (b.taken ++ rest)) one) in
           let ends : r.at + length rest ≡ q.at + length (c ∷ (b.taken ++ rest)) = omega (arith, len, a.takes.at, b.takes.at, length-append b.taken rest) in
           let here : r.at + length rest ≡ q.at + suc (length (b.taken ++ rest)) = ends in
           let first_is = rw (← ends) at (s.reads (c ∷ (b.taken ++ rest))) in
@@ -192,21 +196,26 @@ pub item_fails : (after e : StreamFault) (end : ℕ) (inner : Step Slot) (most c
     → nat_eq c 0x78 ≡ false → inner now (c ∷ bs) ≡ ref now bs → Fails after e (item_at end ref c now bs) → Fails after e (after_all is (blocks_at end inner true (suc most) now (c ∷ bs)))
 item_fails after e end inner most c is now bs ref other same h =
     subst (λ r. Fails after e (after_all is r)) (sym (blocks_is end inner most c now bs other ∙ ap (λ (r : Result (Slot × Progress × List ℕ) Fault). if nat_eq c 0x77 then sized_more more now (byte_at bs) else (if nat_eq c 0x7A then sized_more more now (size_at end w32 (2 ^ 31) bs) else ref_more more r)) same))
-    (behind (go (nat_eq c 0x77) (nat_eq c 0x7A) (subst (λ r. Fails after e r) (item_is end ref c now bs) h)))
+    (behind _ (go (nat_eq c 0x77) (nat_eq c 0x7A) (subst (λ r. Fails after e r) (item_is end ref c now bs) h)))
   where
     more : Progress → List ℕ → Items
     more = blocks_at end inner true most
-    behind : {r : Items} → Fails after e r → Fails after e (after_all is r)
-    behind {r} f = fails_then after e r (λ x. Ok (added_all is x.0, x.1, x.2)) f
+
+    behind : (r : Items) → Fails after e r → Fails after e (after_all is r)
+    behind r f = fails_then after e r (λ x. Ok (added_all is x.0, x.1, x.2)) f
+
     block : (r : Plain (List ℕ)) → Fails after e (block_item now r) → Fails after e (block_more more now r)
     block (Ok p) f = none after e (block_item now (Ok p)) (items.Bytes p.0, now, p.1) _ refl f
     block (Err g) f = fails_of after e g (block_item now (Err g)) (block_more more now (Err g)) refl refl f
+
     two : (r : Plain ℕ) → Fails after e (sized_item now r) → Fails after e (sized_more more now r)
     two (Ok n) f = block (take_at n.0 n.1) f
     two (Err g) f = fails_of after e g (sized_item now (Err g)) (sized_more more now (Err g)) refl refl f
+
     one : (r : Result (Slot × Progress × List ℕ) Fault) → Fails after e (ref_item r) → Fails after e (ref_more more r)
     one (Ok s) f = none after e (ref_item (Ok s)) (items.Ref s.0, s.1, s.2) _ refl f
     one (Err g) f = fails_of after e g (ref_item (Err g)) (ref_more more (Err g)) refl refl f
+
     go : (a b : Bool) → Fails after e (if a then sized_item now (byte_at bs) else (if b then sized_item now (size_at end w32 (2 ^ 31) bs) else ref_item (ref now bs)))
         → Fails after e (if a then sized_more more now (byte_at bs) else (if b then sized_more more now (size_at end w32 (2 ^ 31) bs) else ref_more more (ref now bs)))
     go true b f = two (byte_at bs) f

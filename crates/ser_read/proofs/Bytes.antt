@@ -1,8 +1,8 @@
 -- Numbers, byte by byte.
-use Rattle.std.proofs.Common.{◌≡◌, ◌-◌, ◌++◌, inl, inr, sym, subst, ◌∙◌, append_assoc, length-append, length-drop, ℕ, ◌+◌, ◌*◌, ◌<◌, ◌≤◌, ap, List, [], ◌∷◌, length, take, drop, true, false, nat_lt, Result, Ok, Err, refl, arith}
+use Rattle.std.proofs.Common.{◌≡◌, ◌-◌, ◌++◌, inl, inr, sym, subst, ◌∙◌, append_assoc, length-append, ℕ, ◌+◌, ◌*◌, ◌<◌, ◌≤◌, ap, List, [], ◌∷◌, length, take, drop, true, false, nat_lt, Result, Ok, Err, refl, arith}
 use Rattle.std.proofs.lemmas.Bool.{lt-ltb, le-ltb}
 use Rattle.std.specs.Int.{w16, w32, w64, from_be_bytes}
-use Rattle.std.proofs.lemmas.Bool.{cases_lt, ltb-true}
+use Rattle.std.proofs.lemmas.Bool.{cases_lt}
 use Rattle.std.proofs.lemmas.List.{length-take, take-append-drop, append-nil}
 use Rattle.std.proofs.lemmas.List as lists
 use Rattle.std.proofs.Math.Seq.{take-append-add, drop-append-add, drop-append_seam}
@@ -10,7 +10,7 @@ use Rattle.ser_read.specs.declared.fault.StreamFault.TheVariants as faults
 use Rattle.ser_read.specs.declared.fault.Large.TheVariants as larges
 use Rattle.ser_read.specs.declared.fault.StreamFault.{StreamFault}
 use Rattle.ser_read.specs.Here.{Fails}
-use Rattle.ser_values.specs.Reading.{◌>>=◌, Fault, Plain, byte_at, take_at, number_at, short}
+use Rattle.ser_values.specs.Reading.{◌>>=◌, Fault, byte_at, take_at, number_at, short}
 
 pub takes_all : (n : ℕ) (bs : List ℕ) → n ≤ length bs → take_at n bs ≡ Ok (take n bs, drop n bs)
 takes_all n bs le = let k : nat_lt (length bs) n ≡ false = le-ltb _ _ le in rw k refl
@@ -69,21 +69,21 @@ ok_is x y r a b = cc
 
 taken_is : (n : ℕ) (bs piece rest : List ℕ) → take_at n bs ≡ Ok (piece, rest) → (bs ≡ piece ++ rest) × (length piece ≡ n)
 taken_is n bs piece rest h = elim (cases_lt (length bs) n) [
-    | inl lt ↦ absurd (let e = takes_short n bs lt in cc)
-    | inr le ↦ (let e : (take n bs, drop n bs) ≡ (piece, rest) = ok_is _ _ (take_at n bs) (takes_all n bs le) h in
-        let a : take n bs ≡ piece = ap (λ (x : List ℕ × List ℕ). x.0) e in
-        let b : drop n bs ≡ rest = ap (λ (x : List ℕ × List ℕ). x.1) e in
-        (sym (take-append-drop n bs) ∙ ap (λ xs. xs ++ drop n bs) a ∙ ap (λ xs. piece ++ xs) b, omega (arith, ap (λ (xs : List ℕ). length xs) a, length-take n bs)))
-  ]
+  | inl lt ↦ absurd (let e = takes_short n bs lt in cc)
+  | inr le ↦ (let e : (take n bs, drop n bs) ≡ (piece, rest) = ok_is _ _ (take_at n bs) (takes_all n bs le) h in
+      let a : take n bs ≡ piece = ap (λ (x : List ℕ × List ℕ). x.0) e in
+      let b : drop n bs ≡ rest = ap (λ (x : List ℕ × List ℕ). x.1) e in
+      (sym (take-append-drop n bs) ∙ ap (λ xs. xs ++ drop n bs) a ∙ ap (λ xs. piece ++ xs) b, omega (arith, ap (λ (xs : List ℕ). length xs) a, length-take n bs)))
+]
 
 pub take_back : (piece rest : List ℕ) → take_at (length piece) (piece ++ rest) ≡ Ok (piece, rest)
 take_back piece rest = takes_all (length piece) (piece ++ rest) (omega (arith, length-append piece rest)) ∙ rw (take_front piece rest, drop-append_seam piece rest) refl
 
 split : (piece rest front : List ℕ) (n : ℕ) → onto front (take_at (length piece + n) (piece ++ rest)) ≡ onto (front ++ piece) (take_at n rest)
 split piece rest front n = elim (cases_lt (length rest) n) [
-    | inl lt ↦ rw (takes_short n rest lt, takes_short (length piece + n) (piece ++ rest) (omega (arith, length-append piece rest))) refl
-    | inr le ↦ rw (takes_all n rest le, takes_all (length piece + n) (piece ++ rest) (omega (arith, length-append piece rest))) (rw (take-append-add piece rest n, drop-append-add piece rest n, append_assoc front piece (take n rest)) refl)
-  ]
+  | inl lt ↦ rw (takes_short n rest lt, takes_short (length piece + n) (piece ++ rest) (omega (arith, length-append piece rest))) refl
+  | inr le ↦ rw (takes_all n rest le, takes_all (length piece + n) (piece ++ rest) (omega (arith, length-append piece rest))) (rw (take-append-add piece rest n, drop-append-add piece rest n, append_assoc front piece (take n rest)) refl)
+]
 
 pub take_more : (front : List ℕ) (left more : ℕ) (bs piece rest : List ℕ) → more ≤ left → take_at more bs ≡ Ok (piece, rest) → onto front (take_at left bs) ≡ onto (front ++ piece) (take_at (left - more) rest)
 take_more front left more bs piece rest le h =
@@ -93,9 +93,9 @@ take_more front left more bs piece rest le h =
 
 pub take_stops : (after e : StreamFault) (left more : ℕ) (bs : List ℕ) → more ≤ left → Fails after e (take_at more bs) → Fails after e (take_at left bs)
 take_stops after e left more bs le h = elim (cases_lt (length bs) more) [
-    | inl lt ↦ subst (λ r. Fails after e r) (takes_short more bs lt ∙ sym (takes_short left bs (omega arith))) h
-    | inr long ↦ none after e (take_at more bs) _ (take_at left bs) (takes_all more bs long) h
-  ]
+  | inl lt ↦ subst (λ r. Fails after e r) (takes_short more bs lt ∙ sym (takes_short left bs (omega arith))) h
+  | inr long ↦ none after e (take_at more bs) _ (take_at left bs) (takes_all more bs long) h
+]
 
 pub take_end : (front bs : List ℕ) → onto front (take_at 0 bs) ≡ Ok (front, bs)
 take_end front bs = rw (takes_all 0 bs (omega arith)) (ap (λ (xs : List ℕ). Ok (xs, bs)) (append-nil front))

@@ -8,3 +8,5 @@ pub mod Blocks
 pub mod Joins
 pub mod Parts
 pub mod Bytes
+pub mod Streams
+pub mod ToEnd

@@ -1,6 +1,6 @@
 -- The chain of a class, step by step.
-use Rattle.std.proofs.Common.{◌≡◌, ℕ, suc, zero, ◌&&◌, Bool, true, false, List, [], ◌∷◌, ◌++◌, reverse, map, Some, Option, None, refl, sym, ap, subst, ◌∙◌, append_assoc, ◌-◌, ◌<◌, arith}
-use Rattle.std.proofs.lemmas.List.{map_push, reverse-append, append-nil}
+use Rattle.std.proofs.Common.{◌≡◌, ℕ, suc, zero, ◌&&◌, Bool, true, false, List, [], ◌∷◌, ◌++◌, reverse, Some, refl, sym, ap, ◌∙◌, append_assoc, ◌-◌, ◌<◌, arith}
+use Rattle.std.proofs.lemmas.List.{map_push, reverse-append}
 use Rattle.class_desc.specs.declared.slot.Slot.{Slot}
 use Rattle.class_desc.specs.declared.slot.Slot.TheVariants as slots
 use Rattle.class_desc.specs.declared.desc.ClassDesc.{ClassDesc}
@@ -12,7 +12,7 @@ use Rattle.ser_values.specs.declared.node.Node.TheVariants.{Desc, Proxy}
 use Rattle.ser_values.specs.Reading.{Row, chain_above, chain_of}
 use Rattle.ser_read.specs.declared.row.ClassRow.{ClassRow}
 use Rattle.ser_read.specs.declared.shape.Climb.{Climb}
-use Rattle.ser_read.specs.declared.shape.Climb.TheVariants.{Top, NoClass, Class}
+use Rattle.ser_read.specs.declared.shape.Climb.TheVariants.{Class}
 use Rattle.ser_read.specs.Codes.{codes_of}
 use Rattle.ser_read.specs.Rows.{row_of, class_rows}
 use Rattle.ser_read.specs.Chains.{shown, climbed}

@@ -1,5 +1,5 @@
 -- Loops that read one thing after the other.
-use Rattle.std.proofs.Common.{◌≡◌, ℕ, zero, suc, inl, inr, ◌+◌, ◌-◌, ◌<◌, ◌≤◌, List, [], ◌∷◌, ◌++◌, length, drop, get_or, Result, Ok, Err, refl, sym, ap, subst, ◌∙◌, append_assoc, arith, drop-cons, add-one, length-drop}
+use Rattle.std.proofs.Common.{◌≡◌, ℕ, zero, suc, inl, inr, ◌+◌, ◌-◌, ◌<◌, ◌≤◌, List, [], ◌∷◌, ◌++◌, length, drop, get_or, Result, Ok, Err, refl, sym, ap, subst, append_assoc, arith, drop-cons, add-one, length-drop}
 use Rattle.std.proofs.lemmas.List.{append-nil, nil_from_length}
 use Rattle.ser_values.specs.Reading.{◌>>=◌, Fault, Progress, Step, many_at, plain, byte_at, take_at}
 use Rattle.ser_read.specs.declared.fault.StreamFault.{StreamFault}
@@ -83,9 +83,9 @@ unfolding many_at
 many_bytes zero now bs = rw (takes_all 0 bs (omega arith)) refl
 many_bytes (suc n) now [] = rw (takes_short (suc n) [] (omega arith)) refl
 many_bytes (suc n) now (b ∷ bs) = rw (many_bytes n now bs) (elim (cases_lt (length bs) n) [
-    | inl lt ↦ rw (takes_short n bs lt, takes_short (suc n) (b ∷ bs) (omega arith)) refl
-    | inr le ↦ rw (takes_all n bs le, takes_all (suc n) (b ∷ bs) (omega arith)) refl
-  ])
+  | inl lt ↦ rw (takes_short n bs lt, takes_short (suc n) (b ∷ bs) (omega arith)) refl
+  | inr le ↦ rw (takes_all n bs le, takes_all (suc n) (b ∷ bs) (omega arith)) refl
+])
 
 -- ---- the same, where the thing of the list has a name
 

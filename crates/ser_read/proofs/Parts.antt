@@ -1,5 +1,5 @@
 -- Objects by the types of their fields alone, and constructs by their classes.
-use Rattle.std.proofs.Common.{◌≡◌, ℕ, ◌+◌, if◌then◌else◌, Bool, true, false, nat_lt, List, [], ◌∷◌, ◌++◌, length, map, Option, Result, Ok, Err, slice_get, refl, sym, ap, subst, ◌∙◌}
+use Rattle.std.proofs.Common.{◌≡◌, ℕ, ◌+◌, if◌then◌else◌, Bool, true, false, nat_lt, List, [], ◌∷◌, length, Option, None, Result, Ok, Err, slice_get, refl, ap, ◌∙◌}
 use Rattle.std.proofs.lemmas.List.{length-map}
 use Rattle.class_desc.specs.declared.slot.Slot.{Slot}
 use Rattle.class_desc.specs.declared.slot.Slot.TheVariants as slots
@@ -7,14 +7,12 @@ use Rattle.class_desc.specs.declared.slot.Item.{Item}
 use Rattle.class_desc.specs.declared.field.FieldDesc.{FieldDesc}
 use Rattle.ser_values.specs.declared.value.Value.{Value}
 use Rattle.ser_values.specs.declared.value.Part.{Part}
-use Rattle.ser_values.specs.declared.node.Node.{Node}
-use Rattle.ser_values.specs.declared.node.Node.TheVariants.{Object}
 use Rattle.ser_values.specs.declared.node.Place.TheVariants as places
-use Rattle.ser_values.specs.Reading.{◌>>=◌, Fault, too_many, Progress, Step, Slots, Row, fill, part, roomy, unless, value_at, values_at, note_at, parts_at, chain_of, rows_of, class_fault, object_after, object_at, with_class, on_class}
+use Rattle.ser_values.specs.Reading.{◌>>=◌, Fault, Kind, too_many, Progress, Step, Slots, Row, part, unless, value_at, values_at, note_at, parts_at, chain_of, rows_of, class_fault, object_after, object_at, with_class, on_class}
 use Rattle.ser_read.specs.declared.row.ClassRow.{ClassRow}
 use Rattle.ser_read.specs.Codes.{codes_of}
 use Rattle.ser_read.specs.Lists.{all_at}
-use Rattle.ser_read.specs.Rows.{row_of, class_rows, values_by, part_by, parts_by, object_by}
+use Rattle.ser_read.specs.Rows.{class_rows, values_by, part_by, parts_by, object_by}
 use Rattle.ser_read.specs.Named.{only_class, class_named}
 
 values_same : (inner : Step Slot) (fs : List FieldDesc) (now : Progress) (bs : List ℕ) → values_by inner (codes_of fs) now bs ≡ values_at inner fs now bs
@@ -36,9 +34,11 @@ parts_same end inner (r ∷ rs) now bs = rw (values_same inner r.0 now bs) (go (
   where
     later : List Value → List Item × Progress × List ℕ → Parts
     later vs is = parts_at end inner rs is.1 is.2 >>= λ ps. Ok (part vs is.0 ∷ ps.0, ps.1, ps.2)
+
     inside : ((n : Progress) (b : List ℕ) → all_at (part_by end inner) (class_rows rs) n b ≡ parts_at end inner rs n b) → (vs : List Value) (n : Result (List Item × Progress × List ℕ) Fault) → ◌>>=◌ {B = List Part × Progress × List ℕ} (◌>>=◌ {B = Part × Progress × List ℕ} n (λ is. Ok (part vs is.0, is.1, is.2))) (λ x. ◌>>=◌ {B = List Part × Progress × List ℕ} (all_at (part_by end inner) (class_rows rs) x.1 x.2) (λ xs. Ok (x.0 ∷ xs.0, xs.1, xs.2))) ≡ ◌>>=◌ {B = List Part × Progress × List ℕ} n (later vs)
     inside same vs (Err e) = refl
     inside same vs (Ok is) = ap (λ (p : Parts). ◌>>=◌ {B = List Part × Progress × List ℕ} p (λ ps. Ok (part vs is.0 ∷ ps.0, ps.1, ps.2))) (same is.1 is.2)
+
     go : ((n : Progress) (b : List ℕ) → all_at (part_by end inner) (class_rows rs) n b ≡ parts_at end inner rs n b) → (v : Result (List Value × Progress × List ℕ) Fault) → ◌>>=◌ {B = List Part × Progress × List ℕ} (◌>>=◌ {B = Part × Progress × List ℕ} v (λ vs. note_at end inner r.1 vs.1 vs.2 >>= λ is. Ok (part vs.0 is.0, is.1, is.2))) (λ x. ◌>>=◌ {B = List Part × Progress × List ℕ} (all_at (part_by end inner) (class_rows rs) x.1 x.2) (λ xs. Ok (x.0 ∷ xs.0, xs.1, xs.2))) ≡ ◌>>=◌ {B = List Part × Progress × List ℕ} v (λ vs. note_at end inner r.1 vs.1 vs.2 >>= later vs.0)
     go same (Err e) = refl
     go same (Ok vs) = inside same vs.0 (note_at end inner r.1 vs.1 vs.2)
@@ -58,6 +58,21 @@ object_is end at inner class rows now bs h =
     let k : length rows ≡ length (rows_of (slice_get now.nodes class) (chain_of 1048576 now.nodes (slots.Node class)).0) = ap (λ (r : List ClassRow). length r) h ∙ simp length-map refl in
     rw (k, h, ← object_same end inner class) refl
 
+abbrev Read : Type 0
+Read = Result (Slot × Progress × List ℕ) Fault
+
+-- where the parts have room and the class has objects
+pub object_here : (end at : ℕ) (inner : Step Slot) (class : ℕ) (rows : List ClassRow) (now : Progress) (bs : List ℕ)
+    → rows ≡ class_rows (rows_of (slice_get now.nodes class) (chain_of 1048576 now.nodes (slots.Node class)).0)
+    → nat_lt 1048576 (now.parts + length rows) ≡ false
+    → class_fault (slice_get now.nodes class) (chain_of 1048576 now.nodes (slots.Node class)).1 ≡ None
+    → object_at end at inner class now bs ≡ object_by end inner class rows now bs
+object_here end at inner class rows now bs h few good =
+    let read : Read = object_by end inner class rows now bs in
+    object_is end at inner class rows now bs h
+    ∙ ap (λ (b : Bool). if b then Err (too_many at) else unless (class_fault (slice_get now.nodes class) (chain_of 1048576 now.nodes (slots.Node class)).1) at read) few
+    ∙ ap (λ (f : Option Kind). unless f at read) good
+
 -- a construct that begins with its class
 pub with_class_is : (inner : Slots) (unread : List ℕ) (at : ℕ) (f : ℕ → Step Slot) (now : Progress) (bs : List ℕ) → with_class inner unread at f now bs ≡ (class_named inner unread at now bs >>= λ x. f x.0 x.1 x.2)
 unfolding with_class class_named
@@ -66,6 +81,7 @@ with_class_is inner unread at f now bs = go (inner places.Class unread now bs)
     room : (b : Bool) (k : ℕ) (n : Progress) (rest : List ℕ) → (if b then f k n rest else Err (too_many at)) ≡ ◌>>=◌ {A = ℕ × Progress × List ℕ} {B = Slot × Progress × List ℕ} (if b then Ok (k, n, rest) else Err (too_many at)) (λ x. f x.0 x.1 x.2)
     room true k n rest = refl
     room false k n rest = refl
+
     go : (r : Result (Slot × Progress × List ℕ) Fault) → ◌>>=◌ {B = Slot × Progress × List ℕ} r (on_class at f) ≡ ◌>>=◌ {B = Slot × Progress × List ℕ} (◌>>=◌ {B = ℕ × Progress × List ℕ} r (only_class at)) (λ x. f x.0 x.1 x.2)
     go (Err e) = refl
     go (Ok (slots.Null, n, rest)) = refl

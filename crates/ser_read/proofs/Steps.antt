@@ -1,5 +1,5 @@
 -- Reading one thing after the other.
-use Rattle.std.proofs.Common.{◌≡◌, ℕ, ◌+◌, List, [], ◌∷◌, ◌++◌, length, Result, Ok, Err, IfOk, refl, sym, ap, subst, ◌∙◌, ◌-◌, ◌≤◌, true, Option, append_assoc, length-append, arith}
+use Rattle.std.proofs.Common.{◌≡◌, ℕ, ◌+◌, List, [], ◌∷◌, ◌++◌, length, Result, Ok, Err, IfOk, refl, sym, ap, subst, ◌∙◌, ◌≤◌, true, Option, append_assoc, length-append, arith}
 use Rattle.wire_io.specs.Pulled.{Place, Takes}
 use Rattle.wire_io.proofs.Pulling.{takes_nothing, takes_more}
 use Rattle.ser_values.specs.Reading.{◌>>=◌, Fault, Plain, Progress, plain}
@@ -25,7 +25,7 @@ then {A} {Y} {p} {q} {r} {first} {mid} k {out} a b = record {
   is = λ rest.
       let ends : r.at + length rest ≡ q.at + length (b.taken ++ rest) = omega (arith, b.takes.at, length-append b.taken rest) in
       let one : first (r.at + length rest) ((a.taken ++ b.taken) ++ rest) ≡ Ok (mid (b.taken ++ rest)) =
-          rw (append_assoc a.taken b.taken rest) (rw ends (a.is (b.taken ++ rest))) in
+      rw (append_assoc a.taken b.taken rest) (rw ends (a.is (b.taken ++ rest))) in
       rw one (b.is rest);
 }
 
@@ -73,7 +73,7 @@ leads_more {Y} {A} {p} {q} {r} {read} {next} {step} {out} more a b h = record {
   is = λ rest.
       let ends : r.at + length rest ≡ q.at + length (b.taken ++ rest) = omega (arith, b.takes.at, length-append b.taken rest) in
       let one : read (r.at + length rest) ((a.taken ++ b.taken) ++ rest) ≡ next (r.at + length rest) (b.taken ++ rest) =
-          rw (append_assoc a.taken b.taken rest) (rw ends (a.is (b.taken ++ rest))) in
+      rw (append_assoc a.taken b.taken rest) (rw ends (a.is (b.taken ++ rest))) in
       one ∙ h (r.at + length rest) (b.taken ++ rest) rest ends (b.is rest);
 }
 

@@ -1,5 +1,5 @@
 -- Values and elements of primitive types.
-use Rattle.std.proofs.Common.{◌≡◌, ℕ, List, Result, Ok, Err, refl, sym, ap, subst, ◌∙◌}
+use Rattle.std.proofs.Common.{◌≡◌, ℕ, List, Result, Ok, Err, refl}
 use Rattle.wire_io.specs.Pulled.{Place}
 use Rattle.std.specs.Int.{w16, w32, w64, cast_signed}
 use Rattle.class_desc.specs.declared.slot.Slot.{Slot}
@@ -11,7 +11,7 @@ use Rattle.ser_values.specs.Reading.{◌>>=◌, Fault, Progress, Step, mapped, m
 use Rattle.ser_read.specs.Signed.{signed_at}
 use Rattle.ser_read.specs.declared.fault.StreamFault.{StreamFault}
 use Rattle.ser_read.specs.Here.{Fails, Reads}
-use Rattle.ser_read.proofs.Steps.{then, done, said, fails_then}
+use Rattle.ser_read.proofs.Steps.{then, done, fails_then}
 
 pub twice : {A B C : Type 0} (f : B → C) (g : A → B) (step : Step A) (now : Progress) (bs : List ℕ) → mapped (λ n. f (g n)) step now bs ≡ mapped f (mapped g step) now bs
 twice {A} {B} {C} f g step now bs = go (step now bs)

@@ -1,5 +1,5 @@
 -- The chain of a class, step by step.
-use Rattle.std.specs.Prelude.{ℕ, Bool, true, false, ◌&&◌, List, [], ◌∷◌, ◌++◌}
+use Rattle.std.specs.Prelude.{Bool, true, false, ◌&&◌, List, [], ◌∷◌, ◌++◌}
 use Rattle.class_desc.specs.declared.slot.Slot.{Slot}
 use Rattle.ser_values.specs.Reading.{Row}
 use Rattle.ser_read.specs.declared.row.ClassRow.{ClassRow}

@@ -6,4 +6,5 @@ pub mod Rows
 pub mod Named
 pub mod Chains
 pub mod Tables
+pub mod Whole
 pub mod Words

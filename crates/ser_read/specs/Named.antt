@@ -1,5 +1,5 @@
 -- Steps of reading that the reader takes by themselves.
-use Rattle.std.specs.Prelude.{ℕ, ◌^◌, nat_eq, List, [], ◌∷◌, ◌++◌, length, Result, Ok, Err, if◌then◌else◌}
+use Rattle.std.specs.Prelude.{ℕ, ◌^◌, nat_eq, List, [], ◌∷◌, ◌++◌, Result, Ok, Err, if◌then◌else◌}
 use Rattle.std.specs.Int.{w32}
 use Rattle.class_desc.specs.declared.slot.Slot.{Slot}
 use Rattle.class_desc.specs.declared.slot.Slot.TheVariants as slots

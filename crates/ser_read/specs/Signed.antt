@@ -1,5 +1,5 @@
 -- Signed numbers and truth values from bytes.
-use Rattle.std.specs.Prelude.{ℕ, ℤ, Bool}
+use Rattle.std.specs.Prelude.{ℤ, Bool}
 use Rattle.std.specs.Int.{Width, cast_signed}
 use Rattle.ser_values.specs.Reading.{Step, plain, mapped, byte_at, number_at, is_true}
 

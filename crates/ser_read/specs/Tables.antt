@@ -1,5 +1,4 @@
 -- The nodes that are being read.
-use Rattle.std.specs.Prelude.{ℕ}
 use Rattle.ser_values.specs.Reading.{Progress}
 use Rattle.ser_read.specs.declared.table.Table.{Table}
 

@@ -9,6 +9,8 @@ mod reading;
 mod row;
 mod shape;
 mod table;
+mod whole;
 mod words;
 
 pub use fault::{Large, StreamFault, StreamKind};
+pub use whole::read_to_end;

@@ -125,7 +125,8 @@ fn fresh<S: Source>(
         0x76 => class_value(alloc, pull, table, at, left),
         0x7C => very_long_text(alloc, pull, table),
         0x7D => proxy(alloc, pull, table, left),
-        _ => constant(alloc, pull, table, at, left),
+        0x7E => constant(alloc, pull, table, at, left),
+        _ => Err(bad(StreamKind::BadCode, at)),
     }
 }
 
@@ -911,7 +912,7 @@ fn items<S: Source>(
 /// A block, or a reference, after its code.
 #[cycle(reading)]
 #[tactic(auto, unfolding(crate::specs::Named::item_at))]
-fn item<S: Source>(
+pub(crate) fn item<S: Source>(
     alloc: Global,
     pull: &mut Pull<'_, S>,
     table: &mut Table,
@@ -936,14 +937,6 @@ fn item<S: Source>(
         let n = count(pull)?;
         Ok(Item::Bytes(take(alloc, pull, u64::from(n))?))
     } else {
-        Ok(Item::Ref(coded(
-            alloc,
-            pull,
-            table,
-            Place::Reference,
-            left,
-            at,
-            code,
-        )?))
+        Ok(Item::Ref(coded(alloc, pull, table, Place::Reference, left, at, code)?))
     }
 }

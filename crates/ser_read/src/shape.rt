@@ -209,11 +209,7 @@ fn external_rows(alloc: Global) -> Result<Vec<ClassRow>, AllocError>
 
 /// The parts that an object of a class has, and why the class has no objects. A chain that is looked through has a part for
 /// each of its classes.
-pub(crate) fn shape_of(
-    alloc: Global,
-    table: &Table,
-    class: u32,
-) -> Result<ClassShape, AllocError>
+pub(crate) fn shape_of(alloc: Global, table: &Table, class: u32) -> Result<ClassShape, AllocError>
     ensures rows { IfOk result (λ shape. shape.rows.items ≡ class_rows (rows_of (slice_get table.now.nodes.items class) (chain_of 1048576 table.now.nodes.items (slots.Node class)).0)) }
     ensures fault { IfOk result (λ shape. option_map kind_of shape.fault ≡ class_fault (slice_get table.now.nodes.items class) (chain_of 1048576 table.now.nodes.items (slots.Node class)).1) }
     ensures known { IfOk result (λ shape. IfSome shape.fault IsInBytes) }

@@ -1,7 +1,6 @@
-use Rattle.std.proofs.Common.{◌≡◌, refl, rules}
+use Rattle.std.proofs.Common.{refl}
 use Rattle.std.proofs.lemmas.Result.{err_from_is_err_and}
-use Rattle.ser_values.specs.Reading.{Progress, plain, byte_at, take_at, many_at}
-use Rattle.ser_read.specs.Here.{coming, env}
+use Rattle.ser_read.specs.Here.{coming}
 use Rattle.ser_read.proofs.Steps.{then, done, said, fails_then}
 use Rattle.ser_read.proofs.Loop.{many_bytes}
 use Rattle.ser_read.proofs.numbers.bytes.Goals as goal

@@ -1,8 +1,5 @@
-use Rattle.std.proofs.Common.{◌≡◌, ◌≤◌, ◌-◌, ◌∙◌, arith, refl, rules, Ok}
+use Rattle.std.proofs.Common.{◌∙◌, arith, refl, rules}
 use Rattle.std.proofs.lemmas.Result.{err_from_is_err_and}
-use Rattle.wire_io.specs.Pulled.{place}
-use Rattle.ser_values.specs.Reading.{Progress, many_at}
-use Rattle.ser_read.specs.Here.{coming, env}
 use Rattle.ser_read.proofs.Steps.{leads_start, leads_more, leads_done, leads_told, leads_fails}
 use Rattle.ser_read.proofs.Loop.{many_start, many_next, many_stops, many_end}
 use Rattle.ser_read.proofs.numbers.numbers.Goals as goal

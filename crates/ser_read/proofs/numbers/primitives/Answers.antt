@@ -1,11 +1,10 @@
-use Rattle.std.proofs.Common.{◌≡◌, refl, ◌∙◌}
+use Rattle.std.proofs.Common.{refl, ◌∙◌}
 use Rattle.std.proofs.lemmas.Result.{err_from_is_err_and}
-use Rattle.std.specs.Int.{w16, w32, w64, cast_signed}
-use Rattle.ser_values.specs.declared.value.Value.TheVariants as values
+use Rattle.std.specs.Int.{w16, w32, w64}
 use Rattle.ser_values.specs.declared.value.Values.TheVariants as kinds
-use Rattle.ser_values.specs.Reading.{plain, mapped, byte_at, number_at, is_true, many_at, value_at, elements_at}
+use Rattle.ser_values.specs.Reading.{plain, byte_at, number_at, many_at, elements_at}
 use Rattle.ser_read.specs.Signed.{signed_at, truth_at}
-use Rattle.ser_read.specs.Here.{coming, env}
+use Rattle.ser_read.specs.Here.{coming}
 use Rattle.ser_read.proofs.Steps.{said}
 use Rattle.ser_read.proofs.Values.{elements_I, elements_J, elements_S, mapped_ok, mapped_fails, mapped_reads}
 use Rattle.ser_read.proofs.numbers.primitives.Goals as goal

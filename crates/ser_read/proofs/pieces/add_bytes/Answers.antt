@@ -1,4 +1,4 @@
-use Rattle.std.proofs.Common.{◌≡◌, ◌≢◌, []}
+use Rattle.std.proofs.Common.{◌≢◌, []}
 use Rattle.ser_read.proofs.Joins.{joins, follows}
 use Rattle.ser_read.proofs.pieces.add_bytes.Goals as goal
 

@@ -1,7 +1,6 @@
-use Rattle.std.proofs.Common.{◌≡◌, ◌≤◌, ◌-◌, ◌∙◌, arith, refl, rules, Ok}
+use Rattle.std.proofs.Common.{◌∙◌, arith, refl, rules}
 use Rattle.std.proofs.lemmas.Result.{err_from_is_err_and}
-use Rattle.wire_io.specs.Pulled.{place}
-use Rattle.ser_values.specs.Reading.{Progress, many_at, plain, short_at}
+use Rattle.ser_values.specs.Reading.{plain, short_at}
 use Rattle.ser_read.specs.Here.{coming, env}
 use Rattle.ser_read.proofs.Steps.{leads_start, leads_more, leads_done, leads_told, leads_fails, fails_then, plain_reads}
 use Rattle.ser_read.proofs.Loop.{many_start, many_next, many_stops, many_end}

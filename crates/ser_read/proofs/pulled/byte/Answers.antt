@@ -1,4 +1,3 @@
-use Rattle.std.proofs.Common.{refl}
 use Rattle.wire_io.specs.Pulled.{place}
 use Rattle.ser_read.specs.Here.{coming, env}
 use Rattle.ser_read.proofs.Pulling.{env_takes, byte_takes, told_end, told_limit}

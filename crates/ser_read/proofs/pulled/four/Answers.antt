@@ -1,4 +1,4 @@
-use Rattle.std.proofs.Common.{refl, rules}
+use Rattle.std.proofs.Common.{refl}
 use Rattle.ser_read.proofs.Steps.{then, done, said}
 use Rattle.ser_read.proofs.Bytes.{four_is}
 use Rattle.ser_read.proofs.pulled.four.Goals as goal

@@ -22,5 +22,5 @@ returns-in-Limit-clause-gives g c = λ told. piece_passes (place g.S.Source.left
 pub returns-in-Ok-clause-gives : goal.returns-in-Ok-clause-gives
 returns-in-Ok-clause-gives g c = λ told.
     let reads : Reads {Y = List ℕ × List ℕ} (place g.S.Source.left g.S.Source.faults c.args.pull.now) (place g.S.Source.left g.S.Source.faults c.take.new.self) (λ end bs. take_at c.args.n bs) (λ rest. (c.in-Ok.bytes, rest)) =
-        record { taken = c.in-Ok.bytes; bytes = rw c.as_slice.ensures at c.see.ensures; takes = c.in-Ok.ensures.gives.1; is = λ rest. rw (← c.in-Ok.ensures.gives.0) (take_back c.in-Ok.bytes rest) } in
+    record { taken = c.in-Ok.bytes; bytes = rw c.as_slice.ensures at c.see.ensures; takes = c.in-Ok.ensures.gives.1; is = λ rest. rw (← c.in-Ok.ensures.gives.0) (take_back c.in-Ok.bytes rest) } in
     reads_gives g.S.Source.left g.S.Source.faults c.args.pull.now c.take.new.self reads c.take.new.self.within told

@@ -1,9 +1,8 @@
-use Rattle.std.proofs.Common.{◌≡◌, ◌≤◌, ◌++◌, ◌∙◌, refl, arith, ap, Ok, List, ℕ}
+use Rattle.std.proofs.Common.{◌≡◌, ◌∙◌, arith, ap}
 use Rattle.std.proofs.lemmas.Result.{err_from_is_err_and}
-use Rattle.wire_io.specs.Pulled.{place}
-use Rattle.ser_values.specs.Reading.{◌>>=◌, take_at}
-use Rattle.ser_read.specs.Here.{coming, env}
-use Rattle.ser_read.proofs.Steps.{leads_more, leads_done, leads_env, leads_told, leads_fails, fails_then}
+use Rattle.ser_values.specs.Reading.{take_at}
+use Rattle.ser_read.specs.Here.{coming}
+use Rattle.ser_read.proofs.Steps.{leads_more, leads_env, leads_told, leads_fails, fails_then}
 use Rattle.ser_read.proofs.Bytes.{onto, take_more, take_stops, take_end}
 use Rattle.ser_read.proofs.pulled.take.Goals as goal
 

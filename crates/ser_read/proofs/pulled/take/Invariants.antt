@@ -1,6 +1,6 @@
-use Rattle.std.proofs.Common.{◌≡◌, ◌++◌, Ok}
+use Rattle.std.proofs.Common.{◌≡◌}
 use Rattle.wire_io.specs.Pulled.{place}
-use Rattle.ser_values.specs.Reading.{◌>>=◌, take_at}
+use Rattle.ser_values.specs.Reading.{take_at}
 use Rattle.ser_read.proofs.Steps.{Leads}
 use Rattle.ser_read.proofs.Bytes.{onto}
 use Rattle.ser_read.proofs.pulled.take.Given as goal

@@ -1,24 +1,18 @@
-use Rattle.std.proofs.Common.{◌≡◌, ◌≤◌, ◌<◌, ◌-◌, ◌+◌, ◌∙◌, ℕ, List, length, drop, FitsSigned, suc, ◌∷◌, [], Some, true, false, arith, refl, rules, sym, ap, subst, Ok, Err, nat_eq}
+use Rattle.std.proofs.Common.{◌≡◌, ◌-◌, ◌+◌, ◌∙◌, ℕ, length, FitsSigned, suc, ◌∷◌, [], Some, true, false, arith, refl, rules, sym, ap, subst, nat_lt, Option, option_map}
 use Rattle.std.proofs.lemmas.Result.{err_from_is_err_and}
 use Rattle.std.proofs.lemmas.Bool.{ne_eqb}
 use Rattle.class_desc.specs.declared.slot.Slot.TheVariants as slots
-use Rattle.ser_values.specs.declared.node.Place.TheVariants.{Reference, Text, Class, Parent}
-use Rattle.wire_io.specs.Pulled.{place}
-use Rattle.ser_values.specs.Reading.{◌>>=◌, slot_at, coded, many_at, field_at, field_of, value_at, elements_at, items_at, blocks_at, byte_at, Progress, push, fill, blank, desc_at, desc_after, proxy_at, array_of}
-use Rattle.ser_read.specs.Lists.{all_at}
+use Rattle.ser_values.specs.declared.node.Place.TheVariants.{Reference, Text}
+use Rattle.ser_values.specs.Reading.{slot_at, coded, field_at, field_of, value_at, Progress, push, fill, blank, desc_at, desc_after, proxy_at, array_of}
 use Rattle.ser_read.specs.Rows.{part_by, values_by, parts_by}
-use Rattle.ser_read.specs.Named.{item_at}
 use Rattle.ser_read.specs.Tables.{now_of}
-use Rattle.ser_read.specs.Here.{coming, env}
-use Rattle.ser_read.proofs.Pulling.{here_is}
-use Rattle.ser_read.proofs.Steps.{then, last, said, said_last, done, leads_start, leads_more, leads_done, leads_told, leads_fails, fails_then, reads_gives, ends_at}
-use Rattle.ser_read.proofs.Loop.{many_start, many_next, many_stops, many_end, all_start, all_next, all_stops, all_end, all_next_item, all_stops_item}
+use Rattle.ser_read.specs.Here.{coming, env, kind_of}
+use Rattle.ser_read.specs.declared.fault.StreamKind.{StreamKind}
+use Rattle.ser_read.proofs.Steps.{then, last, said, said_last, done, leads_start, leads_more, leads_done, leads_told, leads_fails, reads_gives, ends_at}
+use Rattle.ser_read.proofs.Loop.{many_next, many_stops, many_end, all_start, all_next, all_stops, all_end, all_next_item, all_stops_item}
 use Rattle.ser_read.proofs.Blocks.{slack_start, slack_more, slack_end, slack_leads, code_fails, item_fails, byte_cons}
-use Rattle.ser_read.proofs.Parts.{with_class_is, parts_same}
-use Rattle.ser_read.proofs.Values.{mapped_ok, mapped_fails, mapped_reads}
-use Rattle.ser_values.specs.declared.value.Value.TheVariants as values
-use Rattle.ser_values.specs.declared.value.Values.TheVariants as kinds
-use Rattle.ser_read.proofs.Slots.{made, slot_here, slot_gives, slot_fails, null_reads, value_any, value_ref, item_block, item_long, when, otherwise, elements_any, elements_ref}
+use Rattle.ser_read.proofs.Parts.{with_class_is, object_here}
+use Rattle.ser_read.proofs.Slots.{made, slot_here, slot_gives, slot_fails, null_reads, value_any, item_block, item_long, when, otherwise, elements_any}
 use Rattle.ser_read.proofs.reading.+reading.Goals as goal
 use Rattle.std.proofs.lemmas.Int.{to_z-of_z}
 use Rattle.std.specs.Int.{w64, cast_signed}
@@ -63,7 +57,7 @@ proxy-returns-clause-reads g t c = then _ c.in_ok-n.ensures.reads (then _ (c.in_
 
 pub desc_after-returns-clause-reads : goal.desc_after-returns-clause-reads
 unfolding desc_after
-desc_after-returns-clause-reads g t c = 
+desc_after-returns-clause-reads g t c =
     let good : is_good_desc (record { name = c.args.name; suid = cast_signed w64 c.args.suid; flags = c.args.flags; fields = c.in_ok-fields.fields; note = []; parent = slots.Null }) ≡ true = search rules in
     let fits : FitsSigned w64 c.cast_signed.result = search rules in
     rw (to_z-of_z w64 c.cast_signed.result fits, c.cast_signed.ensures) (then _ c.in_ok-n.ensures.reads (then _ c.in_ok-fields.ensures.reads (when _ good (then _ (rw c.in_ok-fields.ensures.unread at c.in_ok-desc.ensures.reads)
@@ -75,15 +69,36 @@ elements-returns-then-is_primitive-clause-gives g t c = λ told. c.primitives.en
 pub elements-returns-then-is_primitive-clause-reads : goal.elements-returns-then-is_primitive-clause-reads
 elements-returns-then-is_primitive-clause-reads g t c = said_last _ _ _ c.primitives.result (λ end bs here. elements_any c.args.code c.args.n (slot_at end c.args.left Reference c.args.table.now.unread.items) (slot_at 0 c.args.left Reference c.args.table.now.unread.items) (now_of c.args.table.now) bs (sym c.is_primitive.ensures ∙ c.if-is_primitive.true)) (c.primitives.ensures.reads (slot_at 0 c.args.left Reference c.args.table.now.unread.items) (now_of c.args.table.now))
 
+pub value-returns-then-is_primitive-clause-reads : goal.value-returns-then-is_primitive-clause-reads
+value-returns-then-is_primitive-clause-reads g t c = said_last _ _ _ c.primitive.result (λ end bs here. value_any c.args.code (slot_at end c.args.left Reference c.args.table.now.unread.items) (slot_at 0 c.args.left Reference c.args.table.now.unread.items) (now_of c.args.table.now) bs (sym c.is_primitive.ensures ∙ c.if-is_primitive.true)) (c.primitive.ensures.reads (slot_at 0 c.args.left Reference c.args.table.now.unread.items) (now_of c.args.table.now))
+
+pub object_in-returns-clause-gives : goal.object_in-returns-clause-gives
+object_in-returns-clause-gives g t c = λ told.
+    let rows = c.as_slice.ensures.value ∙ c.in_ok-shape.ensures.rows in
+    let many : c.len.result ≡ length c.as_slice.result.now = omega (arith, c.len.ensures, c.as_slice.ensures.len) in
+    let few = subst (λ (n : ℕ). nat_lt 1048576 (c.args.table.now.parts + n) ≡ false) many (sym c.lacks_parts.ensures ∙ c.if-lacks_parts.false) in
+    let good = sym c.in_ok-shape.ensures.fault ∙ ap (λ (f : Option StreamKind). option_map kind_of f) c.in-None.is in
+    let end = (env g.S.Source.left c.args.pull.now).end in
+    let bs = coming g.S.Source.left c.args.pull.now in
+    rw (object_here end c.args.at (slot_at end c.args.left Reference c.args.table.now.unread.items) c.args.class c.as_slice.result.now (now_of c.args.table.now) bs rows few good) (c.object_after.ensures.gives told)
+
+pub object_in-returns-clause-reads : goal.object_in-returns-clause-reads
+object_in-returns-clause-reads g t c =
+    let rows = c.as_slice.ensures.value ∙ c.in_ok-shape.ensures.rows in
+    let many : c.len.result ≡ length c.as_slice.result.now = omega (arith, c.len.ensures, c.as_slice.ensures.len) in
+    let few = subst (λ (n : ℕ). nat_lt 1048576 (c.args.table.now.parts + n) ≡ false) many (sym c.lacks_parts.ensures ∙ c.if-lacks_parts.false) in
+    let good = sym c.in_ok-shape.ensures.fault ∙ ap (λ (f : Option StreamKind). option_map kind_of f) c.in-None.is in
+    said_last _ _ _ c.object_after.result (λ end bs here. object_here end c.args.at (slot_at end c.args.left Reference c.args.table.now.unread.items) c.args.class c.as_slice.result.now (now_of c.args.table.now) bs rows few good) c.object_after.ensures.reads
+
 pub field-returns-in-Some-clause-reads : goal.field-returns-in-Some-clause-reads
 unfolding field_at
-field-returns-in-Some-clause-reads g t c = 
+field-returns-in-Some-clause-reads g t c =
     let e : code_of c.in_ok-letter.letter ≡ Some c.in-Some.code = sym c.from_letter.ensures.value ∙ c.in-Some.is in
     last _ _ _ c.field_of.result c.in_ok-letter.ensures.reads (rw (← e) at c.field_of.ensures.reads)
 
 pub field_of-returns-clause-reads : goal.field_of-returns-clause-reads
 unfolding field_of
-field_of-returns-clause-reads g t c = 
+field_of-returns-clause-reads g t c =
     let prim : is_primitive c.args.code ≡ false = sym c.is_primitive.ensures ∙ c.if-is_primitive.false in
     let fits : fits_type c.slot.new.table.nodes.items c.args.code c.in_ok-type_text.type_text ≡ true = search rules in
     then _ c.in_ok-name.ensures.reads (otherwise _ prim (then _ c.in_ok-type_text.ensures.reads (when _ fits (done (λ end bs. refl)))))
@@ -160,7 +175,12 @@ fields-returns-clause-reads g t c = leads_done c.loop.invariant.leads (λ end bs
 pub values-loop-code-init : goal.values-loop-code-init
 unfolding values_by
 values-loop-code-init g t c = record {
-  lent = refl; faults = omega arith; nears = omega arith; same = refl; grows = omega arith; unread = refl;
+  lent = refl;
+  faults = omega arith;
+  nears = omega arith;
+  same = refl;
+  grows = omega arith;
+  unread = refl;
   leads = rw c.new-values.ensures (leads_start _ _ _ (λ end bs. all_start (value_at (slot_at end c.args.left Reference c.args.table.now.unread.items)) c.args.codes.now (now_of c.args.table.now) bs));
 }
 
@@ -190,7 +210,12 @@ values-returns-clause-reads g t c = leads_done c.loop-code.invariant.leads (λ e
 pub parts-loop-row-init : goal.parts-loop-row-init
 unfolding parts_by
 parts-loop-row-init g t c = record {
-  lent = refl; faults = omega arith; nears = omega arith; same = refl; grows = omega arith; unread = refl;
+  lent = refl;
+  faults = omega arith;
+  nears = omega arith;
+  same = refl;
+  grows = omega arith;
+  unread = refl;
   leads = rw c.new-parts.ensures (leads_start _ _ _ (λ end bs. all_start (part_by end (slot_at end c.args.left Reference c.args.table.now.unread.items)) c.args.rows.now (now_of c.args.table.now) bs));
 }
 
@@ -219,7 +244,12 @@ parts-returns-clause-reads g t c = leads_done c.loop-row.invariant.leads (λ end
 
 pub items-loop-items-init : goal.items-loop-items-init
 items-loop-items-init g t c = record {
-  lent = refl; faults = omega arith; nears = omega arith; same = refl; grows = omega arith; unread = refl;
+  lent = refl;
+  faults = omega arith;
+  nears = omega arith;
+  same = refl;
+  grows = omega arith;
+  unread = refl;
   slack = rw c.new-items.ensures.items (slack_start _ _ _ _);
 }
 
@@ -244,7 +274,7 @@ items-returns-in_err-item-clause-gives g t c = λ told.
     rw (p.1, p.2) (leads_fails g.S.Source.left g.S.Source.faults c.args.pull.now c.loop-items.pull _ c.in_err-item.field-0.0 (slack_leads c.loop-items.invariant.slack) c.loop-items.pull.within told
     (rw front (item_fails _ _ (env g.S.Source.left c.args.pull.now).end (slot_at (env g.S.Source.left c.args.pull.now).end c.args.left Reference c.args.table.now.unread.items) _ c.in_ok-code.code c.loop-items.items.items (now_of c.loop-items.table) (coming g.S.Source.left c.byte.new.pull) (coded (env g.S.Source.left c.args.pull.now).end c.args.left (slot_at (env g.S.Source.left c.args.pull.now).end (c.args.left - 1)) Reference c.args.table.now.unread.items c.loop-items.pull.at c.in_ok-code.code) (ne_eqb c.in_ok-code.code 120 c.if-code-eq120.false)
     (slot_gives (env g.S.Source.left c.args.pull.now).end c.args.left Reference c.args.table.now.unread.items (now_of c.loop-items.table) _ c.loop-items.pull.at c.in_ok-code.code (coming g.S.Source.left c.byte.new.pull) ends refl)
-    (rw (c.in_ok-code.ensures.env, c.loop-items.invariant.same, c.loop-items.invariant.unread) at c.in_err-item.ensures.gives (rw c.in_ok-code.ensures.env known)))))
+    (rw (c.in_ok-code.ensures.env, c.loop-items.invariant.same, c.loop-items.invariant.unread) at c.in_err-item.ensures.gives told))))
 
 pub items-loop-items-preserved : goal.items-loop-items-preserved
 items-loop-items-preserved g t c = record {

@@ -1,15 +1,14 @@
-use Rattle.std.proofs.Common.{◌≡◌, true, ◌-◌, ◌+◌, ◌*◌, ◌≤◌, length, suc, drop, Ok}
-use Rattle.class_desc.specs.declared.slot.Item.{Item}
+use Rattle.std.proofs.Common.{◌≡◌, true, ◌-◌, ◌+◌, ◌*◌, ◌≤◌, length, drop}
 use Rattle.ser_values.specs.declared.node.Place.TheVariants.{Reference, Text}
 use Rattle.wire_io.specs.Pulled.{place}
-use Rattle.ser_values.specs.Reading.{◌>>=◌, slot_at, many_at, field_at, value_at, items_at, blocks_at}
+use Rattle.ser_values.specs.Reading.{slot_at, many_at, field_at, value_at}
 use Rattle.ser_read.specs.Lists.{all_at}
 use Rattle.ser_read.specs.Rows.{part_by, values_by, parts_by}
 use Rattle.ser_read.specs.Tables.{now_of}
 use Rattle.ser_read.specs.Here.{env}
 use Rattle.ser_read.proofs.Steps.{Leads}
 use Rattle.ser_read.proofs.Loop.{front_of}
-use Rattle.ser_read.proofs.Blocks.{Slack, after_all}
+use Rattle.ser_read.proofs.Blocks.{Slack}
 use Rattle.ser_read.proofs.reading.+reading.Given as goal
 
 abbrev pub decreases-coded : goal.decreases-coded

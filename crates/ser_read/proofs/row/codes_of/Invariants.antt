@@ -1,4 +1,4 @@
-use Rattle.std.proofs.Common.{◌≡◌, take, map}
+use Rattle.std.proofs.Common.{◌≡◌, take}
 use Rattle.ser_read.specs.Codes.{codes_of}
 use Rattle.ser_read.proofs.row.codes_of.Given as goal
 

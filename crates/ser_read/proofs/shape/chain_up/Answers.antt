@@ -1,8 +1,5 @@
-use Rattle.std.proofs.Common.{◌≡◌, ◌∙◌, ap, refl, sym, arith, ◌++◌, ◌&&◌, ◌-◌, reverse, Bool, true, false, List, []}
-use Rattle.ser_values.specs.Reading.{chain_of}
-use Rattle.ser_read.specs.declared.row.ClassRow.{ClassRow}
+use Rattle.std.proofs.Common.{◌≡◌, ◌∙◌, ap, refl, sym, arith, ◌++◌, ◌&&◌, reverse, true, false, []}
 use Rattle.ser_read.specs.declared.shape.Climb.TheVariants.{Top, NoClass}
-use Rattle.ser_read.specs.Chains.{shown}
 use Rattle.ser_read.proofs.Links.{Up, up_rows, up_serial, up_end, null_end, node_end}
 use Rattle.ser_read.proofs.shape.chain_up.Goals as goal
 

@@ -1,4 +1,3 @@
-use Rattle.std.proofs.Common.{◌≡◌, ◌∙◌, refl}
 use Rattle.ser_read.proofs.Links.{desc_link, proxy_link}
 use Rattle.ser_read.proofs.shape.link_of.Goals as goal
 

@@ -1,6 +1,5 @@
-use Rattle.std.proofs.Common.{◌≡◌, arith, refl}
+use Rattle.std.proofs.Common.{refl}
 use Rattle.std.proofs.lemmas.List.{map-set, length-set}
-use Rattle.ser_values.specs.Loose.{elements_in}
 use Rattle.ser_read.proofs.table.Table.fill.Goals as goal
 
 pub invariant_of-self : goal.invariant_of-self

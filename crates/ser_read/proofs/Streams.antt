@@ -1,0 +1,93 @@
+-- Streams whose bytes end at any position: what is read is a stream of a graph, and each stream is read.
+use Rattle.std.proofs.Common.{◌≡◌, ℕ, ◌+◌, ◌≤◌, ◌<◌, Bool, true, false, cond, eqb, List, [], ◌∷◌, ◌++◌, length, Result, Ok, Err, refl, sym, ap, subst, ◌∙◌, arith}
+use Rattle.std.proofs.lemmas.Bool.{eqb-true}
+use Rattle.class_desc.specs.declared.slot.Item.{Item}
+use Rattle.ser_values.specs.declared.node.Node.{Node}
+use Rattle.ser_values.specs.declared.node.Place.TheVariants as places
+use Rattle.ser_values.specs.Node.{has}
+use Rattle.ser_values.specs.Numbered.{IsGraph}
+use Rattle.ser_values.specs.Ranges.{NumbersFit, UnitsFit}
+use Rattle.ser_values.specs.Shape.{parts_in}
+use Rattle.ser_values.specs.Spelled.{Spells, SpellsItems, IsStream}
+use Rattle.ser_values.specs.Reading.{◌>>=◌, Fault, bad, bad_magic, byte_at, magic_at, items_at, slot_at, stream_of}
+use Rattle.ser_values.proofs.PlainSound as plain_sound
+use Rattle.ser_values.proofs.PlainSound.{bind_ok, passed, ok_is}
+use Rattle.ser_values.proofs.StepSound.{byte_spells}
+use Rattle.ser_values.proofs.Solid.{Solid}
+use Rattle.ser_values.proofs.NoteSound.{items_sound}
+use Rattle.ser_values.proofs.Sound.{slots_sound}
+use Rattle.ser_values.proofs.Spelling.{stream_graph}
+use Rattle.ser_values.proofs.Shrinks.{spells_shrink, stream_few}
+use Rattle.ser_values.proofs.Mirror.{Ready}
+use Rattle.ser_values.proofs.SameTokens.{spells_begin}
+use Rattle.ser_values.proofs.OneReading.{same_list}
+use Rattle.ser_values.proofs.Notes.{items_reads}
+use Rattle.ser_values.proofs.Complete.{Given, slots_complete}
+use Rattle.ser_read.specs.Here.{AreBytes}
+use Rattle.ser_read.specs.Whole.{nothing_read, stream_at}
+
+-- Reading from position 0 is reading of a whole stream.
+pub from_start : (bytes : List ℕ) → stream_of bytes ≡ stream_at (length bytes) bytes
+unfolding stream_of stream_at
+from_start bytes = refl
+
+same_bytes : (bs : List ℕ) → AreBytes bs → plain_sound.AreBytes bs
+same_bytes [] are = tt
+same_bytes (b ∷ bs) are = (are.0, same_bytes bs are.1)
+
+abbrev pub Answer : Type 0
+Answer = List Node × List Item
+
+record IsHeaded (ws bs rest : List ℕ) : Type 0 where
+  parts : bs ≡ ws ++ rest
+  left : plain_sound.AreBytes rest
+
+magic_sound : (end : ℕ) (ws bs rest : List ℕ) → magic_at end ws bs ≡ Ok rest → plain_sound.AreBytes bs → IsHeaded ws bs rest
+unfolding magic_at
+magic_sound end [] bs rest e bytes = let same : bs ≡ rest = ok_is bs rest e in record { parts = same; left = subst plain_sound.AreBytes same bytes }
+magic_sound end (w ∷ ws) bs rest e bytes =
+    let a = bind_ok (byte_at bs) (λ b. cond (eqb b.0 w) (magic_at end ws b.1) (Err (bad bad_magic (end - length bs)))) rest e in
+    let s = byte_spells bs bytes a.0 a.1 in
+    let p = passed (eqb a.0.0 w) (magic_at end ws a.0.1) (bad bad_magic (end - length bs)) rest a.2 in
+    let more = magic_sound end ws a.0.1 rest p.1 s.0 in
+    record { parts = s.1 ∙ (ap (λ z. z ∷ a.0.1) (eqb-true a.0.0 w p.0) ∙ ap (λ (l : List ℕ). w ∷ l) more.parts); left = more.left }
+
+-- Bytes that are read are a stream of the nodes and items that are answered, whose objects have at most 2^20 parts.
+pub stream_at_sound : (end : ℕ) (bytes : List ℕ) (x : Answer) → AreBytes bytes → stream_at end bytes ≡ Ok x → IsStream x.0 x.1 bytes × (parts_in x.0 ≤ 1048576)
+unfolding stream_at has parts_in
+stream_at_sound end bytes x are e =
+    let a = bind_ok (magic_at end (0xAC ∷ 0xED ∷ 0x00 ∷ 0x05 ∷ []) bytes) (λ bs. items_at end (slot_at end 200 places.Reference []) false nothing_read bs >>= λ x. Ok (x.1.nodes, x.0)) x e in
+    let b = bind_ok (items_at end (slot_at end 200 places.Reference []) false nothing_read a.0) (λ x. Ok (x.1.nodes, x.0)) x a.2 in
+    let y = b.0 in
+    let m = magic_sound end (0xAC ∷ 0xED ∷ 0x00 ∷ 0x05 ∷ []) bytes a.0 a.1 (same_bytes bytes are) in
+    let solid : Solid [] nothing_read = record { above = λ k i gone is desc. absurd cc; good = λ k i gone is. absurd cc; below = λ k h. absurd cc; few = omega arith } in
+    let g = items_sound (λ F. Spells F 200) (slot_at end 200) (slots_sound end 200) [] end false nothing_read a.0 y b.1 solid m.left in
+    let F = y.1.nodes in
+    let spelled : SpellsItems (Spells F 200 []) y.0 0 a.0 g.stop (length F) = g.got.spelled F (record { descs = λ k i gone is desc. is; texts = λ k i is t. is; long = omega arith }) (λ k low lt. refl) in
+    let ended : SpellsItems (Spells F 200 []) y.0 0 a.0 [] (length F) = subst (λ (l : List ℕ). SpellsItems (Spells F 200 []) y.0 0 a.0 l (length F)) g.ends.0 spelled in
+    let all : parts_in F ≡ parts_in g.got.added = ap parts_in g.got.grown in
+    let p = g.got.parts in
+    let few = g.got.solid.few in
+    subst (λ (x : Answer). IsStream x.0 x.1 bytes × (parts_in x.0 ≤ 1048576)) (ok_is (F, y.0) x b.2) (record { contents = a.0; headed = m.parts; spelled = ended }, omega arith)
+
+-- What is read is a graph.
+pub graph_at : (end : ℕ) (bytes : List ℕ) (x : Answer) → AreBytes bytes → stream_at end bytes ≡ Ok x → IsGraph x.0 x.1
+graph_at end bytes x are e = let s = stream_at_sound end bytes x are e in stream_graph x.0 x.1 bytes s.0 (stream_few x.0 x.1 bytes s.0) s.1
+
+abbrev answer : List Node → List Item → Result (List Node × List Item) Fault
+answer nodes is = Ok (nodes, is)
+
+magic_read : (end : ℕ) (contents : List ℕ) → magic_at end (0xAC ∷ 0xED ∷ 0x00 ∷ 0x05 ∷ []) (0xAC ∷ 0xED ∷ 0x00 ∷ 0x05 ∷ contents) ≡ Ok contents
+unfolding magic_at
+magic_read end contents = refl
+
+-- Each stream whose numbers and units are in range, and whose objects have at most 2^20 parts, is read.
+pub stream_at_complete : (end : ℕ) (nodes : List Node) (items : List Item) (bytes : List ℕ) → NumbersFit nodes → UnitsFit nodes → parts_in nodes ≤ 1048576 → IsStream nodes items bytes → stream_at end bytes ≡ Ok (nodes, items)
+unfolding stream_at has parts_in
+stream_at_complete end F is bytes numbers units parts h =
+    let given : Given F = record { few = stream_few F is bytes h; parts = parts; numbers = numbers; units = units } in
+    let ready : Ready F [] nothing_read = record { parts = refl; below = λ k e. absurd cc; known = λ k i lt e is d. absurd (omega arith); texts = λ k i lt is t. absurd (omega arith) } in
+    let magic : magic_at end (0xAC ∷ 0xED ∷ 0x00 ∷ 0x05 ∷ []) bytes ≡ Ok h.contents = ap (magic_at end (0xAC ∷ 0xED ∷ 0x00 ∷ 0x05 ∷ [])) h.headed ∙ magic_read end h.contents in
+    let r = items_reads F (Spells F 200) (slot_at end 200) (slots_complete F given end 200) (spells_begin F 200) [] (spells_shrink F 200 []) end false is nothing_read h.contents [] [] (length F) h.spelled (refl, refl) ready in
+    let same : F ≡ r.later.nodes = same_list F r.later.nodes (sym r.len) (λ k lt. r.after.agrees k (omega arith) (let e : length r.later.nodes ≡ length F = r.len in omega arith)) in
+    rw magic (rw r.is (ap (λ (l : List Node). answer l is) (sym same)))

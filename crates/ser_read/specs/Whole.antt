@@ -1,0 +1,63 @@
+-- Reading a stream to the end of the input.
+use Rattle.std.specs.Prelude.{◌≡◌, ℕ, ◌≤◌, List, [], ◌∷◌, Option, None, Some, Result, Ok, Err, if◌then◌else◌}
+use Rattle.class_desc.specs.declared.slot.Item.{Item}
+use Rattle.wire_io.specs.Wire.{NothingLeft}
+use Rattle.wire_io.specs.Pulled.{Place, Takes}
+use Rattle.ser_values.specs.declared.graph.Graph.{Graph}
+use Rattle.ser_values.specs.declared.node.Node.{Node}
+use Rattle.ser_values.specs.declared.node.Place.TheVariants as places
+use Rattle.ser_values.specs.Shape.{parts_in}
+use Rattle.ser_values.specs.Spelled.{IsStream}
+use Rattle.ser_values.specs.Reading.{◌>>=◌, Fault, short, Progress, magic_at, items_at, slot_at}
+use Rattle.ser_read.specs.declared.fault.StreamFault.{StreamFault}
+use Rattle.ser_read.specs.declared.fault.StreamFault.TheVariants.{Truncated, ReadFault, OutOfMemory}
+use Rattle.ser_read.specs.Here.{AreBytes}
+
+-- nothing was read yet
+abbrev pub nothing_read : Progress
+nothing_read = record { nodes = []; parts = 0 }
+
+-- The nodes and items of a stream of bytes that end at the position `end`, or the first fault.
+unfoldable pub stream_at : ℕ → List ℕ → Result (List Node × List Item) Fault
+stream_at end bytes =
+    magic_at end (0xAC ∷ 0xED ∷ 0x00 ∷ 0x05 ∷ []) bytes >>= λ bs.
+    items_at end (slot_at end 200 places.Reference []) false nothing_read bs >>= λ x.
+    Ok (x.1.nodes, x.0)
+
+-- what is read of bytes behind which the input goes on: they can't be all
+abbrev pub going_on : {Y : Type 0} → Result Y Fault → Result Y Fault
+going_on (Ok x) = Err short
+going_on (Err f) = Err f
+
+-- What is read up to the end; `after` is the fault of who wants one byte more.
+abbrev pub to_end : {Y : Type 0} → StreamFault → Result Y Fault → Result Y Fault
+to_end (Truncated at) read = read
+to_end after read = going_on read
+
+-- a code, or none at the end
+abbrev pub code_at : StreamFault → List ℕ → Result (Option ℕ × List ℕ) Fault
+code_at after [] = to_end after (Ok (None, []))
+code_at after (b ∷ bs) = Ok (Some b, bs)
+
+-- The bytes to the end of the input were taken, and reading gives `y` of them.
+pub record ReadsAll {Y : Type 0} (old new : Place) (read : ℕ → List ℕ → Result Y Fault) (y : Y) : Type 0 where
+  pub taken : List ℕ
+  pub bytes : AreBytes taken
+  pub takes : Takes old new taken
+  pub nothing : NothingLeft new.left
+  pub is : read new.at taken ≡ Ok y
+
+-- The bytes to the end of the input were taken, and they are a stream of these nodes and items, within the limit of parts.
+pub record TakesStream (old new : Place) (nodes : List Node) (items : List Item) : Type 0 where
+  pub taken : List ℕ
+  pub takes : Takes old new taken
+  pub nothing : NothingLeft new.left
+  pub stream : IsStream nodes items taken
+  pub parts : parts_in nodes ≤ 1048576
+
+-- a graph of these nodes and items, unless the outside failed
+abbrev pub AnswersGraph : List Node → List Item → Result Graph StreamFault → Type 0
+AnswersGraph nodes items (Ok graph) = (graph.nodes ≡ nodes) × (graph.items ≡ items)
+AnswersGraph nodes items (Err ReadFault) = Unit {0}
+AnswersGraph nodes items (Err OutOfMemory) = Unit {0}
+AnswersGraph nodes items (Err e) = ⊥

@@ -1,0 +1,154 @@
+//! Streams that are read to the end of the input.
+ghost use Rattle.std.specs.Prelude.{◌≡◌, ◌≤◌, ◌<◌, ◌+◌, ◌-◌, ◌∷◌, [], length, take, false, List, ℕ, Some, IfOk, IfSome, IsErrAnd, OnOk};
+ghost use Rattle.class_desc.specs.declared.slot.Item.{Item as OneItem};
+ghost use Rattle.wire_io.specs.Wire.{NothingLeft};
+ghost use Rattle.wire_io.specs.Pulled.{place, Takes};
+ghost use Rattle.ser_values.specs.declared.node.Node.{Node};
+ghost use Rattle.ser_values.specs.declared.node.Place.TheVariants.{Reference};
+ghost use Rattle.ser_values.specs.Reading.{byte_at, magic_at, items_at, slot_at};
+ghost use Rattle.ser_values.specs.Ranges.{NumbersFit, UnitsFit};
+ghost use Rattle.ser_values.specs.Shape.{parts_in};
+ghost use Rattle.ser_values.specs.Spelled.{IsStream};
+ghost use Rattle.ser_read.specs.declared.fault.StreamFault.TheVariants.{Truncated, TooLarge};
+ghost use Rattle.ser_read.specs.declared.fault.Large.TheVariants.{Bytes};
+ghost use Rattle.ser_read.specs.Tables.{now_of};
+ghost use Rattle.ser_read.specs.Here.{coming, env, IsTold, Caused, Fails, Gives, GivesTold, Reads, ReadsTaken};
+ghost use Rattle.ser_read.specs.Whole.{stream_at, going_on, to_end, code_at, ReadsAll, TakesStream, AnswersGraph};
+
+use crate::fault::{Large, StreamFault, StreamKind};
+use crate::pieces::{add, bad};
+use crate::pulled::byte;
+use crate::reading::item;
+use crate::table::Table;
+use class_desc::Items;
+use ser_values::{Graph, NodeList};
+use std::alloc::Global;
+use wire_io::pull::{Pull, PullEnd};
+use wire_io::source::Source;
+
+/// How many levels deep a stream's values are at most.
+const LEVELS: u32 = 200;
+
+/// Takes a byte of the magic number or the version.
+#[tactic(auto, unfolding(ser_values::specs::Reading::magic_at), using(crate::proofs::Pulling::here_is))]
+fn expect<S: Source>(pull: &mut Pull<'_, S>, wanted: u8) -> Result<(), StreamFault>
+    ensures lent { pull.new.source.ghost_name ≡ pull.old.source.ghost_name }
+    ensures cause { Caused (S.faults pull.old.source.now) (S.faults pull.new.source.now) result }
+    ensures env { OnOk result (env S.left pull.new ≡ env S.left pull.old) }
+    ensures gives { GivesTold S.left pull.old pull.new result (λ end. magic_at end (wanted ∷ [])) (λ x rest. rest) }
+    ensures reads { ReadsTaken S.left S.faults pull.old pull.new result (λ end. magic_at end (wanted ∷ [])) (λ x rest. rest) }
+{
+    let at = pull.at;
+    let found = byte(pull)?;
+    if found == wanted {
+        Ok(())
+    } else {
+        Err(bad(StreamKind::BadMagic, at))
+    }
+}
+
+/// Takes the magic number and the version.
+fn magic<S: Source>(pull: &mut Pull<'_, S>) -> Result<(), StreamFault>
+    ensures lent { pull.new.source.ghost_name ≡ pull.old.source.ghost_name }
+    ensures cause { Caused (S.faults pull.old.source.now) (S.faults pull.new.source.now) result }
+    ensures env { OnOk result (env S.left pull.new ≡ env S.left pull.old) }
+    ensures gives { GivesTold S.left pull.old pull.new result (λ end. magic_at end (0xAC ∷ 0xED ∷ 0x00 ∷ 0x05 ∷ [])) (λ x rest. rest) }
+    ensures reads { ReadsTaken S.left S.faults pull.old pull.new result (λ end. magic_at end (0xAC ∷ 0xED ∷ 0x00 ∷ 0x05 ∷ [])) (λ x rest. rest) }
+{
+    expect(pull, 0xAC)?;
+    expect(pull, 0xED)?;
+    expect(pull, 0x00)?;
+    expect(pull, 0x05)
+}
+
+/// The next code, or none where the input ends.
+fn next_code<S: Source>(pull: &mut Pull<'_, S>) -> Result<Option<u8>, StreamFault>
+    ensures lent { pull.new.source.ghost_name ≡ pull.old.source.ghost_name }
+    ensures cause { Caused (S.faults pull.old.source.now) (S.faults pull.new.source.now) result }
+    ensures nears { IfOk result (λ code. IfSome code (λ b. pull.new.stop - pull.new.at < pull.old.stop - pull.old.at)) }
+    ensures env { IfOk result (λ code. IfSome code (λ b. env S.left pull.new ≡ env S.left pull.old)) }
+    ensures gives { IsTold S.left pull.old → Gives (env S.left pull.old).after (λ code. (code, coming S.left pull.new)) result (code_at (env S.left pull.old).after (coming S.left pull.old)) }
+    ensures reads { IfOk result (λ code. IfSome code (λ b. Reads (place S.left S.faults pull.old) (place S.left S.faults pull.new) (λ end. byte_at) (λ rest. (b, rest)))) }
+    ensures ends { IfOk result (λ code. code ≡ None → Takes (place S.left S.faults pull.old) (place S.left S.faults pull.new) [] × NothingLeft (S.left pull.new.source.now)) }
+{
+    match pull.byte() {
+        Ok(code) => Ok(Some(code)),
+        Err(end) => match end {
+            PullEnd::End { at: _ } => Ok(None),
+            PullEnd::Limit { at } => Err(StreamFault::TooLarge {
+                what: Large::Bytes,
+                at,
+            }),
+            PullEnd::ReadFault => Err(StreamFault::ReadFault),
+            PullEnd::OutOfMemory => Err(StreamFault::OutOfMemory),
+        },
+    }
+}
+
+/// Items up to the end of the input.
+fn items_to_end<S: Source>(
+    alloc: Global,
+    pull: &mut Pull<'_, S>,
+    table: &mut Table,
+) -> Result<Items, StreamFault>
+    ensures lent { pull.new.source.ghost_name ≡ pull.old.source.ghost_name }
+    ensures cause { Caused (S.faults pull.old.source.now) (S.faults pull.new.source.now) result }
+    ensures gives { IsTold S.left pull.old → Gives (env S.left pull.old).after (λ items. (items, now_of table.new, [])) result (to_end (env S.left pull.old).after (items_at (env S.left pull.old).end (slot_at (env S.left pull.old).end 200 Reference table.old.unread.items) false (now_of table.old) (coming S.left pull.old))) }
+    ensures reads { IfOk result (λ items. ReadsAll (place S.left S.faults pull.old) (place S.left S.faults pull.new) (λ end. items_at end (slot_at end 200 Reference table.old.unread.items) false (now_of table.old)) (items, now_of table.new, [])) }
+{
+    let mut items = Vec::new(alloc);
+    loop {
+        let at = pull.at;
+        match next_code(pull)? {
+            None => return Ok(Items::from_vec(items)),
+            Some(code) => {
+                let item = item(alloc, pull, table, at, code, LEVELS)?;
+                add(&mut items, item)?;
+            }
+        }
+    }
+}
+
+/// The nodes and the items of a stream.
+#[tactic(auto, unfolding(crate::specs::Whole::stream_at))]
+fn stream<S: Source>(
+    alloc: Global,
+    pull: &mut Pull<'_, S>,
+) -> Result<(NodeList, Items), StreamFault>
+    ensures lent { pull.new.source.ghost_name ≡ pull.old.source.ghost_name }
+    ensures cause { Caused (S.faults pull.old.source.now) (S.faults pull.new.source.now) result }
+    ensures gives { IsTold S.left pull.old → Gives (env S.left pull.old).after (λ x. (x.0, x.1)) result (to_end (env S.left pull.old).after (stream_at (env S.left pull.old).end (coming S.left pull.old))) }
+    ensures reads { IfOk result (λ x. ReadsAll (place S.left S.faults pull.old) (place S.left S.faults pull.new) stream_at (x.0, x.1)) }
+{
+    magic(pull)?;
+    let mut table = Table::new(alloc);
+    let items = items_to_end(alloc, pull, &mut table)?;
+    Ok((table.into_nodes(), items))
+}
+
+/// Reads a whole stream, from the Pull's position to the end of its input: the magic, and every item.
+///
+/// `Truncated` comes where the input ends inside the stream, `TooLarge` of bytes where the message's limit is reached and
+/// the input goes on, and each other fault at the first position at which the bytes are wrong. After an error a front of
+/// the stream was taken.
+pub fn read_to_end<S: Source>(
+    alloc: Global,
+    pull: &mut Pull<'_, S>,
+) -> Result<Graph, StreamFault>
+    ensures lent { pull.new.source.ghost_name ≡ pull.old.source.ghost_name }
+    ensures cause { Caused (S.faults pull.old.source.now) (S.faults pull.new.source.now) result }
+    // Of told bytes that end before the stop, what is answered is what reading from left to right gives.
+    ensures gives { (bytes : List ℕ) → S.left pull.old.source.now ≡ Some bytes → length bytes ≤ pull.old.stop - pull.old.at
+        → Gives (Truncated (pull.old.at + length bytes)) (λ graph. (graph.nodes, graph.items)) result (stream_at (pull.old.at + length bytes) bytes) }
+    // Of told bytes that go on past the stop, it is the first fault before it, or that there are too many.
+    ensures limited { (bytes : List ℕ) → S.left pull.old.source.now ≡ Some bytes → pull.old.stop - pull.old.at < length bytes
+        → IsErrAnd result (λ e. Fails (TooLarge Bytes pull.old.stop) e (going_on (stream_at pull.old.stop (take (pull.old.stop - pull.old.at) bytes)))) }
+    // What was taken is a stream of the graph, told or not.
+    ensures taken { IfOk result (λ graph. TakesStream (place S.left S.faults pull.old) (place S.left S.faults pull.new) graph.nodes graph.items) }
+    // Each stream that is told to its end before the stop is read, unless the outside fails.
+    ensures complete { (bytes : List ℕ) (nodes : List Node) (items : List OneItem) → S.left pull.old.source.now ≡ Some bytes → length bytes ≤ pull.old.stop - pull.old.at
+        → NumbersFit nodes → UnitsFit nodes → parts_in nodes ≤ 1048576 → IsStream nodes items bytes → AnswersGraph nodes items result }
+{
+    let (nodes, items) = stream(alloc, pull)?;
+    Ok(Graph::from_parts(nodes, items))
+}
