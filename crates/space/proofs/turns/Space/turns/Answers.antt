@@ -1,9 +1,9 @@
-use Rattle.std.proofs.Common.{◌≡◌, ◌+◌, ◌≤◌, ◌<◌, ◌^◌, ◌∷◌, List, length, ap, subst, ◌∙◌, arith, vec_len}
+use Rattle.std.proofs.Common.{◌≡◌, ◌+◌, ◌<◌, ◌^◌, ◌∷◌, List, length, ap, subst, ◌∙◌, arith}
 use Rattle.std.specs.List.{AllByRecursion}
 use Rattle.std.specs.Vec.Iter.{into_iter_items, into_iter_len}
 use Rattle.history.specs.declared.asks.Event.{Event}
 use Rattle.space.specs.Built.{IsBuilt}
-use Rattle.space.proofs.ListLaws.{takes-next, stops-next, all-taken, length-zero}
+use Rattle.space.proofs.ListLaws.{takes-next}
 use Rattle.space.proofs.turns.Space.turns.Goals as goal
 
 pub loop-event-preserved : goal.loop-event-preserved
@@ -16,7 +16,7 @@ loop-event-preserved c =
     let Q : List Event → Type 0 = λ es. AllByRecursion (λ e. IsBuilt e.ask) es in
     record {
       taken = takes-next c.args.self.now.configuration c.loop-event.self.configuration c.args.self.now.events c.args.events.items c.loop-event.turns.items c.put_turn.new.turns.items c.in-Some.event
-        (into_iter_items c.loop-event.event-iterator) (into_iter_items c.next.new.self) c.loop-event.self.events c.turn.new.self.events c.in-Ok.turn h.config first c.put_turn.ensures.items h.taken c.in-Ok.ensures.step;
+          (into_iter_items c.loop-event.event-iterator) (into_iter_items c.next.new.self) c.loop-event.self.events c.turn.new.self.events c.in-Ok.turn h.config first c.put_turn.ensures.items h.taken c.in-Ok.ensures.step;
       config = c.in-Ok.ensures.config ∙ h.config;
       moments = (subst P first h.moments).1;
       built = (subst Q first h.built).1;
