@@ -1,6 +1,6 @@
 -- Lists of events, turn by turn, and the exported objects with their kinds.
-use Rattle.std.proofs.Common.{◌≡◌, ℕ, List, [], ◌∷◌, ◌++◌, map, Option, Some, None, Result, Ok, Err, refl, ap, sym, subst, ◌∙◌, inl, inr, cond, append_assoc, append-nil, length, arith}
-use Rattle.std.specs.Prelude.{Bool, true, false, find, option_map, ◌⊎◌}
+use Rattle.std.proofs.Common.{◌≡◌, ℕ, List, [], ◌∷◌, ◌++◌, map, Option, Some, None, Result, Ok, refl, ap, sym, subst, ◌∙◌, inl, inr, cond, append_assoc}
+use Rattle.std.specs.Prelude.{Bool, true, false, find, option_map}
 use Rattle.std.proofs.lemmas.List.{map-append}
 use Rattle.object_ids.specs.declared.ids.ObjId.{ObjId}
 use Rattle.object_ids.specs.Same.{same_id}
@@ -21,7 +21,7 @@ use Rattle.export_table.specs.Rows.{kind_of, row_at}
 use Rattle.space.specs.declared.lists.ObjectKind.{ObjectKind}
 use Rattle.space.specs.Built.{SpaceHistory}
 use Rattle.space.specs.Kept.{row_of, rows_of}
-use Rattle.space.specs.Lists.{Takes, Stops, TakesFront, kind_among, with_kind, row_kind}
+use Rattle.space.specs.Lists.{Takes, kind_among, with_kind, row_kind}
 
 -- ---- one event
 
@@ -34,15 +34,6 @@ taken-after config h h2 e turn (inl p) = go (refusal limits config (places confi
     go (Some refused) a b = absurd (cc)
 taken-after config h h2 e turn (inr q) = absurd (cc)
 
--- A refused event leaves the history.
-pub refused-after : (config : SpaceConfig) (h h2 : List Event) (e : Event) (refused : Refused) → Step config h e (Err refused) h2 → h2 ≡ h
-refused-after config h h2 e refused (inl p) = go (refusal limits config (places config h) e) p.0 p.1
-  where
-    go : (r : Option Refused) → Err refused ≡ answer_with config h e r → h2 ≡ history_with h e r → h2 ≡ h
-    go None a b = absurd (cc)
-    go (Some other) a b = b
-refused-after config h h2 e refused (inr q) = q.1
-
 -- ---- a list of events
 
 -- Of these events a front is taken so far, and these are left.
@@ -51,10 +42,7 @@ pub record HasTaken (config : SpaceConfig) (h events : List Event) (turns : List
   pub events_are : events ≡ front ++ left
   pub taken : Takes config h front turns h2
 
-pub none-taken : (config : SpaceConfig) (h events : List Event) → HasTaken config h events [] events h
-none-taken config h events = record { front = []; events_are = refl; taken = record { steps = refl; after = sym (append-nil h) } }
-
-pub one-more : (config : SpaceConfig) (h events : List Event) (turns : List Turn) (e : Event) (left h2 h3 : List Event) (turn : Turn) →
+one-more : (config : SpaceConfig) (h events : List Event) (turns : List Turn) (e : Event) (left h2 h3 : List Event) (turn : Turn) →
     HasTaken config h events turns (e ∷ left) h2 → Step config h2 e (Ok turn) h3 → HasTaken config h events (turns ++ turn ∷ []) left h3
 one-more config h events turns e left h2 h3 turn t s = record {
   front = t.front ++ e ∷ [];
@@ -67,17 +55,6 @@ one-more config h events turns e left h2 h3 turn t s = record {
   };
 }
 
-pub all-taken : (config : SpaceConfig) (h events : List Event) (turns : List Turn) (left h2 : List Event) → HasTaken config h events turns left h2 → left ≡ [] → TakesFront config h events turns None h2
-all-taken config h events turns left h2 t none = record { front = t.front; rest = left; events_are = t.events_are; taken = t.taken; stops = none }
-
-pub next-refused : (config : SpaceConfig) (h events : List Event) (turns : List Turn) (e : Event) (left h2 h3 : List Event) (refused : Refused) →
-    HasTaken config h events turns (e ∷ left) h2 → Step config h2 e (Err refused) h3 → TakesFront config h events turns (Some refused) h3
-next-refused config h events turns e left h2 h3 refused t s =
-    let same : h3 ≡ h2 = refused-after config h2 h3 e refused s in
-    let P : List Event → Type 0 = λ g. TakesFront config h events turns (Some refused) g in
-    let Q : List Event → Type 0 = λ g. Step config h2 e (Err refused) g in
-    subst P (sym same) (record { front = t.front; rest = e ∷ left; events_are = t.events_are; taken = t.taken; stops = (e, left, refl, subst Q same s) })
-
 -- The same where these are known by equations.
 pub takes-next : (config k : SpaceConfig) (h events : List Event) (turns turns2 : List Turn) (e : Event) (all left h2 h3 : List Event) (turn : Turn) →
     k ≡ config → all ≡ e ∷ left → turns2 ≡ turns ++ turn ∷ [] → HasTaken config h events turns all h2 → Step k h2 e (Ok turn) h3 → HasTaken config h events turns2 left h3
@@ -87,21 +64,10 @@ takes-next config k h events turns turns2 e all left h2 h3 turn same first after
     let R : SpaceConfig → Type 0 = λ x. Step x h2 e (Ok turn) h3 in
     subst P (sym after) (one-more config h events turns e left h2 h3 turn (subst Q first t) (subst R same s))
 
-pub stops-next : (config k : SpaceConfig) (h events : List Event) (turns : List Turn) (e : Event) (all left h2 h3 : List Event) (refused : Refused) →
-    k ≡ config → all ≡ e ∷ left → HasTaken config h events turns all h2 → Step k h2 e (Err refused) h3 → TakesFront config h events turns (Some refused) h3
-stops-next config k h events turns e all left h2 h3 refused same first t s =
-    let Q : List Event → Type 0 = λ es. HasTaken config h events turns es h2 in
-    let R : SpaceConfig → Type 0 = λ x. Step x h2 e (Err refused) h3 in
-    next-refused config h events turns e left h2 h3 refused (subst Q first t) (subst R same s)
-
-pub length-zero : {X : Type 0} (xs : List X) → length xs ≡ 0 → xs ≡ []
-length-zero [] e = refl
-length-zero (x ∷ xs) e = absurd (omega (arith, e))
-
 -- ---- exported objects
 
 -- An object's kind, by the export table.
-pub kind-among : (h : List Place) (objects : List Exported) (o : ObjId) → kind_of (rows_of h objects) o ≡ kind_among objects o
+kind-among : (h : List Place) (objects : List Exported) (o : ObjId) → kind_of (rows_of h objects) o ≡ kind_among objects o
 kind-among h [] o = refl
 kind-among h (x ∷ objects) o = go (same_id x.id o) (kind-among h objects o)
   where
@@ -112,7 +78,7 @@ kind-among h (x ∷ objects) o = go (same_id x.id o) (kind-among h objects o)
     go false e = e
 
 -- The objects with their kinds, by the rows of the export table.
-pub kinds-are : (h : List Place) (now : ℕ) (waits : List Wait) (objects : List Exported) → map row_kind (map (row_at now waits) (rows_of h objects)) ≡ map with_kind objects
+kinds-are : (h : List Place) (now : ℕ) (waits : List Wait) (objects : List Exported) → map row_kind (map (row_at now waits) (rows_of h objects)) ≡ map with_kind objects
 kinds-are h now waits [] = refl
 kinds-are h now waits (x ∷ objects) = ap (λ l. with_kind x ∷ l) (kinds-are h now waits objects)
 

@@ -1,5 +1,5 @@
 -- Lists of events, the one after the other, and the objects that they leave exported.
-use Rattle.std.specs.Prelude.{◌≡◌, ℕ, List, [], ◌∷◌, ◌++◌, map, find, Option, Some, None, option_map, Result, Ok, Err}
+use Rattle.std.specs.Prelude.{◌≡◌, ℕ, List, [], ◌∷◌, ◌++◌, map, find, Option, Some, None, option_map, Ok, Err}
 use Rattle.object_ids.specs.declared.ids.ObjId.{ObjId}
 use Rattle.object_ids.specs.Same.{same_id}
 use Rattle.history.specs.declared.asks.SpaceConfig.{SpaceConfig}

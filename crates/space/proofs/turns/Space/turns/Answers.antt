@@ -1,9 +1,9 @@
-use Rattle.std.proofs.Common.{◌≡◌, ◌+◌, ◌≤◌, ◌<◌, ◌^◌, ◌∷◌, List, length, ap, subst, ◌∙◌, arith, vec_len}
+use Rattle.std.proofs.Common.{◌≡◌, ◌+◌, ◌<◌, ◌^◌, ◌∷◌, List, length, ap, subst, ◌∙◌, arith}
 use Rattle.std.specs.List.{AllByRecursion}
 use Rattle.std.specs.Vec.Iter.{into_iter_items, into_iter_len}
 use Rattle.history.specs.declared.asks.Event.{Event}
 use Rattle.space.specs.Built.{IsBuilt}
-use Rattle.space.proofs.ListLaws.{takes-next, stops-next, all-taken, length-zero}
+use Rattle.space.proofs.ListLaws.{takes-next}
 use Rattle.space.proofs.turns.Space.turns.Goals as goal
 
 pub loop-event-preserved : goal.loop-event-preserved
