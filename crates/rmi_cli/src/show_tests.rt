@@ -10,9 +10,24 @@ fn each_stream_has_its_text_or_its_fault(rt: HostRuntime) -> Result<(), Fail> {
     let rows: [(&[u8], &str, &str, u8); 10] = [
         (b"", "", "", 0),
         (b"t\x00\x01a", "#0 text \"a\"\nitem #0\n", "", 0),
-        (b"p\x77\x02\x02\x01\x7A\x00\x00\x00\x01\x03q\x00\x7E\x00\x00", "", "bad stream bad handle at 15\n", 2),
-        (b"\x77\x02\x02\x01\x7A\x00\x00\x00\x01\x03p", "item x:020103\nitem null\n", "", 0),
-        (b"\x7C\xFF\xFF\xFF\xFF\xFF\xFF\xFF\xFF", "", "bad stream negative length at 5\n", 2),
+        (
+            b"p\x77\x02\x02\x01\x7A\x00\x00\x00\x01\x03q\x00\x7E\x00\x00",
+            "",
+            "bad stream bad handle at 15\n",
+            2,
+        ),
+        (
+            b"\x77\x02\x02\x01\x7A\x00\x00\x00\x01\x03p",
+            "item x:020103\nitem null\n",
+            "",
+            0,
+        ),
+        (
+            b"\x7C\xFF\xFF\xFF\xFF\xFF\xFF\xFF\xFF",
+            "",
+            "bad stream negative length at 5\n",
+            2,
+        ),
         (b"\x79", "", "bad stream reset at 4\n", 2),
         (b"up", "", "bad stream bad code at 5\n", 2),
         (b"t\x00\x01\x00", "", "bad stream bad utf at 7\n", 2),

@@ -51,10 +51,7 @@ fn read_input<S: Source>(alloc: Global, source: &mut S) -> Result<Graph, StreamF
 }
 
 /// Reads a stream of at most so many bytes from a Pull at its first byte.
-fn read_marked<S: Source>(
-    alloc: Global,
-    pull: &mut Pull<'_, S>,
-) -> Result<Graph, StreamFault>
+fn read_marked<S: Source>(alloc: Global, pull: &mut Pull<'_, S>) -> Result<Graph, StreamFault>
     requires { pull.old.at ≡ 0 }
     ensures lent { pull.new.source.ghost_name ≡ pull.old.source.ghost_name }
     ensures cause { Caused (S.faults pull.old.source.now) (S.faults pull.new.source.now) result }
