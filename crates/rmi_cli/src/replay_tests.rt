@@ -163,7 +163,91 @@ space 600000 300000 7 9
 1 0 abandon 17
 =
 events 4 units 4 now 0
-object 16 kind 2 pinned running 0 awaiting 0 held 0 names 0";
+object 16 kind 2 pinned running 0 awaiting 0 held 0 names 0
+
+space 600000 300000 7 9
+0 0 open 2 pinned
+1 10 begin 16
+1 11 finish 16 1 - 1/0/0
+1 12 dirty aa@3/4/5 5 600000 17
+1 13 clean aa@3/4/5 7 weak 17
+1 14 dirty aa@3/4/5 6 600000 17
+1 15 ack 1/0/0
+=
+events 7 units 11 now 15
+object 16 kind 2 pinned running 0 awaiting 0 held 0 names 0
+lease aa@3/4/5 until 600014
+withdrawn 17 place 6
+
+space 600000 300000 7 9
+0 0 open 2 pinned
+1 0 begin 16
+1 0 finish 16 1 - 1/0/0
+1 0 dirty aa@3/4/5 1 600000 17
+1 1 ack 1/0/0
+1 600000 dirty aa@3/4/5 2 600000 17
+=
+events 6 units 9 now 600000
+object 16 kind 2 pinned running 0 awaiting 0 held 0 names 0
+object 17 kind 1 free running 0 awaiting 0 held 1 names 0
+lease aa@3/4/5 until 1200000
+
+space 600000 300000 7 9
+0 0 open 2 pinned
+1 0 begin 16
+1 0 finish 16 1 - 1/0/0
+1 0 dirty aa@3/4/5 1 600000 17
+1 1 ack 1/0/0
+1 599999 dirty aa@3/4/5 2 600000 17
+=
+events 6 units 9 now 599999
+object 16 kind 2 pinned running 0 awaiting 0 held 0 names 0
+object 17 kind 1 free running 0 awaiting 0 held 1 names 0
+lease aa@3/4/5 until 1199999
+
+space 600000 300000 7 9
+0 0 open 2 pinned
+1 0 begin 16
+1 0 finish 16 1 - 1/0/0
+1 0 dirty aa@3/4/5 1 600000 17
+1 1 ack 1/0/0
+1 600000 dirty aa@3/4/5 2 600000 -
+=
+events 6 units 8 now 600000
+object 16 kind 2 pinned running 0 awaiting 0 held 0 names 0
+lease aa@3/4/5 until 1200000
+withdrawn 17 place 5
+
+space 600000 300000 7 9
+0 0 open 2 pinned
+1 0 begin 16
+1 0 finish 16 1 - 1/0/0
+1 299999 tick
+=
+events 4 units 5 now 299999
+object 16 kind 2 pinned running 0 awaiting 0 held 0 names 0
+object 17 kind 1 free running 0 awaiting 1 held 0 names 0
+
+space 600000 300000 7 9
+0 0 open 2 pinned
+1 0 begin 16
+1 0 finish 16 1 - 1/0/0
+1 299999 tick
+1 300000 tick
+=
+events 5 units 6 now 300000
+object 16 kind 2 pinned running 0 awaiting 0 held 0 names 0
+withdrawn 17 place 4
+
+space 600000 300000 7 9
+0 0 open 2 pinned
+1 0 begin 16
+1 0 finish 16 1 - 1/0/0
+2 5 abandon 16
+=
+events 4 units 5 now 5
+object 16 kind 2 pinned running 0 awaiting 0 held 0 names 0
+object 17 kind 1 free running 0 awaiting 1 held 0 names 0";
 
 #[test]
 fn each_journal_of_calls_has_its_outline(rt: HostRuntime) -> Result<(), Fail> {
