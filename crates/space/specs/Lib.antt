@@ -1,4 +1,5 @@
 pub mod Acts
+pub mod Ahead
 pub mod Built
 pub mod Faults
 pub mod Kept

@@ -2,6 +2,7 @@
 //! before it (Java RMI Specification, chapters 6, 9 and 10).
 #![tactic(auto)]
 
+mod abandons;
 mod acts;
 mod asks;
 mod calls;

@@ -172,6 +172,52 @@ fn outlines_of_histories(rt: HostRuntime) -> Result<(), Fail> {
     Ok(())
 }
 
+/// The outline of a space that took the events of a journal's lines, but for the abandons of running calls, which it was told by `abandon`.
+fn abandoned(alloc: Global, first: &str, lines: &str) -> Result<ByteList, Fail> {
+    let config = config_of(first).ok_or("no configuration")?;
+    let mut space = Space::fresh(alloc, &config);
+    for line in lines.split('\n') {
+        let event = read_event(alloc, config.uid, line.as_bytes())?.ok_or("no event")?;
+        if event.moment >= END_OF_TIME || !is_served(&event.ask) {
+            return Err("not served".into());
+        }
+        match event.ask {
+            Ask::Abandon { object } if space.running(event.by, object) > 0 => {
+                space.abandon(event.by, event.moment, object);
+            }
+            ask => {
+                space.turn(alloc, event.by, event.moment, ask)?;
+            }
+        }
+    }
+    Ok(outline(alloc, &space)?)
+}
+
+#[test]
+fn abandons_that_take_no_memory(rt: HostRuntime) -> Result<(), Fail> {
+    let alloc = rt.alloc();
+    let first = "space 10 2 7 9";
+    let rows = [
+        (
+            "0 0 open 2 pinned\n2 52 begin 16\n2 53 begin 16\n2 82 abandon 16\n2 83 ack 1/0/0",
+            "events 5 units 5 now 83\nobject 16 kind 2 pinned running 1 awaiting 0 held 0 names 0\n",
+        ),
+        (
+            "0 0 open 2 pinned\n2 52 begin 16\n1 53 begin 16\n2 12 abandon 16\n2 13 abandon 16\n1 14 abandon 16",
+            "events 6 units 6 now 53\nobject 16 kind 2 pinned running 0 awaiting 0 held 0 names 0\n",
+        ),
+        (
+            "0 0 open 2 pinned\n2 5 begin 16\n1 6 dirty aa@3/4/5 1 10 16\n2 16 abandon 16",
+            "events 4 units 5 now 16\nobject 16 kind 2 pinned running 0 awaiting 0 held 0 names 0\n",
+        ),
+    ];
+    for (lines, want) in rows {
+        let text = abandoned(alloc, first, lines)?;
+        assert_eq!(rt; text.as_slice(), want.as_bytes(), "of {lines}");
+    }
+    Ok(())
+}
+
 /// As many objects, none of which is exported, as a list has in the largest of messages.
 fn many_objects(alloc: Global) -> Result<ObjIds, AllocError> {
     let mut ids = ObjIds::new(alloc);
