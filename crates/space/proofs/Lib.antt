@@ -1,4 +1,6 @@
+pub mod AbandonLaws
 pub mod Acting
+pub mod AheadLaws
 pub mod AskLaws
 pub mod Clients
 pub mod EndLaws

@@ -4,14 +4,21 @@
 
 mod abandons;
 mod acts;
+pub mod asked;
 mod asks;
 mod calls;
+pub mod direct_port;
+mod noted;
+pub mod port;
 mod runs;
 #[cfg(test)]
 mod tests;
 pub mod texts;
 pub mod turns;
 
+pub use asked::{Asked, AskedEnd};
+pub use direct_port::{DirectPort, PortOver};
 pub use history::{Ask, Event, Refused, Reply, SpaceConfig, Turn};
+pub use port::Port;
 pub use texts::outline;
 pub use turns::Space;
