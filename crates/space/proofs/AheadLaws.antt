@@ -25,7 +25,7 @@ use Rattle.space.specs.Built.{IsBuilt}
 use Rattle.space.specs.Kept.{row_of, Keeps}
 use Rattle.space.proofs.Quiet.{adds-built, opened-length}
 
-some-or-not : {X : Type 0} (p : X → Bool) (xs : List X) → length (filter p xs) + length (filter (λ x. not (p x)) xs) ≡ length xs
+pub some-or-not : {X : Type 0} (p : X → Bool) (xs : List X) → length (filter p xs) + length (filter (λ x. not (p x)) xs) ≡ length xs
 some-or-not p [] = refl
 some-or-not {X} p (x ∷ xs) = go (p x) (some-or-not p xs)
   where
@@ -81,7 +81,7 @@ unfolding one_if
 at-most-one true = omega arith
 at-most-one false = omega arith
 
-adds-length : (config : SpaceConfig) (events : List Event) (e : Event) → IsBuilt e.ask → length (place_of config (places config events) e).adds ≡ opens e.ask
+pub adds-length : (config : SpaceConfig) (events : List Event) (e : Event) → IsBuilt e.ask → length (place_of config (places config events) e).adds ≡ opens e.ask
 adds-length config events e b = ap length (adds-built config (places config events) e b) ∙ opened-length config (length (added (places config events))) (length (places config events)) e.ask
 
 -- THE ROOM after an event, by what there was of it before.

@@ -12,6 +12,7 @@ pub mod LimitLaws
 pub mod LiveLaws
 pub mod Named
 pub mod NextLaws
+pub mod NotedLaws
 pub mod ObjectLaws
 pub mod Pairs
 pub mod Quiet

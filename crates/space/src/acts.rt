@@ -21,8 +21,8 @@ pub(crate) fn make_room(
     exports: &mut Exports,
     objects: usize,
 ) -> Result<(), AllocError>
-    requires calls { length runs.old < 2 ^ 32 }
-    ensures event { OnOk result (vec_len events.new + length runs.new + 2 ≤ vec_capacity events.new) }
+    requires calls { vec_len runs.old < 2 ^ 32 }
+    ensures event { OnOk result (vec_len events.new + vec_len runs.new + 2 ≤ vec_capacity events.new) }
     ensures run { OnOk result (vec_len runs.new < vec_capacity runs.new) }
     ensures withdrawals { OnOk result (vec_len withdrawn.new + objects ≤ vec_capacity withdrawn.new) }
     ensures object { OnOk result (1 ≤ exports.new.room.exports) }

@@ -161,13 +161,14 @@ invariant_of-self-2 c =
     let events_room = room.event in let withdrawn_room = room.withdrawals in let scratch_room = room.scratch_room in
     let events_grow = c.put_event.ensures.capacity in let withdrawn_grow = c.note_withdrawn.ensures.capacity in
     let events_len : vec_len c.make_room.new.events ≡ length c.make_room.new.events.items = search rules in
+    let runs_len : vec_len c.make_room.new.runs ≡ length c.make_room.new.runs.items = search rules in
     let withdrawn_len : vec_len c.make_room.new.withdrawn ≡ length c.make_room.new.withdrawn.items = search rules in
     let events_same = ap length c.make_room.ensures.events in let runs_same = ap length c.make_room.ensures.runs in let withdrawn_same = ap length c.make_room.ensures.withdrawn in
     (kept,
     room-turned c.self.inside.config c.self.inside.events.items c.put_event.new.events.items (event_of c.args.by c.args.moment c.args.ask) c.self.inside.leases c.withdraw.new.leases c.self.inside.exports c.withdraw.new.self
     c.self.inside.runs.items c.act_on_runs.new.runs.items c.self.inside.withdrawn.items c.note_withdrawn.new.withdrawn.items c.self.inside.told c.self.inside.added c.self.inside.units c.self.inside.moment
     c.told_after-self-inside.result _ _ c.max-now.result (c.count-exported.result + 1) c.make_room.new.scratch.items (vec_capacity c.put_event.new.events) (vec_capacity c.note_withdrawn.new.withdrawn) (vec_capacity c.make_room.new.scratch)
-    c.self.invariant.0 c.requires.built kept ended (omega (arith, one, opened, count)) (omega (arith, events_room, events_grow, events_len, events_same, runs_same)) (omega (arith, withdrawn_room, withdrawn_grow, withdrawn_len, withdrawn_same))
+    c.self.invariant.0 c.requires.built kept ended (omega (arith, one, opened, count)) (omega (arith, events_room, events_grow, events_len, events_same, runs_len, runs_same)) (omega (arith, withdrawn_room, withdrawn_grow, withdrawn_len, withdrawn_same))
     scratch_room (c.make_room.ensures.scratch ∙ c.self.invariant.1.empty))
 
 pub returns-clause-step : goal.returns-clause-step
@@ -191,4 +192,6 @@ returns-clause-step c =
 
 pub make_room-requires : goal.make_room-requires
 make_room-requires c =
-    few-calls c.self.inside.config c.self.inside.events.items c.self.inside.leases c.self.inside.exports c.self.inside.runs.items c.self.inside.withdrawn.items c.self.inside.told c.self.inside.added c.self.inside.units c.self.inside.moment c.self.invariant.0
+    let few = few-calls c.self.inside.config c.self.inside.events.items c.self.inside.leases c.self.inside.exports c.self.inside.runs.items c.self.inside.withdrawn.items c.self.inside.told c.self.inside.added c.self.inside.units c.self.inside.moment c.self.invariant.0 in
+    let len : vec_len c.self.inside.runs ≡ length c.self.inside.runs.items = search rules in
+    omega (arith, few, len)

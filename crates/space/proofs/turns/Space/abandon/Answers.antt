@@ -7,21 +7,13 @@ use Rattle.history.specs.Table.{places}
 use Rattle.space.specs.Acts.{event_of, withdrawal_at}
 use Rattle.space.proofs.AbandonLaws.{is-running, end-counted, runs-fewer, end-acted, end-keeps, end-room, end-step, end-rows, end-goes}
 use Rattle.space.proofs.TurnLaws.{HasWithdrawn}
-use Rattle.space.proofs.abandons.Space.abandon.Goals as goal
+use Rattle.space.proofs.turns.Space.abandon.Goals as goal
 
 pub end-requires : goal.end-requires
 end-requires c =
     end-counted c.self.inside.config c.self.inside.events.items c.args.by c.args.moment c.args.object c.self.inside.leases c.self.inside.exports c.self.inside.runs.items c.self.inside.withdrawn.items
     c.self.inside.told c.self.inside.added c.self.inside.units c.self.inside.moment c.self.invariant.0
     (is-running c.self.inside.config c.self.inside.events.items c.args.by c.args.object c.args.self.now c.self.view_is c.requires.running)
-
-pub withdraw-requires : goal.withdraw-requires
-withdraw-requires c =
-    let none = ap length c.self.invariant.1.empty in
-    let len : vec_len c.self.inside.scratch ≡ length c.self.inside.scratch.items = search rules in
-    let rows = end-rows c.self.inside.exports c.end.new.self c.args.object c.end.ensures in
-    let room = c.self.invariant.1.objects in
-    omega (arith, none, len, rows, room)
 
 pub note_withdrawn-requires-clause-room : goal.note_withdrawn-requires-clause-room
 note_withdrawn-requires-clause-room c =
@@ -37,15 +29,6 @@ note_withdrawn-requires-clause-room c =
     let len : vec_len c.self.inside.withdrawn ≡ length c.self.inside.withdrawn.items = search rules in
     let room = c.self.invariant.1.withdrawals in
     omega (arith, few, seen, len, room)
-
-pub put_event-requires : goal.put_event-requires
-put_event-requires c =
-    let fewer = runs-fewer c.self.inside.config c.self.inside.events.items c.args.by c.args.object c.self.inside.leases c.self.inside.exports c.self.inside.runs.items c.self.inside.withdrawn.items
-    c.self.inside.told c.self.inside.added c.self.inside.units c.self.inside.moment c.self.invariant.0
-    (is-running c.self.inside.config c.self.inside.events.items c.args.by c.args.object c.args.self.now c.self.view_is c.requires.running) in
-    let len : vec_len c.self.inside.events ≡ length c.self.inside.events.items = search rules in
-    let room = c.self.invariant.1.ends in
-    omega (arith, fewer, len, room)
 
 pub invariant_of-self : goal.invariant_of-self
 invariant_of-self c =
