@@ -14,12 +14,13 @@ use Rattle.history.specs.declared.places.Withdrawal.{Withdrawal}
 use Rattle.history.specs.declared.replies.Refused.{Refused}
 use Rattle.history.specs.declared.replies.Refused.TheVariants.{OutOfMemory}
 use Rattle.history.specs.declared.replies.Reply.{Reply}
-use Rattle.history.specs.declared.replies.Reply.TheVariants.{Finished, Names}
+use Rattle.history.specs.declared.replies.Reply.TheVariants.{Started, NoObject, Finished, NotRunning, Done, Names}
 use Rattle.history.specs.declared.replies.Turn.{Turn}
 use Rattle.history.specs.Limits.{units_of, limits, refusal}
+use Rattle.history.specs.Places.{kind_of}
 use Rattle.history.specs.Replies.{ids, reply, gone}
 use Rattle.history.specs.Steps.{turn_of, answer_with, history_with, Step}
-use Rattle.history.specs.Table.{is_kept, table, place_of, places, withdrawn}
+use Rattle.history.specs.Table.{is_effective, is_kept, table, place_of, places, withdrawn}
 use Rattle.history.proofs.GoneLaws.{pending, gone-push}
 use Rattle.history.proofs.TableLaws.{places-numbered, withdrawn-place}
 use Rattle.dgc_server.specs.Stands.{LeaseTable}
@@ -84,14 +85,18 @@ reply-ids : (config : SpaceConfig) (h : List Place) (e : Event) (os : List ObjId
 unfolding reply place_of
 reply-ids config h e os b s = go e.ask b s
   where
-    two : (v : Bool) (x y : Reply) (os : List ObjId) (n : ℕ) → (x ≡ Finished os → ⊥) → (y ≡ Finished os → ⊥) → (if v then x else y) ≡ Finished os → length os ≤ n
-    two true x y os n f g t = absurd (f t)
-    two false x y os n f g t = absurd (g t)
+    begun : (v : Bool) (kind n : ℕ) → (if v then Started kind else NoObject) ≡ Finished os → length os ≤ n
+    begun true kind n t = absurd (cc)
+    begun false kind n t = absurd (cc)
+
+    ended : (v : Bool) (n : ℕ) → (if v then Done else NotRunning) ≡ Finished os → length os ≤ n
+    ended true n t = absurd (cc)
+    ended false n t = absurd (cc)
 
     go : (a : Ask) → IsBuilt a → reply config h (record e { ask = a }) ≡ Finished os → length os ≤ units_of a
     go (Open kind pinned) b s = absurd (cc)
-    go (Begin o) b s = two _ _ _ os _ (λ t. cc) (λ t. cc) s
-    go (Abandon o) b s = two _ _ _ os _ (λ t. cc) (λ t. cc) s
+    go (Begin o) b s = begun (is_effective config h e.by (Begin o)) (kind_of (table config h) o) 1 s
+    go (Abandon o) b s = ended (is_effective config h e.by (Abandon o)) 1 s
     go (Dirty x y z w) b s = absurd (cc)
     go (Clean x y z w) b s = absurd (cc)
     go (Ack u) b s = absurd (cc)
@@ -107,14 +112,18 @@ reply-names : (config : SpaceConfig) (h : List Place) (e : Event) (ns : List (Li
 unfolding reply place_of
 reply-names config h e ns b s = go e.ask b s
   where
-    two : (v : Bool) (x y : Reply) → (x ≡ Names ns → ⊥) → (y ≡ Names ns → ⊥) → (if v then x else y) ≡ Names ns → ⊥
-    two true x y f g t = f t
-    two false x y f g t = g t
+    begun : (v : Bool) (kind : ℕ) → (if v then Started kind else NoObject) ≡ Names ns → ⊥
+    begun true kind t = cc
+    begun false kind t = cc
+
+    ended : (v : Bool) → (if v then Done else NotRunning) ≡ Names ns → ⊥
+    ended true t = cc
+    ended false t = cc
 
     go : (a : Ask) → IsBuilt a → reply config h (record e { ask = a }) ≡ Names ns → ⊥
     go (Open kind pinned) b s = cc
-    go (Begin o) b s = two _ _ _ (λ t. cc) (λ t. cc) s
-    go (Abandon o) b s = two _ _ _ (λ t. cc) (λ t. cc) s
+    go (Begin o) b s = begun (is_effective config h e.by (Begin o)) (kind_of (table config h) o) s
+    go (Abandon o) b s = ended (is_effective config h e.by (Abandon o)) s
     go (Dirty x y z w) b s = cc
     go (Clean x y z w) b s = cc
     go (Ack u) b s = cc
