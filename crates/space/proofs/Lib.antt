@@ -21,7 +21,6 @@ pub mod Room
 pub mod RowLaws
 pub mod RunSteps
 pub mod TextLaws
-pub mod TieSteps
 pub mod TurnLaws
 pub mod WaitLaws
 pub mod WaitSteps

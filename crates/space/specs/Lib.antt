@@ -4,9 +4,6 @@ pub mod Built
 pub mod Entries
 pub mod Faults
 pub mod Kept
-pub mod Ports
 pub mod Rows
 pub mod Runs
-pub mod TieLaws
-pub mod Ties
 pub mod Waits

@@ -7,9 +7,7 @@ mod acts;
 pub mod asked;
 mod asks;
 mod calls;
-pub mod direct_port;
 mod noted;
-pub mod port;
 mod runs;
 #[cfg(test)]
 mod tests;
@@ -17,8 +15,6 @@ pub mod texts;
 pub mod turns;
 
 pub use asked::{Asked, AskedEnd};
-pub use direct_port::{DirectPort, PortOver};
 pub use history::{Ask, Event, Refused, Reply, SpaceConfig, Turn};
-pub use port::Port;
 pub use texts::outline;
 pub use turns::Space;

@@ -4,7 +4,7 @@ ghost use Rattle.std.specs.Prelude.{IsTrue, IfSome};
 ghost use Rattle.space.specs.Built.{IsBuilt};
 ghost use Rattle.space.specs.Kept.{HasDurations};
 
-use crate::{Ask, AskedEnd, DirectPort, Port, Refused, Reply, Space, SpaceConfig, outline};
+use crate::{Ask, AskedEnd, Refused, Reply, Space, SpaceConfig, outline};
 use history::limits::{END_OF_TIME, MAX_DURATION};
 use journal::lines::{read_event, read_first_line};
 use mod_utf::list::{ByteList, Same};
@@ -219,28 +219,19 @@ fn abandons_that_take_no_memory(rt: HostRuntime) -> Result<(), Fail> {
 }
 
 #[test]
-fn a_port_enters_its_turns(rt: HostRuntime) -> Result<(), Fail> {
+fn turns_with_their_entries(rt: HostRuntime) -> Result<(), Fail> {
     let alloc = rt.alloc();
     let config = config_of("space 10 2 7 9").ok_or("no configuration")?;
     let mut space = Space::fresh(alloc, &config);
-    let mut port = DirectPort::new(alloc, &mut space, 2);
     let pinned = true;
-    let opened = port.turn(alloc, 0, Ask::Open { kind: 3, pinned })?;
-    let Reply::Opened(object) = opened.reply else {
-        return Err("not opened".into());
-    };
-    let begun = port.turn(alloc, 5, Ask::Begin { object })?;
-    assert!(rt; begun.reply.is_same(&Reply::Started(3)));
-    let ended = port.turn(alloc, 4, Ask::Abandon { object })?;
-    assert!(rt; ended.reply.is_same(&Reply::Done));
-    let entries = port.into_asked();
-    assert_eq!(rt; entries.len(), 3);
-    assert_eq!(rt; entries[2].moment, 4);
-    match &entries[2].end {
-        AskedEnd::Turned(turn) => assert!(rt; turn.place == 2 && turn.reply.is_same(&Reply::Done)),
+    let (answer, entry) = space.turn_noted(alloc, 2, 4, Ask::Open { kind: 3, pinned })?;
+    let turn = answer?;
+    assert_eq!(rt; entry.moment, 4);
+    assert!(rt; entry.ask.is_same(&Ask::Open { kind: 3, pinned }));
+    match &entry.end {
+        AskedEnd::Turned(copy) => assert!(rt; turn.is_same(copy)),
         _ => return Err("not turned".into()),
     }
-    assert_eq!(rt; space.len(), 3);
     Ok(())
 }
 

@@ -32,26 +32,28 @@ returns-in-Some-clause-step c =
     c.room_refusal.ensures running c.count-exported.ensures.value refl c.in-Some.is)))
 
 pub invariant_of-self : goal.invariant_of-self
-invariant_of-self c =
-    (keeps-roomy c.self.inside.config c.self.inside.events.items c.make_room.new.events.items c.self.inside.leases c.self.inside.leases c.self.inside.exports c.make_room.new.exports c.self.inside.runs.items c.make_room.new.runs.items
-    c.self.inside.withdrawn.items c.make_room.new.withdrawn.items c.self.inside.told c.self.inside.added c.self.inside.units c.self.inside.moment
-    c.self.invariant.0 c.make_room.ensures.exports c.make_room.ensures.events refl c.make_room.ensures.runs c.make_room.ensures.withdrawn,
-    room-grown c.self.inside.events.items c.make_room.new.events.items c.self.inside.runs.items c.make_room.new.runs.items c.self.inside.withdrawn.items c.make_room.new.withdrawn.items c.self.inside.exports c.make_room.new.exports
-    c.self.inside.scratch.items c.make_room.new.scratch.items (vec_capacity c.self.inside.events) (vec_capacity c.self.inside.withdrawn) (vec_capacity c.self.inside.scratch)
-    (vec_capacity c.make_room.new.events) (vec_capacity c.make_room.new.withdrawn) (vec_capacity c.make_room.new.scratch)
-    c.self.invariant.1 c.make_room.ensures.events c.make_room.ensures.runs c.make_room.ensures.withdrawn c.make_room.ensures.exports c.make_room.ensures.scratch
-    c.make_room.ensures.events_grow c.make_room.ensures.withdrawn_grow c.make_room.ensures.scratch_grow)
+invariant_of-self c = (
+  keeps-roomy c.self.inside.config c.self.inside.events.items c.make_room.new.events.items c.self.inside.leases c.self.inside.leases c.self.inside.exports c.make_room.new.exports c.self.inside.runs.items c.make_room.new.runs.items
+      c.self.inside.withdrawn.items c.make_room.new.withdrawn.items c.self.inside.told c.self.inside.added c.self.inside.units c.self.inside.moment
+      c.self.invariant.0 c.make_room.ensures.exports c.make_room.ensures.events refl c.make_room.ensures.runs c.make_room.ensures.withdrawn,
+  room-grown c.self.inside.events.items c.make_room.new.events.items c.self.inside.runs.items c.make_room.new.runs.items c.self.inside.withdrawn.items c.make_room.new.withdrawn.items c.self.inside.exports c.make_room.new.exports
+      c.self.inside.scratch.items c.make_room.new.scratch.items (vec_capacity c.self.inside.events) (vec_capacity c.self.inside.withdrawn) (vec_capacity c.self.inside.scratch)
+      (vec_capacity c.make_room.new.events) (vec_capacity c.make_room.new.withdrawn) (vec_capacity c.make_room.new.scratch)
+      c.self.invariant.1 c.make_room.ensures.events c.make_room.ensures.runs c.make_room.ensures.withdrawn c.make_room.ensures.exports c.make_room.ensures.scratch
+      c.make_room.ensures.events_grow c.make_room.ensures.withdrawn_grow c.make_room.ensures.scratch_grow,
+)
 
 pub invariant_of-self-in_err-tell : goal.invariant_of-self-in_err-tell
-invariant_of-self-in_err-tell c =
-    (keeps-roomy c.self.inside.config c.self.inside.events.items c.make_room.new.events.items c.self.inside.leases c.tell.new.leases c.self.inside.exports c.make_room.new.exports c.self.inside.runs.items c.make_room.new.runs.items
-    c.self.inside.withdrawn.items c.make_room.new.withdrawn.items c.self.inside.told c.self.inside.added c.self.inside.units c.self.inside.moment
-    c.self.invariant.0 c.make_room.ensures.exports c.make_room.ensures.events (c.in_err-tell.ensures {u = tt}).err c.make_room.ensures.runs c.make_room.ensures.withdrawn,
-    room-grown c.self.inside.events.items c.make_room.new.events.items c.self.inside.runs.items c.make_room.new.runs.items c.self.inside.withdrawn.items c.make_room.new.withdrawn.items c.self.inside.exports c.make_room.new.exports
-    c.self.inside.scratch.items c.make_room.new.scratch.items (vec_capacity c.self.inside.events) (vec_capacity c.self.inside.withdrawn) (vec_capacity c.self.inside.scratch)
-    (vec_capacity c.make_room.new.events) (vec_capacity c.make_room.new.withdrawn) (vec_capacity c.make_room.new.scratch)
-    c.self.invariant.1 c.make_room.ensures.events c.make_room.ensures.runs c.make_room.ensures.withdrawn c.make_room.ensures.exports c.make_room.ensures.scratch
-    c.make_room.ensures.events_grow c.make_room.ensures.withdrawn_grow c.make_room.ensures.scratch_grow)
+invariant_of-self-in_err-tell c = (
+  keeps-roomy c.self.inside.config c.self.inside.events.items c.make_room.new.events.items c.self.inside.leases c.tell.new.leases c.self.inside.exports c.make_room.new.exports c.self.inside.runs.items c.make_room.new.runs.items
+      c.self.inside.withdrawn.items c.make_room.new.withdrawn.items c.self.inside.told c.self.inside.added c.self.inside.units c.self.inside.moment
+      c.self.invariant.0 c.make_room.ensures.exports c.make_room.ensures.events (c.in_err-tell.ensures {u = tt}).err c.make_room.ensures.runs c.make_room.ensures.withdrawn,
+  room-grown c.self.inside.events.items c.make_room.new.events.items c.self.inside.runs.items c.make_room.new.runs.items c.self.inside.withdrawn.items c.make_room.new.withdrawn.items c.self.inside.exports c.make_room.new.exports
+      c.self.inside.scratch.items c.make_room.new.scratch.items (vec_capacity c.self.inside.events) (vec_capacity c.self.inside.withdrawn) (vec_capacity c.self.inside.scratch)
+      (vec_capacity c.make_room.new.events) (vec_capacity c.make_room.new.withdrawn) (vec_capacity c.make_room.new.scratch)
+      c.self.invariant.1 c.make_room.ensures.events c.make_room.ensures.runs c.make_room.ensures.withdrawn c.make_room.ensures.exports c.make_room.ensures.scratch
+      c.make_room.ensures.events_grow c.make_room.ensures.withdrawn_grow c.make_room.ensures.scratch_grow,
+)
 
 pub returns-in_err-tell-clause-step : goal.returns-in_err-tell-clause-step
 returns-in_err-tell-clause-step c =
@@ -163,13 +165,14 @@ invariant_of-self-2 c =
     let events_len : vec_len c.make_room.new.events ≡ length c.make_room.new.events.items = search rules in
     let runs_len : vec_len c.make_room.new.runs ≡ length c.make_room.new.runs.items = search rules in
     let withdrawn_len : vec_len c.make_room.new.withdrawn ≡ length c.make_room.new.withdrawn.items = search rules in
-    let events_same = ap length c.make_room.ensures.events in let runs_same = ap length c.make_room.ensures.runs in let withdrawn_same = ap length c.make_room.ensures.withdrawn in
-    (kept,
-    room-turned c.self.inside.config c.self.inside.events.items c.put_event.new.events.items (event_of c.args.by c.args.moment c.args.ask) c.self.inside.leases c.withdraw.new.leases c.self.inside.exports c.withdraw.new.self
-    c.self.inside.runs.items c.act_on_runs.new.runs.items c.self.inside.withdrawn.items c.note_withdrawn.new.withdrawn.items c.self.inside.told c.self.inside.added c.self.inside.units c.self.inside.moment
-    c.told_after-self-inside.result _ _ c.max-now.result (c.count-exported.result + 1) c.make_room.new.scratch.items (vec_capacity c.put_event.new.events) (vec_capacity c.note_withdrawn.new.withdrawn) (vec_capacity c.make_room.new.scratch)
-    c.self.invariant.0 c.requires.built kept ended (omega (arith, one, opened, count)) (omega (arith, events_room, events_grow, events_len, events_same, runs_len, runs_same)) (omega (arith, withdrawn_room, withdrawn_grow, withdrawn_len, withdrawn_same))
-    scratch_room (c.make_room.ensures.scratch ∙ c.self.invariant.1.empty))
+    let events_same = ap length c.make_room.ensures.events in let runs_same = ap length c.make_room.ensures.runs in let withdrawn_same = ap length c.make_room.ensures.withdrawn in (
+      kept,
+      room-turned c.self.inside.config c.self.inside.events.items c.put_event.new.events.items (event_of c.args.by c.args.moment c.args.ask) c.self.inside.leases c.withdraw.new.leases c.self.inside.exports c.withdraw.new.self
+          c.self.inside.runs.items c.act_on_runs.new.runs.items c.self.inside.withdrawn.items c.note_withdrawn.new.withdrawn.items c.self.inside.told c.self.inside.added c.self.inside.units c.self.inside.moment
+          c.told_after-self-inside.result _ _ c.max-now.result (c.count-exported.result + 1) c.make_room.new.scratch.items (vec_capacity c.put_event.new.events) (vec_capacity c.note_withdrawn.new.withdrawn) (vec_capacity c.make_room.new.scratch)
+          c.self.invariant.0 c.requires.built kept ended (omega (arith, one, opened, count)) (omega (arith, events_room, events_grow, events_len, events_same, runs_len, runs_same)) (omega (arith, withdrawn_room, withdrawn_grow, withdrawn_len, withdrawn_same))
+          scratch_room (c.make_room.ensures.scratch ∙ c.self.invariant.1.empty),
+    )
 
 pub returns-clause-step : goal.returns-clause-step
 returns-clause-step c =
