@@ -390,6 +390,23 @@ fn a_port_enters_its_turns(rt: HostRuntime) -> Result<(), Fail> {
     Ok(())
 }
 
+#[test]
+fn turns_with_their_entries(rt: HostRuntime) -> Result<(), Fail> {
+    let alloc = rt.alloc();
+    let config = config_of("space 10 2 7 9").ok_or("no configuration")?;
+    let mut space = Space::fresh(alloc, &config);
+    let pinned = true;
+    let (answer, entry) = space.turn_noted(alloc, 2, 4, Ask::Open { kind: 3, pinned })?;
+    let turn = answer?;
+    assert_eq!(rt; entry.moment, 4);
+    assert!(rt; entry.ask.is_same(&Ask::Open { kind: 3, pinned }));
+    match &entry.end {
+        AskedEnd::Turned(copy) => assert!(rt; turn.is_same(copy)),
+        _ => return Err("not turned".into()),
+    }
+    Ok(())
+}
+
 /// As many objects, none of which is exported, as a list has in the largest of messages.
 fn many_objects(alloc: Global) -> Result<ObjIds, AllocError> {
     let mut ids = ObjIds::new(alloc);

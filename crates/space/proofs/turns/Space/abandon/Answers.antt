@@ -44,12 +44,13 @@ invariant_of-self c =
     c.self.inside.told c.self.inside.added c.self.inside.units c.self.inside.moment c.max-now.result c.self.inside.scratch.items c.withdraw.new.gone.items c.len-place.result c.put_event.new.events.items c.drop_first.new.runs.items c.note_withdrawn.new.withdrawn.items
     acts time goes c.self.invariant.1.empty place c.put_event.ensures.items c.drop_first.ensures gone in
     let clear = c.clear.ensures.capacity in let filled = c.withdraw.ensures.capacity in
-    let scratch_room : vec_capacity c.self.inside.scratch ≤ vec_capacity c.clear.new.self = omega (arith, clear, filled) in
-    (kept,
-    end-room c.self.inside.config c.self.inside.events.items c.put_event.new.events.items c.args.by c.args.moment c.args.object c.self.inside.leases c.withdraw.new.leases c.self.inside.exports c.withdraw.new.self c.self.inside.runs.items c.drop_first.new.runs.items
-    c.self.inside.withdrawn.items c.note_withdrawn.new.withdrawn.items c.self.inside.told c.self.inside.added c.self.inside.units c.self.inside.moment c.self.inside.told c.self.inside.added (c.self.inside.units + 1) c.max-now.result c.self.inside.scratch.items c.clear.new.self.items
-    (vec_capacity c.self.inside.events) (vec_capacity c.self.inside.withdrawn) (vec_capacity c.self.inside.scratch) (vec_capacity c.put_event.new.events) (vec_capacity c.note_withdrawn.new.withdrawn) (vec_capacity c.clear.new.self)
-    c.self.invariant.0 c.self.invariant.1 runs kept c.put_event.ensures.items c.drop_first.ensures c.clear.ensures.items c.put_event.ensures.capacity c.note_withdrawn.ensures.capacity scratch_room)
+    let scratch_room : vec_capacity c.self.inside.scratch ≤ vec_capacity c.clear.new.self = omega (arith, clear, filled) in (
+      kept,
+      end-room c.self.inside.config c.self.inside.events.items c.put_event.new.events.items c.args.by c.args.moment c.args.object c.self.inside.leases c.withdraw.new.leases c.self.inside.exports c.withdraw.new.self c.self.inside.runs.items c.drop_first.new.runs.items
+          c.self.inside.withdrawn.items c.note_withdrawn.new.withdrawn.items c.self.inside.told c.self.inside.added c.self.inside.units c.self.inside.moment c.self.inside.told c.self.inside.added (c.self.inside.units + 1) c.max-now.result c.self.inside.scratch.items c.clear.new.self.items
+          (vec_capacity c.self.inside.events) (vec_capacity c.self.inside.withdrawn) (vec_capacity c.self.inside.scratch) (vec_capacity c.put_event.new.events) (vec_capacity c.note_withdrawn.new.withdrawn) (vec_capacity c.clear.new.self)
+          c.self.invariant.0 c.self.invariant.1 runs kept c.put_event.ensures.items c.drop_first.ensures c.clear.ensures.items c.put_event.ensures.capacity c.note_withdrawn.ensures.capacity scratch_room,
+    )
 
 pub returns-clause-step : goal.returns-clause-step
 returns-clause-step c =

@@ -32,26 +32,28 @@ returns-in-Some-clause-step c =
     c.room_refusal.ensures running c.count-exported.ensures.value refl c.in-Some.is)))
 
 pub invariant_of-self : goal.invariant_of-self
-invariant_of-self c =
-    (keeps-roomy c.self.inside.config c.self.inside.events.items c.make_room.new.events.items c.self.inside.leases c.self.inside.leases c.self.inside.exports c.make_room.new.exports c.self.inside.runs.items c.make_room.new.runs.items
-    c.self.inside.withdrawn.items c.make_room.new.withdrawn.items c.self.inside.told c.self.inside.added c.self.inside.units c.self.inside.moment
-    c.self.invariant.0 c.make_room.ensures.exports c.make_room.ensures.events refl c.make_room.ensures.runs c.make_room.ensures.withdrawn,
-    room-grown c.self.inside.events.items c.make_room.new.events.items c.self.inside.runs.items c.make_room.new.runs.items c.self.inside.withdrawn.items c.make_room.new.withdrawn.items c.self.inside.exports c.make_room.new.exports
-    c.self.inside.scratch.items c.make_room.new.scratch.items (vec_capacity c.self.inside.events) (vec_capacity c.self.inside.withdrawn) (vec_capacity c.self.inside.scratch)
-    (vec_capacity c.make_room.new.events) (vec_capacity c.make_room.new.withdrawn) (vec_capacity c.make_room.new.scratch)
-    c.self.invariant.1 c.make_room.ensures.events c.make_room.ensures.runs c.make_room.ensures.withdrawn c.make_room.ensures.exports c.make_room.ensures.scratch
-    c.make_room.ensures.events_grow c.make_room.ensures.withdrawn_grow c.make_room.ensures.scratch_grow)
+invariant_of-self c = (
+  keeps-roomy c.self.inside.config c.self.inside.events.items c.make_room.new.events.items c.self.inside.leases c.self.inside.leases c.self.inside.exports c.make_room.new.exports c.self.inside.runs.items c.make_room.new.runs.items
+      c.self.inside.withdrawn.items c.make_room.new.withdrawn.items c.self.inside.told c.self.inside.added c.self.inside.units c.self.inside.moment
+      c.self.invariant.0 c.make_room.ensures.exports c.make_room.ensures.events refl c.make_room.ensures.runs c.make_room.ensures.withdrawn,
+  room-grown c.self.inside.events.items c.make_room.new.events.items c.self.inside.runs.items c.make_room.new.runs.items c.self.inside.withdrawn.items c.make_room.new.withdrawn.items c.self.inside.exports c.make_room.new.exports
+      c.self.inside.scratch.items c.make_room.new.scratch.items (vec_capacity c.self.inside.events) (vec_capacity c.self.inside.withdrawn) (vec_capacity c.self.inside.scratch)
+      (vec_capacity c.make_room.new.events) (vec_capacity c.make_room.new.withdrawn) (vec_capacity c.make_room.new.scratch)
+      c.self.invariant.1 c.make_room.ensures.events c.make_room.ensures.runs c.make_room.ensures.withdrawn c.make_room.ensures.exports c.make_room.ensures.scratch
+      c.make_room.ensures.events_grow c.make_room.ensures.withdrawn_grow c.make_room.ensures.scratch_grow,
+)
 
 pub invariant_of-self-in_err-tell : goal.invariant_of-self-in_err-tell
-invariant_of-self-in_err-tell c =
-    (keeps-roomy c.self.inside.config c.self.inside.events.items c.make_room.new.events.items c.self.inside.leases c.tell.new.leases c.self.inside.exports c.make_room.new.exports c.self.inside.runs.items c.make_room.new.runs.items
-    c.self.inside.withdrawn.items c.make_room.new.withdrawn.items c.self.inside.told c.self.inside.added c.self.inside.units c.self.inside.moment
-    c.self.invariant.0 c.make_room.ensures.exports c.make_room.ensures.events (c.in_err-tell.ensures {u = tt}).err c.make_room.ensures.runs c.make_room.ensures.withdrawn,
-    room-grown c.self.inside.events.items c.make_room.new.events.items c.self.inside.runs.items c.make_room.new.runs.items c.self.inside.withdrawn.items c.make_room.new.withdrawn.items c.self.inside.exports c.make_room.new.exports
-    c.self.inside.scratch.items c.make_room.new.scratch.items (vec_capacity c.self.inside.events) (vec_capacity c.self.inside.withdrawn) (vec_capacity c.self.inside.scratch)
-    (vec_capacity c.make_room.new.events) (vec_capacity c.make_room.new.withdrawn) (vec_capacity c.make_room.new.scratch)
-    c.self.invariant.1 c.make_room.ensures.events c.make_room.ensures.runs c.make_room.ensures.withdrawn c.make_room.ensures.exports c.make_room.ensures.scratch
-    c.make_room.ensures.events_grow c.make_room.ensures.withdrawn_grow c.make_room.ensures.scratch_grow)
+invariant_of-self-in_err-tell c = (
+  keeps-roomy c.self.inside.config c.self.inside.events.items c.make_room.new.events.items c.self.inside.leases c.tell.new.leases c.self.inside.exports c.make_room.new.exports c.self.inside.runs.items c.make_room.new.runs.items
+      c.self.inside.withdrawn.items c.make_room.new.withdrawn.items c.self.inside.told c.self.inside.added c.self.inside.units c.self.inside.moment
+      c.self.invariant.0 c.make_room.ensures.exports c.make_room.ensures.events (c.in_err-tell.ensures {u = tt}).err c.make_room.ensures.runs c.make_room.ensures.withdrawn,
+  room-grown c.self.inside.events.items c.make_room.new.events.items c.self.inside.runs.items c.make_room.new.runs.items c.self.inside.withdrawn.items c.make_room.new.withdrawn.items c.self.inside.exports c.make_room.new.exports
+      c.self.inside.scratch.items c.make_room.new.scratch.items (vec_capacity c.self.inside.events) (vec_capacity c.self.inside.withdrawn) (vec_capacity c.self.inside.scratch)
+      (vec_capacity c.make_room.new.events) (vec_capacity c.make_room.new.withdrawn) (vec_capacity c.make_room.new.scratch)
+      c.self.invariant.1 c.make_room.ensures.events c.make_room.ensures.runs c.make_room.ensures.withdrawn c.make_room.ensures.exports c.make_room.ensures.scratch
+      c.make_room.ensures.events_grow c.make_room.ensures.withdrawn_grow c.make_room.ensures.scratch_grow,
+)
 
 pub returns-in_err-tell-clause-step : goal.returns-in_err-tell-clause-step
 returns-in_err-tell-clause-step c =
