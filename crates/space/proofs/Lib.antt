@@ -1,6 +1,7 @@
 pub mod AbandonLaws
 pub mod Acting
 pub mod AheadLaws
+pub mod AnswerLaws
 pub mod AskLaws
 pub mod Clients
 pub mod EndLaws

@@ -1,6 +1,6 @@
 -- How one more turn leaves a port tied to its space.
 use Rattle.std.proofs.Common.{◌≡◌, ℕ, ◌+◌, ◌<◌, ◌≤◌, List, [], ◌∷◌, ◌++◌, length, refl, ap, sym, subst, ◌∙◌, arith, Ok, Err, length-append}
-use Rattle.std.specs.Prelude.{Bool, true, false, ◌&&◌, ◌==◌, filter, if◌then◌else◌, nat_lt}
+use Rattle.std.specs.Prelude.{Result, Bool, true, false, ◌&&◌, ◌==◌, filter, if◌then◌else◌, nat_lt}
 use Rattle.std.proofs.lemmas.Bool.{lt-ltb, ltb-true}
 use Rattle.std.proofs.lemmas.Bool.Decides.{Decides-eqb}
 use Rattle.std.specs.List.{list_any}
@@ -27,6 +27,7 @@ use Rattle.space.specs.declared.asked.Asked.{Asked}
 use Rattle.space.specs.declared.asked.AskedEnd.TheVariants.{Turned, Abandoned, Refused as Denied}
 use Rattle.space.specs.Acts.{event_of}
 use Rattle.space.specs.Built.{SpaceHistory}
+use Rattle.space.specs.Entries.{entry_of}
 use Rattle.space.specs.Ports.{is_started, is_finished, is_done, begins_with, begins, ends_with, ends, Shows, abandoned_at, GoesBy}
 use Rattle.space.specs.Runs.{without_first}
 use Rattle.space.specs.Ties.{is_call_of, IsTied, Leads}
@@ -223,3 +224,19 @@ tied-abandoned by m o s s2 entries room place t h e c =
 
 pub leads-one : (by : ℕ) (s s2 : SpaceHistory) (entries : List Asked) (entry : Asked) → s2.configuration ≡ s.configuration → GoesBy s.configuration by s.events entry.moment entry.ask entry.end s2.events → Leads by s entries s2 (entries ++ entry ∷ [])
 leads-one by s s2 entries entry c g = record { same = c; more = entry ∷ []; longer = refl; went = (s2.events, g, refl) }
+
+-- No entries, and no call that runs.
+pub tied-none : (by : ℕ) (s : SpaceHistory) (entries : List Asked) (room : ℕ) → entries ≡ [] → ((o : ObjId) → running (places s.configuration s.events) by o ≡ 0) → IsTied by s entries room
+tied-none by s [] room e idle = record { calls = []; run = λ o. sym (idle o); shown = λ o. refl; few = omega arith; within = omega arith }
+tied-none by s (x ∷ entries) room e idle = absurd (cc)
+
+-- The same, of entries and room as they were left.
+pub tied-as : (by : ℕ) (s : SpaceHistory) (xs ys : List Asked) (room room2 : ℕ) → ys ≡ xs → room ≤ room2 → IsTied by s xs room → IsTied by s ys room2
+tied-as by s xs ys room room2 e more t =
+    let within = t.within in
+    subst (λ (l : List Asked). IsTied by s l room2) (sym e) (record { calls = t.calls; run = t.run; shown = t.shown; few = t.few; within = omega (arith, within, more) })
+
+pub tied-answered : (by m : ℕ) (a : Ask) (s s2 : SpaceHistory) (entries : List Asked) (room room2 : ℕ) (answer : Result Turn Refused) → IsTied by s entries room → Step s.configuration s.events (event_of by m a) answer s2.events → s2.configuration ≡ s.configuration →
+    length entries + (length entries + 2) ≤ room2 → IsTied by s2 (entries ++ entry_of m a answer ∷ []) room2
+tied-answered by m a s s2 entries room room2 (Ok turn) t step c big = tied-turned by m a s s2 entries room room2 turn t step c big
+tied-answered by m a s s2 entries room room2 (Err refused) t step c big = tied-refused by m a s s2 entries room room2 refused t step c big
