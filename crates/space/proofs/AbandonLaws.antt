@@ -72,7 +72,7 @@ runs-fewer config events by o leases exports runs withdrawn told opened used mom
 end-unrefused : (used running exported : ℕ) (o : ObjId) → used + running ≤ MAX_UNITS → exported ≤ MAX_EXPORTS → room_refusal used running exported true (Abandon o) ≡ None
 end-unrefused used running exported o few rows = rw (le-ltb (MAX_UNITS + 1) (used + running + 1 + 0) (omega (arith, few)), le-ltb MAX_EXPORTS (exported + 0) (omega (arith, rows))) refl
 
-rows-length : (config : SpaceConfig) (events : List Event) (leases : LeaseTable) (exports : ExportTable) (runs : List Run) (withdrawn : List Withdrawal) (told opened used moment : ℕ) → Keeps config events leases exports runs withdrawn told opened used moment → length exports.rows ≤ MAX_EXPORTS
+pub rows-length : (config : SpaceConfig) (events : List Event) (leases : LeaseTable) (exports : ExportTable) (runs : List Run) (withdrawn : List Withdrawal) (told opened used moment : ℕ) → Keeps config events leases exports runs withdrawn told opened used moment → length exports.rows ≤ MAX_EXPORTS
 rows-length config events leases exports runs withdrawn told opened used moment k = (let same = ap length k.stands.rows_are in let long = mapped (table config (places config events)) in let few = k.stands.within.exports in omega (arith, same, long, few))
   where
     mapped : (xs : List _) → length (rows_of (places config events) xs) ≡ length xs

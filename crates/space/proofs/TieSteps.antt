@@ -1,6 +1,6 @@
 -- How one more turn leaves a port tied to its space.
 use Rattle.std.proofs.Common.{◌≡◌, ℕ, ◌+◌, ◌<◌, ◌≤◌, List, [], ◌∷◌, ◌++◌, length, refl, ap, sym, subst, ◌∙◌, arith, Ok, Err, length-append}
-use Rattle.std.specs.Prelude.{Bool, true, false, ◌&&◌, ◌==◌, filter, if◌then◌else◌, nat_lt}
+use Rattle.std.specs.Prelude.{Result, Bool, true, false, ◌&&◌, ◌==◌, filter, if◌then◌else◌, nat_lt}
 use Rattle.std.proofs.lemmas.Bool.{lt-ltb, ltb-true}
 use Rattle.std.proofs.lemmas.Bool.Decides.{Decides-eqb}
 use Rattle.std.specs.List.{list_any}
@@ -27,6 +27,7 @@ use Rattle.space.specs.declared.asked.Asked.{Asked}
 use Rattle.space.specs.declared.asked.AskedEnd.TheVariants.{Turned, Abandoned, Refused as Denied}
 use Rattle.space.specs.Acts.{event_of}
 use Rattle.space.specs.Built.{SpaceHistory}
+use Rattle.space.specs.Entries.{entry_of}
 use Rattle.space.specs.Ports.{is_started, is_finished, is_done, begins_with, begins, ends_with, ends, Shows, abandoned_at, GoesBy}
 use Rattle.space.specs.Runs.{without_first}
 use Rattle.space.specs.Ties.{is_call_of, IsTied, Leads}
@@ -155,6 +156,10 @@ tied-turned by m a s s2 entries room room2 turn t step c big =
     (tied-next s.configuration s.events by m a entries (record { moment = m; ask = a; end = Turned (turn_of s.configuration s.events (event_of by m a)) }) room room2 t
     (λ o. agree-begins s.configuration s.events by m a o) (λ o. agree-ends s.configuration s.events by m a o) fits)))
 
+none-of : one_if false ≡ 0
+unfolding one_if
+none-of = refl
+
 -- After one that was refused.
 pub tied-refused : (by m : ℕ) (a : Ask) (s s2 : SpaceHistory) (entries : List Asked) (room room2 : ℕ) (refused : Refused) → IsTied by s entries room → Step s.configuration s.events (event_of by m a) (Err refused) s2.events → s2.configuration ≡ s.configuration →
     length entries + (length entries + 2) ≤ room2 → IsTied by s2 (entries ++ record { moment = m; ask = a; end = Denied refused } ∷ []) room2
@@ -183,10 +188,6 @@ tied-refused by m a s s2 entries room room2 refused t step c big =
     no-ends (Abandon x) o = refl
     no-ends _ o = refl
 
-    none-of : one_if false ≡ 0
-    unfolding one_if
-    none-of = refl
-
 -- A call that the entries show is one that runs.
 pub shown-runs : (by : ℕ) (s : SpaceHistory) (entries : List Asked) (room : ℕ) (o : ObjId) → IsTied by s entries room → Shows entries o → 0 < running (places s.configuration s.events) by o
 shown-runs by s entries room o t h = let run = t.run o in let shown = t.shown o in omega (arith, run, shown, h)
@@ -199,21 +200,21 @@ end-fits by s entries room o t h =
     let less = length-without (is_call_of o) t.calls (there t.calls o some) in
     omega (arith, within, less)
 
+runs-effective : (config : SpaceConfig) (events : List Event) (by : ℕ) (o : ObjId) → 0 < running (places config events) by o → is_effective config (places config events) by (Abandon o) ≡ true
+unfolding is_effective
+runs-effective config events by o r = lt-ltb 0 (running (places config events) by o) r
+
 -- AFTER AN END without an answer.
 pub tied-abandoned : (by m : ℕ) (o : ObjId) (s s2 : SpaceHistory) (entries : List Asked) (room : ℕ) (place : ℕ) → IsTied by s entries room → Shows entries o → s2.events ≡ s.events ++ event_of by m (Abandon o) ∷ [] → s2.configuration ≡ s.configuration →
     IsTied by s2 (entries ++ abandoned_at m o place ∷ []) room
 tied-abandoned by m o s s2 entries room place t h e c =
-    let eff : is_effective s.configuration (places s.configuration s.events) by (Abandon o) ≡ true = runs-effective s.configuration s.events (shown-runs by s entries room o t h) in
+    let eff : is_effective s.configuration (places s.configuration s.events) by (Abandon o) ≡ true = runs-effective s.configuration s.events by o (shown-runs by s entries room o t h) in
     let C : SpaceConfig → Type 0 = λ g. IsTied by (record { configuration = g; events = s2.events }) (entries ++ abandoned_at m o place ∷ []) room in
     let E : List Event → Type 0 = λ es. IsTied by (record { configuration = s.configuration; events = es }) (entries ++ abandoned_at m o place ∷ []) room in
     subst C (sym c) (subst E (sym e)
     (tied-next s.configuration s.events by m (Abandon o) entries (abandoned_at m o place) room room t
     (λ x. sym (and_false (is_effective s.configuration (places s.configuration s.events) by (Abandon o)))) (λ x. ap (λ v. v && same_id o x) (sym eff)) (fits eff)))
   where
-    runs-effective : (config : SpaceConfig) (events : List Event) → 0 < running (places config events) by o → is_effective config (places config events) by (Abandon o) ≡ true
-    unfolding is_effective
-    runs-effective config events r = lt-ltb 0 (running (places config events) by o) r
-
     fits : {v : Bool} → v ≡ true → (calls : List ObjId) → ((x : ObjId) → v ≡ true → is_end_of x (Abandon o) ≡ true → 0 < length (filter (is_call_of x) calls)) → length calls ≤ length entries → length entries + length calls ≤ room →
         length entries + 1 + length (next_calls v (Abandon o) calls) ≤ room
     fits {true} w calls h few within = let less = length-without (is_call_of o) calls (there calls o (h o refl (same_id-self o))) in omega (arith, less, within)
@@ -223,3 +224,19 @@ tied-abandoned by m o s s2 entries room place t h e c =
 
 pub leads-one : (by : ℕ) (s s2 : SpaceHistory) (entries : List Asked) (entry : Asked) → s2.configuration ≡ s.configuration → GoesBy s.configuration by s.events entry.moment entry.ask entry.end s2.events → Leads by s entries s2 (entries ++ entry ∷ [])
 leads-one by s s2 entries entry c g = record { same = c; more = entry ∷ []; longer = refl; went = (s2.events, g, refl) }
+
+-- No entries, and no call that runs.
+pub tied-none : (by : ℕ) (s : SpaceHistory) (entries : List Asked) (room : ℕ) → entries ≡ [] → ((o : ObjId) → running (places s.configuration s.events) by o ≡ 0) → IsTied by s entries room
+tied-none by s [] room e idle = record { calls = []; run = λ o. sym (idle o); shown = λ o. refl; few = omega arith; within = omega arith }
+tied-none by s (x ∷ entries) room e idle = absurd (cc)
+
+-- The same, of entries and room as they were left.
+pub tied-as : (by : ℕ) (s : SpaceHistory) (xs ys : List Asked) (room room2 : ℕ) → ys ≡ xs → room ≤ room2 → IsTied by s xs room → IsTied by s ys room2
+tied-as by s xs ys room room2 e more t =
+    let within = t.within in
+    subst (λ (l : List Asked). IsTied by s l room2) (sym e) (record { calls = t.calls; run = t.run; shown = t.shown; few = t.few; within = omega (arith, within, more) })
+
+pub tied-answered : (by m : ℕ) (a : Ask) (s s2 : SpaceHistory) (entries : List Asked) (room room2 : ℕ) (answer : Result Turn Refused) → IsTied by s entries room → Step s.configuration s.events (event_of by m a) answer s2.events → s2.configuration ≡ s.configuration →
+    length entries + (length entries + 2) ≤ room2 → IsTied by s2 (entries ++ entry_of m a answer ∷ []) room2
+tied-answered by m a s s2 entries room room2 (Ok turn) t step c big = tied-turned by m a s s2 entries room room2 turn t step c big
+tied-answered by m a s s2 entries room room2 (Err refused) t step c big = tied-refused by m a s s2 entries room room2 refused t step c big

@@ -2,10 +2,13 @@
 ghost use Rattle.std.specs.Prelude.{◌≡◌, ◌≢◌, ◌≤◌, ◌<◌, ◌+◌, ◌^◌, ℕ, List, [], length, Err, IfOk, OnErr, vec_len, vec_capacity};
 ghost use Rattle.object_ids.specs.declared.ids.ObjId.{ObjId};
 ghost use Rattle.history.specs.declared.replies.Reply.TheVariants.{Finished, Names};
+ghost use Rattle.history.specs.Running.{running};
 ghost use Rattle.history.specs.Steps.{Step};
+ghost use Rattle.history.specs.Table.{places};
 ghost use Rattle.space.specs.Acts.{event_of};
 ghost use Rattle.space.specs.Built.{IsBuilt};
 ghost use Rattle.space.specs.Entries.{entry_of};
+ghost use Rattle.space.specs.Ports.{IsAnswerTo};
 
 use crate::acts::still_to_tell;
 use crate::asked::{Asked, AskedEnd};
@@ -30,6 +33,7 @@ impl Space {
         requires built { IsBuilt ask }
         ensures step { IfOk result (λ x. Step self.old.configuration self.old.events (event_of by moment ask) x.0 self.new.events) }
         ensures noted { IfOk result (λ x. x.1 ≡ entry_of moment ask x.0) }
+        ensures row { IfOk result (λ x. IsAnswerTo (λ o. 0 < running (places self.old.configuration self.old.events) by o) ask x.0) }
         ensures known { IfOk result (λ x. x.0 ≢ Err Refused.OutOfMemory) }
         ensures config { self.new.configuration ≡ self.old.configuration }
         ensures err { OnErr result (self.new ≡ self.old) }
