@@ -2,7 +2,7 @@
 use Rattle.std.proofs.Common.{◌≡◌, ◌≢◌, ℕ, ◌+◌, ◌<◌, ◌≤◌, List, [], ◌∷◌, length, refl, ap, sym, subst, ◌∙◌, max, arith, inl, inr, Option, Some, None, Ok, Err}
 use Rattle.std.specs.Prelude.{Bool, true, false, ◌&&◌, ◌⊎◌, Result, nat_lt, if◌then◌else◌}
 use Rattle.std.proofs.lemmas.Bool.{lt-ltb, ltb-true}
-use Rattle.object_ids.specs.declared.ids.FullKind.TheVariants.{Exports, Clients, Pairs}
+use Rattle.object_ids.specs.declared.ids.FullKind.TheVariants.{Exports, Awaiting, Clients, Pairs}
 use Rattle.object_ids.specs.declared.ids.ObjId.{ObjId}
 use Rattle.object_ids.specs.declared.ids.Uid.{Uid}
 use Rattle.history.specs.declared.asks.SpaceConfig.{SpaceConfig}
@@ -17,23 +17,25 @@ use Rattle.history.specs.declared.places.Withdrawal.{Withdrawal}
 use Rattle.history.specs.declared.replies.Refused.{Refused}
 use Rattle.history.specs.declared.replies.Refused.TheVariants.{HistoryFull, Full, OutOfMemory}
 use Rattle.history.specs.declared.replies.Turn.{Turn}
-use Rattle.history.specs.LeaseCalls.{call_with}
+use Rattle.history.specs.LeaseCalls.{call_with, lease_calls}
 use Rattle.history.specs.Leases.{is_dirty_kind}
 use Rattle.history.specs.Limits.{limits, refusal}
 use Rattle.history.specs.Steps.{turn_of, Step}
 use Rattle.history.specs.declared.replies.Reply.{Reply}
 use Rattle.history.specs.declared.replies.Reply.TheVariants.{Started, NoObject, Finished, NotRunning, Done}
-use Rattle.history.specs.Places.{kind_of}
+use Rattle.history.specs.Places.{has, kind_of, now}
 use Rattle.history.specs.Replies.{reply}
 use Rattle.history.specs.Running.{running}
 use Rattle.history.specs.Table.{is_effective, table, place_of, places}
 use Rattle.dgc_server.specs.Counts.{clients_with, pairs_with_call}
 use Rattle.dgc_server.specs.Stands.{LeaseTable}
+use Rattle.export_table.specs.declared.rows.Export.{Export}
+use Rattle.export_table.specs.declared.waits.Wait.{Wait}
 use Rattle.export_table.specs.Table.{ExportTable}
 use Rattle.space.specs.declared.runs.Run.{Run}
-use Rattle.space.specs.Acts.{opens, room_refusal, lease_refusal, first_of_two}
+use Rattle.space.specs.Acts.{opens, room_refusal, await_refusal, lease_refusal, first_of_two}
 use Rattle.space.specs.Built.{IsBuilt, SpaceHistory}
-use Rattle.space.specs.Kept.{rows_of, Keeps}
+use Rattle.space.specs.Kept.{live_calls, rows_of, Keeps}
 use Rattle.space.proofs.AbandonLaws.{rows-length}
 use Rattle.space.proofs.Keeping.{refusal-kept}
 use Rattle.space.proofs.NotedLaws.{taken-turn, refused-turn}
@@ -84,6 +86,11 @@ lease-fills a true y refused f g s = subst (λ (r : Refused). IsRefusalOf a r) (
 lease-fills a false true refused f g s = subst (λ (r : Refused). IsRefusalOf a r) (let same : Full Pairs ≡ refused = (cc) in same) g
 lease-fills a false false refused f g s = absurd (cc)
 
+return-fills : (a : Ask) (v x : Bool) (refused : Refused) → MayFill a Awaiting → first_of_two (if v then (if x then Some (Full Awaiting) else None) else None) None ≡ Some refused → IsRefusalOf a refused
+return-fills a true true refused g s = subst (λ (r : Refused). IsRefusalOf a r) (let same : Full Awaiting ≡ refused = (cc) in same) g
+return-fills a true false refused g s = absurd (cc)
+return-fills a false x refused g s = absurd (cc)
+
 no-dirty : (strong v : Bool) → (is_dirty_kind (if strong then Strong else Weak) && v) ≡ true → ⊥
 no-dirty true v s = cc
 no-dirty false v s = cc
@@ -91,23 +98,24 @@ no-dirty false v s = cc
 exports-stay : (exported : ℕ) → exported ≤ MAX_EXPORTS → nat_lt MAX_EXPORTS (exported + 0) ≡ true → ⊥
 exports-stay exported few s = let more = ltb-true MAX_EXPORTS (exported + 0) s in omega (arith, few, more)
 
-refused-row : (a : Ask) (used running exported : ℕ) (v : Bool) (lease n m : ℕ) (before : List Call) (names : ObjId → Bool) (refused : Refused) → IsBuilt a → exported ≤ MAX_EXPORTS →
-    first_of_two (room_refusal used running exported v a) (lease_refusal lease n before (call_with names m a)) ≡ Some refused → IsRefusalOf a refused
-refused-row (Open kind pinned) used running exported v lease n m before names refused b few s = fills (Open kind pinned) _ _ None refused (λ t. tt) (λ t. absurd (cc)) s
-refused-row (Begin o) used running exported v lease n m before names refused b few s = fills (Begin o) _ _ None refused (λ t. exports-stay exported few t) (λ t. absurd (cc)) s
-refused-row (Abandon o) used running exported v lease n m before names refused b few s = fills (Abandon o) _ _ None refused (λ t. exports-stay exported few t) (λ t. absurd (cc)) s
-refused-row (Dirty x y z w) used running exported v lease n m before names refused b few s =
+refused-row : (a : Ask) (used running exported : ℕ) (v : Bool) (lease n m : ℕ) (before : List Call) (names : ObjId → Bool) (rows : List Export) (waits : List Wait) (refused : Refused) → IsBuilt a → exported ≤ MAX_EXPORTS →
+    first_of_two (room_refusal used running exported v a) (first_of_two (await_refusal n rows waits v a) (lease_refusal lease n before (call_with names m a))) ≡ Some refused → IsRefusalOf a refused
+refused-row (Open kind pinned) used running exported v lease n m before names rows waits refused b few s = fills (Open kind pinned) _ _ None refused (λ t. tt) (λ t. absurd (cc)) s
+refused-row (Begin o) used running exported v lease n m before names rows waits refused b few s = fills (Begin o) _ _ None refused (λ t. exports-stay exported few t) (λ t. absurd (cc)) s
+refused-row (Abandon o) used running exported v lease n m before names rows waits refused b few s = fills (Abandon o) _ _ None refused (λ t. exports-stay exported few t) (λ t. absurd (cc)) s
+refused-row (Dirty x y z w) used running exported v lease n m before names rows waits refused b few s =
     fills (Dirty x y z w) _ _ (lease_refusal lease n before (call_with names m (Dirty x y z w))) refused (λ t. absurd (exports-stay exported few t)) (λ t. lease-fills (Dirty x y z w) _ _ refused (λ u. tt) tt t) s
-refused-row (Clean x y z w) used running exported v lease n m before names refused b few s =
+refused-row (Clean x y z w) used running exported v lease n m before names rows waits refused b few s =
     fills (Clean x y z w) _ _ (lease_refusal lease n before (call_with names m (Clean x y z w))) refused (λ t. absurd (exports-stay exported few t)) (λ t. lease-fills (Clean x y z w) _ _ refused (λ u. absurd (no-dirty w _ u)) tt t) s
-refused-row (Ack u) used running exported v lease n m before names refused b few s = fills (Ack u) _ _ None refused (λ t. exports-stay exported few t) (λ t. absurd (cc)) s
-refused-row Tick used running exported v lease n m before names refused b few s = fills Tick _ _ None refused (λ t. exports-stay exported few t) (λ t. absurd (cc)) s
-refused-row (Finish x y z w) used running exported v lease n m before names refused b few s = absurd b
-refused-row (Bind x y) used running exported v lease n m before names refused b few s = absurd b
-refused-row (Rebind x y) used running exported v lease n m before names refused b few s = absurd b
-refused-row (Unbind x) used running exported v lease n m before names refused b few s = absurd b
-refused-row (Lookup x y) used running exported v lease n m before names refused b few s = absurd b
-refused-row ListNames used running exported v lease n m before names refused b few s = absurd b
+refused-row (Ack u) used running exported v lease n m before names rows waits refused b few s = fills (Ack u) _ _ None refused (λ t. exports-stay exported few t) (λ t. absurd (cc)) s
+refused-row Tick used running exported v lease n m before names rows waits refused b few s = fills Tick _ _ None refused (λ t. exports-stay exported few t) (λ t. absurd (cc)) s
+refused-row (Finish x y z w) used running exported v lease n m before names rows waits refused b few s =
+    fills (Finish x y z w) _ _ (first_of_two (await_refusal n rows waits v (Finish x y z w)) (lease_refusal lease n before (call_with names m (Finish x y z w)))) refused (λ t. tt) (λ t. return-fills (Finish x y z w) v _ refused tt t) s
+refused-row (Bind x y) used running exported v lease n m before names rows waits refused b few s = absurd b
+refused-row (Rebind x y) used running exported v lease n m before names rows waits refused b few s = absurd b
+refused-row (Unbind x) used running exported v lease n m before names rows waits refused b few s = absurd b
+refused-row (Lookup x y) used running exported v lease n m before names rows waits refused b few s = absurd b
+refused-row ListNames used running exported v lease n m before names rows waits refused b few s = absurd b
 
 -- WHAT AN EVENT IS ANSWERED is one of its ask's row.
 pub answer-row : (config : SpaceConfig) (events h2 : List Event) (e : Event) (leases : LeaseTable) (exports : ExportTable) (runs : List Run) (withdrawn : List Withdrawal) (told opened used moment : ℕ) (s : SpaceHistory) (answer : Result Turn Refused) →
@@ -123,7 +131,8 @@ answer-row config events h2 e leases exports runs withdrawn told opened used mom
     go (Err refused) t = why refused (refused-turn config events h2 e refused t).0
       where
         why : (x : Refused) → (refusal limits config (places config events) e ≡ Some x) ⊎ (x ≡ OutOfMemory) → IsRefusalOf e.ask x
-        why x (inl r) = refused-row e.ask _ _ _ _ _ _ _ _ _ x b (rows-length config events leases exports runs withdrawn told opened used moment k) (sym (refusal-kept config events e leases exports runs withdrawn told opened used moment k b) ∙ r)
+        why x (inl r) = refused-row e.ask used (length runs) (length exports.rows) (is_effective config (places config events) e.by e.ask) config.lease_ms (max e.moment (now (places config events))) (max e.moment (now (places config events)))
+            (live_calls (table config (places config events)) (lease_calls (places config events))) (has (table config (places config events))) exports.rows exports.waits x b (rows-length config events leases exports runs withdrawn told opened used moment k) (sym (refusal-kept config events e leases exports runs withdrawn told opened used moment k b) ∙ r)
         why x (inr m) = subst (λ (y : Refused). IsRefusalOf e.ask y) (sym m) tt
 
 -- What runs may be said in other words.

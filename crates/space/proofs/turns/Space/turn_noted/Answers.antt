@@ -1,6 +1,7 @@
-use Rattle.std.proofs.Common.{◌≡◌, ◌≤◌, ◌+◌, ℕ, List, length, map, drop, ap, ◌∙◌, rules, arith, vec_len}
+use Rattle.std.proofs.Common.{◌≡◌, ◌≤◌, ◌+◌, ℕ, List, length, Ok, Err, map, drop, ap, ◌∙◌, rules, arith, vec_len}
 use Rattle.history.specs.declared.places.Withdrawal.{Withdrawal}
 use Rattle.space.specs.Acts.{event_of}
+use Rattle.space.proofs.AnswerLaws.{answer-row}
 use Rattle.space.proofs.NotedLaws.{turn-small}
 use Rattle.space.proofs.turns.Space.turn_noted.Goals as goal
 
@@ -24,3 +25,19 @@ pub copied-copy-requires-clause-names : goal.copied-copy-requires-clause-names
 copied-copy-requires-clause-names c ns s =
     absurd ((turn-small c.self.inside.config c.self.inside.events.items c.turn.new.self.events (event_of c.args.by c.args.moment c.args.ask) c.self.inside.leases c.self.inside.exports c.self.inside.runs.items c.self.inside.withdrawn.items
     c.self.inside.told c.self.inside.added c.self.inside.units c.self.inside.moment c.args.self.now c.in-Ok.turn c.self.invariant.0 c.requires.built c.self.view_is c.in-Ok.ensures.step).names ns s)
+
+pub returns-in-Ok-clause-row : goal.returns-in-Ok-clause-row
+returns-in-Ok-clause-row c =
+    answer-row c.self.inside.config c.self.inside.events.items c.turn.new.self.events (event_of c.args.by c.args.moment c.args.ask) c.self.inside.leases c.self.inside.exports c.self.inside.runs.items c.self.inside.withdrawn.items
+    c.self.inside.told c.self.inside.added c.self.inside.units c.self.inside.moment c.args.self.now (Ok c.in-Ok.turn) c.self.invariant.0 c.requires.built c.self.view_is c.in-Ok.ensures.step
+
+pub returns-in-Err : goal.returns-in-Err
+returns-in-Err c = record {
+  step = search rules;
+  noted = search rules;
+  row = answer-row c.self.inside.config c.self.inside.events.items c.turn.new.self.events (event_of c.args.by c.args.moment c.args.ask) c.self.inside.leases c.self.inside.exports c.self.inside.runs.items c.self.inside.withdrawn.items
+      c.self.inside.told c.self.inside.added c.self.inside.units c.self.inside.moment c.args.self.now (Err c.in-Err.refused) c.self.invariant.0 c.requires.built c.self.view_is c.in-Err.ensures.step;
+  known = search rules;
+  config = search rules;
+  err = search rules;
+}
