@@ -147,7 +147,7 @@ pub tied-turned : (by m : ℕ) (a : Ask) (s s2 : SpaceHistory) (entries : List A
 tied-turned by m a s s2 entries room room2 turn t step c big =
     let two = taken-turn s.configuration s.events s2.events (event_of by m a) turn step in
     let fits : (calls : List ObjId) → ((o : ObjId) → is_effective s.configuration (places s.configuration s.events) by a ≡ true → is_end_of o a ≡ true → 0 < length (filter (is_call_of o) calls)) → length calls ≤ length entries → length entries + length calls ≤ room →
-        length entries + 1 + length (next_calls (is_effective s.configuration (places s.configuration s.events) by a) a calls) ≤ room2 =
+    length entries + 1 + length (next_calls (is_effective s.configuration (places s.configuration s.events) by a) a calls) ≤ room2 =
     λ calls h few within. (let more = few-next (is_effective s.configuration (places s.configuration s.events) by a) a calls h in omega (arith, more, few, big)) in
     let P : Turn → Type 0 = λ x. IsTied by s2 (entries ++ record { moment = m; ask = a; end = Turned x } ∷ []) room2 in
     let C : SpaceConfig → Type 0 = λ g. IsTied by (record { configuration = g; events = s2.events }) (entries ++ record { moment = m; ask = a; end = Turned (turn_of s.configuration s.events (event_of by m a)) } ∷ []) room2 in

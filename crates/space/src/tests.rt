@@ -5,7 +5,8 @@ ghost use Rattle.space.specs.Built.{IsBuilt};
 ghost use Rattle.space.specs.Kept.{HasDurations};
 
 use crate::{
-    Ask, AskedEnd, DirectPort, Port, Refused, Reply, Space, SpaceConfig, Turn, journal, outline, summary,
+    Ask, AskedEnd, DirectPort, Port, Refused, Reply, Space, SpaceConfig, Turn, journal, outline,
+    summary,
 };
 use history::limits::{END_OF_TIME, MAX_DURATION};
 use journal::lines::{read_event, read_first_line};

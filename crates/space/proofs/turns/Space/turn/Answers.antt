@@ -171,15 +171,16 @@ invariant_of-self-2 c =
     let events_len : vec_len c.make_room.new.events ≡ length c.make_room.new.events.items = search rules in
     let runs_len : vec_len c.make_room.new.runs ≡ length c.make_room.new.runs.items = search rules in
     let withdrawn_len : vec_len c.make_room.new.withdrawn ≡ length c.make_room.new.withdrawn.items = search rules in
-    let events_same = ap length c.make_room.ensures.events in let runs_same = ap length c.make_room.ensures.runs in let withdrawn_same = ap length c.make_room.ensures.withdrawn in
-    (kept,
-    room-turned c.self.inside.config c.self.inside.events.items c.put_event.new.events.items (event_of c.args.by c.args.moment c.args.ask) c.self.inside.leases c.withdraw.new.leases c.self.inside.exports c.withdraw.new.self
-    c.self.inside.runs.items c.act_on_runs.new.runs.items c.self.inside.withdrawn.items c.note_withdrawn.new.withdrawn.items c.self.inside.told c.self.inside.added c.self.inside.units c.self.inside.moment
-    c.told_after-self-inside.result _ _ c.max-now.result (c.count-exported.result + c.opens-opened.result) c.make_room.new.scratch.items (vec_capacity c.put_event.new.events) (vec_capacity c.note_withdrawn.new.withdrawn) (vec_capacity c.make_room.new.scratch)
-    c.is_effective-effective.result (is-effective c.self.inside.config c.self.inside.events.items (event_of c.args.by c.args.moment c.args.ask) c.self.inside.leases c.make_room.new.exports c.self.inside.runs.items c.self.inside.withdrawn.items
-    c.self.inside.told c.self.inside.added c.self.inside.units c.self.inside.moment c.is_effective-effective.result acts.asked)
-    c.self.invariant.0 c.requires.built kept ended (omega (arith, opened, count)) (omega (arith, events_room, events_grow, events_len, events_same, runs_len, runs_same)) (omega (arith, withdrawn_room, withdrawn_grow, withdrawn_len, withdrawn_same))
-    scratch_room (c.make_room.ensures.scratch ∙ c.self.invariant.1.empty))
+    let events_same = ap length c.make_room.ensures.events in let runs_same = ap length c.make_room.ensures.runs in let withdrawn_same = ap length c.make_room.ensures.withdrawn in (
+      kept,
+      room-turned c.self.inside.config c.self.inside.events.items c.put_event.new.events.items (event_of c.args.by c.args.moment c.args.ask) c.self.inside.leases c.withdraw.new.leases c.self.inside.exports c.withdraw.new.self
+          c.self.inside.runs.items c.act_on_runs.new.runs.items c.self.inside.withdrawn.items c.note_withdrawn.new.withdrawn.items c.self.inside.told c.self.inside.added c.self.inside.units c.self.inside.moment
+          c.told_after-self-inside.result _ _ c.max-now.result (c.count-exported.result + c.opens-opened.result) c.make_room.new.scratch.items (vec_capacity c.put_event.new.events) (vec_capacity c.note_withdrawn.new.withdrawn) (vec_capacity c.make_room.new.scratch)
+          c.is_effective-effective.result (is-effective c.self.inside.config c.self.inside.events.items (event_of c.args.by c.args.moment c.args.ask) c.self.inside.leases c.make_room.new.exports c.self.inside.runs.items c.self.inside.withdrawn.items
+          c.self.inside.told c.self.inside.added c.self.inside.units c.self.inside.moment c.is_effective-effective.result acts.asked)
+          c.self.invariant.0 c.requires.built kept ended (omega (arith, opened, count)) (omega (arith, events_room, events_grow, events_len, events_same, runs_len, runs_same)) (omega (arith, withdrawn_room, withdrawn_grow, withdrawn_len, withdrawn_same))
+          scratch_room (c.make_room.ensures.scratch ∙ c.self.invariant.1.empty),
+    )
 
 pub returns-clause-step : goal.returns-clause-step
 returns-clause-step c =
@@ -202,15 +203,16 @@ returns-clause-step c =
     c.in-Ok-reply_at.ensures (c.in-Ok.ensures.items ∙ ap (λ l. map (λ (w : Withdrawal). w.object) (drop c.self.inside.told l)) c.deref-2.ensures.value) c.from_vec.ensures)
 
 pub invariant_of-self-in_default-reply_at : goal.invariant_of-self-in_default-reply_at
-invariant_of-self-in_default-reply_at c =
-    (keeps-roomy c.self.inside.config c.self.inside.events.items c.make_room.new.events.items c.self.inside.leases c.self.inside.leases c.self.inside.exports c.make_room.new.exports c.self.inside.runs.items c.make_room.new.runs.items
-    c.self.inside.withdrawn.items c.make_room.new.withdrawn.items c.self.inside.told c.self.inside.added c.self.inside.units c.self.inside.moment
-    c.self.invariant.0 c.make_room.ensures.exports c.make_room.ensures.events refl c.make_room.ensures.runs c.make_room.ensures.withdrawn,
-    room-grown c.self.inside.events.items c.make_room.new.events.items c.self.inside.runs.items c.make_room.new.runs.items c.self.inside.withdrawn.items c.make_room.new.withdrawn.items c.self.inside.exports c.make_room.new.exports
-    c.self.inside.scratch.items c.make_room.new.scratch.items (vec_capacity c.self.inside.events) (vec_capacity c.self.inside.withdrawn) (vec_capacity c.self.inside.scratch)
-    (vec_capacity c.make_room.new.events) (vec_capacity c.make_room.new.withdrawn) (vec_capacity c.make_room.new.scratch)
-    c.self.invariant.1 c.make_room.ensures.events c.make_room.ensures.runs c.make_room.ensures.withdrawn c.make_room.ensures.exports c.make_room.ensures.scratch
-    c.make_room.ensures.events_grow c.make_room.ensures.withdrawn_grow c.make_room.ensures.scratch_grow)
+invariant_of-self-in_default-reply_at c = (
+  keeps-roomy c.self.inside.config c.self.inside.events.items c.make_room.new.events.items c.self.inside.leases c.self.inside.leases c.self.inside.exports c.make_room.new.exports c.self.inside.runs.items c.make_room.new.runs.items
+      c.self.inside.withdrawn.items c.make_room.new.withdrawn.items c.self.inside.told c.self.inside.added c.self.inside.units c.self.inside.moment
+      c.self.invariant.0 c.make_room.ensures.exports c.make_room.ensures.events refl c.make_room.ensures.runs c.make_room.ensures.withdrawn,
+  room-grown c.self.inside.events.items c.make_room.new.events.items c.self.inside.runs.items c.make_room.new.runs.items c.self.inside.withdrawn.items c.make_room.new.withdrawn.items c.self.inside.exports c.make_room.new.exports
+      c.self.inside.scratch.items c.make_room.new.scratch.items (vec_capacity c.self.inside.events) (vec_capacity c.self.inside.withdrawn) (vec_capacity c.self.inside.scratch)
+      (vec_capacity c.make_room.new.events) (vec_capacity c.make_room.new.withdrawn) (vec_capacity c.make_room.new.scratch)
+      c.self.invariant.1 c.make_room.ensures.events c.make_room.ensures.runs c.make_room.ensures.withdrawn c.make_room.ensures.exports c.make_room.ensures.scratch
+      c.make_room.ensures.events_grow c.make_room.ensures.withdrawn_grow c.make_room.ensures.scratch_grow,
+)
 
 pub returns-in_err-references-clause-step : goal.returns-in_err-references-clause-step
 returns-in_err-references-clause-step c =
