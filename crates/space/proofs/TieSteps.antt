@@ -37,7 +37,7 @@ use Rattle.space.proofs.RunSteps.{count-without, count-last, some-counted, lengt
 -- ---- the running calls
 
 -- The objects of the running calls after an ask.
-next_calls : Bool → Ask → List ObjId → List ObjId
+abbrev next_calls : Bool → Ask → List ObjId → List ObjId
 next_calls true (Begin o) calls = calls ++ o ∷ []
 next_calls true (Finish o made listed uid) calls = without_first (is_call_of o) calls
 next_calls true (Abandon o) calls = without_first (is_call_of o) calls
@@ -103,13 +103,17 @@ agree-ends config events by m (Abandon x) o = two (is_effective config (places c
     two false false = refl
 agree-ends config events by m a o = sym (and_false (is_effective config (places config events) by a))
 
+and_true : (b : Bool) → (b && true) ≡ b
+and_true true = refl
+and_true false = refl
+
 own-begins : (config : SpaceConfig) (events : List Event) (by m : ℕ) (a : Ask) (o : ObjId) → begins_call by o (place_of config (places config events) (event_of by m a)) ≡ (is_effective config (places config events) by a && is_begin_of o a)
 unfolding place_of
-own-begins config events by m a o = ap (λ v. is_effective config (places config events) by a && (v && is_begin_of o a)) ((Decides-eqb by by).1 refl)
+own-begins config events by m a o = ap (λ v. (is_effective config (places config events) by a && v) && is_begin_of o a) ((Decides-eqb by by).1 refl) ∙ ap (λ v. v && is_begin_of o a) (and_true (is_effective config (places config events) by a))
 
 own-ends : (config : SpaceConfig) (events : List Event) (by m : ℕ) (a : Ask) (o : ObjId) → ends_call by o (place_of config (places config events) (event_of by m a)) ≡ (is_effective config (places config events) by a && is_end_of o a)
 unfolding place_of
-own-ends config events by m a o = ap (λ v. is_effective config (places config events) by a && (v && is_end_of o a)) ((Decides-eqb by by).1 refl)
+own-ends config events by m a o = ap (λ v. (is_effective config (places config events) by a && v) && is_end_of o a) ((Decides-eqb by by).1 refl) ∙ ap (λ v. v && is_end_of o a) (and_true (is_effective config (places config events) by a))
 
 -- ---- the tie
 
@@ -213,12 +217,12 @@ tied-abandoned by m o s s2 entries room place t h e c =
     let E : List Event → Type 0 = λ es. IsTied by (record { configuration = s.configuration; events = es }) (entries ++ abandoned_at m o place ∷ []) room in
     subst C (sym c) (subst E (sym e)
     (tied-next s.configuration s.events by m (Abandon o) entries (abandoned_at m o place) room room t
-    (λ x. sym (and_false (is_effective s.configuration (places s.configuration s.events) by (Abandon o)))) (λ x. ap (λ v. v && same_id o x) (sym eff)) (fits eff)))
+    (λ x. sym (and_false (is_effective s.configuration (places s.configuration s.events) by (Abandon o)))) (λ x. ap (λ v. v && same_id o x) (sym eff)) (fits (is_effective s.configuration (places s.configuration s.events) by (Abandon o)) eff)))
   where
-    fits : {v : Bool} → v ≡ true → (calls : List ObjId) → ((x : ObjId) → v ≡ true → is_end_of x (Abandon o) ≡ true → 0 < length (filter (is_call_of x) calls)) → length calls ≤ length entries → length entries + length calls ≤ room →
+    fits : (v : Bool) → v ≡ true → (calls : List ObjId) → ((x : ObjId) → v ≡ true → is_end_of x (Abandon o) ≡ true → 0 < length (filter (is_call_of x) calls)) → length calls ≤ length entries → length entries + length calls ≤ room →
         length entries + 1 + length (next_calls v (Abandon o) calls) ≤ room
-    fits {true} w calls h few within = let less = length-without (is_call_of o) calls (there calls o (h o refl (same_id-self o))) in omega (arith, less, within)
-    fits {false} w calls h few within = absurd (cc)
+    fits true w calls h few within = let less = length-without (is_call_of o) calls (there calls o (h o refl (same_id-self o))) in omega (arith, less, within)
+    fits false w calls h few within = absurd (cc)
 
 -- ---- how it led on
 
