@@ -14,7 +14,8 @@ use wire_io::mem::MemSource;
 use wire_io::pull::Pull;
 
 /// The streams, each a file in the program's directory.
-const STREAMS: &str = "arraylist chain190 class cyclic deep250 descs dirty_call enum enumset exception externalizable_v1 hashmap innerexception ints longstring nested nulls proxy putfields reset rmi_objid strings_shared stub_unicastref sub treemap weird_string";
+const STREAMS: &str =
+    "arraylist chain190 class cyclic deep250 descs dirty_call enum enumset exception externalizable_v1 hashmap innerexception ints longstring nested nulls proxy putfields reset rmi_objid strings_shared stub_unicastref sub treemap weird_string";
 
 /// The graph of a stream that comes in pieces of these lengths, and then whole.
 fn read(alloc: Global, bytes: &[u8], cuts: Kinds) -> io::Result<Result<Graph, StreamFault>> {
