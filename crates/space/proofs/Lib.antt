@@ -1,7 +1,4 @@
-pub mod AbandonLaws
 pub mod Acting
-pub mod AheadLaws
-pub mod AnswerLaws
 pub mod AskLaws
 pub mod AwaitLaws
 pub mod Clients
@@ -16,7 +13,6 @@ pub mod LiveLaws
 pub mod LoopLaws
 pub mod Named
 pub mod NextLaws
-pub mod NotedLaws
 pub mod ObjectLaws
 pub mod Pairs
 pub mod Quiet
@@ -27,7 +23,6 @@ pub mod RowLaws
 pub mod RunSteps
 pub mod SummaryLaws
 pub mod TextLaws
-pub mod TieSteps
 pub mod TurnLaws
 pub mod WaitLaws
 pub mod WaitSteps

@@ -23,7 +23,7 @@ use Rattle.history.proofs.RunningLaws.{begins_any, ends_any, running-push, runni
 
 -- ---- lists
 
-pub length-without : {R : Type 0} (test : R → Bool) (rs : List R) → list_any test rs ≡ true → length (without_first test rs) + 1 ≡ length rs
+length-without : {R : Type 0} (test : R → Bool) (rs : List R) → list_any test rs ≡ true → length (without_first test rs) + 1 ≡ length rs
 length-without test [] h = absurd (cc)
 length-without {R} test (r ∷ rs) h = go (test r) h (length-without test rs)
   where
@@ -32,7 +32,7 @@ length-without {R} test (r ∷ rs) h = go (test r) h (length-without test rs)
     go false h rest = let n = rest h in omega arith
 
 -- Of the items that pass another test it has one less where the first passes that too.
-pub count-without : {R : Type 0} (test other : R → Bool) (found : Bool) → ((r : R) → test r ≡ true → other r ≡ found) → (rs : List R) → list_any test rs ≡ true →
+count-without : {R : Type 0} (test other : R → Bool) (found : Bool) → ((r : R) → test r ≡ true → other r ≡ found) → (rs : List R) → list_any test rs ≡ true →
     length (filter other (without_first test rs)) + one_if found ≡ length (filter other rs)
 unfolding one_if
 count-without test other found same [] h = absurd (cc)
@@ -45,11 +45,11 @@ count-without {R} test other found same (r ∷ rs) h = go (test r) (other r) ref
     go false true e f h rest = rw f (let n = rest h in omega arith)
     go false false e f h rest = rw f (rest h)
 
-pub count-last : {R : Type 0} (other : R → Bool) (rs : List R) (r : R) → length (filter other (rs ++ r ∷ [])) ≡ length (filter other rs) + one_if (other r)
+count-last : {R : Type 0} (other : R → Bool) (rs : List R) (r : R) → length (filter other (rs ++ r ∷ [])) ≡ length (filter other rs) + one_if (other r)
 unfolding one_if
 count-last other rs r = ap length (filter-append other rs (r ∷ [])) ∙ length-append (filter other rs) (filter other (r ∷ [])) ∙ ap (λ n. length (filter other rs) + n) (length-filter-cons other r [] ∙ omega arith)
 
-pub some-counted : {R : Type 0} (test : R → Bool) (rs : List R) → 0 < length (filter test rs) → list_any test rs ≡ true
+some-counted : {R : Type 0} (test : R → Bool) (rs : List R) → 0 < length (filter test rs) → list_any test rs ≡ true
 some-counted test [] h = absurd (omega arith)
 some-counted {R} test (r ∷ rs) h = go (test r) h (some-counted test rs)
   where

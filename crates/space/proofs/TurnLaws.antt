@@ -112,7 +112,7 @@ told-step config events e leases exports runs withdrawn told opened used moment 
     ∙ ap (λ x. first_of_two x (lease_refusal config.lease_ms (max e.moment moment) (live_calls (table config (places config events)) (lease_calls (places config events))) (call_with (is_exported exports.rows) (max e.moment moment) e.ask))) fit))
     (answer config.lease_ms moment (live_calls (table config (places config events)) (lease_calls (places config events))) q.keeps.stands.leases_stand (omega arith)))
 
-pub taken : (config : SpaceConfig) (events : List Event) (e : Event) (leases : LeaseTable) (exports : ExportTable) (runs : List Run) (withdrawn : List Withdrawal) (told opened used moment : ℕ) (effective : Bool) →
+taken : (config : SpaceConfig) (events : List Event) (e : Event) (leases : LeaseTable) (exports : ExportTable) (runs : List Run) (withdrawn : List Withdrawal) (told opened used moment : ℕ) (effective : Bool) →
     IsAsked config events e leases exports runs withdrawn told opened used moment effective → room_refusal used (length runs) (length exports.rows) effective e.ask ≡ None → await_refusal (max e.moment moment) exports.rows exports.waits effective e.ask ≡ None →
     ForEachLogBy (max e.moment moment) leases (λ lease calls. lease_refusal lease (max e.moment moment) calls (call_with (is_exported exports.rows) (max e.moment moment) e.ask) ≡ None) → refusal limits config (places config events) e ≡ None
 taken config events e leases exports runs withdrawn told opened used moment effective q none fit answer =

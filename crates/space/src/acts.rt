@@ -16,21 +16,19 @@ use history::{Ask, Event, Withdrawal};
 use object_ids::{ObjId, Uid};
 use std::alloc::{AllocError, Global};
 
-/// Makes room for what one event adds, for the events that end the calls that then run, and for so many objects in `scratch`.
+/// Makes room for what one event adds.
 pub(crate) fn make_room(
     events: &mut Vec<Event>,
     runs: &mut Vec<Run>,
     withdrawn: &mut Vec<Withdrawal>,
-    scratch: &mut Vec<ObjId>,
     exports: &mut Exports,
     objects: usize,
     opened: u64,
     returned: usize,
 ) -> Result<(), AllocError>
-    requires calls { vec_len runs.old < 2 ^ 32 }
     requires few_opened { opened < 2 ^ 32 }
     requires few_returned { returned < 2 ^ 32 }
-    ensures event { OnOk result (vec_len events.new + vec_len runs.new + 2 ≤ vec_capacity events.new) }
+    ensures event { OnOk result (vec_len events.new < vec_capacity events.new) }
     ensures run { OnOk result (vec_len runs.new < vec_capacity runs.new) }
     ensures withdrawals { OnOk result (vec_len withdrawn.new + objects ≤ vec_capacity withdrawn.new) }
     ensures opened { OnOk result (opened ≤ exports.new.room.exports) }
@@ -39,18 +37,10 @@ pub(crate) fn make_room(
     ensures runs { runs.new.items ≡ runs.old.items }
     ensures withdrawn { withdrawn.new.items ≡ withdrawn.old.items }
     ensures exports { exports.new ≡ record exports.old { room = exports.new.room } }
-    ensures scratch { scratch.new.items ≡ scratch.old.items }
-    ensures scratch_room { OnOk result (objects ≤ vec_capacity scratch.new) }
-
-    // No room is lost.
-    ensures events_grow { vec_capacity events.old ≤ vec_capacity events.new }
-    ensures withdrawn_grow { vec_capacity withdrawn.old ≤ vec_capacity withdrawn.new }
-    ensures scratch_grow { vec_capacity scratch.old ≤ vec_capacity scratch.new }
 {
-    events.reserve(runs.len() + 2)?;
+    events.reserve(1)?;
     runs.reserve(1)?;
     withdrawn.reserve(objects)?;
-    scratch.reserve(objects)?;
     exports.reserve(opened as u32, returned as u32)
 }
 
@@ -207,16 +197,14 @@ pub(crate) fn note_withdrawn(
 )
     requires within { from ≤ length gone.now }
     requires room { vec_len withdrawn.old + length (drop from gone.now) ≤ vec_capacity withdrawn.old }
-    ensures items { withdrawn.new.items ≡ withdrawn.old.items ++ map (withdrawal_at place) (drop from gone.now) }
-    ensures capacity { vec_capacity withdrawn.old ≤ vec_capacity withdrawn.new }
+    ensures { withdrawn.new.items ≡ withdrawn.old.items ++ map (withdrawal_at place) (drop from gone.now) }
 {
     note_all(withdrawn, &gone[from..], place);
 }
 
 fn note_all(withdrawn: &mut Vec<Withdrawal>, gone: &[ObjId], place: u64)
     requires { vec_len withdrawn.old + length gone.now ≤ vec_capacity withdrawn.old }
-    ensures items { withdrawn.new.items ≡ withdrawn.old.items ++ map (withdrawal_at place) gone.now }
-    ensures capacity { vec_capacity withdrawn.old ≤ vec_capacity withdrawn.new }
+    ensures { withdrawn.new.items ≡ withdrawn.old.items ++ map (withdrawal_at place) gone.now }
 {
     for object in gone {
         put(
@@ -244,8 +232,7 @@ fn put(withdrawn: &mut Vec<Withdrawal>, withdrawal: Withdrawal)
 /// Appends an event, for which there is room.
 pub(crate) fn put_event(events: &mut Vec<Event>, event: Event)
     requires { vec_len events.old < vec_capacity events.old }
-    ensures items { events.new.items ≡ events.old.items ++ event ∷ [] }
-    ensures capacity { vec_capacity events.old ≤ vec_capacity events.new }
+    ensures { events.new.items ≡ events.old.items ++ event ∷ [] }
 {
     match events.push(event) {
         Ok(()) => {}

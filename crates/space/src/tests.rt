@@ -4,10 +4,7 @@ ghost use Rattle.std.specs.Prelude.{IsTrue, IfOk, IfSome};
 ghost use Rattle.space.specs.Built.{IsBuilt};
 ghost use Rattle.space.specs.Kept.{HasDurations};
 
-use crate::{
-    Ask, AskedEnd, DirectPort, Port, Refused, Reply, Space, SpaceConfig, Turn, journal, outline,
-    summary,
-};
+use crate::{Ask, Refused, Reply, Space, SpaceConfig, Turn, journal, outline, summary};
 use history::limits::{END_OF_TIME, MAX_DURATION};
 use journal::lines::{read_event, read_first_line};
 use mod_utf::list::{ByteList, Kinds, Same};
@@ -315,95 +312,6 @@ fn outlines_of_histories(rt: HostRuntime) -> Result<(), Fail> {
     for (first, lines, want) in rows {
         let text = replayed(alloc, first, lines)?;
         assert_eq!(rt; text.as_slice(), want.as_bytes(), "of {first}");
-    }
-    Ok(())
-}
-
-/// The outline of a space that took the events of a journal's lines, but for the abandons of running calls, which it was told by `abandon`.
-fn abandoned(alloc: Global, first: &str, lines: &str) -> Result<ByteList, Fail> {
-    let config = config_of(first).ok_or("no configuration")?;
-    let mut space = Space::fresh(alloc, &config);
-    for line in lines.split('\n') {
-        let event = read_event(alloc, config.uid, line.as_bytes())?.ok_or("no event")?;
-        if event.moment >= END_OF_TIME || !is_served(&event.ask) {
-            return Err("not served".into());
-        }
-        match event.ask {
-            Ask::Abandon { object } if space.running(event.by, object) > 0 => {
-                space.abandon(event.by, event.moment, object);
-            }
-            ask => {
-                space.turn(alloc, event.by, event.moment, ask)?;
-            }
-        }
-    }
-    Ok(outline(alloc, &space)?)
-}
-
-#[test]
-fn abandons_that_take_no_memory(rt: HostRuntime) -> Result<(), Fail> {
-    let alloc = rt.alloc();
-    let first = "space 10 2 7 9";
-    let rows = [
-        (
-            "0 0 open 2 pinned\n2 52 begin 16\n2 53 begin 16\n2 82 abandon 16\n2 83 ack 1/0/0",
-            "events 5 units 5 now 83\nobject 16 kind 2 pinned running 1 awaiting 0 held 0 names 0\n",
-        ),
-        (
-            "0 0 open 2 pinned\n2 52 begin 16\n1 53 begin 16\n2 12 abandon 16\n2 13 abandon 16\n1 14 abandon 16",
-            "events 6 units 6 now 53\nobject 16 kind 2 pinned running 0 awaiting 0 held 0 names 0\n",
-        ),
-        (
-            "0 0 open 2 pinned\n2 5 begin 16\n1 6 dirty aa@3/4/5 1 10 16\n2 16 abandon 16",
-            "events 4 units 5 now 16\nobject 16 kind 2 pinned running 0 awaiting 0 held 0 names 0\n",
-        ),
-    ];
-    for (lines, want) in rows {
-        let text = abandoned(alloc, first, lines)?;
-        assert_eq!(rt; text.as_slice(), want.as_bytes(), "of {lines}");
-    }
-    Ok(())
-}
-
-#[test]
-fn a_port_enters_its_turns(rt: HostRuntime) -> Result<(), Fail> {
-    let alloc = rt.alloc();
-    let config = config_of("space 10 2 7 9").ok_or("no configuration")?;
-    let mut space = Space::fresh(alloc, &config);
-    let mut port = DirectPort::new(alloc, &mut space, 2);
-    let pinned = true;
-    let opened = port.turn(alloc, 0, Ask::Open { kind: 3, pinned })?;
-    let Reply::Opened(object) = opened.reply else {
-        return Err("not opened".into());
-    };
-    let begun = port.turn(alloc, 5, Ask::Begin { object })?;
-    assert!(rt; begun.reply.is_same(&Reply::Started(3)));
-    let ended = port.turn(alloc, 4, Ask::Abandon { object })?;
-    assert!(rt; ended.reply.is_same(&Reply::Done));
-    let entries = port.into_asked();
-    assert_eq!(rt; entries.len(), 3);
-    assert_eq!(rt; entries[2].moment, 4);
-    match &entries[2].end {
-        AskedEnd::Turned(turn) => assert!(rt; turn.place == 2 && turn.reply.is_same(&Reply::Done)),
-        _ => return Err("not turned".into()),
-    }
-    assert_eq!(rt; space.len(), 3);
-    Ok(())
-}
-
-#[test]
-fn turns_with_their_entries(rt: HostRuntime) -> Result<(), Fail> {
-    let alloc = rt.alloc();
-    let config = config_of("space 10 2 7 9").ok_or("no configuration")?;
-    let mut space = Space::fresh(alloc, &config);
-    let pinned = true;
-    let (answer, entry) = space.turn_noted(alloc, 2, 4, Ask::Open { kind: 3, pinned })?;
-    let turn = answer?;
-    assert_eq!(rt; entry.moment, 4);
-    assert!(rt; entry.ask.is_same(&Ask::Open { kind: 3, pinned }));
-    match &entry.end {
-        AskedEnd::Turned(copy) => assert!(rt; turn.is_same(copy)),
-        _ => return Err("not turned".into()),
     }
     Ok(())
 }

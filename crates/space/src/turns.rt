@@ -33,13 +33,9 @@ pub struct Space {
     pub(crate) withdrawn: Vec<Withdrawal>,
     pub(crate) told: usize,
     pub(crate) added: u64,
-    /// Empty between two calls, with room for every exported object.
-    pub(crate) scratch: Vec<ObjId>,
 }
 
 impl Model for Space {
-    ghost use Rattle.std.specs.Prelude.{vec_capacity};
-    ghost use Rattle.space.specs.Ahead.{HasRoom};
     ghost use Rattle.space.specs.Built.{SpaceHistory};
     ghost use Rattle.space.specs.Kept.{Keeps};
 
@@ -47,8 +43,7 @@ impl Model for Space {
 
     ghost view = { λ a. record { configuration = a.config; events = a.events.items } };
 
-    ghost invariant = { λ a. Keeps a.config a.events.items a.leases a.exports a.runs.items a.withdrawn.items a.told a.added a.units a.moment
-        × HasRoom a.events.items (vec_capacity a.events) a.runs.items a.withdrawn.items (vec_capacity a.withdrawn) a.exports a.scratch.items (vec_capacity a.scratch) };
+    ghost invariant = { λ a. Keeps a.config a.events.items a.leases a.exports a.runs.items a.withdrawn.items a.told a.added a.units a.moment };
 }
 
 impl Space {
@@ -71,7 +66,6 @@ impl Space {
             withdrawn: Vec::new(alloc),
             told: 0,
             added: 0,
-            scratch: Vec::new(alloc),
         }
     }
 
@@ -114,7 +108,6 @@ impl Space {
             &mut self.events,
             &mut self.runs,
             &mut self.withdrawn,
-            &mut self.scratch,
             &mut self.exports,
             objects,
             opened,

@@ -1,5 +1,5 @@
 use Rattle.std.proofs.Common.{◌≡◌, ◌∷◌, ◌++◌, [], List, ℕ, length, refl, ap, sym, subst, ◌∙◌, rules, arith, max, Err, Result, None, Some}
-use Rattle.std.specs.Prelude.{vec_len, vec_capacity, drop, ◌+◌, ◌≤◌, map}
+use Rattle.std.specs.Prelude.{vec_len, drop, ◌+◌, map}
 use Rattle.history.specs.declared.asks.Event.{Event}
 use Rattle.history.specs.declared.replies.Refused.{Refused}
 use Rattle.history.specs.declared.replies.Turn.{Turn}
@@ -12,8 +12,7 @@ use Rattle.dgc_server.specs.Stands.{ForEachLogBy}
 use Rattle.history.specs.declared.places.Withdrawal.{Withdrawal}
 use Rattle.space.specs.Acts.{event_of, acted, acted_runs, returned_by, withdrawal_at, told_after, await_refusal, lease_refusal, Agrees}
 use Rattle.space.specs.Built.{SpaceHistory}
-use Rattle.space.proofs.TurnLaws.{is-effective, none-else, room-step, await-step, told-step, turn-keeps, turn-step, step-viewed}
-use Rattle.space.proofs.AheadLaws.{room-grown, room-turned, few-calls}
+use Rattle.space.proofs.TurnLaws.{none-else, room-step, await-step, told-step, turn-keeps, turn-step, step-viewed}
 use Rattle.space.proofs.EndLaws.{has-acted, has-withdrawn, goes-after, goes-few}
 use Rattle.space.proofs.AskLaws.{keeps-roomy, asked, room-as, few-run, abandon-counted, finish-counted, finish-few, room-units, returned-few, acted-few}
 use Rattle.space.proofs.turns.Space.turn.Goals as goal
@@ -27,33 +26,21 @@ returns-in-Some-clause-step c =
     (room-step c.self.inside.config c.self.inside.events.items (event_of c.args.by c.args.moment c.args.ask) c.self.inside.leases c.self.inside.exports c.self.inside.runs.items c.self.inside.withdrawn.items
     c.self.inside.told c.self.inside.added c.self.inside.units c.self.inside.moment c.is_effective-effective.result c.in-Some.refused
     (asked c.self.inside.config c.self.inside.events.items (event_of c.args.by c.args.moment c.args.ask) c.self.inside.leases c.self.inside.exports c.self.inside.exports c.self.inside.runs.items c.deref.result.now c.self.inside.withdrawn.items
-    c.self.inside.told c.self.inside.added c.self.inside.units c.self.inside.moment c.is_effective-effective.result c.self.invariant.0 c.requires.built c.is_effective-effective.ensures c.deref.ensures.value refl)
+    c.self.inside.told c.self.inside.added c.self.inside.units c.self.inside.moment c.is_effective-effective.result c.self.invariant c.requires.built c.is_effective-effective.ensures c.deref.ensures.value refl)
     (room-as c.self.inside.units c.len-running.result c.count-exported.result c.is_effective-effective.result c.args.ask c.self.inside.runs.items c.self.inside.exports c.self.inside.exports c.room_refusal.result (Some c.in-Some.refused)
     c.room_refusal.ensures running c.count-exported.ensures.value refl c.in-Some.is)))
 
 pub invariant_of-self : goal.invariant_of-self
-invariant_of-self c = (
-  keeps-roomy c.self.inside.config c.self.inside.events.items c.make_room.new.events.items c.self.inside.leases c.self.inside.leases c.self.inside.exports c.make_room.new.exports c.self.inside.runs.items c.make_room.new.runs.items
-      c.self.inside.withdrawn.items c.make_room.new.withdrawn.items c.self.inside.told c.self.inside.added c.self.inside.units c.self.inside.moment
-      c.self.invariant.0 c.make_room.ensures.exports c.make_room.ensures.events refl c.make_room.ensures.runs c.make_room.ensures.withdrawn,
-  room-grown c.self.inside.events.items c.make_room.new.events.items c.self.inside.runs.items c.make_room.new.runs.items c.self.inside.withdrawn.items c.make_room.new.withdrawn.items c.self.inside.exports c.make_room.new.exports
-      c.self.inside.scratch.items c.make_room.new.scratch.items (vec_capacity c.self.inside.events) (vec_capacity c.self.inside.withdrawn) (vec_capacity c.self.inside.scratch)
-      (vec_capacity c.make_room.new.events) (vec_capacity c.make_room.new.withdrawn) (vec_capacity c.make_room.new.scratch)
-      c.self.invariant.1 c.make_room.ensures.events c.make_room.ensures.runs c.make_room.ensures.withdrawn c.make_room.ensures.exports c.make_room.ensures.scratch
-      c.make_room.ensures.events_grow c.make_room.ensures.withdrawn_grow c.make_room.ensures.scratch_grow,
-)
+invariant_of-self c =
+    keeps-roomy c.self.inside.config c.self.inside.events.items c.make_room.new.events.items c.self.inside.leases c.self.inside.leases c.self.inside.exports c.make_room.new.exports c.self.inside.runs.items c.make_room.new.runs.items
+    c.self.inside.withdrawn.items c.make_room.new.withdrawn.items c.self.inside.told c.self.inside.added c.self.inside.units c.self.inside.moment
+    c.self.invariant c.make_room.ensures.exports c.make_room.ensures.events refl c.make_room.ensures.runs c.make_room.ensures.withdrawn
 
 pub invariant_of-self-in_err-tell : goal.invariant_of-self-in_err-tell
-invariant_of-self-in_err-tell c = (
-  keeps-roomy c.self.inside.config c.self.inside.events.items c.make_room.new.events.items c.self.inside.leases c.tell.new.leases c.self.inside.exports c.make_room.new.exports c.self.inside.runs.items c.make_room.new.runs.items
-      c.self.inside.withdrawn.items c.make_room.new.withdrawn.items c.self.inside.told c.self.inside.added c.self.inside.units c.self.inside.moment
-      c.self.invariant.0 c.make_room.ensures.exports c.make_room.ensures.events (c.in_err-tell.ensures {u = tt}).err c.make_room.ensures.runs c.make_room.ensures.withdrawn,
-  room-grown c.self.inside.events.items c.make_room.new.events.items c.self.inside.runs.items c.make_room.new.runs.items c.self.inside.withdrawn.items c.make_room.new.withdrawn.items c.self.inside.exports c.make_room.new.exports
-      c.self.inside.scratch.items c.make_room.new.scratch.items (vec_capacity c.self.inside.events) (vec_capacity c.self.inside.withdrawn) (vec_capacity c.self.inside.scratch)
-      (vec_capacity c.make_room.new.events) (vec_capacity c.make_room.new.withdrawn) (vec_capacity c.make_room.new.scratch)
-      c.self.invariant.1 c.make_room.ensures.events c.make_room.ensures.runs c.make_room.ensures.withdrawn c.make_room.ensures.exports c.make_room.ensures.scratch
-      c.make_room.ensures.events_grow c.make_room.ensures.withdrawn_grow c.make_room.ensures.scratch_grow,
-)
+invariant_of-self-in_err-tell c =
+    keeps-roomy c.self.inside.config c.self.inside.events.items c.make_room.new.events.items c.self.inside.leases c.tell.new.leases c.self.inside.exports c.make_room.new.exports c.self.inside.runs.items c.make_room.new.runs.items
+    c.self.inside.withdrawn.items c.make_room.new.withdrawn.items c.self.inside.told c.self.inside.added c.self.inside.units c.self.inside.moment
+    c.self.invariant c.make_room.ensures.exports c.make_room.ensures.events (c.in_err-tell.ensures {u = tt}).err c.make_room.ensures.runs c.make_room.ensures.withdrawn
 
 pub returns-in_err-tell-clause-step : goal.returns-in_err-tell-clause-step
 returns-in_err-tell-clause-step c =
@@ -68,7 +55,7 @@ returns-in_err-tell-clause-step c =
     (told-step c.self.inside.config c.self.inside.events.items (event_of c.args.by c.args.moment c.args.ask) c.self.inside.leases c.make_room.new.exports c.self.inside.runs.items c.self.inside.withdrawn.items
     c.self.inside.told c.self.inside.added c.self.inside.units c.self.inside.moment c.is_effective-effective.result c.in_err-tell.field-0.0
     (asked c.self.inside.config c.self.inside.events.items (event_of c.args.by c.args.moment c.args.ask) c.self.inside.leases c.self.inside.exports c.make_room.new.exports c.self.inside.runs.items c.deref.result.now c.self.inside.withdrawn.items
-    c.self.inside.told c.self.inside.added c.self.inside.units c.self.inside.moment c.is_effective-effective.result c.self.invariant.0 c.requires.built c.is_effective-effective.ensures c.deref.ensures.value c.make_room.ensures.exports)
+    c.self.inside.told c.self.inside.added c.self.inside.units c.self.inside.moment c.is_effective-effective.result c.self.invariant c.requires.built c.is_effective-effective.ensures c.deref.ensures.value c.make_room.ensures.exports)
     (room-as c.self.inside.units c.len-running.result c.count-exported.result c.is_effective-effective.result c.args.ask c.self.inside.runs.items c.self.inside.exports c.make_room.new.exports c.room_refusal.result None
     c.room_refusal.ensures running c.count-exported.ensures.value c.make_room.ensures.exports (none-else c.room_refusal.result c.in_default.not-Some))
     (ap (λ n. await_refusal n c.make_room.new.exports.rows c.make_room.new.exports.waits c.is_effective-effective.result c.args.ask) (sym time) ∙ ap (λ (t : ExportTable). await_refusal c.max-now.result t.rows t.waits c.is_effective-effective.result c.args.ask) c.make_room.ensures.exports ∙ c.in_ok-references.ensures.refusal)
@@ -78,14 +65,14 @@ pub act-requires-clause-few : goal.act-requires-clause-few
 act-requires-clause-few c o =
     few-run c.self.inside.config c.self.inside.events.items c.self.inside.leases c.make_room.new.exports c.self.inside.runs.items c.self.inside.withdrawn.items c.self.inside.told c.self.inside.added c.self.inside.units c.self.inside.moment
     (keeps-roomy c.self.inside.config c.self.inside.events.items c.self.inside.events.items c.self.inside.leases c.self.inside.leases c.self.inside.exports c.make_room.new.exports c.self.inside.runs.items c.self.inside.runs.items
-    c.self.inside.withdrawn.items c.self.inside.withdrawn.items c.self.inside.told c.self.inside.added c.self.inside.units c.self.inside.moment c.self.invariant.0 c.make_room.ensures.exports refl refl refl refl) o
+    c.self.inside.withdrawn.items c.self.inside.withdrawn.items c.self.inside.told c.self.inside.added c.self.inside.units c.self.inside.moment c.self.invariant c.make_room.ensures.exports refl refl refl refl) o
 
 pub act-requires-clause-runs : goal.act-requires-clause-runs
 act-requires-clause-runs c o t s =
     abandon-counted c.self.inside.config c.self.inside.events.items (event_of c.args.by c.args.moment c.args.ask) c.self.inside.leases c.make_room.new.exports c.self.inside.runs.items c.self.inside.withdrawn.items
     c.self.inside.told c.self.inside.added c.self.inside.units c.self.inside.moment c.is_effective-effective.result
     (asked c.self.inside.config c.self.inside.events.items (event_of c.args.by c.args.moment c.args.ask) c.self.inside.leases c.self.inside.exports c.make_room.new.exports c.self.inside.runs.items c.deref.result.now c.self.inside.withdrawn.items
-    c.self.inside.told c.self.inside.added c.self.inside.units c.self.inside.moment c.is_effective-effective.result c.self.invariant.0 c.requires.built c.is_effective-effective.ensures c.deref.ensures.value c.make_room.ensures.exports)
+    c.self.inside.told c.self.inside.added c.self.inside.units c.self.inside.moment c.is_effective-effective.result c.self.invariant c.requires.built c.is_effective-effective.ensures c.deref.ensures.value c.make_room.ensures.exports)
     o t s
 
 pub withdraw-requires : goal.withdraw-requires
@@ -105,7 +92,7 @@ note_withdrawn-requires-clause-within c =
     c.self.inside.runs.items c.self.inside.withdrawn.items c.self.inside.told c.self.inside.added c.self.inside.units c.self.inside.moment c.max-now.result c.is_effective-effective.result c.in-Ok.gone.items c.withdraw.new.gone.items
     (has-acted c.self.inside.config c.self.inside.events.items (event_of c.args.by c.args.moment c.args.ask) c.self.inside.leases c.tell.new.leases c.self.inside.exports c.make_room.new.exports c.self.inside.runs.items c.deref.result.now c.self.inside.withdrawn.items
     c.self.inside.told c.self.inside.added c.self.inside.units c.self.inside.moment c.max-now.result c.len-running.result c.count-exported.result c.is_effective-effective.result c.room_refusal.result
-    c.self.invariant.0 c.requires.built c.requires.moment c.is_effective-effective.ensures c.deref.ensures.value c.make_room.ensures.exports c.room_refusal.ensures running c.count-exported.ensures.value (none-else c.room_refusal.result c.in_default.not-Some) time
+    c.self.invariant c.requires.built c.requires.moment c.is_effective-effective.ensures c.deref.ensures.value c.make_room.ensures.exports c.room_refusal.ensures running c.count-exported.ensures.value (none-else c.room_refusal.result c.in_default.not-Some) time
     (ap (λ (t : ExportTable). await_refusal c.max-now.result t.rows t.waits c.is_effective-effective.result c.args.ask) c.make_room.ensures.exports ∙ c.in_ok-references.ensures.refusal)
     (c.in_ok-tell.ensures {u = tt}).refusal (c.in_ok-tell.ensures {u = tt}).ok)
     time (has-withdrawn c.tell.new.leases c.withdraw.new.leases (acted c.is_effective-effective.result c.max-now.result c.args.ask c.make_room.new.exports) c.act.new.exports c.withdraw.new.self c.max-now.result c.in-Ok.gone.items c.withdraw.new.gone.items
@@ -122,7 +109,7 @@ note_withdrawn-requires-clause-room c =
     c.self.inside.runs.items c.self.inside.withdrawn.items c.self.inside.told c.self.inside.added c.self.inside.units c.self.inside.moment c.max-now.result c.is_effective-effective.result c.in-Ok.gone.items c.withdraw.new.gone.items
     (has-acted c.self.inside.config c.self.inside.events.items (event_of c.args.by c.args.moment c.args.ask) c.self.inside.leases c.tell.new.leases c.self.inside.exports c.make_room.new.exports c.self.inside.runs.items c.deref.result.now c.self.inside.withdrawn.items
     c.self.inside.told c.self.inside.added c.self.inside.units c.self.inside.moment c.max-now.result c.len-running.result c.count-exported.result c.is_effective-effective.result c.room_refusal.result
-    c.self.invariant.0 c.requires.built c.requires.moment c.is_effective-effective.ensures c.deref.ensures.value c.make_room.ensures.exports c.room_refusal.ensures running c.count-exported.ensures.value (none-else c.room_refusal.result c.in_default.not-Some) time
+    c.self.invariant c.requires.built c.requires.moment c.is_effective-effective.ensures c.deref.ensures.value c.make_room.ensures.exports c.room_refusal.ensures running c.count-exported.ensures.value (none-else c.room_refusal.result c.in_default.not-Some) time
     (ap (λ (t : ExportTable). await_refusal c.max-now.result t.rows t.waits c.is_effective-effective.result c.args.ask) c.make_room.ensures.exports ∙ c.in_ok-references.ensures.refusal)
     (c.in_ok-tell.ensures {u = tt}).refusal (c.in_ok-tell.ensures {u = tt}).ok)
     time (has-withdrawn c.tell.new.leases c.withdraw.new.leases (acted c.is_effective-effective.result c.max-now.result c.args.ask c.make_room.new.exports) c.act.new.exports c.withdraw.new.self c.max-now.result c.in-Ok.gone.items c.withdraw.new.gone.items
@@ -145,42 +132,23 @@ invariant_of-self-2 c =
     let place : c.len-place.result ≡ length c.make_room.new.events.items = search rules in
     let all : c.len.result ≡ length c.note_withdrawn.new.withdrawn.items = search rules in
     let seen : c.deref-4.result.now ≡ c.withdraw.new.gone.items = c.deref-4.ensures.value in
-    let ended : c.put_event.new.events.items ≡ c.self.inside.events.items ++ (event_of c.args.by c.args.moment c.args.ask) ∷ [] = c.put_event.ensures.items ∙ ap (λ l. l ++ (event_of c.args.by c.args.moment c.args.ask) ∷ []) c.make_room.ensures.events in
-    let acts = has-acted c.self.inside.config c.self.inside.events.items (event_of c.args.by c.args.moment c.args.ask) c.self.inside.leases c.tell.new.leases c.self.inside.exports c.make_room.new.exports c.self.inside.runs.items c.deref.result.now c.self.inside.withdrawn.items
-    c.self.inside.told c.self.inside.added c.self.inside.units c.self.inside.moment c.max-now.result c.len-running.result c.count-exported.result c.is_effective-effective.result c.room_refusal.result
-    c.self.invariant.0 c.requires.built c.requires.moment c.is_effective-effective.ensures c.deref.ensures.value c.make_room.ensures.exports c.room_refusal.ensures running c.count-exported.ensures.value (none-else c.room_refusal.result c.in_default.not-Some) time
-    (ap (λ (t : ExportTable). await_refusal c.max-now.result t.rows t.waits c.is_effective-effective.result c.args.ask) c.make_room.ensures.exports ∙ c.in_ok-references.ensures.refusal)
-    (c.in_ok-tell.ensures {u = tt}).refusal (c.in_ok-tell.ensures {u = tt}).ok in
-    let kept = turn-keeps c.self.inside.config c.self.inside.events.items (event_of c.args.by c.args.moment c.args.ask) c.self.inside.leases c.tell.new.leases c.withdraw.new.leases c.make_room.new.exports (acted c.is_effective-effective.result c.max-now.result c.args.ask c.make_room.new.exports) c.withdraw.new.self
+    turn-keeps c.self.inside.config c.self.inside.events.items (event_of c.args.by c.args.moment c.args.ask) c.self.inside.leases c.tell.new.leases c.withdraw.new.leases c.make_room.new.exports (acted c.is_effective-effective.result c.max-now.result c.args.ask c.make_room.new.exports) c.withdraw.new.self
     c.self.inside.runs.items c.self.inside.withdrawn.items c.self.inside.told c.self.inside.added c.self.inside.units c.self.inside.moment c.max-now.result c.is_effective-effective.result c.in-Ok.gone.items c.withdraw.new.gone.items
-    acts
+    (has-acted c.self.inside.config c.self.inside.events.items (event_of c.args.by c.args.moment c.args.ask) c.self.inside.leases c.tell.new.leases c.self.inside.exports c.make_room.new.exports c.self.inside.runs.items c.deref.result.now c.self.inside.withdrawn.items
+    c.self.inside.told c.self.inside.added c.self.inside.units c.self.inside.moment c.max-now.result c.len-running.result c.count-exported.result c.is_effective-effective.result c.room_refusal.result
+    c.self.invariant c.requires.built c.requires.moment c.is_effective-effective.ensures c.deref.ensures.value c.make_room.ensures.exports c.room_refusal.ensures running c.count-exported.ensures.value (none-else c.room_refusal.result c.in_default.not-Some) time
+    (ap (λ (t : ExportTable). await_refusal c.max-now.result t.rows t.waits c.is_effective-effective.result c.args.ask) c.make_room.ensures.exports ∙ c.in_ok-references.ensures.refusal)
+    (c.in_ok-tell.ensures {u = tt}).refusal (c.in_ok-tell.ensures {u = tt}).ok)
     time (has-withdrawn c.tell.new.leases c.withdraw.new.leases (acted c.is_effective-effective.result c.max-now.result c.args.ask c.make_room.new.exports) c.act.new.exports c.withdraw.new.self c.max-now.result c.in-Ok.gone.items c.withdraw.new.gone.items
     c.act.ensures c.withdraw.ensures.kept c.withdraw.ensures.gone c.withdraw.ensures.dropped)
     c.len-place.result c.told_after-self-inside.result _ _ c.put_event.new.events.items c.act_on_runs.new.runs.items c.note_withdrawn.new.withdrawn.items
-    (place ∙ ap length c.make_room.ensures.events) (c.put_event.ensures.items ∙ ap (λ l. l ++ (event_of c.args.by c.args.moment c.args.ask) ∷ []) c.make_room.ensures.events)
+    (place ∙ ap length c.make_room.ensures.events) (c.put_event.ensures ∙ ap (λ l. l ++ (event_of c.args.by c.args.moment c.args.ask) ∷ []) c.make_room.ensures.events)
     (c.act_on_runs.ensures ∙ ap (acted_runs c.is_effective-effective.result c.args.by c.args.ask) c.make_room.ensures.runs)
-    (c.note_withdrawn.ensures.items ∙ ap (λ l. l ++ map (withdrawal_at c.len-place.result) (drop c.len-untold.result c.deref-4.result.now)) c.make_room.ensures.withdrawn
+    (c.note_withdrawn.ensures ∙ ap (λ l. l ++ map (withdrawal_at c.len-place.result) (drop c.len-untold.result c.deref-4.result.now)) c.make_room.ensures.withdrawn
     ∙ ap (λ l. c.self.inside.withdrawn.items ++ map (withdrawal_at c.len-place.result) (drop c.len-untold.result l)) seen
     ∙ ap (λ n. c.self.inside.withdrawn.items ++ map (withdrawal_at c.len-place.result) (drop n c.withdraw.new.gone.items)) untold)
     (c.told_after-self-inside.ensures ∙ ap (λ n. told_after c.self.inside.told n c.args.ask) all)
-    (ap (λ n. c.self.inside.added + n) c.opens-opened.ensures.value) (ap (λ n. c.self.inside.units + n) c.units_of.ensures.value) in
-    let opened = c.opens-opened.ensures.value in let count = c.count-exported.ensures.value in
-    let room = c.in-Ok-make_room.ensures in
-    let events_room = room.event in let withdrawn_room = room.withdrawals in let scratch_room = room.scratch_room in
-    let events_grow = c.put_event.ensures.capacity in let withdrawn_grow = c.note_withdrawn.ensures.capacity in
-    let events_len : vec_len c.make_room.new.events ≡ length c.make_room.new.events.items = search rules in
-    let runs_len : vec_len c.make_room.new.runs ≡ length c.make_room.new.runs.items = search rules in
-    let withdrawn_len : vec_len c.make_room.new.withdrawn ≡ length c.make_room.new.withdrawn.items = search rules in
-    let events_same = ap length c.make_room.ensures.events in let runs_same = ap length c.make_room.ensures.runs in let withdrawn_same = ap length c.make_room.ensures.withdrawn in (
-      kept,
-      room-turned c.self.inside.config c.self.inside.events.items c.put_event.new.events.items (event_of c.args.by c.args.moment c.args.ask) c.self.inside.leases c.withdraw.new.leases c.self.inside.exports c.withdraw.new.self
-          c.self.inside.runs.items c.act_on_runs.new.runs.items c.self.inside.withdrawn.items c.note_withdrawn.new.withdrawn.items c.self.inside.told c.self.inside.added c.self.inside.units c.self.inside.moment
-          c.told_after-self-inside.result _ _ c.max-now.result (c.count-exported.result + c.opens-opened.result) c.make_room.new.scratch.items (vec_capacity c.put_event.new.events) (vec_capacity c.note_withdrawn.new.withdrawn) (vec_capacity c.make_room.new.scratch)
-          c.is_effective-effective.result (is-effective c.self.inside.config c.self.inside.events.items (event_of c.args.by c.args.moment c.args.ask) c.self.inside.leases c.make_room.new.exports c.self.inside.runs.items c.self.inside.withdrawn.items
-          c.self.inside.told c.self.inside.added c.self.inside.units c.self.inside.moment c.is_effective-effective.result acts.asked)
-          c.self.invariant.0 c.requires.built kept ended (omega (arith, opened, count)) (omega (arith, events_room, events_grow, events_len, events_same, runs_len, runs_same)) (omega (arith, withdrawn_room, withdrawn_grow, withdrawn_len, withdrawn_same))
-          scratch_room (c.make_room.ensures.scratch ∙ c.self.invariant.1.empty),
-    )
+    (ap (λ n. c.self.inside.added + n) c.opens-opened.ensures.value) (ap (λ n. c.self.inside.units + n) c.units_of.ensures.value)
 
 pub returns-clause-step : goal.returns-clause-step
 returns-clause-step c =
@@ -193,26 +161,20 @@ returns-clause-step c =
     c.self.inside.runs.items c.self.inside.withdrawn.items c.self.inside.told c.self.inside.added c.self.inside.units c.self.inside.moment c.max-now.result c.is_effective-effective.result c.in-Ok.gone.items c.withdraw.new.gone.items
     (has-acted c.self.inside.config c.self.inside.events.items (event_of c.args.by c.args.moment c.args.ask) c.self.inside.leases c.tell.new.leases c.self.inside.exports c.make_room.new.exports c.self.inside.runs.items c.deref.result.now c.self.inside.withdrawn.items
     c.self.inside.told c.self.inside.added c.self.inside.units c.self.inside.moment c.max-now.result c.len-running.result c.count-exported.result c.is_effective-effective.result c.room_refusal.result
-    c.self.invariant.0 c.requires.built c.requires.moment c.is_effective-effective.ensures c.deref.ensures.value c.make_room.ensures.exports c.room_refusal.ensures running c.count-exported.ensures.value (none-else c.room_refusal.result c.in_default.not-Some) time
+    c.self.invariant c.requires.built c.requires.moment c.is_effective-effective.ensures c.deref.ensures.value c.make_room.ensures.exports c.room_refusal.ensures running c.count-exported.ensures.value (none-else c.room_refusal.result c.in_default.not-Some) time
     (ap (λ (t : ExportTable). await_refusal c.max-now.result t.rows t.waits c.is_effective-effective.result c.args.ask) c.make_room.ensures.exports ∙ c.in_ok-references.ensures.refusal)
     (c.in_ok-tell.ensures {u = tt}).refusal (c.in_ok-tell.ensures {u = tt}).ok)
     time (has-withdrawn c.tell.new.leases c.withdraw.new.leases (acted c.is_effective-effective.result c.max-now.result c.args.ask c.make_room.new.exports) c.act.new.exports c.withdraw.new.self c.max-now.result c.in-Ok.gone.items c.withdraw.new.gone.items
     c.act.ensures c.withdraw.ensures.kept c.withdraw.ensures.gone c.withdraw.ensures.dropped)
     c.len-place.result c.in-Ok-reply_at.reply c.from_vec.result c.put_event.new.events.items
-    (place ∙ ap length c.make_room.ensures.events) (c.put_event.ensures.items ∙ ap (λ l. l ++ (event_of c.args.by c.args.moment c.args.ask) ∷ []) c.make_room.ensures.events)
+    (place ∙ ap length c.make_room.ensures.events) (c.put_event.ensures ∙ ap (λ l. l ++ (event_of c.args.by c.args.moment c.args.ask) ∷ []) c.make_room.ensures.events)
     c.in-Ok-reply_at.ensures (c.in-Ok.ensures.items ∙ ap (λ l. map (λ (w : Withdrawal). w.object) (drop c.self.inside.told l)) c.deref-2.ensures.value) c.from_vec.ensures)
 
 pub invariant_of-self-in_default-reply_at : goal.invariant_of-self-in_default-reply_at
-invariant_of-self-in_default-reply_at c = (
-  keeps-roomy c.self.inside.config c.self.inside.events.items c.make_room.new.events.items c.self.inside.leases c.self.inside.leases c.self.inside.exports c.make_room.new.exports c.self.inside.runs.items c.make_room.new.runs.items
-      c.self.inside.withdrawn.items c.make_room.new.withdrawn.items c.self.inside.told c.self.inside.added c.self.inside.units c.self.inside.moment
-      c.self.invariant.0 c.make_room.ensures.exports c.make_room.ensures.events refl c.make_room.ensures.runs c.make_room.ensures.withdrawn,
-  room-grown c.self.inside.events.items c.make_room.new.events.items c.self.inside.runs.items c.make_room.new.runs.items c.self.inside.withdrawn.items c.make_room.new.withdrawn.items c.self.inside.exports c.make_room.new.exports
-      c.self.inside.scratch.items c.make_room.new.scratch.items (vec_capacity c.self.inside.events) (vec_capacity c.self.inside.withdrawn) (vec_capacity c.self.inside.scratch)
-      (vec_capacity c.make_room.new.events) (vec_capacity c.make_room.new.withdrawn) (vec_capacity c.make_room.new.scratch)
-      c.self.invariant.1 c.make_room.ensures.events c.make_room.ensures.runs c.make_room.ensures.withdrawn c.make_room.ensures.exports c.make_room.ensures.scratch
-      c.make_room.ensures.events_grow c.make_room.ensures.withdrawn_grow c.make_room.ensures.scratch_grow,
-)
+invariant_of-self-in_default-reply_at c =
+    keeps-roomy c.self.inside.config c.self.inside.events.items c.make_room.new.events.items c.self.inside.leases c.self.inside.leases c.self.inside.exports c.make_room.new.exports c.self.inside.runs.items c.make_room.new.runs.items
+    c.self.inside.withdrawn.items c.make_room.new.withdrawn.items c.self.inside.told c.self.inside.added c.self.inside.units c.self.inside.moment
+    c.self.invariant c.make_room.ensures.exports c.make_room.ensures.events refl c.make_room.ensures.runs c.make_room.ensures.withdrawn
 
 pub returns-in_err-references-clause-step : goal.returns-in_err-references-clause-step
 returns-in_err-references-clause-step c =
@@ -227,7 +189,7 @@ returns-in_err-references-clause-step c =
     (await-step c.self.inside.config c.self.inside.events.items (event_of c.args.by c.args.moment c.args.ask) c.self.inside.leases c.self.inside.exports c.self.inside.runs.items c.self.inside.withdrawn.items
     c.self.inside.told c.self.inside.added c.self.inside.units c.self.inside.moment c.is_effective-effective.result c.in_err-references.field-0.0
     (asked c.self.inside.config c.self.inside.events.items (event_of c.args.by c.args.moment c.args.ask) c.self.inside.leases c.self.inside.exports c.self.inside.exports c.self.inside.runs.items c.deref.result.now c.self.inside.withdrawn.items
-    c.self.inside.told c.self.inside.added c.self.inside.units c.self.inside.moment c.is_effective-effective.result c.self.invariant.0 c.requires.built c.is_effective-effective.ensures c.deref.ensures.value refl)
+    c.self.inside.told c.self.inside.added c.self.inside.units c.self.inside.moment c.is_effective-effective.result c.self.invariant c.requires.built c.is_effective-effective.ensures c.deref.ensures.value refl)
     (room-as c.self.inside.units c.len-running.result c.count-exported.result c.is_effective-effective.result c.args.ask c.self.inside.runs.items c.self.inside.exports c.self.inside.exports c.room_refusal.result None
     c.room_refusal.ensures running c.count-exported.ensures.value refl (none-else c.room_refusal.result c.in_default.not-Some))
     (subst N time c.in_err-references.ensures.refusal))))
@@ -245,26 +207,20 @@ act-requires-clause-returns c o made listed u t s =
     finish-counted c.self.inside.config c.self.inside.events.items (event_of c.args.by c.args.moment c.args.ask) c.self.inside.leases c.make_room.new.exports c.self.inside.runs.items c.self.inside.withdrawn.items
     c.self.inside.told c.self.inside.added c.self.inside.units c.self.inside.moment c.is_effective-effective.result
     (asked c.self.inside.config c.self.inside.events.items (event_of c.args.by c.args.moment c.args.ask) c.self.inside.leases c.self.inside.exports c.make_room.new.exports c.self.inside.runs.items c.deref.result.now c.self.inside.withdrawn.items
-    c.self.inside.told c.self.inside.added c.self.inside.units c.self.inside.moment c.is_effective-effective.result c.self.invariant.0 c.requires.built c.is_effective-effective.ensures c.deref.ensures.value c.make_room.ensures.exports)
+    c.self.inside.told c.self.inside.added c.self.inside.units c.self.inside.moment c.is_effective-effective.result c.self.invariant c.requires.built c.is_effective-effective.ensures c.deref.ensures.value c.make_room.ensures.exports)
     o made listed u t s
 
 pub act-requires-clause-awaiting : goal.act-requires-clause-awaiting
 act-requires-clause-awaiting c o made listed u t s =
     let time : c.max-now.result ≡ max c.args.moment c.self.inside.moment = search rules in
-    let kept = c.self.invariant.0.stands in
+    let kept = c.self.invariant.stands in
     finish-few c.self.inside.config c.self.inside.events.items (event_of c.args.by c.args.moment c.args.ask) c.self.inside.leases c.make_room.new.exports c.self.inside.runs.items c.self.inside.withdrawn.items
     c.self.inside.told c.self.inside.added c.self.inside.units c.self.inside.moment c.max-now.result c.is_effective-effective.result
     (asked c.self.inside.config c.self.inside.events.items (event_of c.args.by c.args.moment c.args.ask) c.self.inside.leases c.self.inside.exports c.make_room.new.exports c.self.inside.runs.items c.deref.result.now c.self.inside.withdrawn.items
-    c.self.inside.told c.self.inside.added c.self.inside.units c.self.inside.moment c.is_effective-effective.result c.self.invariant.0 c.requires.built c.is_effective-effective.ensures c.deref.ensures.value c.make_room.ensures.exports)
+    c.self.inside.told c.self.inside.added c.self.inside.units c.self.inside.moment c.is_effective-effective.result c.self.invariant c.requires.built c.is_effective-effective.ensures c.deref.ensures.value c.make_room.ensures.exports)
     time (ap (λ (t : ExportTable). await_refusal c.max-now.result t.rows t.waits c.is_effective-effective.result c.args.ask) c.make_room.ensures.exports ∙ c.in_ok-references.ensures.refusal) c.deref-3.result.now
     (c.deref-3.ensures.value ∙ c.in_ok-references.ensures.objects
     ∙ ap (λ y. returned_by y c.self.inside.added c.self.inside.exports.rows c.is_effective-effective.result c.args.ask) (sym kept.space_is)
     ∙ ap (λ n. returned_by c.self.inside.exports.space n c.self.inside.exports.rows c.is_effective-effective.result c.args.ask) (sym kept.added_is)
     ∙ ap (λ (x : ExportTable). returned_by x.space x.added x.rows c.is_effective-effective.result c.args.ask) (sym c.make_room.ensures.exports))
     o made listed u t s
-
-pub make_room-requires-clause-calls : goal.make_room-requires-clause-calls
-make_room-requires-clause-calls c =
-    let few = few-calls c.self.inside.config c.self.inside.events.items c.self.inside.leases c.self.inside.exports c.self.inside.runs.items c.self.inside.withdrawn.items c.self.inside.told c.self.inside.added c.self.inside.units c.self.inside.moment c.self.invariant.0 in
-    let len : vec_len c.self.inside.runs ≡ length c.self.inside.runs.items = search rules in
-    omega (arith, few, len)
