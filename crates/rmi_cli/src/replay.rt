@@ -103,7 +103,7 @@ fn take_batch<'a>(
         is_bad,
     } = batch;
     let next = number + events.len() as u64;
-    match make_turns(alloc, space, events) {
+    match make_turns(space, events) {
         Ok(()) => {
             if is_bad {
                 Err(ReplayFault::BadLine { line: next })
@@ -228,14 +228,14 @@ fn is_served(ask: &Ask) -> bool
 }
 
 /// Makes the turns of events, up to the first that is refused.
-fn make_turns(alloc: Global, space: &mut Space, events: Vec<Event>) -> Result<(), ReplayFault>
+fn make_turns(space: &mut Space, events: Vec<Event>) -> Result<(), ReplayFault>
     requires moments { AllByRecursion (λ e. e.moment < 2 ^ 62) events.items }
     requires built { AllByRecursion (λ e. IsBuilt e.ask) events.items }
     ensures ok { OnOk result (AreTaken space.old.configuration space.old.events events.items space.new.events) }
     ensures err { IfErr result (λ fault. Halts space.old.configuration space.old.events events.items fault space.new.events) }
     ensures config { space.new.configuration ≡ space.old.configuration }
 {
-    match space.turns(alloc, events) {
+    match space.turns(events) {
         Ok(answered) => match answered.refused {
             None => Ok(()),
             Some(refused) => Err(fault_of(refused)),

@@ -1,4 +1,7 @@
+pub mod AbandonLaws
 pub mod Acting
+pub mod AheadLaws
+pub mod AnswerLaws
 pub mod AskLaws
 pub mod AwaitLaws
 pub mod Clients
@@ -13,6 +16,7 @@ pub mod LiveLaws
 pub mod LoopLaws
 pub mod Named
 pub mod NextLaws
+pub mod NotedLaws
 pub mod ObjectLaws
 pub mod Pairs
 pub mod Quiet
@@ -23,6 +27,7 @@ pub mod RowLaws
 pub mod RunSteps
 pub mod SummaryLaws
 pub mod TextLaws
+pub mod TieSteps
 pub mod TurnLaws
 pub mod WaitLaws
 pub mod WaitSteps

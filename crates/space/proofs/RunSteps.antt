@@ -1,5 +1,5 @@
 -- Lists of running calls that stand for those of a history, and what an event does to them.
-use Rattle.std.proofs.Common.{◌≡◌, ℕ, ◌+◌, ◌<◌, List, [], ◌∷◌, ◌++◌, length, refl, ap, sym, ◌∙◌, cond, arith, length-append}
+use Rattle.std.proofs.Common.{◌≡◌, ℕ, ◌+◌, ◌<◌, ◌≤◌, List, [], ◌∷◌, ◌++◌, length, refl, ap, sym, ◌∙◌, cond, arith, length-append}
 use Rattle.std.specs.Prelude.{Bool, true, false, ◌&&◌, ◌||◌, ◌==◌, filter, if◌then◌else◌}
 use Rattle.std.specs.List.{list_any}
 use Rattle.std.proofs.lemmas.Bool.{and_parts}
@@ -23,7 +23,7 @@ use Rattle.history.proofs.RunningLaws.{begins_any, ends_any, running-push, runni
 
 -- ---- lists
 
-length-without : {R : Type 0} (test : R → Bool) (rs : List R) → list_any test rs ≡ true → length (without_first test rs) + 1 ≡ length rs
+pub length-without : {R : Type 0} (test : R → Bool) (rs : List R) → list_any test rs ≡ true → length (without_first test rs) + 1 ≡ length rs
 length-without test [] h = absurd (cc)
 length-without {R} test (r ∷ rs) h = go (test r) h (length-without test rs)
   where
@@ -31,8 +31,25 @@ length-without {R} test (r ∷ rs) h = go (test r) h (length-without test rs)
     go true h rest = omega arith
     go false h rest = let n = rest h in omega arith
 
+-- It is no longer, and the list itself where no item passes.
+pub without-shorter : {R : Type 0} (test : R → Bool) (rs : List R) → length (without_first test rs) ≤ length rs
+without-shorter test [] = omega arith
+without-shorter {R} test (r ∷ rs) = go (test r) (without-shorter test rs)
+  where
+    go : (b : Bool) → length (without_first test rs) ≤ length rs → length (if b then rs else r ∷ without_first test rs) ≤ length (r ∷ rs)
+    go true rest = omega arith
+    go false rest = omega (arith, rest)
+
+pub without-none : {R : Type 0} (test : R → Bool) (rs : List R) → list_any test rs ≡ false → without_first test rs ≡ rs
+without-none test [] h = refl
+without-none {R} test (r ∷ rs) h = go (test r) h (without-none test rs)
+  where
+    go : (b : Bool) → (b || list_any test rs) ≡ false → (list_any test rs ≡ false → without_first test rs ≡ rs) → (if b then rs else r ∷ without_first test rs) ≡ r ∷ rs
+    go true h rest = absurd (cc)
+    go false h rest = ap (λ l. r ∷ l) (rest h)
+
 -- Of the items that pass another test it has one less where the first passes that too.
-count-without : {R : Type 0} (test other : R → Bool) (found : Bool) → ((r : R) → test r ≡ true → other r ≡ found) → (rs : List R) → list_any test rs ≡ true →
+pub count-without : {R : Type 0} (test other : R → Bool) (found : Bool) → ((r : R) → test r ≡ true → other r ≡ found) → (rs : List R) → list_any test rs ≡ true →
     length (filter other (without_first test rs)) + one_if found ≡ length (filter other rs)
 unfolding one_if
 count-without test other found same [] h = absurd (cc)
@@ -45,16 +62,24 @@ count-without {R} test other found same (r ∷ rs) h = go (test r) (other r) ref
     go false true e f h rest = rw f (let n = rest h in omega arith)
     go false false e f h rest = rw f (rest h)
 
-count-last : {R : Type 0} (other : R → Bool) (rs : List R) (r : R) → length (filter other (rs ++ r ∷ [])) ≡ length (filter other rs) + one_if (other r)
+pub count-last : {R : Type 0} (other : R → Bool) (rs : List R) (r : R) → length (filter other (rs ++ r ∷ [])) ≡ length (filter other rs) + one_if (other r)
 unfolding one_if
 count-last other rs r = ap length (filter-append other rs (r ∷ [])) ∙ length-append (filter other rs) (filter other (r ∷ [])) ∙ ap (λ n. length (filter other rs) + n) (length-filter-cons other r [] ∙ omega arith)
 
-some-counted : {R : Type 0} (test : R → Bool) (rs : List R) → 0 < length (filter test rs) → list_any test rs ≡ true
+pub some-counted : {R : Type 0} (test : R → Bool) (rs : List R) → 0 < length (filter test rs) → list_any test rs ≡ true
 some-counted test [] h = absurd (omega arith)
 some-counted {R} test (r ∷ rs) h = go (test r) h (some-counted test rs)
   where
     go : (b : Bool) → 0 < length (cond b (r ∷ filter test rs) (filter test rs)) → (0 < length (filter test rs) → list_any test rs ≡ true) → (b || list_any test rs) ≡ true
     go true h rest = refl
+    go false h rest = rest h
+
+pub none-counted : {R : Type 0} (test : R → Bool) (rs : List R) → list_any test rs ≡ false → length (filter test rs) ≡ 0
+none-counted test [] h = refl
+none-counted {R} test (r ∷ rs) h = go (test r) h (none-counted test rs)
+  where
+    go : (b : Bool) → (b || list_any test rs) ≡ false → (list_any test rs ≡ false → length (filter test rs) ≡ 0) → length (cond b (r ∷ filter test rs) (filter test rs)) ≡ 0
+    go true h rest = absurd (cc)
     go false h rest = rest h
 
 -- ---- running calls: each is of a connection and an object

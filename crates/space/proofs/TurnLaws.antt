@@ -5,6 +5,7 @@ use Rattle.history.specs.declared.asks.SpaceConfig.{SpaceConfig}
 use Rattle.history.specs.declared.asks.Event.{Event}
 use Rattle.history.specs.declared.places.Withdrawal.{Withdrawal}
 use Rattle.history.specs.declared.replies.Refused.{Refused}
+use Rattle.history.specs.declared.replies.Refused.TheVariants.{OutOfMemory}
 use Rattle.history.specs.declared.replies.Reply.{Reply}
 use Rattle.history.specs.declared.replies.Turn.{Turn}
 use Rattle.object_ids.specs.declared.ids.ObjId.{ObjId}
@@ -112,7 +113,7 @@ told-step config events e leases exports runs withdrawn told opened used moment 
     ∙ ap (λ x. first_of_two x (lease_refusal config.lease_ms (max e.moment moment) (live_calls (table config (places config events)) (lease_calls (places config events))) (call_with (is_exported exports.rows) (max e.moment moment) e.ask))) fit))
     (answer config.lease_ms moment (live_calls (table config (places config events)) (lease_calls (places config events))) q.keeps.stands.leases_stand (omega arith)))
 
-taken : (config : SpaceConfig) (events : List Event) (e : Event) (leases : LeaseTable) (exports : ExportTable) (runs : List Run) (withdrawn : List Withdrawal) (told opened used moment : ℕ) (effective : Bool) →
+pub taken : (config : SpaceConfig) (events : List Event) (e : Event) (leases : LeaseTable) (exports : ExportTable) (runs : List Run) (withdrawn : List Withdrawal) (told opened used moment : ℕ) (effective : Bool) →
     IsAsked config events e leases exports runs withdrawn told opened used moment effective → room_refusal used (length runs) (length exports.rows) effective e.ask ≡ None → await_refusal (max e.moment moment) exports.rows exports.waits effective e.ask ≡ None →
     ForEachLogBy (max e.moment moment) leases (λ lease calls. lease_refusal lease (max e.moment moment) calls (call_with (is_exported exports.rows) (max e.moment moment) e.ask) ≡ None) → refusal limits config (places config events) e ≡ None
 taken config events e leases exports runs withdrawn told opened used moment effective q none fit answer =
@@ -297,3 +298,7 @@ turn-step config events e leases leases1 leases2 exports t x3 runs withdrawn tol
 pub step-viewed : (config : SpaceConfig) (events events' : List Event) (e : Event) (answer : Result Turn Refused) (s : SpaceHistory) → record { configuration = config; events = events } ≡ s →
     Step config events e answer events' → Step s.configuration s.events e answer events'
 step-viewed config events events' e answer s v t = let P : SpaceHistory → Type 0 = λ x. Step x.configuration x.events e answer events' in subst P v t
+
+-- Where there is no memory.
+pub memory-step : (config : SpaceConfig) (events events' : List Event) (e : Event) (refused : Refused) → refused ≡ OutOfMemory → events' ≡ events → Step config events e (Err refused) events'
+memory-step config events events' e refused r s = inr (ap (λ x. Err x) r, s)

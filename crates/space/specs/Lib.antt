@@ -1,9 +1,14 @@
 pub mod Acts
+pub mod Ahead
 pub mod Built
+pub mod Entries
 pub mod Faults
 pub mod Kept
 pub mod Lists
+pub mod Ports
 pub mod Rows
 pub mod Runs
+pub mod TieLaws
+pub mod Ties
 pub mod Waits
 pub mod Summary

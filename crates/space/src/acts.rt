@@ -1,5 +1,5 @@
 //! What an ask does to the exported objects and to the withdrawals.
-ghost use Rattle.std.specs.Prelude.{◌≡◌, ◌≤◌, ◌<◌, ◌+◌, ◌^◌, ◌++◌, ◌∷◌, [], ℕ, List, Bool, true, map, drop, length, OnOk, IfOk, vec_len, vec_capacity};
+ghost use Rattle.std.specs.Prelude.{◌≡◌, ◌≤◌, ◌<◌, ◌+◌, ◌^◌, ◌++◌, ◌∷◌, [], ℕ, List, Bool, true, map, drop, length, IfOk, vec_len, vec_capacity};
 ghost use Rattle.object_ids.specs.declared.ids.ObjId.{ObjId};
 ghost use Rattle.object_ids.specs.declared.ids.Uid.{Uid};
 ghost use Rattle.history.specs.declared.limits.TheConstants.{MAX_EXPORTS, MAX_AWAITING};
@@ -10,39 +10,10 @@ ghost use Rattle.export_table.specs.Rows.{is_exported, running_of, new_row};
 ghost use Rattle.space.specs.Acts.{acted, awaiting_with, listed_each, new_rows, opens, returned_by, returned_from, withdrawal_at};
 ghost use Rattle.space.specs.Waits.{waits_once, reference_of};
 
-use crate::runs::Run;
 use export_table::Exports;
 use history::{Ask, Event, Withdrawal};
 use object_ids::{ObjId, Uid};
 use std::alloc::{AllocError, Global};
-
-/// Makes room for what one event adds.
-pub(crate) fn make_room(
-    events: &mut Vec<Event>,
-    runs: &mut Vec<Run>,
-    withdrawn: &mut Vec<Withdrawal>,
-    exports: &mut Exports,
-    objects: usize,
-    opened: u64,
-    returned: usize,
-) -> Result<(), AllocError>
-    requires few_opened { opened < 2 ^ 32 }
-    requires few_returned { returned < 2 ^ 32 }
-    ensures event { OnOk result (vec_len events.new < vec_capacity events.new) }
-    ensures run { OnOk result (vec_len runs.new < vec_capacity runs.new) }
-    ensures withdrawals { OnOk result (vec_len withdrawn.new + objects ≤ vec_capacity withdrawn.new) }
-    ensures opened { OnOk result (opened ≤ exports.new.room.exports) }
-    ensures returned { OnOk result (returned ≤ exports.new.room.waits) }
-    ensures events { events.new.items ≡ events.old.items }
-    ensures runs { runs.new.items ≡ runs.old.items }
-    ensures withdrawn { withdrawn.new.items ≡ withdrawn.old.items }
-    ensures exports { exports.new ≡ record exports.old { room = exports.new.room } }
-{
-    events.reserve(1)?;
-    runs.reserve(1)?;
-    withdrawn.reserve(objects)?;
-    exports.reserve(opened as u32, returned as u32)
-}
 
 /// The objects of the withdrawals that are still to be told as gone, with room for so many more.
 pub(crate) fn still_to_tell(
@@ -197,14 +168,16 @@ pub(crate) fn note_withdrawn(
 )
     requires within { from ≤ length gone.now }
     requires room { vec_len withdrawn.old + length (drop from gone.now) ≤ vec_capacity withdrawn.old }
-    ensures { withdrawn.new.items ≡ withdrawn.old.items ++ map (withdrawal_at place) (drop from gone.now) }
+    ensures items { withdrawn.new.items ≡ withdrawn.old.items ++ map (withdrawal_at place) (drop from gone.now) }
+    ensures capacity { vec_capacity withdrawn.old ≤ vec_capacity withdrawn.new }
 {
     note_all(withdrawn, &gone[from..], place);
 }
 
 fn note_all(withdrawn: &mut Vec<Withdrawal>, gone: &[ObjId], place: u64)
     requires { vec_len withdrawn.old + length gone.now ≤ vec_capacity withdrawn.old }
-    ensures { withdrawn.new.items ≡ withdrawn.old.items ++ map (withdrawal_at place) gone.now }
+    ensures items { withdrawn.new.items ≡ withdrawn.old.items ++ map (withdrawal_at place) gone.now }
+    ensures capacity { vec_capacity withdrawn.old ≤ vec_capacity withdrawn.new }
 {
     for object in gone {
         put(
@@ -232,7 +205,8 @@ fn put(withdrawn: &mut Vec<Withdrawal>, withdrawal: Withdrawal)
 /// Appends an event, for which there is room.
 pub(crate) fn put_event(events: &mut Vec<Event>, event: Event)
     requires { vec_len events.old < vec_capacity events.old }
-    ensures { events.new.items ≡ events.old.items ++ event ∷ [] }
+    ensures items { events.new.items ≡ events.old.items ++ event ∷ [] }
+    ensures capacity { vec_capacity events.old ≤ vec_capacity events.new }
 {
     match events.push(event) {
         Ok(()) => {}

@@ -2,20 +2,31 @@
 //! before it (Java RMI Specification, chapters 6, 9 and 10).
 #![tactic(auto)]
 
+mod abandons;
 mod acts;
+pub mod asked;
 mod asks;
 mod calls;
+pub mod direct_port;
 pub mod journal_text;
 pub mod lists;
+mod noted;
+pub mod port;
+mod prepared;
 mod returns;
+mod rooms;
 mod runs;
 #[cfg(test)]
 mod tests;
 pub mod texts;
 pub mod turns;
 
+pub use asked::{Asked, AskedEnd, AskedList};
+pub use direct_port::{DirectPort, PortOver};
 pub use history::{Ask, Event, Refused, Reply, SpaceConfig, Turn};
 pub use journal_text::{journal, summary};
 pub use lists::{ObjectKind, Turns};
+pub use object_ids::FullKind;
+pub use port::Port;
 pub use texts::outline;
 pub use turns::Space;

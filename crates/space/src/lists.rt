@@ -49,7 +49,7 @@ impl Space {
         ensures legal { IfOk result (λ p. IsLegal config.now p.0.events) }
     {
         let mut space = Space::fresh(alloc, config);
-        match space.turns(alloc, events) {
+        match space.turns(events) {
             Ok(turns) => Ok((space, turns)),
             Err(refused) => Err(refused),
         }
@@ -57,17 +57,17 @@ impl Space {
 
     /// Takes events, the one after the other, up to the first that is refused. It fails only where there is no
     /// memory for the list of the turns; then no event was taken.
-    pub fn turns(&mut self, alloc: Global, events: Vec<Event>) -> Result<Turns, AllocError>
+    pub fn turns(&mut self, events: Vec<Event>) -> Result<Turns, AllocError>
         requires moments { AllByRecursion (λ e. e.moment < 2 ^ 62) events.items }
         requires built { AllByRecursion (λ e. IsBuilt e.ask) events.items }
         ensures taken { IfOk result (λ t. TakesFront self.old.configuration self.old.events events.items t.turns.items t.refused self.new.events) }
         ensures config { self.new.configuration ≡ self.old.configuration }
         ensures err { OnErr result (self.new ≡ self.old) }
     {
-        let mut turns = Vec::with_capacity(alloc, events.len())?;
+        let mut turns = Vec::with_capacity(self.alloc, events.len())?;
         for event in events {
             let Event { by, moment, ask } = event;
-            match self.turn(alloc, by, moment, ask) {
+            match self.turn(by, moment, ask) {
                 Ok(turn) => put_turn(&mut turns, turn),
                 Err(refused) => {
                     return Ok(Turns {
@@ -91,11 +91,11 @@ impl Space {
     }
 
     /// The exported objects, by rising number. It is refused only for want of memory.
-    pub fn exported(&self, alloc: Global) -> Result<Vec<ObjectKind>, AllocError>
+    pub fn exported(&self) -> Result<Vec<ObjectKind>, AllocError>
         ensures { IfOk result (λ objects. objects.items ≡ map with_kind (table self.now.configuration (places self.now.configuration self.now.events))) }
     {
-        let rows = self.exports.rows(alloc, self.moment)?;
-        let objects = kinds(alloc, rows.as_slice())?;
+        let rows = self.exports.rows(self.alloc, self.moment)?;
+        let objects = kinds(self.alloc, rows.as_slice())?;
         Ok(objects)
     }
 }

@@ -79,7 +79,7 @@ fn put(runs: &mut Vec<Run>, run: Run)
 }
 
 /// Drops the first call of an object that a connection runs.
-fn drop_first(runs: &mut Vec<Run>, by: u32, object: &ObjId)
+pub(crate) fn drop_first(runs: &mut Vec<Run>, by: u32, object: &ObjId)
     ensures { runs.new.items ≡ without_first (is_run by object.now) runs.old.items }
 {
     for i in 0..runs.len() {

@@ -1,14 +1,18 @@
 //! What no contract says: that events are taken with ample memory, and the outlines of histories that were
 //! worked out by hand.
-ghost use Rattle.std.specs.Prelude.{IsTrue, IfOk, IfSome};
+ghost use Rattle.std.specs.Prelude.{◌≡◌, IsTrue, IfOk, IfSome};
+ghost use Rattle.history.specs.declared.asks.Ask.TheVariants.{Open};
 ghost use Rattle.space.specs.Built.{IsBuilt};
 ghost use Rattle.space.specs.Kept.{HasDurations};
 
-use crate::{Ask, Refused, Reply, Space, SpaceConfig, Turn, journal, outline, summary};
+use crate::{
+    Ask, AskedEnd, DirectPort, Event, FullKind, Port, Refused, Reply, Space, SpaceConfig, Turn,
+    journal, outline, summary,
+};
 use history::limits::{END_OF_TIME, MAX_DURATION};
 use journal::lines::{read_event, read_first_line};
 use mod_utf::list::{ByteList, Kinds, Same};
-use object_ids::{FullKind, ObjId, ObjIds, Uid, Vmid};
+use object_ids::{ObjId, ObjIds, Uid, Vmid};
 use std::alloc::{AllocError, Global};
 use std::test::Fail;
 
@@ -65,7 +69,7 @@ fn space_of(alloc: Global, first: &str, lines: &[&str]) -> Result<Space, Fail> {
         if event.moment >= END_OF_TIME || !is_served(&event.ask) {
             return Err("not served".into());
         }
-        space.turn(alloc, event.by, event.moment, event.ask)?;
+        space.turn(event.by, event.moment, event.ask)?;
     }
     Ok(space)
 }
@@ -316,6 +320,147 @@ fn outlines_of_histories(rt: HostRuntime) -> Result<(), Fail> {
     Ok(())
 }
 
+/// The outline of a space that took the events of a journal's lines, but for the abandons of running calls, which it was told by `abandon`.
+fn abandoned(alloc: Global, first: &str, lines: &str) -> Result<ByteList, Fail> {
+    let config = config_of(first).ok_or("no configuration")?;
+    let mut space = Space::fresh(alloc, &config);
+    for line in lines.split('\n') {
+        let event = read_event(alloc, config.uid, line.as_bytes())?.ok_or("no event")?;
+        if event.moment >= END_OF_TIME || !is_served(&event.ask) {
+            return Err("not served".into());
+        }
+        match event.ask {
+            Ask::Abandon { object } if space.running(event.by, object) > 0 => {
+                space.abandon(event.by, event.moment, object);
+            }
+            ask => {
+                space.turn(event.by, event.moment, ask)?;
+            }
+        }
+    }
+    Ok(outline(alloc, &space)?)
+}
+
+#[test]
+fn abandons_that_take_no_memory(rt: HostRuntime) -> Result<(), Fail> {
+    let alloc = rt.alloc();
+    let first = "space 10 2 7 9";
+    let rows = [
+        (
+            "0 0 open 2 pinned\n2 52 begin 16\n2 53 begin 16\n2 82 abandon 16\n2 83 ack 1/0/0",
+            "events 5 units 5 now 83\nobject 16 kind 2 pinned running 1 awaiting 0 held 0 names 0\n",
+        ),
+        (
+            "0 0 open 2 pinned\n2 52 begin 16\n1 53 begin 16\n2 12 abandon 16\n2 13 abandon 16\n1 14 abandon 16",
+            "events 6 units 6 now 53\nobject 16 kind 2 pinned running 0 awaiting 0 held 0 names 0\n",
+        ),
+        (
+            "0 0 open 2 pinned\n2 5 begin 16\n1 6 dirty aa@3/4/5 1 10 16\n2 16 abandon 16",
+            "events 4 units 5 now 16\nobject 16 kind 2 pinned running 0 awaiting 0 held 0 names 0\n",
+        ),
+    ];
+    for (lines, want) in rows {
+        let text = abandoned(alloc, first, lines)?;
+        assert_eq!(rt; text.as_slice(), want.as_bytes(), "of {lines}");
+    }
+    Ok(())
+}
+
+/// A space with one exported object, which is pinned.
+fn space_of_one(alloc: Global) -> Result<(Space, ObjId), Fail> {
+    let config = config_of("space 10 2 7 9").ok_or("no configuration")?;
+    let mut space = Space::fresh(alloc, &config);
+    let pinned = true;
+    let opened = space.turn(0, 0, Ask::Open { kind: 3, pinned })?;
+    match opened.reply {
+        Reply::Opened(object) => Ok((space, object)),
+        _ => Err("not opened".into()),
+    }
+}
+
+#[test]
+fn a_port_enters_its_turns(rt: HostRuntime) -> Result<(), Fail> {
+    let alloc = rt.alloc();
+    let (mut space, object) = space_of_one(alloc)?;
+    let many = finish(alloc, object.space, 65_536, 1)?;
+    let mut port = DirectPort::new(alloc, &mut space, 2);
+    let begun = port.turn(5, Ask::Begin { object })?;
+    match begun.reply {
+        Reply::Started(kind) => assert_eq!(rt; kind, 3),
+        _ => return Err("not started".into()),
+    }
+    port.abandon(4, object);
+    let _again = port.turn(6, Ask::Begin { object })?;
+    assert!(rt; is_refused(port.turn(7, many), FullKind::Exports));
+    assert_eq!(rt; port.room(), u64::MAX);
+    let entries = port.into_asked().copy(alloc)?;
+    let ends = ["turned", "abandoned 2", "turned", "refused"];
+    assert_eq!(rt; entries.len(), ends.len());
+    for (entry, end) in entries.as_slice().iter().zip(ends) {
+        assert!(rt; is_end(&entry.end, end), "{end}");
+    }
+    assert_eq!(rt; space.len(), 4);
+    assert_eq!(rt; space.running(2, object), 1);
+    Ok(())
+}
+
+/// Whether an entry ended so.
+fn is_end(end: &AskedEnd, word: &str) -> bool {
+    match end {
+        AskedEnd::Turned(turn) => word == "turned" && turn.reply.is_same(&Reply::Started(3)),
+        AskedEnd::Abandoned(place) => word == "abandoned 2" && *place == 2,
+        AskedEnd::Refused(refused) => {
+            word == "refused" && *refused == Refused::Full(FullKind::Exports)
+        }
+    }
+}
+
+/// The opening of an object at the moment 1.
+fn opening(kind: u32, pinned: bool) -> Event
+    ensures moment { result.moment ≡ 1 }
+    ensures ask { result.ask ≡ Open kind pinned }
+{
+    Event {
+        by: 0,
+        moment: 1,
+        ask: Ask::Open { kind, pinned },
+    }
+}
+
+#[test]
+fn lists_of_events(rt: HostRuntime) -> Result<(), Fail> {
+    let alloc = rt.alloc();
+    let config = config_of("space 10 2 7 9").ok_or("no configuration")?;
+    let mut events = Vec::new(alloc);
+    events.push(opening(3, true))?;
+    events.push(opening(4, false))?;
+    events.push(opening(5, true))?;
+    let (space, answered) = Space::of_events(alloc, &config, events)?;
+    assert_eq!(rt; answered.turns.len(), 3);
+    assert!(rt; answered.refused.is_none());
+    let objects = space.exported()?;
+    assert_eq!(rt; objects.len(), 2);
+    assert_eq!(rt; space.kind_of(objects[1].id), Some(5));
+    Ok(())
+}
+
+#[test]
+fn turns_with_their_entries(rt: HostRuntime) -> Result<(), Fail> {
+    let alloc = rt.alloc();
+    let config = config_of("space 10 2 7 9").ok_or("no configuration")?;
+    let mut space = Space::fresh(alloc, &config);
+    let pinned = true;
+    let (answer, entry) = space.turn_noted(2, 4, Ask::Open { kind: 3, pinned })?;
+    let turn = answer?;
+    assert_eq!(rt; entry.moment, 4);
+    assert!(rt; entry.ask.is_same(&Ask::Open { kind: 3, pinned }));
+    match &entry.end {
+        AskedEnd::Turned(copy) => assert!(rt; turn.is_same(copy)),
+        _ => return Err("not turned".into()),
+    }
+    Ok(())
+}
+
 /// As many objects, none of which is exported, as a list has in the largest of messages.
 fn many_objects(alloc: Global) -> Result<ObjIds, AllocError> {
     let mut ids = ObjIds::new(alloc);
@@ -336,7 +481,6 @@ fn a_full_history_still_takes_a_tick(rt: HostRuntime) -> Result<(), Fail> {
     let config = config_of("space 600000 300000 7 9").ok_or("no configuration")?;
     let mut space = Space::fresh(alloc, &config);
     let opened = space.turn(
-        alloc,
         0,
         0,
         Ask::Open {
@@ -358,7 +502,7 @@ fn a_full_history_still_takes_a_tick(rt: HostRuntime) -> Result<(), Fail> {
             asked: 1,
             objects: many_objects(alloc)?,
         };
-        match space.turn(alloc, 1, 5, dirty) {
+        match space.turn(1, 5, dirty) {
             Ok(turn) => {
                 assert!(rt; number < 63 && turn.reply.is_same(&Reply::Granted(600_000)));
                 assert_eq!(rt; turn.gone.len(), 0);
@@ -366,7 +510,7 @@ fn a_full_history_still_takes_a_tick(rt: HostRuntime) -> Result<(), Fail> {
             Err(refused) => assert!(rt; number == 63 && refused == Refused::HistoryFull),
         }
     }
-    let turn = space.turn(alloc, 2, 4, Ask::Tick)?;
+    let turn = space.turn(2, 4, Ask::Tick)?;
     assert!(rt; turn.reply.is_same(&Reply::Done));
     assert_eq!(rt; turn.place, 64);
     assert_eq!(rt; space.len(), 65);
@@ -415,14 +559,14 @@ fn returns_are_taken_within_the_limits(rt: HostRuntime) -> Result<(), Fail> {
         number: 16,
         space: config.uid,
     };
-    let _opened = space.turn(alloc, 0, 0, opened)?;
-    let _first = space.turn(alloc, 1, 0, Ask::Begin { object })?;
-    let _second = space.turn(alloc, 1, 0, Ask::Begin { object })?;
+    let _opened = space.turn(0, 0, opened)?;
+    let _first = space.turn(1, 0, Ask::Begin { object })?;
+    let _second = space.turn(1, 0, Ask::Begin { object })?;
     let many = finish(alloc, config.uid, 65_536, 1)?;
-    assert!(rt; is_refused(space.turn(alloc, 1, 5, many), FullKind::Exports));
-    let others = space.turn(alloc, 2, 5, finish(alloc, config.uid, 65_536, 1)?)?;
+    assert!(rt; is_refused(space.turn(1, 5, many), FullKind::Exports));
+    let others = space.turn(2, 5, finish(alloc, config.uid, 65_536, 1)?)?;
     assert!(rt; others.reply.is_same(&Reply::NotRunning));
-    let taken = space.turn(alloc, 1, 5, finish(alloc, config.uid, 1, 1)?)?;
+    let taken = space.turn(1, 5, finish(alloc, config.uid, 1, 1)?)?;
     let made = ObjIds::from_slice(
         alloc,
         &[ObjId {
@@ -432,7 +576,7 @@ fn returns_are_taken_within_the_limits(rt: HostRuntime) -> Result<(), Fail> {
     )?;
     assert!(rt; taken.reply.is_same(&Reply::Finished(made)));
     let waiting = finish(alloc, config.uid, 65_534, 2)?;
-    assert!(rt; is_refused(space.turn(alloc, 1, 300_004, waiting), FullKind::Awaiting));
+    assert!(rt; is_refused(space.turn(1, 300_004, waiting), FullKind::Awaiting));
     assert_eq!(rt; space.running(1, object), 1);
     assert_eq!(rt; space.now(), 5);
     Ok(())

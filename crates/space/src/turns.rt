@@ -6,10 +6,11 @@ ghost use Rattle.history.specs.Steps.{Step};
 ghost use Rattle.history.specs.Table.{places};
 ghost use Rattle.space.specs.Built.{IsBuilt};
 
-use crate::acts::{act, make_room, note_withdrawn, put_event, still_to_tell};
-use crate::asks::{is_effective, opens, reply_at, room_refusal, told_after};
+use crate::acts::{act, note_withdrawn, put_event};
+use crate::asks::{is_effective, room_refusal, told_after};
 use crate::calls::tell;
-use crate::returns::returned;
+use crate::prepared::prepare;
+use crate::rooms::{room_for_event, room_for_gone, room_in_table};
 use crate::runs::{Run, act_on_runs, count};
 use dgc_server::Leases;
 use export_table::Exports;
@@ -23,6 +24,7 @@ use std::marker::Model;
 /// took, the oldest first; all else that it answers follows from these.
 #[derive(Debug, Drop)]
 pub struct Space {
+    pub(crate) alloc: Global,
     pub(crate) config: SpaceConfig,
     pub(crate) moment: u64,
     pub(crate) units: u64,
@@ -33,9 +35,13 @@ pub struct Space {
     pub(crate) withdrawn: Vec<Withdrawal>,
     pub(crate) told: usize,
     pub(crate) added: u64,
+    /// Empty between two calls, with room for every exported object.
+    pub(crate) scratch: Vec<ObjId>,
 }
 
 impl Model for Space {
+    ghost use Rattle.std.specs.Prelude.{vec_capacity};
+    ghost use Rattle.space.specs.Ahead.{HasRoom};
     ghost use Rattle.space.specs.Built.{SpaceHistory};
     ghost use Rattle.space.specs.Kept.{Keeps};
 
@@ -43,7 +49,8 @@ impl Model for Space {
 
     ghost view = { λ a. record { configuration = a.config; events = a.events.items } };
 
-    ghost invariant = { λ a. Keeps a.config a.events.items a.leases a.exports a.runs.items a.withdrawn.items a.told a.added a.units a.moment };
+    ghost invariant = { λ a. Keeps a.config a.events.items a.leases a.exports a.runs.items a.withdrawn.items a.told a.added a.units a.moment
+        × HasRoom a.events.items (vec_capacity a.events) a.runs.items a.withdrawn.items (vec_capacity a.withdrawn) a.exports a.scratch.items (vec_capacity a.scratch) };
 }
 
 impl Space {
@@ -56,6 +63,7 @@ impl Space {
         ensures { result ≡ record { configuration = config.now; events = [] } }
     {
         Space {
+            alloc,
             config: *config,
             moment: 0,
             units: 0,
@@ -66,6 +74,7 @@ impl Space {
             withdrawn: Vec::new(alloc),
             told: 0,
             added: 0,
+            scratch: Vec::new(alloc),
         }
     }
 
@@ -75,7 +84,7 @@ impl Space {
     /// exactly where the entries of these tables would. OutOfMemory may come in place of any answer. Served are
     /// the opening of an object, calls of it, returns of calls, calls that are abandoned, dirty and clean calls,
     /// acknowledgements, and ticks.
-    pub fn turn(&mut self, alloc: Global, by: u32, moment: u64, ask: Ask) -> Result<Turn, Refused>
+    pub fn turn(&mut self, by: u32, moment: u64, ask: Ask) -> Result<Turn, Refused>
         requires moment { moment < 2 ^ 62 }
         requires built { IsBuilt ask }
         ensures step { Step self.old.configuration self.old.events (record { by = by; moment = moment; ask = ask }) result self.new.events }
@@ -89,59 +98,36 @@ impl Space {
             return Err(refused);
         }
         let now = moment.max(self.moment);
-        let references = returned(
-            alloc,
-            self.config.uid,
+        let mut ready = prepare(
+            self.alloc,
+            &self.config,
             self.added,
             &self.exports,
+            &self.withdrawn,
+            self.told,
             effective,
             now,
             &ask,
         )?;
-        let opened = opens(effective, &ask);
-        let returned = references.len();
-        let objects = exported as usize + opened as usize;
-        let Ok(mut gone) = still_to_tell(alloc, &self.withdrawn, self.told, objects) else {
-            return Err(Refused::OutOfMemory);
-        };
-        let Ok(()) = make_room(
-            &mut self.events,
-            &mut self.runs,
-            &mut self.withdrawn,
-            &mut self.exports,
-            objects,
-            opened,
-            returned,
-        ) else {
-            return Err(Refused::OutOfMemory);
-        };
-        let Ok(reply) = reply_at(
-            alloc,
-            &self.config,
-            self.added,
-            &self.exports,
-            effective,
-            &ask,
-        ) else {
-            return Err(Refused::OutOfMemory);
-        };
-        tell(alloc, &mut self.leases, &self.exports, now, &ask)?;
+        room_for_event(&mut self.events, &mut self.runs)?;
+        room_for_gone(&mut self.withdrawn, &mut self.scratch, ready.objects)?;
+        room_in_table(&mut self.exports, ready.opened, ready.references.len())?;
+        tell(self.alloc, &mut self.leases, &self.exports, now, &ask)?;
         let place = self.events.len() as u64;
-        act(&mut self.exports, effective, now, &references, &ask);
+        act(&mut self.exports, effective, now, &ready.references, &ask);
         act_on_runs(&mut self.runs, effective, by, &ask);
-        let untold = gone.len();
-        self.exports.withdraw(now, &mut self.leases, &mut gone);
-        note_withdrawn(&mut self.withdrawn, &gone, untold, place);
+        let untold = ready.gone.len();
+        self.exports
+            .withdraw(now, &mut self.leases, &mut ready.gone);
+        note_withdrawn(&mut self.withdrawn, &ready.gone, untold, place);
         self.told = told_after(self.told, self.withdrawn.len(), &ask);
-        self.added += opened;
+        self.added += ready.opened;
         self.units += units_of(&ask);
         self.moment = now;
         put_event(&mut self.events, Event { by, moment, ask });
-        Ok(Turn {
-            place,
-            reply,
-            gone: ObjIds::from_vec(gone),
-        })
+        let gone = ObjIds::from_vec(ready.gone);
+        let reply = ready.reply;
+        Ok(Turn { place, reply, gone })
     }
 
     /// The greatest moment of the events, in milliseconds; 0 where there are none.

@@ -1,5 +1,5 @@
 use Rattle.std.proofs.Common.{◌≡◌, ◌∷◌, ◌++◌, [], List, ℕ, length, refl, ap, sym, subst, ◌∙◌, rules, arith, max, Err, Result, None, Some}
-use Rattle.std.specs.Prelude.{vec_len, drop, ◌+◌, map}
+use Rattle.std.specs.Prelude.{vec_len, vec_capacity, drop, ◌+◌, ◌≤◌, map}
 use Rattle.history.specs.declared.asks.Event.{Event}
 use Rattle.history.specs.declared.replies.Refused.{Refused}
 use Rattle.history.specs.declared.replies.Turn.{Turn}
@@ -10,9 +10,10 @@ use Rattle.export_table.specs.Table.{ExportTable}
 use Rattle.dgc_server.proofs.Told.{error-is}
 use Rattle.dgc_server.specs.Stands.{ForEachLogBy}
 use Rattle.history.specs.declared.places.Withdrawal.{Withdrawal}
-use Rattle.space.specs.Acts.{event_of, acted, acted_runs, returned_by, withdrawal_at, told_after, await_refusal, lease_refusal, Agrees}
+use Rattle.space.specs.Acts.{event_of, acted, acted_runs, reply_at, returned_by, withdrawal_at, told_after, await_refusal, lease_refusal, Agrees}
 use Rattle.space.specs.Built.{SpaceHistory}
-use Rattle.space.proofs.TurnLaws.{none-else, room-step, await-step, told-step, turn-keeps, turn-step, step-viewed}
+use Rattle.space.proofs.TurnLaws.{is-effective, none-else, room-step, await-step, memory-step, told-step, turn-keeps, turn-step, step-viewed}
+use Rattle.space.proofs.AheadLaws.{room-grown, room-turned, few-calls}
 use Rattle.space.proofs.EndLaws.{has-acted, has-withdrawn, goes-after, goes-few}
 use Rattle.space.proofs.AskLaws.{keeps-roomy, asked, room-as, few-run, abandon-counted, finish-counted, finish-few, room-units, returned-few, acted-few}
 use Rattle.space.proofs.turns.Space.turn.Goals as goal
@@ -26,76 +27,132 @@ returns-in-Some-clause-step c =
     (room-step c.self.inside.config c.self.inside.events.items (event_of c.args.by c.args.moment c.args.ask) c.self.inside.leases c.self.inside.exports c.self.inside.runs.items c.self.inside.withdrawn.items
     c.self.inside.told c.self.inside.added c.self.inside.units c.self.inside.moment c.is_effective-effective.result c.in-Some.refused
     (asked c.self.inside.config c.self.inside.events.items (event_of c.args.by c.args.moment c.args.ask) c.self.inside.leases c.self.inside.exports c.self.inside.exports c.self.inside.runs.items c.deref.result.now c.self.inside.withdrawn.items
-    c.self.inside.told c.self.inside.added c.self.inside.units c.self.inside.moment c.is_effective-effective.result c.self.invariant c.requires.built c.is_effective-effective.ensures c.deref.ensures.value refl)
+    c.self.inside.told c.self.inside.added c.self.inside.units c.self.inside.moment c.is_effective-effective.result c.self.invariant.0 c.requires.built c.is_effective-effective.ensures c.deref.ensures.value refl)
     (room-as c.self.inside.units c.len-running.result c.count-exported.result c.is_effective-effective.result c.args.ask c.self.inside.runs.items c.self.inside.exports c.self.inside.exports c.room_refusal.result (Some c.in-Some.refused)
     c.room_refusal.ensures running c.count-exported.ensures.value refl c.in-Some.is)))
 
 pub invariant_of-self : goal.invariant_of-self
-invariant_of-self c =
-    keeps-roomy c.self.inside.config c.self.inside.events.items c.make_room.new.events.items c.self.inside.leases c.self.inside.leases c.self.inside.exports c.make_room.new.exports c.self.inside.runs.items c.make_room.new.runs.items
-    c.self.inside.withdrawn.items c.make_room.new.withdrawn.items c.self.inside.told c.self.inside.added c.self.inside.units c.self.inside.moment
-    c.self.invariant c.make_room.ensures.exports c.make_room.ensures.events refl c.make_room.ensures.runs c.make_room.ensures.withdrawn
+invariant_of-self c = (
+  keeps-roomy c.self.inside.config c.self.inside.events.items c.room_for_event.new.events.items c.self.inside.leases c.self.inside.leases c.self.inside.exports c.self.inside.exports c.self.inside.runs.items c.room_for_event.new.runs.items
+      c.self.inside.withdrawn.items c.self.inside.withdrawn.items c.self.inside.told c.self.inside.added c.self.inside.units c.self.inside.moment
+      c.self.invariant.0 refl c.room_for_event.ensures.events refl c.room_for_event.ensures.runs refl,
+  room-grown c.self.inside.events.items c.room_for_event.new.events.items c.self.inside.runs.items c.room_for_event.new.runs.items c.self.inside.withdrawn.items c.self.inside.withdrawn.items c.self.inside.exports c.self.inside.exports
+      c.self.inside.scratch.items c.self.inside.scratch.items (vec_capacity c.self.inside.events) (vec_capacity c.self.inside.withdrawn) (vec_capacity c.self.inside.scratch)
+      (vec_capacity c.room_for_event.new.events) (vec_capacity c.self.inside.withdrawn) (vec_capacity c.self.inside.scratch)
+      c.self.invariant.1 c.room_for_event.ensures.events c.room_for_event.ensures.runs refl refl refl
+      c.room_for_event.ensures.grow (omega arith) (omega arith),
+)
+
+pub invariant_of-self-in_err-room_for_gone : goal.invariant_of-self-in_err-room_for_gone
+invariant_of-self-in_err-room_for_gone c = (
+  keeps-roomy c.self.inside.config c.self.inside.events.items c.room_for_event.new.events.items c.self.inside.leases c.self.inside.leases c.self.inside.exports c.self.inside.exports c.self.inside.runs.items c.room_for_event.new.runs.items
+      c.self.inside.withdrawn.items c.room_for_gone.new.withdrawn.items c.self.inside.told c.self.inside.added c.self.inside.units c.self.inside.moment
+      c.self.invariant.0 refl c.room_for_event.ensures.events refl c.room_for_event.ensures.runs c.room_for_gone.ensures.withdrawn,
+  room-grown c.self.inside.events.items c.room_for_event.new.events.items c.self.inside.runs.items c.room_for_event.new.runs.items c.self.inside.withdrawn.items c.room_for_gone.new.withdrawn.items c.self.inside.exports c.self.inside.exports
+      c.self.inside.scratch.items c.room_for_gone.new.scratch.items (vec_capacity c.self.inside.events) (vec_capacity c.self.inside.withdrawn) (vec_capacity c.self.inside.scratch)
+      (vec_capacity c.room_for_event.new.events) (vec_capacity c.room_for_gone.new.withdrawn) (vec_capacity c.room_for_gone.new.scratch)
+      c.self.invariant.1 c.room_for_event.ensures.events c.room_for_event.ensures.runs c.room_for_gone.ensures.withdrawn refl c.room_for_gone.ensures.scratch
+      c.room_for_event.ensures.grow c.room_for_gone.ensures.withdrawn_grow c.room_for_gone.ensures.scratch_grow,
+)
+
+pub invariant_of-self-in_err-room_in_table : goal.invariant_of-self-in_err-room_in_table
+invariant_of-self-in_err-room_in_table c = (
+  keeps-roomy c.self.inside.config c.self.inside.events.items c.room_for_event.new.events.items c.self.inside.leases c.self.inside.leases c.self.inside.exports c.room_in_table.new.exports c.self.inside.runs.items c.room_for_event.new.runs.items
+      c.self.inside.withdrawn.items c.room_for_gone.new.withdrawn.items c.self.inside.told c.self.inside.added c.self.inside.units c.self.inside.moment
+      c.self.invariant.0 c.room_in_table.ensures.rest c.room_for_event.ensures.events refl c.room_for_event.ensures.runs c.room_for_gone.ensures.withdrawn,
+  room-grown c.self.inside.events.items c.room_for_event.new.events.items c.self.inside.runs.items c.room_for_event.new.runs.items c.self.inside.withdrawn.items c.room_for_gone.new.withdrawn.items c.self.inside.exports c.room_in_table.new.exports
+      c.self.inside.scratch.items c.room_for_gone.new.scratch.items (vec_capacity c.self.inside.events) (vec_capacity c.self.inside.withdrawn) (vec_capacity c.self.inside.scratch)
+      (vec_capacity c.room_for_event.new.events) (vec_capacity c.room_for_gone.new.withdrawn) (vec_capacity c.room_for_gone.new.scratch)
+      c.self.invariant.1 c.room_for_event.ensures.events c.room_for_event.ensures.runs c.room_for_gone.ensures.withdrawn c.room_in_table.ensures.rest c.room_for_gone.ensures.scratch
+      c.room_for_event.ensures.grow c.room_for_gone.ensures.withdrawn_grow c.room_for_gone.ensures.scratch_grow,
+)
+
+pub returns-in_err-room_for_event-clause-step : goal.returns-in_err-room_for_event-clause-step
+returns-in_err-room_for_event-clause-step c =
+    let P : Result Turn Refused → Type 0 = λ r. Step c.args.self.now.configuration c.args.self.now.events (event_of c.args.by c.args.moment c.args.ask) r c.room_for_event.new.events.items in
+    subst P (sym (error-is c.from_residual-in_err-room_for_event.result c.in_err-room_for_event.field-0.0 c.from_residual-in_err-room_for_event.ensures.1))
+    (memory-step c.args.self.now.configuration c.args.self.now.events c.room_for_event.new.events.items (event_of c.args.by c.args.moment c.args.ask) c.in_err-room_for_event.field-0.0 (c.in_err-room_for_event.ensures {u = tt}).refusal
+    (c.room_for_event.ensures.events ∙ ap (λ (h : SpaceHistory). h.events) c.self.view_is))
+
+pub returns-in_err-room_for_gone-clause-step : goal.returns-in_err-room_for_gone-clause-step
+returns-in_err-room_for_gone-clause-step c =
+    let P : Result Turn Refused → Type 0 = λ r. Step c.args.self.now.configuration c.args.self.now.events (event_of c.args.by c.args.moment c.args.ask) r c.room_for_event.new.events.items in
+    subst P (sym (error-is c.from_residual-in_err-room_for_gone.result c.in_err-room_for_gone.field-0.0 c.from_residual-in_err-room_for_gone.ensures.1))
+    (memory-step c.args.self.now.configuration c.args.self.now.events c.room_for_event.new.events.items (event_of c.args.by c.args.moment c.args.ask) c.in_err-room_for_gone.field-0.0 (c.in_err-room_for_gone.ensures {u = tt}).refusal
+    (c.room_for_event.ensures.events ∙ ap (λ (h : SpaceHistory). h.events) c.self.view_is))
+
+pub returns-in_err-room_in_table-clause-step : goal.returns-in_err-room_in_table-clause-step
+returns-in_err-room_in_table-clause-step c =
+    let P : Result Turn Refused → Type 0 = λ r. Step c.args.self.now.configuration c.args.self.now.events (event_of c.args.by c.args.moment c.args.ask) r c.room_for_event.new.events.items in
+    subst P (sym (error-is c.from_residual-in_err-room_in_table.result c.in_err-room_in_table.field-0.0 c.from_residual-in_err-room_in_table.ensures.1))
+    (memory-step c.args.self.now.configuration c.args.self.now.events c.room_for_event.new.events.items (event_of c.args.by c.args.moment c.args.ask) c.in_err-room_in_table.field-0.0 (c.in_err-room_in_table.ensures {u = tt}).refusal
+    (c.room_for_event.ensures.events ∙ ap (λ (h : SpaceHistory). h.events) c.self.view_is))
 
 pub invariant_of-self-in_err-tell : goal.invariant_of-self-in_err-tell
-invariant_of-self-in_err-tell c =
-    keeps-roomy c.self.inside.config c.self.inside.events.items c.make_room.new.events.items c.self.inside.leases c.tell.new.leases c.self.inside.exports c.make_room.new.exports c.self.inside.runs.items c.make_room.new.runs.items
-    c.self.inside.withdrawn.items c.make_room.new.withdrawn.items c.self.inside.told c.self.inside.added c.self.inside.units c.self.inside.moment
-    c.self.invariant c.make_room.ensures.exports c.make_room.ensures.events (c.in_err-tell.ensures {u = tt}).err c.make_room.ensures.runs c.make_room.ensures.withdrawn
+invariant_of-self-in_err-tell c = (
+  keeps-roomy c.self.inside.config c.self.inside.events.items c.room_for_event.new.events.items c.self.inside.leases c.tell.new.leases c.self.inside.exports c.room_in_table.new.exports c.self.inside.runs.items c.room_for_event.new.runs.items
+      c.self.inside.withdrawn.items c.room_for_gone.new.withdrawn.items c.self.inside.told c.self.inside.added c.self.inside.units c.self.inside.moment
+      c.self.invariant.0 c.room_in_table.ensures.rest c.room_for_event.ensures.events (c.in_err-tell.ensures {u = tt}).err c.room_for_event.ensures.runs c.room_for_gone.ensures.withdrawn,
+  room-grown c.self.inside.events.items c.room_for_event.new.events.items c.self.inside.runs.items c.room_for_event.new.runs.items c.self.inside.withdrawn.items c.room_for_gone.new.withdrawn.items c.self.inside.exports c.room_in_table.new.exports
+      c.self.inside.scratch.items c.room_for_gone.new.scratch.items (vec_capacity c.self.inside.events) (vec_capacity c.self.inside.withdrawn) (vec_capacity c.self.inside.scratch)
+      (vec_capacity c.room_for_event.new.events) (vec_capacity c.room_for_gone.new.withdrawn) (vec_capacity c.room_for_gone.new.scratch)
+      c.self.invariant.1 c.room_for_event.ensures.events c.room_for_event.ensures.runs c.room_for_gone.ensures.withdrawn c.room_in_table.ensures.rest c.room_for_gone.ensures.scratch
+      c.room_for_event.ensures.grow c.room_for_gone.ensures.withdrawn_grow c.room_for_gone.ensures.scratch_grow,
+)
 
 pub returns-in_err-tell-clause-step : goal.returns-in_err-tell-clause-step
 returns-in_err-tell-clause-step c =
     let running : c.len-running.result ≡ length c.self.inside.runs.items = search rules in
     let time : c.max-now.result ≡ max c.args.moment c.self.inside.moment = search rules in
-    let P : Result Turn Refused → Type 0 = λ r. Step c.args.self.now.configuration c.args.self.now.events (event_of c.args.by c.args.moment c.args.ask) r c.make_room.new.events.items in
+    let P : Result Turn Refused → Type 0 = λ r. Step c.args.self.now.configuration c.args.self.now.events (event_of c.args.by c.args.moment c.args.ask) r c.room_for_event.new.events.items in
     let Q : List Event → Type 0 = λ es. Step c.self.inside.config c.self.inside.events.items (event_of c.args.by c.args.moment c.args.ask) (Err c.in_err-tell.field-0.0) es in
-    let N : ℕ → Type 0 = λ n. ForEachLogBy n c.self.inside.leases (λ lease calls. Agrees {T = Unit {0}} (lease_refusal lease n calls (call_with (is_exported c.make_room.new.exports.rows) n c.args.ask)) (Err c.in_err-tell.field-0.0)) in
+    let N : ℕ → Type 0 = λ n. ForEachLogBy n c.self.inside.leases (λ lease calls. Agrees {T = Unit {0}} (lease_refusal lease n calls (call_with (is_exported c.room_in_table.new.exports.rows) n c.args.ask)) (Err c.in_err-tell.field-0.0)) in
     subst P (sym (error-is c.from_residual-in_err-tell.result c.in_err-tell.field-0.0 c.from_residual-in_err-tell.ensures.1))
-    (step-viewed c.self.inside.config c.self.inside.events.items c.make_room.new.events.items (event_of c.args.by c.args.moment c.args.ask) (Err c.in_err-tell.field-0.0) c.args.self.now c.self.view_is
-    (subst Q (sym c.make_room.ensures.events)
-    (told-step c.self.inside.config c.self.inside.events.items (event_of c.args.by c.args.moment c.args.ask) c.self.inside.leases c.make_room.new.exports c.self.inside.runs.items c.self.inside.withdrawn.items
+    (step-viewed c.self.inside.config c.self.inside.events.items c.room_for_event.new.events.items (event_of c.args.by c.args.moment c.args.ask) (Err c.in_err-tell.field-0.0) c.args.self.now c.self.view_is
+    (subst Q (sym c.room_for_event.ensures.events)
+    (told-step c.self.inside.config c.self.inside.events.items (event_of c.args.by c.args.moment c.args.ask) c.self.inside.leases c.room_in_table.new.exports c.self.inside.runs.items c.self.inside.withdrawn.items
     c.self.inside.told c.self.inside.added c.self.inside.units c.self.inside.moment c.is_effective-effective.result c.in_err-tell.field-0.0
-    (asked c.self.inside.config c.self.inside.events.items (event_of c.args.by c.args.moment c.args.ask) c.self.inside.leases c.self.inside.exports c.make_room.new.exports c.self.inside.runs.items c.deref.result.now c.self.inside.withdrawn.items
-    c.self.inside.told c.self.inside.added c.self.inside.units c.self.inside.moment c.is_effective-effective.result c.self.invariant c.requires.built c.is_effective-effective.ensures c.deref.ensures.value c.make_room.ensures.exports)
-    (room-as c.self.inside.units c.len-running.result c.count-exported.result c.is_effective-effective.result c.args.ask c.self.inside.runs.items c.self.inside.exports c.make_room.new.exports c.room_refusal.result None
-    c.room_refusal.ensures running c.count-exported.ensures.value c.make_room.ensures.exports (none-else c.room_refusal.result c.in_default.not-Some))
-    (ap (λ n. await_refusal n c.make_room.new.exports.rows c.make_room.new.exports.waits c.is_effective-effective.result c.args.ask) (sym time) ∙ ap (λ (t : ExportTable). await_refusal c.max-now.result t.rows t.waits c.is_effective-effective.result c.args.ask) c.make_room.ensures.exports ∙ c.in_ok-references.ensures.refusal)
+    (asked c.self.inside.config c.self.inside.events.items (event_of c.args.by c.args.moment c.args.ask) c.self.inside.leases c.self.inside.exports c.room_in_table.new.exports c.self.inside.runs.items c.deref.result.now c.self.inside.withdrawn.items
+    c.self.inside.told c.self.inside.added c.self.inside.units c.self.inside.moment c.is_effective-effective.result c.self.invariant.0 c.requires.built c.is_effective-effective.ensures c.deref.ensures.value c.room_in_table.ensures.rest)
+    (room-as c.self.inside.units c.len-running.result c.count-exported.result c.is_effective-effective.result c.args.ask c.self.inside.runs.items c.self.inside.exports c.room_in_table.new.exports c.room_refusal.result None
+    c.room_refusal.ensures running c.count-exported.ensures.value c.room_in_table.ensures.rest (none-else c.room_refusal.result c.in_default.not-Some))
+    (ap (λ n. await_refusal n c.room_in_table.new.exports.rows c.room_in_table.new.exports.waits c.is_effective-effective.result c.args.ask) (sym time) ∙ ap (λ (t : ExportTable). await_refusal c.max-now.result t.rows t.waits c.is_effective-effective.result c.args.ask) c.room_in_table.ensures.rest ∙ c.in_ok-ready.ensures.refusal)
     (subst N time (c.in_err-tell.ensures {u = tt}).refusal))))
 
 pub act-requires-clause-few : goal.act-requires-clause-few
 act-requires-clause-few c o =
-    few-run c.self.inside.config c.self.inside.events.items c.self.inside.leases c.make_room.new.exports c.self.inside.runs.items c.self.inside.withdrawn.items c.self.inside.told c.self.inside.added c.self.inside.units c.self.inside.moment
-    (keeps-roomy c.self.inside.config c.self.inside.events.items c.self.inside.events.items c.self.inside.leases c.self.inside.leases c.self.inside.exports c.make_room.new.exports c.self.inside.runs.items c.self.inside.runs.items
-    c.self.inside.withdrawn.items c.self.inside.withdrawn.items c.self.inside.told c.self.inside.added c.self.inside.units c.self.inside.moment c.self.invariant c.make_room.ensures.exports refl refl refl refl) o
+    few-run c.self.inside.config c.self.inside.events.items c.self.inside.leases c.room_in_table.new.exports c.self.inside.runs.items c.self.inside.withdrawn.items c.self.inside.told c.self.inside.added c.self.inside.units c.self.inside.moment
+    (keeps-roomy c.self.inside.config c.self.inside.events.items c.self.inside.events.items c.self.inside.leases c.self.inside.leases c.self.inside.exports c.room_in_table.new.exports c.self.inside.runs.items c.self.inside.runs.items
+    c.self.inside.withdrawn.items c.self.inside.withdrawn.items c.self.inside.told c.self.inside.added c.self.inside.units c.self.inside.moment c.self.invariant.0 c.room_in_table.ensures.rest refl refl refl refl) o
 
 pub act-requires-clause-runs : goal.act-requires-clause-runs
 act-requires-clause-runs c o t s =
-    abandon-counted c.self.inside.config c.self.inside.events.items (event_of c.args.by c.args.moment c.args.ask) c.self.inside.leases c.make_room.new.exports c.self.inside.runs.items c.self.inside.withdrawn.items
+    abandon-counted c.self.inside.config c.self.inside.events.items (event_of c.args.by c.args.moment c.args.ask) c.self.inside.leases c.room_in_table.new.exports c.self.inside.runs.items c.self.inside.withdrawn.items
     c.self.inside.told c.self.inside.added c.self.inside.units c.self.inside.moment c.is_effective-effective.result
-    (asked c.self.inside.config c.self.inside.events.items (event_of c.args.by c.args.moment c.args.ask) c.self.inside.leases c.self.inside.exports c.make_room.new.exports c.self.inside.runs.items c.deref.result.now c.self.inside.withdrawn.items
-    c.self.inside.told c.self.inside.added c.self.inside.units c.self.inside.moment c.is_effective-effective.result c.self.invariant c.requires.built c.is_effective-effective.ensures c.deref.ensures.value c.make_room.ensures.exports)
+    (asked c.self.inside.config c.self.inside.events.items (event_of c.args.by c.args.moment c.args.ask) c.self.inside.leases c.self.inside.exports c.room_in_table.new.exports c.self.inside.runs.items c.deref.result.now c.self.inside.withdrawn.items
+    c.self.inside.told c.self.inside.added c.self.inside.units c.self.inside.moment c.is_effective-effective.result c.self.invariant.0 c.requires.built c.is_effective-effective.ensures c.deref.ensures.value c.room_in_table.ensures.rest)
     o t s
 
 pub withdraw-requires : goal.withdraw-requires
 withdraw-requires c =
-    let few = acted-few c.is_effective-effective.result c.max-now.result c.args.ask c.make_room.new.exports c.act.new.exports c.requires.built c.act.ensures in
-    let same = ap (λ (t : ExportTable). length t.rows) c.make_room.ensures.exports in
-    let count = c.count-exported.ensures.value in let opened = c.opens-opened.ensures.value in
-    let room = c.in-Ok.ensures.room in
-    omega (arith, few, same, count, opened, room)
+    let few = acted-few c.is_effective-effective.result c.max-now.result c.args.ask c.room_in_table.new.exports c.act.new.exports c.requires.built c.act.ensures in
+    let same = ap (λ (t : ExportTable). length t.rows) c.room_in_table.ensures.rest in
+    let objects = c.in_ok-ready.ensures.objects in let room = c.in_ok-ready.ensures.room in
+    omega (arith, few, same, objects, room)
 
 pub note_withdrawn-requires-clause-within : goal.note_withdrawn-requires-clause-within
 note_withdrawn-requires-clause-within c =
     let running : c.len-running.result ≡ length c.self.inside.runs.items = search rules in
     let time : c.max-now.result ≡ max c.args.moment c.self.inside.moment = search rules in
-    let untold : c.len-untold.result ≡ length c.in-Ok.gone.items = search rules in
-    let after = goes-after c.self.inside.config c.self.inside.events.items (event_of c.args.by c.args.moment c.args.ask) c.self.inside.leases c.tell.new.leases c.withdraw.new.leases c.make_room.new.exports (acted c.is_effective-effective.result c.max-now.result c.args.ask c.make_room.new.exports) c.withdraw.new.self
-    c.self.inside.runs.items c.self.inside.withdrawn.items c.self.inside.told c.self.inside.added c.self.inside.units c.self.inside.moment c.max-now.result c.is_effective-effective.result c.in-Ok.gone.items c.withdraw.new.gone.items
-    (has-acted c.self.inside.config c.self.inside.events.items (event_of c.args.by c.args.moment c.args.ask) c.self.inside.leases c.tell.new.leases c.self.inside.exports c.make_room.new.exports c.self.inside.runs.items c.deref.result.now c.self.inside.withdrawn.items
+    let untold : c.len-untold.result ≡ length c.in_ok-ready.ready.gone.items = search rules in
+    let after = goes-after c.self.inside.config c.self.inside.events.items (event_of c.args.by c.args.moment c.args.ask) c.self.inside.leases c.tell.new.leases c.withdraw.new.leases c.room_in_table.new.exports (acted c.is_effective-effective.result c.max-now.result c.args.ask c.room_in_table.new.exports) c.withdraw.new.self
+    c.self.inside.runs.items c.self.inside.withdrawn.items c.self.inside.told c.self.inside.added c.self.inside.units c.self.inside.moment c.max-now.result c.is_effective-effective.result c.in_ok-ready.ready.gone.items c.withdraw.new.gone.items
+    (has-acted c.self.inside.config c.self.inside.events.items (event_of c.args.by c.args.moment c.args.ask) c.self.inside.leases c.tell.new.leases c.self.inside.exports c.room_in_table.new.exports c.self.inside.runs.items c.deref.result.now c.self.inside.withdrawn.items
     c.self.inside.told c.self.inside.added c.self.inside.units c.self.inside.moment c.max-now.result c.len-running.result c.count-exported.result c.is_effective-effective.result c.room_refusal.result
-    c.self.invariant c.requires.built c.requires.moment c.is_effective-effective.ensures c.deref.ensures.value c.make_room.ensures.exports c.room_refusal.ensures running c.count-exported.ensures.value (none-else c.room_refusal.result c.in_default.not-Some) time
-    (ap (λ (t : ExportTable). await_refusal c.max-now.result t.rows t.waits c.is_effective-effective.result c.args.ask) c.make_room.ensures.exports ∙ c.in_ok-references.ensures.refusal)
+    c.self.invariant.0 c.requires.built c.requires.moment c.is_effective-effective.ensures c.deref.ensures.value c.room_in_table.ensures.rest c.room_refusal.ensures running c.count-exported.ensures.value (none-else c.room_refusal.result c.in_default.not-Some) time
+    (ap (λ (t : ExportTable). await_refusal c.max-now.result t.rows t.waits c.is_effective-effective.result c.args.ask) c.room_in_table.ensures.rest ∙ c.in_ok-ready.ensures.refusal)
     (c.in_ok-tell.ensures {u = tt}).refusal (c.in_ok-tell.ensures {u = tt}).ok)
-    time (has-withdrawn c.tell.new.leases c.withdraw.new.leases (acted c.is_effective-effective.result c.max-now.result c.args.ask c.make_room.new.exports) c.act.new.exports c.withdraw.new.self c.max-now.result c.in-Ok.gone.items c.withdraw.new.gone.items
+    time (has-withdrawn c.tell.new.leases c.withdraw.new.leases (acted c.is_effective-effective.result c.max-now.result c.args.ask c.room_in_table.new.exports) c.act.new.exports c.withdraw.new.self c.max-now.result c.in_ok-ready.ready.gone.items c.withdraw.new.gone.items
     c.act.ensures c.withdraw.ensures.kept c.withdraw.ensures.gone c.withdraw.ensures.dropped) in
     let seen = ap length c.deref-4.ensures.value in
     omega (arith, untold, after, seen)
@@ -104,123 +161,142 @@ pub note_withdrawn-requires-clause-room : goal.note_withdrawn-requires-clause-ro
 note_withdrawn-requires-clause-room c =
     let running : c.len-running.result ≡ length c.self.inside.runs.items = search rules in
     let time : c.max-now.result ≡ max c.args.moment c.self.inside.moment = search rules in
-    let untold : c.len-untold.result ≡ length c.in-Ok.gone.items = search rules in
-    let few = goes-few c.self.inside.config c.self.inside.events.items (event_of c.args.by c.args.moment c.args.ask) c.self.inside.leases c.tell.new.leases c.withdraw.new.leases c.make_room.new.exports (acted c.is_effective-effective.result c.max-now.result c.args.ask c.make_room.new.exports) c.withdraw.new.self
-    c.self.inside.runs.items c.self.inside.withdrawn.items c.self.inside.told c.self.inside.added c.self.inside.units c.self.inside.moment c.max-now.result c.is_effective-effective.result c.in-Ok.gone.items c.withdraw.new.gone.items
-    (has-acted c.self.inside.config c.self.inside.events.items (event_of c.args.by c.args.moment c.args.ask) c.self.inside.leases c.tell.new.leases c.self.inside.exports c.make_room.new.exports c.self.inside.runs.items c.deref.result.now c.self.inside.withdrawn.items
+    let untold : c.len-untold.result ≡ length c.in_ok-ready.ready.gone.items = search rules in
+    let few = goes-few c.self.inside.config c.self.inside.events.items (event_of c.args.by c.args.moment c.args.ask) c.self.inside.leases c.tell.new.leases c.withdraw.new.leases c.room_in_table.new.exports (acted c.is_effective-effective.result c.max-now.result c.args.ask c.room_in_table.new.exports) c.withdraw.new.self
+    c.self.inside.runs.items c.self.inside.withdrawn.items c.self.inside.told c.self.inside.added c.self.inside.units c.self.inside.moment c.max-now.result c.is_effective-effective.result c.in_ok-ready.ready.gone.items c.withdraw.new.gone.items
+    (has-acted c.self.inside.config c.self.inside.events.items (event_of c.args.by c.args.moment c.args.ask) c.self.inside.leases c.tell.new.leases c.self.inside.exports c.room_in_table.new.exports c.self.inside.runs.items c.deref.result.now c.self.inside.withdrawn.items
     c.self.inside.told c.self.inside.added c.self.inside.units c.self.inside.moment c.max-now.result c.len-running.result c.count-exported.result c.is_effective-effective.result c.room_refusal.result
-    c.self.invariant c.requires.built c.requires.moment c.is_effective-effective.ensures c.deref.ensures.value c.make_room.ensures.exports c.room_refusal.ensures running c.count-exported.ensures.value (none-else c.room_refusal.result c.in_default.not-Some) time
-    (ap (λ (t : ExportTable). await_refusal c.max-now.result t.rows t.waits c.is_effective-effective.result c.args.ask) c.make_room.ensures.exports ∙ c.in_ok-references.ensures.refusal)
+    c.self.invariant.0 c.requires.built c.requires.moment c.is_effective-effective.ensures c.deref.ensures.value c.room_in_table.ensures.rest c.room_refusal.ensures running c.count-exported.ensures.value (none-else c.room_refusal.result c.in_default.not-Some) time
+    (ap (λ (t : ExportTable). await_refusal c.max-now.result t.rows t.waits c.is_effective-effective.result c.args.ask) c.room_in_table.ensures.rest ∙ c.in_ok-ready.ensures.refusal)
     (c.in_ok-tell.ensures {u = tt}).refusal (c.in_ok-tell.ensures {u = tt}).ok)
-    time (has-withdrawn c.tell.new.leases c.withdraw.new.leases (acted c.is_effective-effective.result c.max-now.result c.args.ask c.make_room.new.exports) c.act.new.exports c.withdraw.new.self c.max-now.result c.in-Ok.gone.items c.withdraw.new.gone.items
+    time (has-withdrawn c.tell.new.leases c.withdraw.new.leases (acted c.is_effective-effective.result c.max-now.result c.args.ask c.room_in_table.new.exports) c.act.new.exports c.withdraw.new.self c.max-now.result c.in_ok-ready.ready.gone.items c.withdraw.new.gone.items
     c.act.ensures c.withdraw.ensures.kept c.withdraw.ensures.gone c.withdraw.ensures.dropped) in
     let same = ap (λ (t : ExportTable). length t.rows) c.act.ensures in
-    let rows = acted-few c.is_effective-effective.result c.max-now.result c.args.ask c.make_room.new.exports c.act.new.exports c.requires.built c.act.ensures in
-    let before = ap (λ (t : ExportTable). length t.rows) c.make_room.ensures.exports in
+    let rows = acted-few c.is_effective-effective.result c.max-now.result c.args.ask c.room_in_table.new.exports c.act.new.exports c.requires.built c.act.ensures in
+    let before = ap (λ (t : ExportTable). length t.rows) c.room_in_table.ensures.rest in
     let seen = ap (λ l. length (drop c.len-untold.result l)) c.deref-4.ensures.value in
     let at = ap (λ n. length (drop n c.withdraw.new.gone.items)) untold in
-    let count = c.count-exported.ensures.value in
-    let room = (c.in-Ok-make_room.ensures).withdrawals in
-    let opened = c.opens-opened.ensures.value in
-    omega (arith, few, same, rows, before, seen, at, count, opened, room)
+    let objects = c.in_ok-ready.ensures.objects in
+    let room = (c.in_ok-room_for_gone.ensures {u = tt}).withdrawals in
+    omega (arith, few, same, rows, before, seen, at, objects, room)
 
 pub invariant_of-self-2 : goal.invariant_of-self-2
 invariant_of-self-2 c =
     let running : c.len-running.result ≡ length c.self.inside.runs.items = search rules in
     let time : c.max-now.result ≡ max c.args.moment c.self.inside.moment = search rules in
-    let untold : c.len-untold.result ≡ length c.in-Ok.gone.items = search rules in
-    let place : c.len-place.result ≡ length c.make_room.new.events.items = search rules in
-    let all : c.len.result ≡ length c.note_withdrawn.new.withdrawn.items = search rules in
+    let untold : c.len-untold.result ≡ length c.in_ok-ready.ready.gone.items = search rules in
+    let place : c.len-place.result ≡ length c.room_for_event.new.events.items = search rules in
+    let all : c.len-2.result ≡ length c.note_withdrawn.new.withdrawn.items = search rules in
     let seen : c.deref-4.result.now ≡ c.withdraw.new.gone.items = c.deref-4.ensures.value in
-    turn-keeps c.self.inside.config c.self.inside.events.items (event_of c.args.by c.args.moment c.args.ask) c.self.inside.leases c.tell.new.leases c.withdraw.new.leases c.make_room.new.exports (acted c.is_effective-effective.result c.max-now.result c.args.ask c.make_room.new.exports) c.withdraw.new.self
-    c.self.inside.runs.items c.self.inside.withdrawn.items c.self.inside.told c.self.inside.added c.self.inside.units c.self.inside.moment c.max-now.result c.is_effective-effective.result c.in-Ok.gone.items c.withdraw.new.gone.items
-    (has-acted c.self.inside.config c.self.inside.events.items (event_of c.args.by c.args.moment c.args.ask) c.self.inside.leases c.tell.new.leases c.self.inside.exports c.make_room.new.exports c.self.inside.runs.items c.deref.result.now c.self.inside.withdrawn.items
+    let ended : c.put_event.new.events.items ≡ c.self.inside.events.items ++ (event_of c.args.by c.args.moment c.args.ask) ∷ [] = c.put_event.ensures.items ∙ ap (λ l. l ++ (event_of c.args.by c.args.moment c.args.ask) ∷ []) c.room_for_event.ensures.events in
+    let acts = has-acted c.self.inside.config c.self.inside.events.items (event_of c.args.by c.args.moment c.args.ask) c.self.inside.leases c.tell.new.leases c.self.inside.exports c.room_in_table.new.exports c.self.inside.runs.items c.deref.result.now c.self.inside.withdrawn.items
     c.self.inside.told c.self.inside.added c.self.inside.units c.self.inside.moment c.max-now.result c.len-running.result c.count-exported.result c.is_effective-effective.result c.room_refusal.result
-    c.self.invariant c.requires.built c.requires.moment c.is_effective-effective.ensures c.deref.ensures.value c.make_room.ensures.exports c.room_refusal.ensures running c.count-exported.ensures.value (none-else c.room_refusal.result c.in_default.not-Some) time
-    (ap (λ (t : ExportTable). await_refusal c.max-now.result t.rows t.waits c.is_effective-effective.result c.args.ask) c.make_room.ensures.exports ∙ c.in_ok-references.ensures.refusal)
-    (c.in_ok-tell.ensures {u = tt}).refusal (c.in_ok-tell.ensures {u = tt}).ok)
-    time (has-withdrawn c.tell.new.leases c.withdraw.new.leases (acted c.is_effective-effective.result c.max-now.result c.args.ask c.make_room.new.exports) c.act.new.exports c.withdraw.new.self c.max-now.result c.in-Ok.gone.items c.withdraw.new.gone.items
+    c.self.invariant.0 c.requires.built c.requires.moment c.is_effective-effective.ensures c.deref.ensures.value c.room_in_table.ensures.rest c.room_refusal.ensures running c.count-exported.ensures.value (none-else c.room_refusal.result c.in_default.not-Some) time
+    (ap (λ (t : ExportTable). await_refusal c.max-now.result t.rows t.waits c.is_effective-effective.result c.args.ask) c.room_in_table.ensures.rest ∙ c.in_ok-ready.ensures.refusal)
+    (c.in_ok-tell.ensures {u = tt}).refusal (c.in_ok-tell.ensures {u = tt}).ok in
+    let kept = turn-keeps c.self.inside.config c.self.inside.events.items (event_of c.args.by c.args.moment c.args.ask) c.self.inside.leases c.tell.new.leases c.withdraw.new.leases c.room_in_table.new.exports (acted c.is_effective-effective.result c.max-now.result c.args.ask c.room_in_table.new.exports) c.withdraw.new.self
+    c.self.inside.runs.items c.self.inside.withdrawn.items c.self.inside.told c.self.inside.added c.self.inside.units c.self.inside.moment c.max-now.result c.is_effective-effective.result c.in_ok-ready.ready.gone.items c.withdraw.new.gone.items
+    acts
+    time (has-withdrawn c.tell.new.leases c.withdraw.new.leases (acted c.is_effective-effective.result c.max-now.result c.args.ask c.room_in_table.new.exports) c.act.new.exports c.withdraw.new.self c.max-now.result c.in_ok-ready.ready.gone.items c.withdraw.new.gone.items
     c.act.ensures c.withdraw.ensures.kept c.withdraw.ensures.gone c.withdraw.ensures.dropped)
     c.len-place.result c.told_after-self-inside.result _ _ c.put_event.new.events.items c.act_on_runs.new.runs.items c.note_withdrawn.new.withdrawn.items
-    (place ∙ ap length c.make_room.ensures.events) (c.put_event.ensures ∙ ap (λ l. l ++ (event_of c.args.by c.args.moment c.args.ask) ∷ []) c.make_room.ensures.events)
-    (c.act_on_runs.ensures ∙ ap (acted_runs c.is_effective-effective.result c.args.by c.args.ask) c.make_room.ensures.runs)
-    (c.note_withdrawn.ensures ∙ ap (λ l. l ++ map (withdrawal_at c.len-place.result) (drop c.len-untold.result c.deref-4.result.now)) c.make_room.ensures.withdrawn
+    (place ∙ ap length c.room_for_event.ensures.events) (c.put_event.ensures.items ∙ ap (λ l. l ++ (event_of c.args.by c.args.moment c.args.ask) ∷ []) c.room_for_event.ensures.events)
+    (c.act_on_runs.ensures ∙ ap (acted_runs c.is_effective-effective.result c.args.by c.args.ask) c.room_for_event.ensures.runs)
+    (c.note_withdrawn.ensures.items ∙ ap (λ l. l ++ map (withdrawal_at c.len-place.result) (drop c.len-untold.result c.deref-4.result.now)) c.room_for_gone.ensures.withdrawn
     ∙ ap (λ l. c.self.inside.withdrawn.items ++ map (withdrawal_at c.len-place.result) (drop c.len-untold.result l)) seen
     ∙ ap (λ n. c.self.inside.withdrawn.items ++ map (withdrawal_at c.len-place.result) (drop n c.withdraw.new.gone.items)) untold)
     (c.told_after-self-inside.ensures ∙ ap (λ n. told_after c.self.inside.told n c.args.ask) all)
-    (ap (λ n. c.self.inside.added + n) c.opens-opened.ensures.value) (ap (λ n. c.self.inside.units + n) c.units_of.ensures.value)
+    (ap (λ n. c.self.inside.added + n) c.in_ok-ready.ensures.opened) (ap (λ n. c.self.inside.units + n) c.units_of.ensures.value) in
+    let objects = c.in_ok-ready.ensures.objects in
+    let events_room = (c.in_ok-room_for_event.ensures {u = tt}).event in
+    let withdrawn_room = (c.in_ok-room_for_gone.ensures {u = tt}).withdrawals in let scratch_room = (c.in_ok-room_for_gone.ensures {u = tt}).objects in
+    let events_grow = c.put_event.ensures.capacity in let withdrawn_grow = c.note_withdrawn.ensures.capacity in
+    let events_len : vec_len c.room_for_event.new.events ≡ length c.room_for_event.new.events.items = search rules in
+    let runs_len : vec_len c.room_for_event.new.runs ≡ length c.room_for_event.new.runs.items = search rules in
+    let withdrawn_len : vec_len c.room_for_gone.new.withdrawn ≡ length c.room_for_gone.new.withdrawn.items = search rules in
+    let events_same = ap length c.room_for_event.ensures.events in let runs_same = ap length c.room_for_event.ensures.runs in let withdrawn_same = ap length c.room_for_gone.ensures.withdrawn in (
+      kept,
+      room-turned c.self.inside.config c.self.inside.events.items c.put_event.new.events.items (event_of c.args.by c.args.moment c.args.ask) c.self.inside.leases c.withdraw.new.leases c.self.inside.exports c.withdraw.new.self
+          c.self.inside.runs.items c.act_on_runs.new.runs.items c.self.inside.withdrawn.items c.note_withdrawn.new.withdrawn.items c.self.inside.told c.self.inside.added c.self.inside.units c.self.inside.moment
+          c.told_after-self-inside.result _ _ c.max-now.result c.in_ok-ready.ready.objects c.room_for_gone.new.scratch.items (vec_capacity c.put_event.new.events) (vec_capacity c.note_withdrawn.new.withdrawn) (vec_capacity c.room_for_gone.new.scratch)
+          c.is_effective-effective.result (is-effective c.self.inside.config c.self.inside.events.items (event_of c.args.by c.args.moment c.args.ask) c.self.inside.leases c.room_in_table.new.exports c.self.inside.runs.items c.self.inside.withdrawn.items
+          c.self.inside.told c.self.inside.added c.self.inside.units c.self.inside.moment c.is_effective-effective.result acts.asked)
+          c.self.invariant.0 c.requires.built kept ended (omega (arith, objects)) (omega (arith, events_room, events_grow, events_len, events_same, runs_len, runs_same)) (omega (arith, withdrawn_room, withdrawn_grow, withdrawn_len, withdrawn_same))
+          scratch_room (c.room_for_gone.ensures.scratch ∙ c.self.invariant.1.empty),
+    )
 
 pub returns-clause-step : goal.returns-clause-step
 returns-clause-step c =
     let running : c.len-running.result ≡ length c.self.inside.runs.items = search rules in
     let time : c.max-now.result ≡ max c.args.moment c.self.inside.moment = search rules in
-    let untold : c.len-untold.result ≡ length c.in-Ok.gone.items = search rules in
-    let place : c.len-place.result ≡ length c.make_room.new.events.items = search rules in
+    let untold : c.len-untold.result ≡ length c.in_ok-ready.ready.gone.items = search rules in
+    let place : c.len-place.result ≡ length c.room_for_event.new.events.items = search rules in
     step-viewed c.self.inside.config c.self.inside.events.items c.put_event.new.events.items (event_of c.args.by c.args.moment c.args.ask) _ c.args.self.now c.self.view_is
-    (turn-step c.self.inside.config c.self.inside.events.items (event_of c.args.by c.args.moment c.args.ask) c.self.inside.leases c.tell.new.leases c.withdraw.new.leases c.make_room.new.exports (acted c.is_effective-effective.result c.max-now.result c.args.ask c.make_room.new.exports) c.withdraw.new.self
-    c.self.inside.runs.items c.self.inside.withdrawn.items c.self.inside.told c.self.inside.added c.self.inside.units c.self.inside.moment c.max-now.result c.is_effective-effective.result c.in-Ok.gone.items c.withdraw.new.gone.items
-    (has-acted c.self.inside.config c.self.inside.events.items (event_of c.args.by c.args.moment c.args.ask) c.self.inside.leases c.tell.new.leases c.self.inside.exports c.make_room.new.exports c.self.inside.runs.items c.deref.result.now c.self.inside.withdrawn.items
+    (turn-step c.self.inside.config c.self.inside.events.items (event_of c.args.by c.args.moment c.args.ask) c.self.inside.leases c.tell.new.leases c.withdraw.new.leases c.room_in_table.new.exports (acted c.is_effective-effective.result c.max-now.result c.args.ask c.room_in_table.new.exports) c.withdraw.new.self
+    c.self.inside.runs.items c.self.inside.withdrawn.items c.self.inside.told c.self.inside.added c.self.inside.units c.self.inside.moment c.max-now.result c.is_effective-effective.result c.in_ok-ready.ready.gone.items c.withdraw.new.gone.items
+    (has-acted c.self.inside.config c.self.inside.events.items (event_of c.args.by c.args.moment c.args.ask) c.self.inside.leases c.tell.new.leases c.self.inside.exports c.room_in_table.new.exports c.self.inside.runs.items c.deref.result.now c.self.inside.withdrawn.items
     c.self.inside.told c.self.inside.added c.self.inside.units c.self.inside.moment c.max-now.result c.len-running.result c.count-exported.result c.is_effective-effective.result c.room_refusal.result
-    c.self.invariant c.requires.built c.requires.moment c.is_effective-effective.ensures c.deref.ensures.value c.make_room.ensures.exports c.room_refusal.ensures running c.count-exported.ensures.value (none-else c.room_refusal.result c.in_default.not-Some) time
-    (ap (λ (t : ExportTable). await_refusal c.max-now.result t.rows t.waits c.is_effective-effective.result c.args.ask) c.make_room.ensures.exports ∙ c.in_ok-references.ensures.refusal)
+    c.self.invariant.0 c.requires.built c.requires.moment c.is_effective-effective.ensures c.deref.ensures.value c.room_in_table.ensures.rest c.room_refusal.ensures running c.count-exported.ensures.value (none-else c.room_refusal.result c.in_default.not-Some) time
+    (ap (λ (t : ExportTable). await_refusal c.max-now.result t.rows t.waits c.is_effective-effective.result c.args.ask) c.room_in_table.ensures.rest ∙ c.in_ok-ready.ensures.refusal)
     (c.in_ok-tell.ensures {u = tt}).refusal (c.in_ok-tell.ensures {u = tt}).ok)
-    time (has-withdrawn c.tell.new.leases c.withdraw.new.leases (acted c.is_effective-effective.result c.max-now.result c.args.ask c.make_room.new.exports) c.act.new.exports c.withdraw.new.self c.max-now.result c.in-Ok.gone.items c.withdraw.new.gone.items
+    time (has-withdrawn c.tell.new.leases c.withdraw.new.leases (acted c.is_effective-effective.result c.max-now.result c.args.ask c.room_in_table.new.exports) c.act.new.exports c.withdraw.new.self c.max-now.result c.in_ok-ready.ready.gone.items c.withdraw.new.gone.items
     c.act.ensures c.withdraw.ensures.kept c.withdraw.ensures.gone c.withdraw.ensures.dropped)
-    c.len-place.result c.in-Ok-reply_at.reply c.from_vec.result c.put_event.new.events.items
-    (place ∙ ap length c.make_room.ensures.events) (c.put_event.ensures ∙ ap (λ l. l ++ (event_of c.args.by c.args.moment c.args.ask) ∷ []) c.make_room.ensures.events)
-    c.in-Ok-reply_at.ensures (c.in-Ok.ensures.items ∙ ap (λ l. map (λ (w : Withdrawal). w.object) (drop c.self.inside.told l)) c.deref-2.ensures.value) c.from_vec.ensures)
+    c.len-place.result c.in_ok-ready.ready.reply c.from_vec-gone.result c.put_event.new.events.items
+    (place ∙ ap length c.room_for_event.ensures.events) (c.put_event.ensures.items ∙ ap (λ l. l ++ (event_of c.args.by c.args.moment c.args.ask) ∷ []) c.room_for_event.ensures.events)
+    (c.in_ok-ready.ensures.reply ∙ ap (λ (t : ExportTable). reply_at c.self.inside.config c.self.inside.added t.rows c.is_effective-effective.result c.args.ask) (sym c.room_in_table.ensures.rest))
+    (c.in_ok-ready.ensures.gone ∙ ap (λ l. map (λ (w : Withdrawal). w.object) (drop c.self.inside.told l)) c.deref-2.ensures.value) c.from_vec-gone.ensures)
 
-pub invariant_of-self-in_default-reply_at : goal.invariant_of-self-in_default-reply_at
-invariant_of-self-in_default-reply_at c =
-    keeps-roomy c.self.inside.config c.self.inside.events.items c.make_room.new.events.items c.self.inside.leases c.self.inside.leases c.self.inside.exports c.make_room.new.exports c.self.inside.runs.items c.make_room.new.runs.items
-    c.self.inside.withdrawn.items c.make_room.new.withdrawn.items c.self.inside.told c.self.inside.added c.self.inside.units c.self.inside.moment
-    c.self.invariant c.make_room.ensures.exports c.make_room.ensures.events refl c.make_room.ensures.runs c.make_room.ensures.withdrawn
-
-pub returns-in_err-references-clause-step : goal.returns-in_err-references-clause-step
-returns-in_err-references-clause-step c =
+pub returns-in_err-ready-clause-step : goal.returns-in_err-ready-clause-step
+returns-in_err-ready-clause-step c =
     let running : c.len-running.result ≡ length c.self.inside.runs.items = search rules in
     let time : c.max-now.result ≡ max c.args.moment c.self.inside.moment = search rules in
     let P : Result Turn Refused → Type 0 = λ r. Step c.args.self.now.configuration c.args.self.now.events (event_of c.args.by c.args.moment c.args.ask) r c.args.self.now.events in
-    let Q : List Event → Type 0 = λ es. Step c.self.inside.config c.self.inside.events.items (event_of c.args.by c.args.moment c.args.ask) (Err c.in_err-references.field-0.0) es in
-    let N : ℕ → Type 0 = λ n. Agrees {T = Unit {0}} (await_refusal n c.self.inside.exports.rows c.self.inside.exports.waits c.is_effective-effective.result c.args.ask) (Err c.in_err-references.field-0.0) in
-    subst P (sym (error-is c.from_residual.result c.in_err-references.field-0.0 c.from_residual.ensures.1))
-    (step-viewed c.self.inside.config c.self.inside.events.items c.args.self.now.events (event_of c.args.by c.args.moment c.args.ask) (Err c.in_err-references.field-0.0) c.args.self.now c.self.view_is
+    let Q : List Event → Type 0 = λ es. Step c.self.inside.config c.self.inside.events.items (event_of c.args.by c.args.moment c.args.ask) (Err c.in_err-ready.field-0.0) es in
+    let N : ℕ → Type 0 = λ n. Agrees {T = Unit {0}} (await_refusal n c.self.inside.exports.rows c.self.inside.exports.waits c.is_effective-effective.result c.args.ask) (Err c.in_err-ready.field-0.0) in
+    subst P (sym (error-is c.from_residual.result c.in_err-ready.field-0.0 c.from_residual.ensures.1))
+    (step-viewed c.self.inside.config c.self.inside.events.items c.args.self.now.events (event_of c.args.by c.args.moment c.args.ask) (Err c.in_err-ready.field-0.0) c.args.self.now c.self.view_is
     (subst Q (ap (λ (h : SpaceHistory). h.events) c.self.view_is)
     (await-step c.self.inside.config c.self.inside.events.items (event_of c.args.by c.args.moment c.args.ask) c.self.inside.leases c.self.inside.exports c.self.inside.runs.items c.self.inside.withdrawn.items
-    c.self.inside.told c.self.inside.added c.self.inside.units c.self.inside.moment c.is_effective-effective.result c.in_err-references.field-0.0
+    c.self.inside.told c.self.inside.added c.self.inside.units c.self.inside.moment c.is_effective-effective.result c.in_err-ready.field-0.0
     (asked c.self.inside.config c.self.inside.events.items (event_of c.args.by c.args.moment c.args.ask) c.self.inside.leases c.self.inside.exports c.self.inside.exports c.self.inside.runs.items c.deref.result.now c.self.inside.withdrawn.items
-    c.self.inside.told c.self.inside.added c.self.inside.units c.self.inside.moment c.is_effective-effective.result c.self.invariant c.requires.built c.is_effective-effective.ensures c.deref.ensures.value refl)
+    c.self.inside.told c.self.inside.added c.self.inside.units c.self.inside.moment c.is_effective-effective.result c.self.invariant.0 c.requires.built c.is_effective-effective.ensures c.deref.ensures.value refl)
     (room-as c.self.inside.units c.len-running.result c.count-exported.result c.is_effective-effective.result c.args.ask c.self.inside.runs.items c.self.inside.exports c.self.inside.exports c.room_refusal.result None
     c.room_refusal.ensures running c.count-exported.ensures.value refl (none-else c.room_refusal.result c.in_default.not-Some))
-    (subst N time c.in_err-references.ensures.refusal))))
+    (subst N time c.in_err-ready.ensures.refusal))))
 
-pub make_room-requires-clause-few_returned : goal.make_room-requires-clause-few_returned
-make_room-requires-clause-few_returned c =
-    let count : c.len-returned.result ≡ length c.in_ok-references.references.items = search rules in
-    let same = ap length c.in_ok-references.ensures.objects in
+pub room_in_table-requires-clause-few_returned : goal.room_in_table-requires-clause-few_returned
+room_in_table-requires-clause-few_returned c =
+    let count : c.len.result ≡ length c.in_ok-ready.ready.references.items = search rules in
+    let same = ap length c.in_ok-ready.ensures.references in
     let few = returned-few c.self.inside.config.uid c.self.inside.added c.self.inside.exports.rows c.is_effective-effective.result c.args.ask in
     let some = room-units c.self.inside.units c.len-running.result c.count-exported.result c.is_effective-effective.result c.args.ask (sym c.room_refusal.ensures ∙ none-else c.room_refusal.result c.in_default.not-Some) in
     omega (arith, count, same, few, some)
 
 pub act-requires-clause-returns : goal.act-requires-clause-returns
 act-requires-clause-returns c o made listed u t s =
-    finish-counted c.self.inside.config c.self.inside.events.items (event_of c.args.by c.args.moment c.args.ask) c.self.inside.leases c.make_room.new.exports c.self.inside.runs.items c.self.inside.withdrawn.items
+    finish-counted c.self.inside.config c.self.inside.events.items (event_of c.args.by c.args.moment c.args.ask) c.self.inside.leases c.room_in_table.new.exports c.self.inside.runs.items c.self.inside.withdrawn.items
     c.self.inside.told c.self.inside.added c.self.inside.units c.self.inside.moment c.is_effective-effective.result
-    (asked c.self.inside.config c.self.inside.events.items (event_of c.args.by c.args.moment c.args.ask) c.self.inside.leases c.self.inside.exports c.make_room.new.exports c.self.inside.runs.items c.deref.result.now c.self.inside.withdrawn.items
-    c.self.inside.told c.self.inside.added c.self.inside.units c.self.inside.moment c.is_effective-effective.result c.self.invariant c.requires.built c.is_effective-effective.ensures c.deref.ensures.value c.make_room.ensures.exports)
+    (asked c.self.inside.config c.self.inside.events.items (event_of c.args.by c.args.moment c.args.ask) c.self.inside.leases c.self.inside.exports c.room_in_table.new.exports c.self.inside.runs.items c.deref.result.now c.self.inside.withdrawn.items
+    c.self.inside.told c.self.inside.added c.self.inside.units c.self.inside.moment c.is_effective-effective.result c.self.invariant.0 c.requires.built c.is_effective-effective.ensures c.deref.ensures.value c.room_in_table.ensures.rest)
     o made listed u t s
 
 pub act-requires-clause-awaiting : goal.act-requires-clause-awaiting
 act-requires-clause-awaiting c o made listed u t s =
     let time : c.max-now.result ≡ max c.args.moment c.self.inside.moment = search rules in
-    let kept = c.self.invariant.stands in
-    finish-few c.self.inside.config c.self.inside.events.items (event_of c.args.by c.args.moment c.args.ask) c.self.inside.leases c.make_room.new.exports c.self.inside.runs.items c.self.inside.withdrawn.items
+    let kept = c.self.invariant.0.stands in
+    finish-few c.self.inside.config c.self.inside.events.items (event_of c.args.by c.args.moment c.args.ask) c.self.inside.leases c.room_in_table.new.exports c.self.inside.runs.items c.self.inside.withdrawn.items
     c.self.inside.told c.self.inside.added c.self.inside.units c.self.inside.moment c.max-now.result c.is_effective-effective.result
-    (asked c.self.inside.config c.self.inside.events.items (event_of c.args.by c.args.moment c.args.ask) c.self.inside.leases c.self.inside.exports c.make_room.new.exports c.self.inside.runs.items c.deref.result.now c.self.inside.withdrawn.items
-    c.self.inside.told c.self.inside.added c.self.inside.units c.self.inside.moment c.is_effective-effective.result c.self.invariant c.requires.built c.is_effective-effective.ensures c.deref.ensures.value c.make_room.ensures.exports)
-    time (ap (λ (t : ExportTable). await_refusal c.max-now.result t.rows t.waits c.is_effective-effective.result c.args.ask) c.make_room.ensures.exports ∙ c.in_ok-references.ensures.refusal) c.deref-3.result.now
-    (c.deref-3.ensures.value ∙ c.in_ok-references.ensures.objects
+    (asked c.self.inside.config c.self.inside.events.items (event_of c.args.by c.args.moment c.args.ask) c.self.inside.leases c.self.inside.exports c.room_in_table.new.exports c.self.inside.runs.items c.deref.result.now c.self.inside.withdrawn.items
+    c.self.inside.told c.self.inside.added c.self.inside.units c.self.inside.moment c.is_effective-effective.result c.self.invariant.0 c.requires.built c.is_effective-effective.ensures c.deref.ensures.value c.room_in_table.ensures.rest)
+    time (ap (λ (t : ExportTable). await_refusal c.max-now.result t.rows t.waits c.is_effective-effective.result c.args.ask) c.room_in_table.ensures.rest ∙ c.in_ok-ready.ensures.refusal) c.deref-3.result.now
+    (c.deref-3.ensures.value ∙ c.in_ok-ready.ensures.references
     ∙ ap (λ y. returned_by y c.self.inside.added c.self.inside.exports.rows c.is_effective-effective.result c.args.ask) (sym kept.space_is)
     ∙ ap (λ n. returned_by c.self.inside.exports.space n c.self.inside.exports.rows c.is_effective-effective.result c.args.ask) (sym kept.added_is)
-    ∙ ap (λ (x : ExportTable). returned_by x.space x.added x.rows c.is_effective-effective.result c.args.ask) (sym c.make_room.ensures.exports))
+    ∙ ap (λ (x : ExportTable). returned_by x.space x.added x.rows c.is_effective-effective.result c.args.ask) (sym c.room_in_table.ensures.rest))
     o made listed u t s
+
+pub room_for_event-requires : goal.room_for_event-requires
+room_for_event-requires c =
+    let few = few-calls c.self.inside.config c.self.inside.events.items c.self.inside.leases c.self.inside.exports c.self.inside.runs.items c.self.inside.withdrawn.items c.self.inside.told c.self.inside.added c.self.inside.units c.self.inside.moment c.self.invariant.0 in
+    let len : vec_len c.self.inside.runs ≡ length c.self.inside.runs.items = search rules in
+    omega (arith, few, len)

@@ -1,0 +1,156 @@
+-- A running call is ended, by what its parts answered.
+use Rattle.std.proofs.Common.{◌≡◌, ℕ, suc, ◌+◌, ◌<◌, ◌≤◌, ◌^◌, List, [], ◌∷◌, ◌++◌, length, refl, ap, sym, subst, ◌∙◌, map, max, drop, arith, Option, None, Ok, length-append}
+use Rattle.std.specs.Prelude.{Bool, true, false, ◌||◌, filter, nat_lt, if◌then◌else◌}
+use Rattle.std.specs.List.{list_any}
+use Rattle.std.proofs.lemmas.Bool.{lt-ltb, le-ltb}
+use Rattle.object_ids.specs.declared.ids.ObjId.{ObjId}
+use Rattle.history.specs.declared.asks.SpaceConfig.{SpaceConfig}
+use Rattle.history.specs.declared.asks.Event.{Event}
+use Rattle.history.specs.declared.asks.Ask.TheVariants.{Abandon}
+use Rattle.history.specs.declared.limits.TheConstants.{MAX_UNITS, MAX_EXPORTS}
+use Rattle.history.specs.declared.places.Withdrawal.{Withdrawal}
+use Rattle.history.specs.declared.replies.Refused.{Refused}
+use Rattle.history.specs.Running.{running}
+use Rattle.history.specs.Steps.{Step, turn_of}
+use Rattle.history.specs.Table.{is_effective, table, places}
+use Rattle.dgc_server.specs.Stands.{LeaseTable, StandsFor, ForEachLog}
+use Rattle.export_table.specs.declared.rows.Export.{Export}
+use Rattle.export_table.specs.Rows.{changed, ended, running_of}
+use Rattle.export_table.specs.Table.{ExportTable}
+use Rattle.space.specs.declared.runs.Run.{Run}
+use Rattle.space.specs.Acts.{event_of, acted, acted_runs, room_refusal, withdrawal_at}
+use Rattle.space.specs.Ahead.{HasRoom}
+use Rattle.space.specs.Built.{SpaceHistory}
+use Rattle.space.specs.Kept.{rows_of, Keeps}
+use Rattle.space.specs.Runs.{is_run, without_first}
+use Rattle.space.proofs.Acting.{effective-is}
+use Rattle.space.proofs.AheadLaws.{room-next}
+use Rattle.space.proofs.AskLaws.{abandon-counted}
+use Rattle.space.proofs.EndLaws.{goes-few}
+use Rattle.space.proofs.Keeping.{step-taken}
+use Rattle.space.proofs.TurnLaws.{IsAsked, HasActed, HasWithdrawn, taken, turn-keeps}
+
+-- ---- before it acts
+
+-- What is said of the space is said of its fields.
+pub is-running : (config : SpaceConfig) (events : List Event) (by : ℕ) (o : ObjId) (s : SpaceHistory) → record { configuration = config; events = events } ≡ s → 0 < running (places s.configuration s.events) by o → 0 < running (places config events) by o
+is-running config events by o s v r = let P : SpaceHistory → Type 0 = λ h. 0 < running (places h.configuration h.events) by o in subst P (sym v) r
+
+runs-effective : (config : SpaceConfig) (events : List Event) (by : ℕ) (o : ObjId) → 0 < running (places config events) by o → is_effective config (places config events) by (Abandon o) ≡ true
+unfolding is_effective
+runs-effective config events by o r = lt-ltb 0 (running (places config events) by o) r
+
+pub end-asked : (config : SpaceConfig) (events : List Event) (by m : ℕ) (o : ObjId) (leases : LeaseTable) (exports : ExportTable) (runs : List Run) (withdrawn : List Withdrawal) (told opened used moment : ℕ) →
+    Keeps config events leases exports runs withdrawn told opened used moment → 0 < running (places config events) by o → IsAsked config events (event_of by m (Abandon o)) leases exports runs withdrawn told opened used moment true
+end-asked config events by m o leases exports runs withdrawn told opened used moment k r = record {
+  keeps = k;
+  built = tt;
+  tested = sym (effective-is config events by (Abandon o) exports.rows runs tt k.stands.rows_are k.stands.runs_stand ∙ runs-effective config events by o r);
+}
+
+-- The row of the object has a running call.
+pub end-counted : (config : SpaceConfig) (events : List Event) (by m : ℕ) (o : ObjId) (leases : LeaseTable) (exports : ExportTable) (runs : List Run) (withdrawn : List Withdrawal) (told opened used moment : ℕ) →
+    Keeps config events leases exports runs withdrawn told opened used moment → 0 < running (places config events) by o → 0 < running_of exports.rows o
+end-counted config events by m o leases exports runs withdrawn told opened used moment k r =
+    abandon-counted config events (event_of by m (Abandon o)) leases exports runs withdrawn told opened used moment true (end-asked config events by m o leases exports runs withdrawn told opened used moment k r) o refl refl
+
+none-left : {X : Type 0} (test : X → Bool) (xs : List X) → list_any test xs ≡ true → length (without_first test xs) + 1 ≡ length xs
+none-left test [] h = absurd (cc)
+none-left {X} test (x ∷ xs) h = go (test x) h (none-left test xs)
+  where
+    go : (b : Bool) → (b || list_any test xs) ≡ true → (list_any test xs ≡ true → length (without_first test xs) + 1 ≡ length xs) → length (if b then xs else x ∷ without_first test xs) + 1 ≡ length (x ∷ xs)
+    go true h f = omega arith
+    go false h f = let e = f h in omega (arith, e)
+
+-- One call fewer runs then.
+pub runs-fewer : (config : SpaceConfig) (events : List Event) (by : ℕ) (o : ObjId) (leases : LeaseTable) (exports : ExportTable) (runs : List Run) (withdrawn : List Withdrawal) (told opened used moment : ℕ) →
+    Keeps config events leases exports runs withdrawn told opened used moment → 0 < running (places config events) by o → length (without_first (is_run by o) runs) + 1 ≡ length runs
+runs-fewer config events by o leases exports runs withdrawn told opened used moment k r =
+    none-left (is_run by o) runs (effective-is config events by (Abandon o) exports.rows runs tt k.stands.rows_are k.stands.runs_stand ∙ runs-effective config events by o r)
+
+-- The unit that was reserved for the end, and the object stays.
+end-unrefused : (used running exported : ℕ) (o : ObjId) → used + running ≤ MAX_UNITS → exported ≤ MAX_EXPORTS → room_refusal used running exported true (Abandon o) ≡ None
+end-unrefused used running exported o few rows = rw (le-ltb (MAX_UNITS + 1) (used + running + 1 + 0) (omega (arith, few)), le-ltb MAX_EXPORTS (exported + 0) (omega (arith, rows))) refl
+
+pub rows-length : (config : SpaceConfig) (events : List Event) (leases : LeaseTable) (exports : ExportTable) (runs : List Run) (withdrawn : List Withdrawal) (told opened used moment : ℕ) → Keeps config events leases exports runs withdrawn told opened used moment → length exports.rows ≤ MAX_EXPORTS
+rows-length config events leases exports runs withdrawn told opened used moment k = (let same = ap length k.stands.rows_are in let long = mapped (table config (places config events)) in let few = k.stands.within.exports in omega (arith, same, long, few))
+  where
+    mapped : (xs : List _) → length (rows_of (places config events) xs) ≡ length xs
+    mapped [] = refl
+    mapped (x ∷ xs) = ap suc (mapped xs)
+
+-- ---- once it has acted
+
+pub end-acted : (config : SpaceConfig) (events : List Event) (by m : ℕ) (o : ObjId) (leases leases1 : LeaseTable) (exports t : ExportTable) (runs : List Run) (withdrawn : List Withdrawal) (told opened used moment time : ℕ) →
+    Keeps config events leases exports runs withdrawn told opened used moment → 0 < running (places config events) by o → m < 2 ^ 62 → time ≡ max m moment →
+    ForEachLog leases (λ lease n calls. StandsFor lease leases1 (max time n) calls) → t ≡ record exports { rows = changed ended o exports.rows } →
+    HasActed config events (event_of by m (Abandon o)) leases leases1 exports t runs withdrawn told opened used moment true
+end-acted config events by m o leases leases1 exports t runs withdrawn told opened used moment time k r early at lapsed act = record {
+  asked = end-asked config events by m o leases exports runs withdrawn told opened used moment k r;
+  early = early;
+  room = end-unrefused used (length runs) (length exports.rows) o (let units = k.stands.used_is in let calls = k.stands.runs_stand.all in let few = k.stands.within.history in omega (arith, units, calls, few))
+      (rows-length config events leases exports runs withdrawn told opened used moment k);
+  fit = refl;
+  unrefused = λ lease n calls s le. refl;
+  told_leases = λ lease n calls s le. (
+      let P : ℕ → Type 0 = λ i. StandsFor lease leases1 i calls in
+      let same : max time n ≡ max m moment = omega (arith, at, le) in
+      subst P same (lapsed lease n calls s));
+  act = act;
+}
+
+-- WHAT IS KEPT once the call is ended.
+pub end-keeps : (config : SpaceConfig) (events : List Event) (by m : ℕ) (o : ObjId) (leases leases1 leases2 : LeaseTable) (exports t x3 : ExportTable) (runs : List Run) (withdrawn : List Withdrawal) (told opened used moment time : ℕ) (scratch gone : List ObjId) (place : ℕ) (events' : List Event) (runs' : List Run) (withdrawn' : List Withdrawal) →
+    HasActed config events (event_of by m (Abandon o)) leases leases1 exports t runs withdrawn told opened used moment true → time ≡ max m moment → HasWithdrawn leases1 leases2 t x3 time scratch gone → scratch ≡ [] →
+    place ≡ length events → events' ≡ events ++ event_of by m (Abandon o) ∷ [] → runs' ≡ without_first (is_run by o) runs → withdrawn' ≡ withdrawn ++ map (withdrawal_at place) gone →
+    Keeps config events' leases2 x3 runs' withdrawn' told opened (used + 1) time
+end-keeps config events by m o leases leases1 leases2 exports t x3 runs withdrawn told opened used moment time scratch gone place events' runs' withdrawn' a at w none pl ev ru wi =
+    let same : opened ≡ opened + 0 = omega arith in
+    let P : ℕ → Type 0 = λ n. Keeps config events' leases2 x3 runs' withdrawn' told n (used + 1) time in
+    let all : gone ≡ drop (length scratch) gone = sym (ap (λ l. drop (length l) gone) none) in
+    subst P (sym same)
+    (turn-keeps config events (event_of by m (Abandon o)) leases leases1 leases2 exports t x3 runs withdrawn told opened used moment time true scratch gone a at w
+    place told (opened + 0) (used + 1) events' runs' withdrawn' pl ev ru (wi ∙ ap (λ l. withdrawn ++ map (withdrawal_at place) l) all) refl refl refl)
+
+-- Its room.
+pub end-room : (config : SpaceConfig) (events events' : List Event) (by m : ℕ) (o : ObjId) (leases leases' : LeaseTable) (x y : ExportTable) (runs runs' : List Run) (withdrawn withdrawn' : List Withdrawal) (told opened used moment told' opened' used' moment' : ℕ) (before scratch : List ObjId) (events_room withdrawn_room scratch_room events_room' withdrawn_room' scratch_room' : ℕ) →
+    Keeps config events leases x runs withdrawn told opened used moment → HasRoom events events_room runs withdrawn withdrawn_room x before scratch_room → 0 < running (places config events) by o →
+    Keeps config events' leases' y runs' withdrawn' told' opened' used' moment' → events' ≡ events ++ event_of by m (Abandon o) ∷ [] → runs' ≡ without_first (is_run by o) runs → scratch ≡ [] →
+    events_room ≤ events_room' → withdrawn_room ≤ withdrawn_room' → scratch_room ≤ scratch_room' →
+    HasRoom events' events_room' runs' withdrawn' withdrawn_room' y scratch scratch_room'
+end-room config events events' by m o leases leases' x y runs runs' withdrawn withdrawn' told opened used moment told' opened' used' moment' before scratch events_room withdrawn_room scratch_room events_room' withdrawn_room' scratch_room' k r run l ev ru none er wr sr =
+    let longer : length events' ≡ length events + 1 = ap length ev ∙ length-append events (event_of by m (Abandon o) ∷ []) in
+    let calls = ap length ru in
+    let fewer = runs-fewer config events by o leases x runs withdrawn told opened used moment k run in
+    let ends = r.ends in let goes = r.withdrawals in let objects = r.objects in
+    room-next config events events' (event_of by m (Abandon o)) leases leases' x y runs runs' withdrawn withdrawn' told opened used moment told' opened' used' moment' (length x.rows) scratch events_room' withdrawn_room' scratch_room' true (sym (runs-effective config events by o run)) k tt l ev
+    (omega arith) (omega (arith, longer, calls, fewer, ends, er)) (omega (arith, goes, wr)) (omega (arith, objects, sr)) none
+
+-- WHAT IT IS ANSWERED, of the space that contracts see.
+pub end-step : (config : SpaceConfig) (events events' : List Event) (by m : ℕ) (o : ObjId) (leases leases1 : LeaseTable) (exports t : ExportTable) (runs : List Run) (withdrawn : List Withdrawal) (told opened used moment : ℕ) (s : SpaceHistory) →
+    HasActed config events (event_of by m (Abandon o)) leases leases1 exports t runs withdrawn told opened used moment true → record { configuration = config; events = events } ≡ s → events' ≡ events ++ event_of by m (Abandon o) ∷ [] →
+    Step s.configuration s.events (event_of by m (Abandon o)) (Ok (turn_of s.configuration s.events (event_of by m (Abandon o)))) events'
+end-step config events events' by m o leases leases1 exports t runs withdrawn told opened used moment s a v ev =
+    let P : SpaceHistory → Type 0 = λ h. Step h.configuration h.events (event_of by m (Abandon o)) (Ok (turn_of h.configuration h.events (event_of by m (Abandon o)))) events' in
+    let Q : List Event → Type 0 = λ es. Step config events (event_of by m (Abandon o)) (Ok (turn_of config events (event_of by m (Abandon o)))) es in
+    subst P v (subst Q (sym ev)
+    (step-taken config events (event_of by m (Abandon o)) (turn_of config events (event_of by m (Abandon o)))
+    (taken config events (event_of by m (Abandon o)) leases exports runs withdrawn told opened used moment true a.asked a.room a.fit a.unrefused) refl))
+
+-- ---- what its parts require
+
+changed-length : (f : Export → Export) (o : ObjId) (rows : List Export) → length (changed f o rows) ≡ length rows
+changed-length f o [] = refl
+changed-length f o (x ∷ rows) = ap suc (changed-length f o rows)
+
+pub end-rows : (exports t : ExportTable) (o : ObjId) → t ≡ record exports { rows = changed ended o exports.rows } → length t.rows ≡ length exports.rows
+end-rows exports t o e = ap (λ (x : ExportTable). length x.rows) e ∙ changed-length ended o exports.rows
+
+-- No more objects go than were exported.
+pub end-goes : (config : SpaceConfig) (events : List Event) (by m : ℕ) (o : ObjId) (leases leases1 leases2 : LeaseTable) (exports t x3 : ExportTable) (runs : List Run) (withdrawn : List Withdrawal) (told opened used moment time : ℕ) (scratch gone : List ObjId) →
+    HasActed config events (event_of by m (Abandon o)) leases leases1 exports t runs withdrawn told opened used moment true → time ≡ max m moment → HasWithdrawn leases1 leases2 t x3 time scratch gone → scratch ≡ [] → length gone ≤ length exports.rows
+end-goes config events by m o leases leases1 leases2 exports t x3 runs withdrawn told opened used moment time scratch gone a at w none =
+    let all : length gone ≡ length (drop (length scratch) gone) = sym (ap (λ l. length (drop (length l) gone)) none) in
+    let few = goes-few config events (event_of by m (Abandon o)) leases leases1 leases2 exports t x3 runs withdrawn told opened used moment time true scratch gone a at w in
+    let same = end-rows exports t o a.act in
+    omega (arith, all, few, same)

@@ -1,0 +1,165 @@
+-- What a turn's entry needs, by what is kept.
+use Rattle.std.proofs.Common.{◌≡◌, ◌≢◌, ℕ, suc, ◌+◌, ◌<◌, ◌≤◌, inl, inr, List, [], ◌∷◌, ◌++◌, length, refl, ap, sym, subst, ◌∙◌, cond, map, max, drop, arith, Option, Some, None, Ok, Err, length-append}
+use Rattle.std.specs.Prelude.{Bool, true, false, not, ◌⊎◌, filter, if◌then◌else◌, Result}
+use Rattle.std.proofs.lemmas.Bool.{lt-ltb, le-ltb, ltb-true}
+use Rattle.std.proofs.lemmas.List.{length-map}
+use Rattle.object_ids.specs.declared.ids.ObjId.{ObjId}
+use Rattle.history.specs.declared.asks.SpaceConfig.{SpaceConfig}
+use Rattle.history.specs.declared.asks.Event.{Event}
+use Rattle.history.specs.declared.asks.Ask.{Ask}
+use Rattle.history.specs.declared.asks.Ask.TheVariants.{Open, Begin, Finish, Abandon, Dirty, Clean, Ack, Bind, Rebind, Unbind, Lookup, List as ListNames, Tick}
+use Rattle.history.specs.declared.places.Place.{Place}
+use Rattle.history.specs.declared.places.Exported.{Exported}
+use Rattle.history.specs.declared.places.Withdrawal.{Withdrawal}
+use Rattle.history.specs.declared.replies.Refused.{Refused}
+use Rattle.history.specs.declared.replies.Refused.TheVariants.{OutOfMemory}
+use Rattle.history.specs.declared.replies.Reply.{Reply}
+use Rattle.history.specs.declared.replies.Reply.TheVariants.{Started, NoObject, Finished, NotRunning, Done, Names}
+use Rattle.history.specs.declared.replies.Turn.{Turn}
+use Rattle.history.specs.Limits.{units_of, limits, refusal}
+use Rattle.history.specs.Places.{added, exported_from, kind_of}
+use Rattle.history.specs.Replies.{ids, reply, gone}
+use Rattle.history.specs.Steps.{turn_of, answer_with, history_with, Step}
+use Rattle.history.specs.Table.{is_effective, exports, is_kept, table, place_of, places, withdrawn}
+use Rattle.history.proofs.GoneLaws.{pending, gone-push}
+use Rattle.history.proofs.TableLaws.{places-numbered, withdrawn-place}
+use Rattle.dgc_server.specs.Stands.{LeaseTable}
+use Rattle.export_table.specs.Table.{ExportTable}
+use Rattle.space.specs.declared.runs.Run.{Run}
+use Rattle.space.specs.Acts.{opens}
+use Rattle.space.specs.Built.{IsBuilt, SpaceHistory}
+use Rattle.space.specs.Kept.{row_of, to_tell, Keeps}
+use Rattle.space.proofs.AheadLaws.{some-or-not}
+use Rattle.space.proofs.Keeping.{opened-few}
+use Rattle.space.proofs.Quiet.{adds-length, exported_from-length}
+
+-- ---- what a step says
+
+-- An event that was taken is answered by its turn.
+pub taken-turn : (config : SpaceConfig) (h h2 : List Event) (e : Event) (turn : Turn) → Step config h e (Ok turn) h2 → (turn ≡ turn_of config h e) × (h2 ≡ h ++ e ∷ [])
+taken-turn config h h2 e turn (inl s) = go (refusal limits config (places config h) e) s.0 s.1
+  where
+    go : (r : Option Refused) → Ok turn ≡ answer_with config h e r → h2 ≡ history_with h e r → (turn ≡ turn_of config h e) × (h2 ≡ h ++ e ∷ [])
+    go None a b = ((cc), b)
+    go (Some refused) a b = absurd (cc)
+taken-turn config h h2 e turn (inr s) = absurd (let never = s.0 in cc)
+
+-- One that was refused, for its cause or for want of memory, leaves all as it was.
+pub refused-turn : (config : SpaceConfig) (h h2 : List Event) (e : Event) (refused : Refused) → Step config h e (Err refused) h2 → ((refusal limits config (places config h) e ≡ Some refused) ⊎ (refused ≡ OutOfMemory)) × (h2 ≡ h)
+refused-turn config h h2 e refused (inl s) = go (refusal limits config (places config h) e) refl s.0 s.1
+  where
+    go : (r : Option Refused) → refusal limits config (places config h) e ≡ r → Err refused ≡ answer_with config h e r → h2 ≡ history_with h e r → ((refusal limits config (places config h) e ≡ Some refused) ⊎ (refused ≡ OutOfMemory)) × (h2 ≡ h)
+    go None q a b = absurd (cc)
+    go (Some x) q a b = (let same : x ≡ refused = (cc) in inl (q ∙ ap (λ y. Some y) same), b)
+refused-turn config h h2 e refused (inr s) = (let same : refused ≡ OutOfMemory = (let first = s.0 in cc) in inr same, s.1)
+
+-- ---- the lengths of what a turn tells
+
+pending-told : (config : SpaceConfig) (h : List Place) → pending config h ≡ to_tell config h
+unfolding pending
+pending-told config h = refl
+
+gone-few : (config : SpaceConfig) (events : List Event) (e : Event) (leases : LeaseTable) (exports : ExportTable) (runs : List Run) (withdrawn_before : List Withdrawal) (told opened used moment : ℕ) →
+    Keeps config events leases exports runs withdrawn_before told opened used moment → IsBuilt e.ask → length (gone config (places config events) e) ≤ length (map (λ (w : Withdrawal). w.object) (drop told withdrawn_before)) + (length exports.rows + units_of e.ask)
+gone-few config events e leases exports runs withdrawn_before told opened used moment k b =
+    let all : List Exported = table config (places config events) ++ (place_of config (places config events) e).adds in
+    let kept : Exported → Bool = is_kept config (place_of config (places config events) e ∷ places config events) in
+    let rows : length exports.rows ≡ length (table config (places config events)) = ap length k.stands.rows_are ∙ length-map (table config (places config events)) (row_of (places config events)) in
+    let told_before : length (map (λ (w : Withdrawal). w.object) (drop told withdrawn_before)) ≡ length (pending config (places config events)) = ap length (k.stands.told_are ∙ sym (pending-told config (places config events))) in
+    let goes : length (ids (withdrawn config (place_of config (places config events) e ∷ places config events))) ≡ length (filter (λ x. not (kept x)) all) =
+    length-map (withdrawn config (place_of config (places config events) e ∷ places config events)) (λ (x : Exported). x.id) ∙ ap length (withdrawn-place config (places config events) e) in
+    let told_all = ap length (gone-push config (places config events) e (places-numbered config events)) ∙ length-append (pending config (places config events)) (ids (withdrawn config (place_of config (places config events) e ∷ places config events))) in
+    let both = some-or-not kept all in
+    let sum = length-append (table config (places config events)) (place_of config (places config events) e).adds in
+    let adds = adds-length config (places config events) e b in
+    let few = opened-few (is_effective config (places config events) e.by e.ask) e.ask in
+    omega (arith, rows, told_before, goes, told_all, both, sum, adds, few)
+
+-- A reply has no more identifiers than the event has units, and no names.
+reply-ids : (config : SpaceConfig) (h : List Place) (e : Event) (os : List ObjId) → IsBuilt e.ask → reply config h e ≡ Finished os → length os ≤ units_of e.ask
+unfolding reply place_of exports
+reply-ids config h e os b s = go e.ask b s
+  where
+    begun : (v : Bool) (kind n : ℕ) → (if v then Started kind else NoObject) ≡ Finished os → length os ≤ n
+    begun true kind n t = absurd (cc)
+    begun false kind n t = absurd (cc)
+
+    ended : (v : Bool) (n : ℕ) → (if v then Done else NotRunning) ≡ Finished os → length os ≤ n
+    ended true n t = absurd (cc)
+    ended false n t = absurd (cc)
+
+    made-few : (made : List ℕ) → ids (exported_from config.uid (length (added h)) (length h) false made) ≡ os → length os ≤ length made
+    made-few made t =
+        let same = ap length t in
+        let all = length-map (exported_from config.uid (length (added h)) (length h) false made) (λ (x : Exported). x.id) in
+        let long = exported_from-length config.uid (length (added h)) (length h) false made in
+        omega (arith, same, all, long)
+
+    finished : (v : Bool) (made : List ℕ) (n : ℕ) → (if v then Finished (ids (if v then exported_from config.uid (length (added h)) (length h) false made else [])) else NotRunning) ≡ Finished os → length os ≤ 1 + length made + n
+    finished true made n t = let few = made-few made (cc) in omega (arith, few)
+    finished false made n t = absurd (cc)
+
+    go : (a : Ask) → IsBuilt a → reply config h (record e { ask = a }) ≡ Finished os → length os ≤ units_of a
+    go (Open kind pinned) b s = absurd (cc)
+    go (Begin o) b s = begun (is_effective config h e.by (Begin o)) (kind_of (table config h) o) 1 s
+    go (Abandon o) b s = ended (is_effective config h e.by (Abandon o)) 1 s
+    go (Dirty x y z w) b s = absurd (cc)
+    go (Clean x y z w) b s = absurd (cc)
+    go (Ack u) b s = absurd (cc)
+    go Tick b s = absurd (cc)
+    go (Finish x y z w) b s = finished (is_effective config h e.by (Finish x y z w)) y (length z) s
+    go (Bind x y) b s = absurd b
+    go (Rebind x y) b s = absurd b
+    go (Unbind x) b s = absurd b
+    go (Lookup x y) b s = absurd b
+    go ListNames b s = absurd b
+
+reply-names : (config : SpaceConfig) (h : List Place) (e : Event) (ns : List (List ℕ)) → IsBuilt e.ask → reply config h e ≡ Names ns → ⊥
+unfolding reply place_of exports
+reply-names config h e ns b s = go e.ask b s
+  where
+    begun : (v : Bool) (kind : ℕ) → (if v then Started kind else NoObject) ≡ Names ns → ⊥
+    begun true kind t = cc
+    begun false kind t = cc
+
+    ended : (v : Bool) → (if v then Done else NotRunning) ≡ Names ns → ⊥
+    ended true t = cc
+    ended false t = cc
+
+    finished : (v : Bool) (os : List ObjId) → (if v then Finished os else NotRunning) ≡ Names ns → ⊥
+    finished true os t = cc
+    finished false os t = cc
+
+    go : (a : Ask) → IsBuilt a → reply config h (record e { ask = a }) ≡ Names ns → ⊥
+    go (Open kind pinned) b s = cc
+    go (Begin o) b s = begun (is_effective config h e.by (Begin o)) (kind_of (table config h) o) s
+    go (Abandon o) b s = ended (is_effective config h e.by (Abandon o)) s
+    go (Dirty x y z w) b s = cc
+    go (Clean x y z w) b s = cc
+    go (Ack u) b s = cc
+    go Tick b s = cc
+    go (Finish x y z w) b s = finished (is_effective config h e.by (Finish x y z w)) _ s
+    go (Bind x y) b s = absurd b
+    go (Rebind x y) b s = absurd b
+    go (Unbind x) b s = absurd b
+    go (Lookup x y) b s = absurd b
+    go ListNames b s = absurd b
+
+-- WHAT IS KNOWN of a turn for its copy, of the space that contracts see.
+pub record IsSmall (turn : Turn) (ids_room gone_room : ℕ) : Type 0 where
+  pub ids : (os : List ObjId) → turn.reply ≡ Finished os → length os ≤ ids_room
+  pub gone : length turn.gone ≤ gone_room
+  pub names : (ns : List (List ℕ)) → turn.reply ≡ Names ns → ⊥
+
+pub turn-small : (config : SpaceConfig) (events h2 : List Event) (e : Event) (leases : LeaseTable) (exports : ExportTable) (runs : List Run) (withdrawn_before : List Withdrawal) (told opened used moment : ℕ) (s : SpaceHistory) (turn : Turn) →
+    Keeps config events leases exports runs withdrawn_before told opened used moment → IsBuilt e.ask → record { configuration = config; events = events } ≡ s → Step s.configuration s.events e (Ok turn) h2 →
+    IsSmall turn (units_of e.ask) (length (map (λ (w : Withdrawal). w.object) (drop told withdrawn_before)) + (length exports.rows + units_of e.ask))
+turn-small config events h2 e leases exports runs withdrawn_before told opened used moment s turn k b v t =
+    let P : SpaceHistory → Type 0 = λ h. Step h.configuration h.events e (Ok turn) h2 in
+    let is : turn ≡ turn_of config events e = (taken-turn config events h2 e turn (subst P (sym v) t)).0 in
+    let R : Turn → Type 0 = λ x. IsSmall x (units_of e.ask) (length (map (λ (w : Withdrawal). w.object) (drop told withdrawn_before)) + (length exports.rows + units_of e.ask)) in
+    subst R (sym is) (record {
+      ids = λ os p. reply-ids config (places config events) e os b p;
+      gone = gone-few config events e leases exports runs withdrawn_before told opened used moment k b;
+      names = λ ns p. reply-names config (places config events) e ns b p;
+    })

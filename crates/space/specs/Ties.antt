@@ -1,0 +1,28 @@
+-- How a port is tied to its space.
+use Rattle.std.specs.Prelude.{◌≡◌, ℕ, ◌+◌, ◌≤◌, Bool, List, ◌++◌, length, filter}
+use Rattle.object_ids.specs.declared.ids.ObjId.{ObjId}
+use Rattle.object_ids.specs.Same.{same_id}
+use Rattle.history.specs.Running.{running}
+use Rattle.history.specs.Table.{places}
+use Rattle.space.specs.declared.asked.Asked.{Asked}
+use Rattle.space.specs.Built.{SpaceHistory}
+use Rattle.space.specs.Ports.{begins, ends, Went}
+
+abbrev pub is_call_of : ObjId → ObjId → Bool
+is_call_of o object = same_id object o
+
+-- These are objects of running calls of a connection: no more than the history says, and all that the entries show, which know of no
+-- call that ran before them. There is room for as many further entries as there are such calls.
+pub record IsTied (by : ℕ) (s : SpaceHistory) (entries : List Asked) (room : ℕ) : Type 0 where
+  pub calls : List ObjId
+  pub run : (o : ObjId) → length (filter (is_call_of o) calls) ≤ running (places s.configuration s.events) by o
+  pub shown : (o : ObjId) → length (filter (begins o) entries) ≤ length (filter (is_call_of o) calls) + length (filter (ends o) entries)
+  pub few : length calls ≤ length entries
+  pub within : length entries + length calls ≤ room
+
+-- A connection's entries are those before and further ones, and these lead from a space's history to its history now.
+pub record Leads (by : ℕ) (s : SpaceHistory) (entries : List Asked) (s2 : SpaceHistory) (entries2 : List Asked) : Type 0 where
+  pub same : s2.configuration ≡ s.configuration
+  pub more : List Asked
+  pub longer : entries2 ≡ entries ++ more
+  pub went : Went s.configuration by s.events more s2.events

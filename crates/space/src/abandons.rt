@@ -1,0 +1,42 @@
+//! Calls that end without an answer.
+ghost use Rattle.std.specs.Prelude.{◌≡◌, ◌<◌, ◌^◌, ◌++◌, ◌∷◌, [], Ok};
+ghost use Rattle.history.specs.declared.asks.Ask.TheVariants.{Abandon};
+ghost use Rattle.history.specs.Running.{running};
+ghost use Rattle.history.specs.Steps.{Step, turn_of};
+ghost use Rattle.history.specs.Table.{places};
+ghost use Rattle.space.specs.Acts.{event_of};
+
+use crate::acts::{note_withdrawn, put_event};
+use crate::runs::drop_first;
+use crate::turns::Space;
+use history::{Ask, Event};
+use object_ids::ObjId;
+
+impl Space {
+    /// Ends a call of an object that connection `by` runs, at a moment, in milliseconds, without an answer. It
+    /// takes no memory and is never refused. The objects that it withdraws are told by the next turn.
+    pub fn abandon(&mut self, by: u32, moment: u64, object: ObjId)
+        requires moment { moment < 2 ^ 62 }
+        requires running { 0 < running (places self.old.configuration self.old.events) by object }
+        ensures events { self.new.events ≡ self.old.events ++ event_of by moment (Abandon object) ∷ [] }
+        ensures config { self.new.configuration ≡ self.old.configuration }
+
+        // It is taken: no limit refuses it.
+        ensures step { let e = event_of by moment (Abandon object) in
+            Step self.old.configuration self.old.events e (Ok (turn_of self.old.configuration self.old.events e)) self.new.events }
+    {
+        let now = moment.max(self.moment);
+        let place = self.events.len() as u64;
+        self.leases.lapse(now);
+        self.exports.end(object);
+        drop_first(&mut self.runs, by, &object);
+        self.exports
+            .withdraw(now, &mut self.leases, &mut self.scratch);
+        note_withdrawn(&mut self.withdrawn, &self.scratch, 0, place);
+        self.scratch.clear();
+        self.units += 1;
+        self.moment = now;
+        let ask = Ask::Abandon { object };
+        put_event(&mut self.events, Event { by, moment, ask });
+    }
+}

@@ -1,0 +1,49 @@
+//! Entries of turns.
+use history::{Ask, Refused, Turn};
+use mod_utf::list::{Sequence, TryCopy};
+use std::alloc::{AllocError, Global};
+
+/// How a turn ended.
+#[derive(Debug, Drop)]
+pub enum AskedEnd {
+    /// The event was taken, and answered so.
+    Turned(Turn),
+    /// A call was ended without an answer, at this place of the history.
+    Abandoned(u64),
+    /// The event was refused.
+    Refused(Refused),
+}
+
+/// The entry of a turn: what a connection asked at a moment, in milliseconds, and how that ended.
+#[derive(Debug, Drop)]
+pub struct Asked {
+    /// The moment that was handed in.
+    pub moment: u64,
+    /// What was asked.
+    pub ask: Ask,
+    /// How it ended.
+    pub end: AskedEnd,
+}
+
+/// A list of entries.
+pub type AskedList = Sequence<Asked>;
+
+impl TryCopy for AskedEnd {
+    fn try_copy(&self, alloc: Global) -> Result<AskedEnd, AllocError> {
+        Ok(match self {
+            AskedEnd::Turned(turn) => AskedEnd::Turned(turn.copy(alloc)?),
+            AskedEnd::Abandoned(place) => AskedEnd::Abandoned(*place),
+            AskedEnd::Refused(refused) => AskedEnd::Refused(*refused),
+        })
+    }
+}
+
+impl TryCopy for Asked {
+    fn try_copy(&self, alloc: Global) -> Result<Asked, AllocError> {
+        Ok(Asked {
+            moment: self.moment,
+            ask: self.ask.copy(alloc)?,
+            end: self.end.try_copy(alloc)?,
+        })
+    }
+}

@@ -1,0 +1,69 @@
+//! Room for what an event adds, made before anything changes. No room is lost.
+ghost use Rattle.std.specs.Prelude.{◌≡◌, ◌≤◌, ◌<◌, ◌+◌, ◌^◌, IfErr, OnOk, vec_len, vec_capacity};
+ghost use Rattle.history.specs.declared.replies.Refused.TheVariants.{OutOfMemory};
+
+use crate::runs::Run;
+use export_table::Exports;
+use history::{Event, Refused, Withdrawal};
+use object_ids::ObjId;
+
+/// Makes room for an event, for the events that end the calls that then run, and for a call that it starts.
+pub(crate) fn room_for_event(events: &mut Vec<Event>, runs: &mut Vec<Run>) -> Result<(), Refused>
+    requires { vec_len runs.old < 2 ^ 32 }
+    ensures event { OnOk result (vec_len events.new + vec_len runs.new + 2 ≤ vec_capacity events.new) }
+    ensures run { OnOk result (vec_len runs.new < vec_capacity runs.new) }
+    ensures refusal { IfErr result (λ refused. refused ≡ OutOfMemory) }
+    ensures events { events.new.items ≡ events.old.items }
+    ensures runs { runs.new.items ≡ runs.old.items }
+    ensures grow { vec_capacity events.old ≤ vec_capacity events.new }
+{
+    let Ok(()) = events.reserve(runs.len() + 2) else {
+        return Err(Refused::OutOfMemory);
+    };
+    let Ok(()) = runs.reserve(1) else {
+        return Err(Refused::OutOfMemory);
+    };
+    Ok(())
+}
+
+/// Makes room for so many withdrawals, and for so many objects in `scratch`.
+pub(crate) fn room_for_gone(
+    withdrawn: &mut Vec<Withdrawal>,
+    scratch: &mut Vec<ObjId>,
+    objects: usize,
+) -> Result<(), Refused>
+    ensures withdrawals { OnOk result (vec_len withdrawn.new + objects ≤ vec_capacity withdrawn.new) }
+    ensures objects { OnOk result (objects ≤ vec_capacity scratch.new) }
+    ensures refusal { IfErr result (λ refused. refused ≡ OutOfMemory) }
+    ensures withdrawn { withdrawn.new.items ≡ withdrawn.old.items }
+    ensures scratch { scratch.new.items ≡ scratch.old.items }
+    ensures withdrawn_grow { vec_capacity withdrawn.old ≤ vec_capacity withdrawn.new }
+    ensures scratch_grow { vec_capacity scratch.old ≤ vec_capacity scratch.new }
+{
+    let Ok(()) = withdrawn.reserve(objects) else {
+        return Err(Refused::OutOfMemory);
+    };
+    let Ok(()) = scratch.reserve(objects) else {
+        return Err(Refused::OutOfMemory);
+    };
+    Ok(())
+}
+
+/// Makes room for so many exported objects, and for so many references that await.
+pub(crate) fn room_in_table(
+    exports: &mut Exports,
+    opened: u64,
+    returned: usize,
+) -> Result<(), Refused>
+    requires few_opened { opened < 2 ^ 32 }
+    requires few_returned { returned < 2 ^ 32 }
+    ensures opened { OnOk result (opened ≤ exports.new.room.exports) }
+    ensures returned { OnOk result (returned ≤ exports.new.room.waits) }
+    ensures refusal { IfErr result (λ refused. refused ≡ OutOfMemory) }
+    ensures rest { exports.new ≡ record exports.old { room = exports.new.room } }
+{
+    let Ok(()) = exports.reserve(opened as u32, returned as u32) else {
+        return Err(Refused::OutOfMemory);
+    };
+    Ok(())
+}
