@@ -67,7 +67,7 @@ take_front piece rest = lists.take_at piece rest (length piece) refl
 pub ok_is : {A : Type 0} (x y : A) (r : Result A Fault) → r ≡ Ok x → r ≡ Ok y → x ≡ y
 ok_is x y r a b = cc
 
-taken_is : (n : ℕ) (bs piece rest : List ℕ) → take_at n bs ≡ Ok (piece, rest) → (bs ≡ piece ++ rest) × (length piece ≡ n)
+pub taken_is : (n : ℕ) (bs piece rest : List ℕ) → take_at n bs ≡ Ok (piece, rest) → (bs ≡ piece ++ rest) × (length piece ≡ n)
 taken_is n bs piece rest h = elim (cases_lt (length bs) n) [
   | inl lt ↦ absurd (let e = takes_short n bs lt in cc)
   | inr le ↦ (let e : (take n bs, drop n bs) ≡ (piece, rest) = ok_is _ _ (take_at n bs) (takes_all n bs le) h in

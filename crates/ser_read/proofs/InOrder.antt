@@ -12,13 +12,12 @@ use Rattle.ser_values.proofs.PlainSound as plain
 use Rattle.ser_values.proofs.PlainSound.{bind_ok, passed, ok_is}
 use Rattle.ser_values.proofs.Complete as complete
 use Rattle.ser_read.specs.declared.fault.StreamFault.{StreamFault}
-use Rattle.ser_read.specs.declared.fault.StreamFault.TheVariants as faults
-use Rattle.ser_read.specs.declared.fault.Large.TheVariants as larges
 use Rattle.ser_read.specs.declared.serving.Want.{Want}
 use Rattle.ser_read.specs.Here.{Reads}
-use Rattle.ser_read.specs.Wants.{WantFault, ◌▸◌, Stand, nothing_read, close_at, want_at, serve, serve_all, wants_at, WantFails, WantGives, WantReads}
+use Rattle.ser_read.specs.Wants.{WantFault, inside, ◌▸◌, Stand, nothing_read, close_at, want_at, serve, serve_all, wants_at, WantIsBad, WantFails, WantGives}
 use Rattle.ser_read.specs.Asked.{IsAsked, TakesAsked, InLimits, AnswersAsked}
 use Rattle.ser_read.proofs.Heads.{byte_is}
+use Rattle.ser_read.proofs.Steps.{fails_outside}
 use Rattle.ser_read.proofs.Wants.{wants_fail, want_then}
 use Rattle.ser_read.proofs.Served.{lifted_ok, given_is, are}
 use Rattle.ser_read.proofs.Asked.{asked_sound}
@@ -52,18 +51,11 @@ pub serve_end : (end : ℕ) (front : List Item) (ws : List Want) (i : ℕ) (s : 
 unfolding serve
 serve_end end front ws i s bs le = let k : drop i ws ≡ [] = nil_from_length (drop i ws) (omega (arith, length-drop i ws)) in rw k (ap (λ (xs : List Item). Ok (xs, s, bs)) (append-nil front))
 
-pub serve_start : (end : ℕ) (ws : List Want) (s : Stand) (bs : List ℕ) → serve end ws s bs ≡ given_before [] (serve end (drop 0 ws) s bs)
-serve_start end ws s bs = same (serve end ws s bs)
-  where
-    same : (r : Serving) → r ≡ given_before [] r
-    same (Ok x) = refl
-    same (Err f) = refl
-
 -- ---- the whole stream
 
 pub close_reads : {p q r : Place} (ws : List Want) (answers : List Item) (s : Stand) (nodes : List Node) (is : List Item)
-    → Reads p q (λ end bs. magic_at end (0xAC ∷ 0xED ∷ 0x00 ∷ 0x05 ∷ []) bs) (λ rest. rest) → WantReads q r (λ end. serve end ws nothing_read) (λ rest. (answers, s, rest)) → close_at r.at s ≡ Ok (nodes, is)
-    → WantReads p r (λ end. wants_at end ws) (λ rest. (answers, nodes, is, rest))
+    → Reads p q (λ end bs. magic_at end (0xAC ∷ 0xED ∷ 0x00 ∷ 0x05 ∷ []) bs) (λ rest. rest) → Reads q r (λ end. serve end ws nothing_read) (λ rest. (answers, s, rest)) → close_at r.at s ≡ Ok (nodes, is)
+    → Reads p r (λ end. wants_at end ws) (λ rest. (answers, nodes, is, rest))
 unfolding wants_at serve_all
 close_reads {p} {q} {r} ws answers s nodes is a b closed = want_then (λ end. serve_all end ws) a (record {
   taken = b.taken;
@@ -81,7 +73,7 @@ magic_is end (w ∷ ws) bs rest e =
     byte_is bs a.0 a.1 ∙ (ap (λ z. z ∷ a.0.1) (eqb-true a.0.0 w p.0) ∙ ap (λ (l : List ℕ). w ∷ l) (magic_is end ws a.0.1 rest p.1))
 
 -- what was read is what was asked
-pub takes_asked : {p q : Place} (ws : List Want) (answers : List Item) (nodes : List Node) (is : List Item) → WantReads p q (λ end. wants_at end ws) (λ rest. (answers, nodes, is, rest)) → TakesAsked p q ws answers nodes is
+pub takes_asked : {p q : Place} (ws : List Want) (answers : List Item) (nodes : List Node) (is : List Item) → Reads p q (λ end. wants_at end ws) (λ rest. (answers, nodes, is, rest)) → TakesAsked p q ws answers nodes is
 unfolding wants_at
 takes_asked {p} {q} ws answers nodes is r =
     let end = q.at + 0 in
@@ -109,15 +101,9 @@ gives_asked after end ws answers nodes bytes rest now coming result h here limit
     go (Ok x) h read =
         let same = given_is (x.0, x.1.nodes, x.1.items, now) (answers, nodes, joined answers, rest) (sym h ∙ read) in
         (ap (λ (t : Whole). t.0) same, ap (λ (t : Whole). t.1) same, ap (λ (t : Whole). t.2) same, ap (λ (t : Whole). t.3) same)
-    go (Err faults.OutOfMemory) h read = tt
-    go (Err faults.ReadFault) h read = tt
-    go (Err (faults.Bad kind at)) h read = absurd (let e = sym h ∙ read in cc)
-    go (Err (faults.TooLarge larges.Bytes at)) h read = absurd (let e = sym h.0 ∙ read in cc)
-    go (Err (faults.TooLarge larges.Nodes at)) h read = absurd (let e = sym h ∙ read in cc)
-    go (Err (faults.TooLarge larges.Depth at)) h read = absurd (let e = sym h ∙ read in cc)
-    go (Err (faults.Truncated at)) h read = absurd (let e = sym h.0 ∙ read in cc)
+    go (Err e) h read = fails_outside inside WantIsBad after e (wants_at end ws coming) (answers, nodes, joined answers, rest) read (λ kind at is. absurd (let same = sym is ∙ read in cc)) h
 
-pub taken_asked : (p q : Place) (ws : List Want) (result : Result (List Item × Graph) StreamFault) → IfOk result (λ x. WantReads {Y = Whole} p q (λ end. wants_at end ws) (λ rest. (x.0, x.1.nodes, x.1.items, rest)))
+pub taken_asked : (p q : Place) (ws : List Want) (result : Result (List Item × Graph) StreamFault) → IfOk result (λ x. Reads {Y = Whole} p q (λ end. wants_at end ws) (λ rest. (x.0, x.1.nodes, x.1.items, rest)))
     → IfOk result (λ x. TakesAsked p q ws x.0 x.1.nodes x.1.items)
 taken_asked p q ws (Ok x) h = takes_asked ws x.0 x.1.nodes x.1.items h
 taken_asked p q ws (Err e) h = tt

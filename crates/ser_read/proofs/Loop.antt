@@ -16,7 +16,7 @@ Read A = Result (List A × Progress × List ℕ) Fault
 abbrev pub front_of : {A : Type 0} → List A → Read A → Read A
 front_of front read = read >>= λ x. Ok (front ++ x.0, x.1, x.2)
 
-regroup : {A : Type 0} (front : List A) (x : A) (read : Read A) → front_of front (read >>= λ xs. Ok (x ∷ xs.0, xs.1, xs.2)) ≡ front_of (front ++ x ∷ []) read
+pub regroup : {A : Type 0} (front : List A) (x : A) (read : Read A) → front_of front (read >>= λ xs. Ok (x ∷ xs.0, xs.1, xs.2)) ≡ front_of (front ++ x ∷ []) read
 regroup {A} front x (Ok y) = ap (λ (xs : List A). Ok (xs, y.1, y.2)) (sym (append_assoc front (x ∷ []) y.0))
 regroup front x (Err f) = refl
 

@@ -21,10 +21,6 @@ Run = Result (List ℕ × ℕ × List ℕ) WantFault
 abbrev pub behind : List ℕ → Run → Run
 behind front read = read ▸ λ x. Ok (front ++ x.0, x.1, x.2)
 
-regroup : (front : List ℕ) (b : ℕ) (read : Run) → behind front (read ▸ λ r. Ok (b ∷ r.0, r.1, r.2)) ≡ behind (front ++ b ∷ []) read
-regroup front b (Ok y) = ap (λ (xs : List ℕ). Ok (xs, y.1, y.2)) (sym (append_assoc front (b ∷ []) y.0))
-regroup front b (Err f) = refl
-
 pub behind_none : (read : Run) → behind [] read ≡ read
 behind_none (Ok x) = refl
 behind_none (Err f) = refl

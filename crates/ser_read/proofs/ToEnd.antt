@@ -1,5 +1,5 @@
 -- Reading to the end of the input.
-use Rattle.std.proofs.Common.{◌≡◌, ℕ, if◌then◌else◌, suc, ◌+◌, ◌-◌, ◌≤◌, ◌<◌, Bool, true, false, nat_eq, List, [], ◌∷◌, ◌++◌, length, take, drop, Option, None, Some, Result, Ok, Err, IfOk, refl, sym, ap, subst, ◌∙◌, arith, append-nil}
+use Rattle.std.proofs.Common.{◌≡◌, ℕ, suc, ◌+◌, ◌-◌, ◌≤◌, ◌<◌, true, false, List, [], ◌∷◌, ◌++◌, length, take, drop, Option, None, Some, Result, Ok, Err, IfOk, refl, sym, ap, subst, ◌∙◌, arith, append-nil}
 use Rattle.std.specs.Prelude.{IsErrAnd}
 use Rattle.std.proofs.lemmas.List.{take_all, drop_all, length-take-le, length-drop}
 use Rattle.class_desc.specs.declared.slot.Slot.{Slot}
@@ -13,18 +13,17 @@ use Rattle.ser_values.specs.declared.graph.Graph.{Graph}
 use Rattle.ser_values.specs.declared.node.Node.{Node}
 use Rattle.ser_values.specs.declared.node.Place.TheVariants as places
 use Rattle.ser_values.specs.Numbered.{IsGraph}
-use Rattle.ser_values.specs.Reading.{◌>>=◌, Fault, short, bad, bad_magic, Progress, Step, byte_at, magic_at, blocks_at, items_at, slot_at}
+use Rattle.ser_values.specs.Reading.{◌>>=◌, Fault, short, Progress, Step, byte_at, magic_at, blocks_at, items_at, slot_at}
 use Rattle.ser_read.specs.declared.fault.StreamFault.{StreamFault}
 use Rattle.ser_read.specs.declared.fault.StreamFault.TheVariants.{Bad, TooLarge, Truncated, ReadFault}
 use Rattle.ser_read.specs.declared.fault.StreamFault.TheVariants as faults
 use Rattle.ser_read.specs.declared.fault.Large.TheVariants.{Bytes}
-use Rattle.ser_read.specs.declared.fault.Large.TheVariants as larges
 use Rattle.wire_io.specs.declared.pull.Pull.{Pull}
-use Rattle.ser_read.specs.Here.{Fails, Gives, Reads, fault_after, env_at, coming_at, env, coming, IsTold}
+use Rattle.ser_read.specs.Here.{IsBad, Fails, Gives, Reads, fault_after, env_at, coming_at, env, coming, IsTold}
 use Rattle.ser_read.specs.Whole.{nothing_read, stream_at, going_on, to_end, code_at, ReadsAll, TakesStream, AnswersGraph}
 use Rattle.ser_read.proofs.Pulling.{takes_told, told_end}
 use Rattle.ser_read.proofs.Bytes.{none, ok_is}
-use Rattle.ser_read.proofs.Steps.{bytes_more, fails_then, fails_of}
+use Rattle.ser_read.proofs.Steps.{bytes_more, fails_then, fails_of, fails_outside}
 use Rattle.ser_read.proofs.Blocks.{Items, Slack, added_all, after_all, byte_cons}
 use Rattle.ser_read.proofs.Streams.{Answer, stream_at_sound, graph_at}
 
@@ -238,13 +237,7 @@ never e = absurd cc
 pub is_read : (after : StreamFault) (end : ℕ) (bytes : List ℕ) (nodes : List Node) (items : List Item) (result : Result Graph StreamFault) → stream_at end bytes ≡ Ok (nodes, items)
     → Gives after graph_parts result (stream_at end bytes) → AnswersGraph nodes items result
 is_read after end bytes nodes items (Ok graph) e h = same_parts nodes items (graph_parts graph) (sym e ∙ h)
-is_read after end bytes nodes items (Err ReadFault) e h = tt
-is_read after end bytes nodes items (Err faults.OutOfMemory) e h = tt
-is_read after end bytes nodes items (Err (Bad kind at)) e h = never (sym e ∙ h.0)
-is_read after end bytes nodes items (Err (Truncated at)) e h = never (sym e ∙ h.0)
-is_read after end bytes nodes items (Err (TooLarge Bytes at)) e h = never (sym e ∙ h.0)
-is_read after end bytes nodes items (Err (TooLarge larges.Nodes at)) e h = never (sym e ∙ h)
-is_read after end bytes nodes items (Err (TooLarge larges.Depth at)) e h = never (sym e ∙ h)
+is_read after end bytes nodes items (Err e) is h = fails_outside (λ f. f) IsBad after e (stream_at end bytes) (nodes, items) is (λ kind at g. never (sym is ∙ g.0)) h
 
 pub taken_streams : (p q : Place) (result : Result Graph StreamFault) → IfOk result (λ graph. ReadsAll p q stream_at (graph.nodes, graph.items)) → IfOk result (λ graph. TakesStream p q graph.nodes graph.items)
 taken_streams p q (Ok graph) h = takes_stream h

@@ -8,8 +8,8 @@ use Rattle.ser_values.specs.declared.graph.Graph.{Graph}
 use Rattle.ser_values.specs.Ranges.{NumbersFit, UnitsFit}
 use Rattle.ser_values.specs.Shape.{parts_in}
 use Rattle.ser_read.specs.declared.fault.StreamFault.{StreamFault}
-use Rattle.ser_read.specs.declared.fault.StreamFault.TheVariants.{ReadFault, OutOfMemory}
 use Rattle.ser_values.specs.Spelled.{joined, Spells, SpellsBlocks}
+use Rattle.ser_read.specs.Here.{IsOutside}
 use Rattle.ser_read.specs.declared.serving.Want.{Want}
 use Rattle.ser_read.specs.declared.serving.Want.TheVariants as wanted
 
@@ -53,12 +53,6 @@ pub record InLimits (nodes : List Node) : Type 0 where
   pub parts : parts_in nodes ≤ 1048576
   pub numbers : NumbersFit nodes
   pub units : UnitsFit nodes
-
--- Want of memory and failed reads are the outside's.
-abbrev pub IsOutside : StreamFault → Type 0
-IsOutside OutOfMemory = Unit {0}
-IsOutside ReadFault = Unit {0}
-IsOutside _ = ⊥
 
 -- these answers and nodes, with these bytes to come; or a fault of the outside
 abbrev pub AnswersAsked : List Item → List Node → List ℕ → List ℕ → Result (List Item × Graph) StreamFault → Type 0

@@ -50,6 +50,12 @@ Caused before after (Ok x) = before ≤ after
 Caused before after (Err ReadFault) = Rose before after
 Caused before after (Err e) = before ≤ after
 
+-- Want of memory and failed reads are the outside's.
+abbrev pub IsOutside : StreamFault → Type 0
+IsOutside OutOfMemory = Unit {0}
+IsOutside ReadFault = Unit {0}
+IsOutside _ = ⊥
+
 -- the kind of a fault in the bytes of a stream that is read whole
 abbrev pub kind_of : StreamKind → Kind
 kind_of kinds.BadMagic = bad_magic
@@ -71,37 +77,51 @@ IsInBytes kinds.BlockLeft = ⊥
 IsInBytes kinds.MissingBlock = ⊥
 IsInBytes _ = Unit {0}
 
--- Reading gives this fault; `after` is the fault of who wants one byte more. Want of memory and failed reads are the outside's.
-abbrev pub Fails : {Y : Type 0} → StreamFault → StreamFault → Result Y Fault → Type 0
-Fails after OutOfMemory read = Unit {0}
-Fails after ReadFault read = Unit {0}
-Fails after (Truncated at) read = (read ≡ Err short) × (after ≡ Truncated at)
-Fails after (TooLarge Bytes at) read = (read ≡ Err short) × (after ≡ TooLarge Bytes at)
-Fails after (TooLarge Nodes at) read = read ≡ Err (too_many at)
-Fails after (TooLarge Depth at) read = read ≡ Err (too_deep at)
-Fails after (Bad kind at) read = (read ≡ Err (bad (kind_of kind) at)) × IsInBytes kind
+-- Reading gives this fault; `after` is the fault of who wants one byte more. What is the outside's may come anywhere.
+-- `said` says a fault of what is read, and `of_kind` whether reading gives the fault of a kind at a position.
+abbrev pub FailsBy : {Y F : Type 0} → (Fault → F) → (Result Y F → StreamKind → ℕ → Type 0) → StreamFault → StreamFault → Result Y F → Type 0
+FailsBy said of_kind after OutOfMemory read = Unit {0}
+FailsBy said of_kind after ReadFault read = Unit {0}
+FailsBy said of_kind after (Truncated at) read = (read ≡ Err (said short)) × (after ≡ Truncated at)
+FailsBy said of_kind after (TooLarge Bytes at) read = (read ≡ Err (said short)) × (after ≡ TooLarge Bytes at)
+FailsBy said of_kind after (TooLarge Nodes at) read = read ≡ Err (said (too_many at))
+FailsBy said of_kind after (TooLarge Depth at) read = read ≡ Err (said (too_deep at))
+FailsBy said of_kind after (Bad kind at) read = of_kind read kind at
 
--- What a call answers, seen by `view`, is what reading gives.
+-- the fault of a kind, where a stream is read whole
+abbrev pub IsBad : {Y : Type 0} → Result Y Fault → StreamKind → ℕ → Type 0
+IsBad read kind at = (read ≡ Err (bad (kind_of kind) at)) × IsInBytes kind
+
+abbrev pub Fails : {Y : Type 0} → StreamFault → StreamFault → Result Y Fault → Type 0
+Fails after e read = FailsBy (λ f. f) IsBad after e read
+
+-- What a call answers, seen by `view`, is what reading gives; `fails` says that it gives a fault.
+abbrev pub GivesBy : {X Y F : Type 0} → (StreamFault → Result Y F → Type 0) → (X → Y) → Result X StreamFault → Result Y F → Type 0
+GivesBy fails view (Ok x) read = read ≡ Ok (view x)
+GivesBy fails view (Err e) read = fails e read
+
 abbrev pub Gives : {X Y : Type 0} → StreamFault → (X → Y) → Result X StreamFault → Result Y Fault → Type 0
-Gives after view (Ok x) read = read ≡ Ok (view x)
-Gives after view (Err e) read = Fails after e read
+Gives after view result read = GivesBy (Fails after) view result read
 
 -- Where the bytes are told, a call answers what reading gives of those to come: `out` of what is answered and of those that come then.
 -- `read` is told the position at which the bytes end.
+abbrev pub GivesToldBy : {S X Y F : Type 0} → (StreamFault → StreamFault → Result Y F → Type 0) → (S → Option (List ℕ)) → Pull S → Pull S → Result X StreamFault → (ℕ → List ℕ → Result Y F) → (X → List ℕ → Y) → Type 0
+GivesToldBy fails left old new result read out = IsTold left old → GivesBy (fails (env left old).after) (λ x. out x (coming left new)) result (read (env left old).end (coming left old))
+
 abbrev pub GivesTold : {S X Y : Type 0} → (S → Option (List ℕ)) → Pull S → Pull S → Result X StreamFault → (ℕ → List ℕ → Result Y Fault) → (X → List ℕ → Y) → Type 0
-GivesTold left old new result read out = IsTold left old → Gives (env left old).after (λ x. out x (coming left new)) result (read (env left old).end (coming left old))
+GivesTold left old new result read out = GivesToldBy Fails left old new result read out
 
 -- Each is a number of 8 bits.
 abbrev pub AreBytes : List ℕ → Type 0
 AreBytes bs = AllByRecursion (λ b. b < 256) bs
 
 -- Bytes were taken, and whatever comes after them, reading gives `out` of that.
-pub record Reads {Y : Type 0} (old new : Place) (read : ℕ → List ℕ → Result Y Fault) (out : List ℕ → Y) : Type 0 where
+pub record Reads {Y F : Type 0} (old new : Place) (read : ℕ → List ℕ → Result Y F) (out : List ℕ → Y) : Type 0 where
   pub taken : List ℕ
   pub bytes : AreBytes taken
   pub takes : Takes old new taken
   pub is : (rest : List ℕ) → read (new.at + length rest) (taken ++ rest) ≡ Ok (out rest)
 
 -- Whether the bytes are told or not, what a call answers is read from those that it took.
-abbrev pub ReadsTaken : {S X Y : Type 0} → (S → Option (List ℕ)) → (S → ℕ) → Pull S → Pull S → Result X StreamFault → (ℕ → List ℕ → Result Y Fault) → (X → List ℕ → Y) → Type 0
+abbrev pub ReadsTaken : {S X Y F : Type 0} → (S → Option (List ℕ)) → (S → ℕ) → Pull S → Pull S → Result X StreamFault → (ℕ → List ℕ → Result Y F) → (X → List ℕ → Y) → Type 0
 ReadsTaken left faults old new result read out = IfOk result (λ x. Reads (place left faults old) (place left faults new) read (out x))

@@ -1,5 +1,6 @@
 pub mod Here
 pub mod Signed
+pub mod NumberRuns
 pub mod Lists
 pub mod Codes
 pub mod Rows

@@ -1,23 +1,20 @@
 -- Reading a stream want by want: bytes of block data and references, as its reader asks for them.
-use Rattle.std.specs.Prelude.{◌≡◌, ℕ, zero, suc, ◌+◌, ◌-◌, ◌&&◌, nat_eq, nat_le, List, [], ◌∷◌, ◌++◌, length, Option, Result, Ok, Err, IfOk, if◌then◌else◌}
+use Rattle.std.specs.Prelude.{◌≡◌, ℕ, zero, suc, ◌-◌, ◌&&◌, nat_eq, nat_le, List, [], ◌∷◌, ◌++◌, length, Option, Result, Ok, Err, if◌then◌else◌}
 use Rattle.class_desc.specs.declared.slot.Slot.{Slot}
 use Rattle.class_desc.specs.declared.slot.Item.{Item}
 use Rattle.class_desc.specs.declared.slot.Item.TheVariants as items
 use Rattle.ser_values.specs.declared.node.Node.{Node}
 use Rattle.ser_values.specs.declared.node.Place.TheVariants as places
-use Rattle.ser_values.specs.Reading.{Fault, short, bad, too_many, too_deep, bad_code, reset, inner_exception, Progress, byte_at, slot_at, coded, magic_at}
-use Rattle.wire_io.specs.Pulled.{Place, place, Takes}
+use Rattle.ser_values.specs.Reading.{Fault, bad, bad_code, reset, inner_exception, Progress, byte_at, slot_at, coded, magic_at}
 use Rattle.wire_io.specs.declared.pull.Pull.{Pull}
 use Rattle.ser_read.specs.declared.fault.StreamKind.{StreamKind}
 use Rattle.ser_read.specs.declared.fault.StreamKind.TheVariants as kinds
 use Rattle.ser_read.specs.declared.fault.StreamFault.{StreamFault}
-use Rattle.ser_read.specs.declared.fault.StreamFault.TheVariants.{Bad, TooLarge, Truncated, ReadFault, OutOfMemory}
-use Rattle.ser_read.specs.declared.fault.Large.TheVariants.{Bytes, Nodes, Depth}
 use Rattle.ser_read.specs.declared.block.Head.{Head}
 use Rattle.ser_read.specs.declared.block.Head.TheVariants.{Block, Code}
 use Rattle.ser_read.specs.declared.serving.Want.{Want}
 use Rattle.ser_read.specs.declared.serving.Want.TheVariants as wanted
-use Rattle.ser_read.specs.Here.{AreBytes, kind_of, env, coming, IsTold}
+use Rattle.ser_read.specs.Here.{AreBytes, kind_of, FailsBy, GivesBy, GivesToldBy}
 use Rattle.ser_read.specs.Heads.{head_at}
 use Rattle.ser_read.specs.Named.{add_bytes}
 
@@ -125,36 +122,20 @@ fault_at kinds.MissingBlock at = missing_block at
 fault_at kinds.BlockLeft at = block_left at
 fault_at kind at = inside (bad (kind_of kind) at)
 
--- Reading gives this fault; `after` is the fault of who wants one byte more. Want of memory and failed reads are the outside's.
+abbrev pub WantIsBad : {Y : Type 0} → Result Y WantFault → StreamKind → ℕ → Type 0
+WantIsBad read kind at = read ≡ Err (fault_at kind at)
+
+-- Reading gives this fault.
 abbrev pub WantFails : {Y : Type 0} → StreamFault → StreamFault → Result Y WantFault → Type 0
-WantFails after OutOfMemory read = Unit {0}
-WantFails after ReadFault read = Unit {0}
-WantFails after (Truncated at) read = (read ≡ Err (inside short)) × (after ≡ Truncated at)
-WantFails after (TooLarge Bytes at) read = (read ≡ Err (inside short)) × (after ≡ TooLarge Bytes at)
-WantFails after (TooLarge Nodes at) read = read ≡ Err (inside (too_many at))
-WantFails after (TooLarge Depth at) read = read ≡ Err (inside (too_deep at))
-WantFails after (Bad kind at) read = read ≡ Err (fault_at kind at)
+WantFails after e read = FailsBy inside WantIsBad after e read
 
 -- What a call answers, seen by `view`, is what reading gives.
 abbrev pub WantGives : {X Y : Type 0} → StreamFault → (X → Y) → Result X StreamFault → Result Y WantFault → Type 0
-WantGives after view (Ok x) read = read ≡ Ok (view x)
-WantGives after view (Err e) read = WantFails after e read
+WantGives after view result read = GivesBy (WantFails after) view result read
 
--- Where the bytes are told, a call answers what reading gives of those to come: `out` of what is answered and of those that come then.
--- `read` is told the position at which the bytes end.
+-- Where the bytes are told, a call answers what reading gives of those to come.
 abbrev pub GivesWant : {S X Y : Type 0} → (S → Option (List ℕ)) → Pull S → Pull S → Result X StreamFault → (ℕ → List ℕ → Result Y WantFault) → (X → List ℕ → Y) → Type 0
-GivesWant left old new result read out = IsTold left old → WantGives (env left old).after (λ x. out x (coming left new)) result (read (env left old).end (coming left old))
-
--- Bytes were taken, and whatever comes after them, reading gives `out` of that.
-pub record WantReads {Y : Type 0} (old new : Place) (read : ℕ → List ℕ → Result Y WantFault) (out : List ℕ → Y) : Type 0 where
-  pub taken : List ℕ
-  pub bytes : AreBytes taken
-  pub takes : Takes old new taken
-  pub is : (rest : List ℕ) → read (new.at + length rest) (taken ++ rest) ≡ Ok (out rest)
-
--- Whether the bytes are told or not, what a call answers is read from those that it took.
-abbrev pub WantTaken : {S X Y : Type 0} → (S → Option (List ℕ)) → (S → ℕ) → Pull S → Pull S → Result X StreamFault → (ℕ → List ℕ → Result Y WantFault) → (X → List ℕ → Y) → Type 0
-WantTaken left faults old new result read out = IfOk result (λ x. WantReads (place left faults old) (place left faults new) read (out x))
+GivesWant left old new result read out = GivesToldBy WantFails left old new result read out
 
 -- ---- lists of wants
 

@@ -10,8 +10,8 @@ use Rattle.ser_values.specs.Shape.{parts_in}
 use Rattle.ser_values.specs.Spelled.{IsStream}
 use Rattle.ser_values.specs.Reading.{◌>>=◌, Fault, short, Progress, magic_at, items_at, slot_at}
 use Rattle.ser_read.specs.declared.fault.StreamFault.{StreamFault}
-use Rattle.ser_read.specs.declared.fault.StreamFault.TheVariants.{Truncated, ReadFault, OutOfMemory}
-use Rattle.ser_read.specs.Here.{AreBytes}
+use Rattle.ser_read.specs.declared.fault.StreamFault.TheVariants.{Truncated}
+use Rattle.ser_read.specs.Here.{AreBytes, IsOutside}
 
 -- nothing was read yet
 abbrev pub nothing_read : Progress
@@ -59,6 +59,4 @@ pub record TakesStream (old new : Place) (nodes : List Node) (items : List Item)
 -- a graph of these nodes and items, unless the outside failed
 abbrev pub AnswersGraph : List Node → List Item → Result Graph StreamFault → Type 0
 AnswersGraph nodes items (Ok graph) = (graph.nodes ≡ nodes) × (graph.items ≡ items)
-AnswersGraph nodes items (Err ReadFault) = Unit {0}
-AnswersGraph nodes items (Err OutOfMemory) = Unit {0}
-AnswersGraph nodes items (Err e) = ⊥
+AnswersGraph nodes items (Err e) = IsOutside e

@@ -2,7 +2,7 @@
 ghost use Rattle.std.specs.Prelude.{◌≡◌, ◌-◌, ◌≤◌, ◌<◌, ℕ, OnOk};
 ghost use Rattle.ser_read.specs.Here.{env, Caused, GivesTold, ReadsTaken};
 ghost use Rattle.ser_read.specs.Heads.{one_head, any_head, is_empty, head_at};
-ghost use Rattle.ser_read.specs.Wants.{GivesWant, WantTaken, fault_at, no_block, opened_at, run_at};
+ghost use Rattle.ser_read.specs.Wants.{GivesWant, fault_at, no_block, opened_at, run_at};
 
 use crate::fault::{StreamFault, StreamKind};
 use crate::pieces::bad;
@@ -106,7 +106,7 @@ fn opened<S: Source>(pull: &mut Pull<'_, S>, block: u32) -> Result<u32, StreamFa
     ensures cause { Caused (S.faults pull.old.source.now) (S.faults pull.new.source.now) result }
     ensures env { OnOk result (env S.left pull.new ≡ env S.left pull.old) }
     ensures gives { GivesWant S.left pull.old pull.new result (λ end. opened_at end block) (λ x rest. (x, rest)) }
-    ensures reads { WantTaken S.left S.faults pull.old pull.new result (λ end. opened_at end block) (λ x rest. (x, rest)) }
+    ensures reads { ReadsTaken S.left S.faults pull.old pull.new result (λ end. opened_at end block) (λ x rest. (x, rest)) }
 {
     if block > 0 {
         return Ok(block);
@@ -128,7 +128,7 @@ pub(crate) fn run<S: Source>(
     ensures cause { Caused (S.faults pull.old.source.now) (S.faults pull.new.source.now) result }
     ensures env { OnOk result (env S.left pull.new ≡ env S.left pull.old) }
     ensures gives { GivesWant S.left pull.old pull.new result (λ end. run_at end n block.old) (λ x rest. (x, block.new, rest)) }
-    ensures reads { WantTaken S.left S.faults pull.old pull.new result (λ end. run_at end n block.old) (λ x rest. (x, block.new, rest)) }
+    ensures reads { ReadsTaken S.left S.faults pull.old pull.new result (λ end. run_at end n block.old) (λ x rest. (x, block.new, rest)) }
 {
     let mut bytes = ByteList::new(alloc);
     let mut left = n;

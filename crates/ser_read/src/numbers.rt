@@ -1,25 +1,37 @@
 //! Numbers and truth values, each of a fixed number of bytes.
-ghost use Rattle.std.specs.Prelude.{◌≡◌, ◌-◌, ◌≤◌, ◌<◌, OnOk, true};
+ghost use Rattle.std.specs.Prelude.{◌≡◌, ◌-◌, ◌*◌, ◌≤◌, ◌<◌, ◌++◌, ℕ, List, length, OnOk, true};
 ghost use Rattle.std.specs.Int.{w16, w32, w64};
 ghost use Rattle.class_desc.specs.declared.slot.Slot.{Slot};
 ghost use Rattle.class_desc.specs.TypeCode.{is_primitive};
 ghost use Rattle.ser_values.specs.Reading.{Progress, Step, plain, byte_at, number_at, many_at, value_at, elements_at};
 ghost use Rattle.ser_read.specs.Signed.{signed_at, truth_at};
 ghost use Rattle.ser_read.specs.Here.{env, Caused, GivesTold, ReadsTaken};
+ghost use Rattle.std.proofs.Common.{rules};
+ghost use Rattle.ser_read.specs.NumberRuns.{byte_of, truth_of, number_of, signed_of, of_front, run_of, byte_is, truth_is, number_is, signed_is};
 
 use crate::fault::StreamFault;
-use crate::pulled::{byte, eight, four, take, two};
+use crate::pulled::{byte, eight, four, piece, take, two};
 use class_desc::TypeCode;
 use mod_utf::list::{ByteList, Sequence};
 use ser_values::{Value, Values};
-use std::alloc::Global;
+use std::alloc::{AllocError, Global};
 use wire_io::pull::Pull;
 use wire_io::source::Source;
+
+/// How many numbers are taken at once at most.
+const BLOCK: u32 = 512;
 
 /// What is read from a fixed number of bytes.
 pub(crate) trait Number: Drop {
     /// Reading it from bytes.
     ghost read: { Step Self };
+    /// What so many bytes spell.
+    ghost value: { List ℕ → Self };
+
+    ghost WIDTH: { ℕ };
+
+    /// How many bytes it has.
+    const WIDTH: usize;
 
     /// The next one.
     fn pull<S: Source>(pull: &mut Pull<'_, S>) -> Result<Self, StreamFault>
@@ -29,73 +41,199 @@ pub(crate) trait Number: Drop {
         ensures env { OnOk result (env S.left pull.new ≡ env S.left pull.old) }
         ensures gives { (now : Progress) → GivesTold S.left pull.old pull.new result (λ end. read now) (λ x rest. (x, now, rest)) }
         ensures reads { (now : Progress) → ReadsTaken S.left S.faults pull.old pull.new result (λ end. read now) (λ x rest. (x, now, rest)) };
+
+    /// The one that these bytes spell.
+    fn of(bytes: &[u8]) -> Self
+        requires { length bytes.now ≡ WIDTH }
+        ensures { result ≡ value bytes.now };
+
+    /// It has few bytes.
+    ghost few: { WIDTH ≤ 8 };
+    /// Reading takes its bytes, and is what they spell.
+    ghost spelled: { (now : Progress) (bs : List ℕ) → read now bs ≡ of_front WIDTH value now bs };
 }
 
 impl Number for u8 {
     ghost read = { plain byte_at };
 
+    ghost value = { byte_of };
+
+    ghost WIDTH = { 1 };
+
+    ghost few = { Prim.search rules };
+
+    ghost spelled = { byte_is };
+
+    const WIDTH: usize = 1;
+
     fn pull<S: Source>(pull: &mut Pull<'_, S>) -> Result<u8, StreamFault> {
         byte(pull)
+    }
+
+    fn of(bytes: &[u8]) -> u8 {
+        bytes[0]
     }
 }
 
 impl Number for u16 {
     ghost read = { plain (number_at w16) };
 
+    ghost value = { number_of w16 };
+
+    ghost WIDTH = { 2 };
+
+    ghost few = { Prim.search rules };
+
+    ghost spelled = { number_is w16 };
+
+    const WIDTH: usize = 2;
+
     fn pull<S: Source>(pull: &mut Pull<'_, S>) -> Result<u16, StreamFault> {
         two(pull)
+    }
+
+    fn of(bytes: &[u8]) -> u16 {
+        u16::from_be_bytes([bytes[0], bytes[1]])
     }
 }
 
 impl Number for u32 {
     ghost read = { plain (number_at w32) };
 
+    ghost value = { number_of w32 };
+
+    ghost WIDTH = { 4 };
+
+    ghost few = { Prim.search rules };
+
+    ghost spelled = { number_is w32 };
+
+    const WIDTH: usize = 4;
+
     fn pull<S: Source>(pull: &mut Pull<'_, S>) -> Result<u32, StreamFault> {
         four(pull)
+    }
+
+    fn of(bytes: &[u8]) -> u32 {
+        u32::from_be_bytes([bytes[0], bytes[1], bytes[2], bytes[3]])
     }
 }
 
 impl Number for u64 {
     ghost read = { plain (number_at w64) };
 
+    ghost value = { number_of w64 };
+
+    ghost WIDTH = { 8 };
+
+    ghost few = { Prim.search rules };
+
+    ghost spelled = { number_is w64 };
+
+    const WIDTH: usize = 8;
+
     fn pull<S: Source>(pull: &mut Pull<'_, S>) -> Result<u64, StreamFault> {
         eight(pull)
+    }
+
+    fn of(bytes: &[u8]) -> u64 {
+        u64::from_be_bytes([
+            bytes[0], bytes[1], bytes[2], bytes[3], bytes[4], bytes[5], bytes[6], bytes[7],
+        ])
     }
 }
 
 impl Number for i16 {
     ghost read = { signed_at w16 };
 
+    ghost value = { signed_of w16 };
+
+    ghost WIDTH = { 2 };
+
+    ghost few = { Prim.search rules };
+
+    ghost spelled = { signed_is w16 };
+
+    const WIDTH: usize = 2;
+
     fn pull<S: Source>(pull: &mut Pull<'_, S>) -> Result<i16, StreamFault> {
         Ok(two(pull)?.cast_signed())
+    }
+
+    fn of(bytes: &[u8]) -> i16 {
+        i16::from_be_bytes([bytes[0], bytes[1]])
     }
 }
 
 impl Number for i32 {
     ghost read = { signed_at w32 };
 
+    ghost value = { signed_of w32 };
+
+    ghost WIDTH = { 4 };
+
+    ghost few = { Prim.search rules };
+
+    ghost spelled = { signed_is w32 };
+
+    const WIDTH: usize = 4;
+
     fn pull<S: Source>(pull: &mut Pull<'_, S>) -> Result<i32, StreamFault> {
         Ok(four(pull)?.cast_signed())
+    }
+
+    fn of(bytes: &[u8]) -> i32 {
+        i32::from_be_bytes([bytes[0], bytes[1], bytes[2], bytes[3]])
     }
 }
 
 impl Number for i64 {
     ghost read = { signed_at w64 };
 
+    ghost value = { signed_of w64 };
+
+    ghost WIDTH = { 8 };
+
+    ghost few = { Prim.search rules };
+
+    ghost spelled = { signed_is w64 };
+
+    const WIDTH: usize = 8;
+
     fn pull<S: Source>(pull: &mut Pull<'_, S>) -> Result<i64, StreamFault> {
         Ok(eight(pull)?.cast_signed())
+    }
+
+    fn of(bytes: &[u8]) -> i64 {
+        i64::from_be_bytes([
+            bytes[0], bytes[1], bytes[2], bytes[3], bytes[4], bytes[5], bytes[6], bytes[7],
+        ])
     }
 }
 
 impl Number for bool {
     ghost read = { truth_at };
 
+    ghost value = { truth_of };
+
+    ghost WIDTH = { 1 };
+
+    ghost few = { Prim.search rules };
+
+    ghost spelled = { truth_is };
+
+    const WIDTH: usize = 1;
+
     fn pull<S: Source>(pull: &mut Pull<'_, S>) -> Result<bool, StreamFault> {
         Ok(byte(pull)? != 0)
     }
+
+    fn of(bytes: &[u8]) -> bool {
+        bytes[0] != 0
+    }
 }
 
-/// The next `n` numbers.
+/// The next `n` numbers. There is room for at most one block ahead of what was read.
 fn numbers<T: Number, S: Source>(
     alloc: Global,
     pull: &mut Pull<'_, S>,
@@ -109,11 +247,31 @@ fn numbers<T: Number, S: Source>(
     ensures reads { (now : Progress) → ReadsTaken S.left S.faults pull.old pull.new result (λ end. many_at T.read n now) (λ x rest. (x, now, rest)) }
 {
     let mut numbers = Sequence::new(alloc);
-    for _ in 0..n {
-        let number = T::pull(pull)?;
-        numbers.push(number)?;
+    let mut left = n;
+    while left > 0 {
+        let more = left.min(BLOCK);
+        let block = piece(alloc, pull, more * T::WIDTH as u32)?;
+        append_run(&mut numbers, block.as_slice(), more)?;
+        left -= more;
     }
     Ok(numbers)
+}
+
+/// Appends the `count` numbers that the bytes spell.
+fn append_run<T: Number>(
+    numbers: &mut Sequence<T>,
+    bytes: &[u8],
+    count: u32,
+) -> Result<(), AllocError>
+    requires { length bytes.now ≡ count * T.WIDTH }
+    ensures { OnOk result (numbers.new ≡ numbers.old ++ run_of T.WIDTH T.value count bytes.now) }
+{
+    let mut at = 0;
+    for _ in 0..count {
+        numbers.push(T::of(&bytes[at..at + T::WIDTH]))?;
+        at += T::WIDTH;
+    }
+    Ok(())
 }
 
 /// The next `n` bytes, as elements.

@@ -160,7 +160,11 @@ fn see(bytes: &[u8])
 }
 
 /// The next bytes, as one piece.
-fn piece<S: Source>(alloc: Global, pull: &mut Pull<'_, S>, n: u32) -> Result<ByteList, StreamFault>
+pub(crate) fn piece<S: Source>(
+    alloc: Global,
+    pull: &mut Pull<'_, S>,
+    n: u32,
+) -> Result<ByteList, StreamFault>
     ensures lent { pull.new.source.ghost_name ≡ pull.old.source.ghost_name }
     ensures cause { Caused (S.faults pull.old.source.now) (S.faults pull.new.source.now) result }
     ensures nears { OnOk result (pull.new.stop - pull.new.at ≤ pull.old.stop - pull.old.at) }

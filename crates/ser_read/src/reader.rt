@@ -1,9 +1,9 @@
 //! Reading a stream want by want.
-ghost use Rattle.std.specs.Prelude.{◌≡◌, ◌-◌, ◌≤◌, [], ◌∷◌, ◌++◌, List, ℕ, OnOk, IfOk, IfErr, Some, None, Err};
+ghost use Rattle.std.specs.Prelude.{◌≡◌, [], ◌∷◌, OnOk, IfOk, IfErr, Some, None, Err};
 ghost use Rattle.ser_values.specs.Reading.{magic_at};
 ghost use Rattle.ser_read.specs.declared.fault.StreamFault.{StreamFault};
 ghost use Rattle.ser_read.specs.Here.{env, Caused, GivesTold, ReadsTaken};
-ghost use Rattle.ser_read.specs.Wants.{GivesWant, WantTaken, WantGives, bytes_at, reference_at, slot_next, close_at, nothing_read};
+ghost use Rattle.ser_read.specs.Wants.{GivesWant, WantGives, bytes_at, reference_at, slot_next, close_at, nothing_read};
 ghost use Rattle.ser_read.specs.Tables.{now_of};
 ghost use Rattle.ser_read.specs.Stands.{stand_of};
 
@@ -48,7 +48,7 @@ fn bytes_in<S: Source>(
     ensures env { OnOk result (env S.left pull.new ≡ env S.left pull.old) }
     ensures table { stand.new.table ≡ stand.old.table }
     ensures gives { GivesWant S.left pull.old pull.new result (λ end. bytes_at end n (stand_of stand.old)) (λ x rest. (x, stand_of stand.new, rest)) }
-    ensures reads { WantTaken S.left S.faults pull.old pull.new result (λ end. bytes_at end n (stand_of stand.old)) (λ x rest. (x, stand_of stand.new, rest)) }
+    ensures reads { ReadsTaken S.left S.faults pull.old pull.new result (λ end. bytes_at end n (stand_of stand.old)) (λ x rest. (x, stand_of stand.new, rest)) }
 {
     let bytes = run(alloc, pull, &mut stand.block, n)?;
     let copy = bytes.copy(alloc)?;
@@ -69,7 +69,7 @@ fn reference<S: Source>(
     ensures env { OnOk result (env S.left pull.new ≡ env S.left pull.old) }
     ensures read { OnOk result (table.new.unread.items ≡ []) }
     ensures gives { GivesWant S.left pull.old pull.new result (λ end. reference_at end (now_of table.old)) (λ x rest. (x, now_of table.new, rest)) }
-    ensures reads { WantTaken S.left S.faults pull.old pull.new result (λ end. reference_at end (now_of table.old)) (λ x rest. (x, now_of table.new, rest)) }
+    ensures reads { ReadsTaken S.left S.faults pull.old pull.new result (λ end. reference_at end (now_of table.old)) (λ x rest. (x, now_of table.new, rest)) }
 {
     match next_head(pull)? {
         Head::Block(_) => Err(bad(StreamKind::BlockLeft, pull.at)),
@@ -90,7 +90,7 @@ fn slot_in<S: Source>(
     ensures env { OnOk result (env S.left pull.new ≡ env S.left pull.old) }
     ensures read { OnOk result (stand.new.table.unread.items ≡ []) }
     ensures gives { GivesWant S.left pull.old pull.new result (λ end. slot_next end (stand_of stand.old)) (λ x rest. (x, stand_of stand.new, rest)) }
-    ensures reads { WantTaken S.left S.faults pull.old pull.new result (λ end. slot_next end (stand_of stand.old)) (λ x rest. (x, stand_of stand.new, rest)) }
+    ensures reads { ReadsTaken S.left S.faults pull.old pull.new result (λ end. slot_next end (stand_of stand.old)) (λ x rest. (x, stand_of stand.new, rest)) }
 {
     if stand.block > 0 {
         return Err(bad(StreamKind::BlockLeft, pull.at));
@@ -159,7 +159,7 @@ impl Reader {
         ensures lent { pull.new.source.ghost_name ≡ pull.old.source.ghost_name }
         ensures env { OnOk result (env S.left pull.new ≡ env S.left pull.old) }
         ensures gives { self.old.refused ≡ None → GivesWant S.left pull.old pull.new result (λ end. bytes_at end n self.old.stand) (λ x rest. (x, self.new.stand, rest)) }
-        ensures reads { WantTaken S.left S.faults pull.old pull.new result (λ end. bytes_at end n self.old.stand) (λ x rest. (x, self.new.stand, rest)) }
+        ensures reads { ReadsTaken S.left S.faults pull.old pull.new result (λ end. bytes_at end n self.old.stand) (λ x rest. (x, self.new.stand, rest)) }
     {
         if let Some(earlier) = self.refused {
             return Err(earlier);
@@ -188,7 +188,7 @@ impl Reader {
         ensures lent { pull.new.source.ghost_name ≡ pull.old.source.ghost_name }
         ensures env { OnOk result (env S.left pull.new ≡ env S.left pull.old) }
         ensures gives { self.old.refused ≡ None → GivesWant S.left pull.old pull.new result (λ end. slot_next end self.old.stand) (λ x rest. (x, self.new.stand, rest)) }
-        ensures reads { WantTaken S.left S.faults pull.old pull.new result (λ end. slot_next end self.old.stand) (λ x rest. (x, self.new.stand, rest)) }
+        ensures reads { ReadsTaken S.left S.faults pull.old pull.new result (λ end. slot_next end self.old.stand) (λ x rest. (x, self.new.stand, rest)) }
     {
         if let Some(fault) = self.refused {
             return Err(fault);

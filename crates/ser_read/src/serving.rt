@@ -1,10 +1,10 @@
 //! Lists of wants.
-ghost use Rattle.std.specs.Prelude.{◌≡◌, ◌∷◌, ◌++◌, [], List, ℕ, OnOk, IfOk, None};
+ghost use Rattle.std.specs.Prelude.{◌≡◌, ◌∷◌, List, ℕ, OnOk, IfOk, None};
 ghost use Rattle.wire_io.specs.Pulled.{place};
 ghost use Rattle.class_desc.specs.declared.slot.Item.{Item};
 ghost use Rattle.ser_values.specs.declared.node.Node.{Node};
-ghost use Rattle.ser_read.specs.Here.{env, coming, IsTold, Caused};
-ghost use Rattle.ser_read.specs.Wants.{GivesWant, WantTaken, want_at, serve, wants_at};
+ghost use Rattle.ser_read.specs.Here.{env, coming, IsTold, Caused, ReadsTaken};
+ghost use Rattle.ser_read.specs.Wants.{GivesWant, want_at, serve, wants_at};
 ghost use Rattle.ser_read.specs.Asked.{IsAsked, TakesAsked, InLimits, AnswersAsked};
 
 use crate::fault::StreamFault;
@@ -38,7 +38,7 @@ fn serve_one<S: Source>(
     ensures cause { Caused (S.faults pull.old.source.now) (S.faults pull.new.source.now) result }
     ensures env { OnOk result (env S.left pull.new ≡ env S.left pull.old) }
     ensures gives { GivesWant S.left pull.old pull.new result (λ end. want_at end want reader.old.stand) (λ x rest. (x, reader.new.stand, rest)) }
-    ensures reads { WantTaken S.left S.faults pull.old pull.new result (λ end. want_at end want reader.old.stand) (λ x rest. (x, reader.new.stand, rest)) }
+    ensures reads { ReadsTaken S.left S.faults pull.old pull.new result (λ end. want_at end want reader.old.stand) (λ x rest. (x, reader.new.stand, rest)) }
 {
     match want {
         Want::Bytes(n) => {
@@ -65,7 +65,7 @@ fn serve<S: Source>(
     ensures cause { Caused (S.faults pull.old.source.now) (S.faults pull.new.source.now) result }
     ensures env { OnOk result (env S.left pull.new ≡ env S.left pull.old) }
     ensures gives { GivesWant S.left pull.old pull.new result (λ end. serve end wants.now reader.old.stand) (λ x rest. (x, reader.new.stand, rest)) }
-    ensures reads { WantTaken S.left S.faults pull.old pull.new result (λ end. serve end wants.now reader.old.stand) (λ x rest. (x, reader.new.stand, rest)) }
+    ensures reads { ReadsTaken S.left S.faults pull.old pull.new result (λ end. serve end wants.now reader.old.stand) (λ x rest. (x, reader.new.stand, rest)) }
 {
     let mut answers = Items::new(alloc);
     for want in wants {
@@ -86,7 +86,7 @@ fn read_each<S: Source>(
     ensures cause { Caused (S.faults pull.old.source.now) (S.faults pull.new.source.now) result }
     ensures env { OnOk result (env S.left pull.new ≡ env S.left pull.old) }
     ensures gives { GivesWant S.left pull.old pull.new result (λ end. wants_at end wants.now) (λ x rest. (x.0, x.1.nodes, x.1.items, rest)) }
-    ensures reads { WantTaken S.left S.faults pull.old pull.new result (λ end. wants_at end wants.now) (λ x rest. (x.0, x.1.nodes, x.1.items, rest)) }
+    ensures reads { ReadsTaken S.left S.faults pull.old pull.new result (λ end. wants_at end wants.now) (λ x rest. (x.0, x.1.nodes, x.1.items, rest)) }
 {
     let mut reader = Reader::start(alloc, pull)?;
     let answers = serve(alloc, pull, &mut reader, wants)?;

@@ -1,18 +1,18 @@
 //! Streams that are read to the end of the input.
-ghost use Rattle.std.specs.Prelude.{◌≡◌, ◌≤◌, ◌<◌, ◌+◌, ◌-◌, ◌∷◌, [], length, take, false, List, ℕ, Some, IfOk, IfSome, IsErrAnd, OnOk};
+ghost use Rattle.std.specs.Prelude.{◌≡◌, ◌≤◌, ◌<◌, ◌+◌, ◌-◌, [], length, take, false, List, ℕ, Some, IfOk, IfSome, IsErrAnd};
 ghost use Rattle.class_desc.specs.declared.slot.Item.{Item as OneItem};
 ghost use Rattle.wire_io.specs.Wire.{NothingLeft};
 ghost use Rattle.wire_io.specs.Pulled.{place, Takes};
 ghost use Rattle.ser_values.specs.declared.node.Node.{Node};
 ghost use Rattle.ser_values.specs.declared.node.Place.TheVariants.{Reference};
-ghost use Rattle.ser_values.specs.Reading.{byte_at, magic_at, items_at, slot_at};
+ghost use Rattle.ser_values.specs.Reading.{byte_at, items_at, slot_at};
 ghost use Rattle.ser_values.specs.Ranges.{NumbersFit, UnitsFit};
 ghost use Rattle.ser_values.specs.Shape.{parts_in};
 ghost use Rattle.ser_values.specs.Spelled.{IsStream};
 ghost use Rattle.ser_read.specs.declared.fault.StreamFault.TheVariants.{Truncated, TooLarge};
 ghost use Rattle.ser_read.specs.declared.fault.Large.TheVariants.{Bytes};
 ghost use Rattle.ser_read.specs.Tables.{now_of};
-ghost use Rattle.ser_read.specs.Here.{coming, env, IsTold, Caused, Fails, Gives, GivesTold, Reads, ReadsTaken};
+ghost use Rattle.ser_read.specs.Here.{coming, env, IsTold, Caused, Fails, Gives, Reads};
 ghost use Rattle.ser_read.specs.Whole.{stream_at, going_on, to_end, code_at, ReadsAll, TakesStream, AnswersGraph};
 
 use crate::fault::{Large, StreamFault};

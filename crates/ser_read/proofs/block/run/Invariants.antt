@@ -1,7 +1,7 @@
 use Rattle.std.proofs.Common.{◌≡◌}
 use Rattle.wire_io.specs.Pulled.{place}
 use Rattle.ser_read.specs.Wants.{run_at}
-use Rattle.ser_read.proofs.Wants.{Leads}
+use Rattle.ser_read.proofs.Steps.{Leads}
 use Rattle.ser_read.proofs.Runs.{Run, behind}
 use Rattle.ser_read.proofs.block.run.Given as goal
 

@@ -6,12 +6,15 @@ use Rattle.ser_read.proofs.Steps.{Leads}
 use Rattle.ser_read.proofs.Loop.{front_of}
 use Rattle.ser_read.proofs.numbers.numbers.Given as goal
 
-abbrev pub invariant-loop : goal.invariant-loop
-invariant-loop g l =
+abbrev pub invariant-loop-left : goal.invariant-loop-left
+invariant-loop-left g l =
     record {
       lent : l.pull.source.ghost_name ≡ l.fn.pull.source.ghost_name;
       faults : g.S.Source.faults l.fn.pull.source.now ≤ g.S.Source.faults l.pull.source.now;
       nears : l.pull.stop - l.pull.at ≤ l.fn.pull.stop - l.fn.pull.at;
       same : env g.S.Source.left l.pull ≡ env g.S.Source.left l.fn.pull;
-      leads : (now : Progress) → Leads (place g.S.Source.left g.S.Source.faults l.fn.pull) (place g.S.Source.left g.S.Source.faults l.pull) (λ end. many_at g.T.Number.read l.n now) (λ end bs. front_of l.numbers (many_at g.T.Number.read (l.n - l.counter) now bs));
+      leads : (now : Progress) → Leads (place g.S.Source.left g.S.Source.faults l.fn.pull) (place g.S.Source.left g.S.Source.faults l.pull) (λ end. many_at g.T.Number.read l.n now) (λ end bs. front_of l.numbers (many_at g.T.Number.read l.left now bs));
     }
+
+abbrev pub decreases-loop-left : goal.decreases-loop-left
+decreases-loop-left g l = l.left

@@ -2,7 +2,7 @@ use Rattle.std.proofs.Common.{◌≡◌, ◌≤◌, drop, None}
 use Rattle.wire_io.specs.Pulled.{place}
 use Rattle.ser_read.specs.Here.{env}
 use Rattle.ser_read.specs.Wants.{serve}
-use Rattle.ser_read.proofs.Wants.{Leads}
+use Rattle.ser_read.proofs.Steps.{Leads}
 use Rattle.ser_read.proofs.InOrder.{Serving, given_before}
 use Rattle.ser_read.proofs.serving.serve.Given as goal
 
