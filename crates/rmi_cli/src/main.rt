@@ -28,6 +28,8 @@ fn main(rt: HostRuntime) -> io::Result<ExitCode> {
 }
 
 #[cfg(test)]
+mod end_tests;
+#[cfg(test)]
 mod replay_tests;
 #[cfg(test)]
 mod show_tests;

@@ -130,7 +130,17 @@ fn each_bad_line_has_its_number(rt: HostRuntime) -> Result<(), Fail> {
 }
 
 /// Journals of calls, of free objects and of moments that go back, each with its outline: the lines after `=`.
-const CALLS: &str = "space 600000 300000 7 9
+const CALLS: &str = "space 10 5 -1 -5
+0 0 open 2 pinned
+1 10 begin 16
+1 10 finish 16 1 - 1/0/0
+1 11 ack 1/0/0
+=
+events 4 units 5 now 11
+object 16 kind 2 pinned running 0 awaiting 0 held 0 names 0
+withdrawn 17 place 3
+
+space 600000 300000 7 9
 0 0 open 2 free
 =
 events 1 units 1 now 0

@@ -3,12 +3,22 @@ use crate::run::run;
 use crate::tests::{host_of, joined, words_of};
 use std::test::Fail;
 
+/// An array of two references to one text, whose class has a null in its note.
+const SHARED: &[u8] =
+    b"ur\x00\x13[Ljava.lang.String;\xAD\xD2V\xE7\xE9\x1D{G\x02\x00\x00pxp\x00\x00\x00\x02t\x00\x01zq\x00~\x00\x02";
+
 #[test]
 fn each_stream_has_its_text_or_its_fault(rt: HostRuntime) -> Result<(), Fail> {
     let alloc = rt.alloc();
     // the stream after its magic number, what is printed, the line, and the status
-    let rows: [(&[u8], &str, &str, u8); 10] = [
+    let rows: [(&[u8], &str, &str, u8); 11] = [
         (b"", "", "", 0),
+        (
+            SHARED,
+            "#0 desc \"[Ljava.lang.String;\" add256e7e91d7b47 02 - note null super null\n#1 array #0 2 #2,#2\n#2 text \"z\"\nitem #1\n",
+            "",
+            0,
+        ),
         (b"t\x00\x01a", "#0 text \"a\"\nitem #0\n", "", 0),
         (
             b"p\x77\x02\x02\x01\x7A\x00\x00\x00\x01\x03q\x00\x7E\x00\x00",
@@ -43,24 +53,6 @@ fn each_stream_has_its_text_or_its_fault(rt: HostRuntime) -> Result<(), Fail> {
             assert_eq!(rt; host.output.held(), output.as_bytes());
             assert_eq!(rt; host.errors.held(), line.as_bytes());
         }
-    }
-    Ok(())
-}
-
-#[test]
-fn failures_of_the_outside_are_told(rt: HostRuntime) -> Result<(), Fail> {
-    let alloc = rt.alloc();
-    let rows: [(&[u32], &[u32], &str, u8); 2] = [
-        (&[2], &[], "read fault\n", 3),
-        (&[], &[0], "write fault\n", 4),
-    ];
-    for (failing_reads, failing_writes, line, status) in rows {
-        let stream = b"\xAC\xED\x00\x05t\x00\x01a";
-        let mut host = host_of(alloc, stream, None, failing_reads, failing_writes)?;
-        let words = words_of(alloc, &["show"])?;
-        assert_eq!(rt; run(alloc, &words, &mut host), status);
-        assert_eq!(rt; host.output.held(), b"".as_slice());
-        assert_eq!(rt; host.errors.held(), line.as_bytes());
     }
     Ok(())
 }
