@@ -2,6 +2,12 @@
 //! whether its graph is written back as the same bytes.
 #![tactic(auto)]
 
+ghost use Rattle.std.specs.Prelude.{◌≤◌, ◌^◌, length};
+ghost use Rattle.ser_values.specs.Ranges.{NumbersFit, UnitsFit};
+ghost use Rattle.ser_values.specs.Shape.{parts_in};
+ghost use Rattle.ser_write.specs.Canonical.{canonical};
+ghost use Rattle.ser_read.specs.Whole.{AnswersGraph};
+
 use graph_text::graph_text;
 use mod_utf::list::{ByteList, Kinds};
 use ser_read::{StreamFault, read_to_end};
@@ -30,7 +36,18 @@ fn single_bytes(alloc: Global, count: usize) -> io::Result<Kinds> {
     Ok(Kinds::from_vec(vec![in alloc; 1; count]?))
 }
 
-/// How the two readings of a stream differ, and how its bytes differ from those that are written.
+/// A graph that is written, and read back. It is the same one, with all that is shared in it, unless memory is wanting.
+fn read_back(alloc: Global, graph: &Graph) -> Result<Graph, StreamFault>
+    ensures same { NumbersFit graph.now.nodes → UnitsFit graph.now.nodes → parts_in graph.now.nodes ≤ 1048576
+        → length (canonical graph.now.nodes graph.now.items) ≤ 2 ^ 62 → ∥ AnswersGraph graph.now.nodes graph.now.items result ∥₁ }
+{
+    let written = write_stream(alloc, graph)?;
+    let mut source = MemSource::new(written, Kinds::new(alloc), Kinds::new(alloc));
+    let mut pull = Pull::new(&mut source);
+    read_to_end(alloc, &mut pull)
+}
+
+/// How the two readings of a stream differ, whether its graph is read back, and how its bytes differ from those that are written.
 fn verdict(
     alloc: Global,
     bytes: &[u8],
@@ -43,6 +60,10 @@ fn verdict(
     };
     if !same {
         return Ok("read otherwise in single bytes");
+    }
+    match read_back(alloc, graph) {
+        Ok(other) if same_graph(graph, &other) => {}
+        _ => return Ok("read back otherwise"),
     }
     let written = write_stream(alloc, graph)?;
     if written.as_slice() == bytes {
