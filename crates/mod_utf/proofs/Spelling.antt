@@ -3,7 +3,9 @@ use Rattle.std.proofs.Common.{◌≡◌, ℕ, ◌+◌, ◌/◌, ◌%◌, ◌^◌
 use Rattle.std.proofs.lemmas.Grind.{common_steps}
 use Rattle.std.proofs.lemmas.List.{take_more, flat_map_more}
 use Rattle.std.proofs.str.Laws.{order}
-use Rattle.mod_utf.specs.Utf.{Utf, SpellsUnit, IsTwoBytes, IsThreeBytes, unit_bytes, utf}
+use Rattle.std.specs.List.{All}
+use Rattle.std.proofs.lemmas.List.Elements.{All-head, All-tail}
+use Rattle.mod_utf.specs.Utf.{Utf, SpellsUnit, SpellsItself, IsTwoBytes, IsThreeBytes, unit_bytes, utf}
 
 -- A unit's bytes are the only ones that spell it.
 pub unit_spelled_once : (unit : ℕ) (bytes : List ℕ) → SpellsUnit unit bytes → bytes ≡ unit_bytes unit
@@ -79,3 +81,10 @@ written_more units out now i inside (is, whole) spells more =
       more ∙ ap (λ xs. xs ++ unit_bytes (get_or units i 0)) is ∙ flat_map_more unit_bytes [] (take i units) (get_or units i 0) ∙ ap utf (sym front),
       rw (front, more) (spelled_more (take i units) out (get_or units i 0) (unit_bytes (get_or units i 0)) whole spells),
     )
+
+-- ASCII characters spell themselves.
+pub ascii_spelled : (bytes : List ℕ) → All SpellsItself bytes → Utf bytes bytes
+ascii_spelled [] all = refl
+ascii_spelled (byte ∷ bytes) all =
+    let one = All-head SpellsItself byte bytes all in
+    (byte ∷ [], bytes, inl (record { above = one.0; below = one.1; spelled = refl }), ascii_spelled bytes (All-tail SpellsItself byte bytes all), refl)

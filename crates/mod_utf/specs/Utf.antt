@@ -49,3 +49,7 @@ unit_bytes u =
 -- The spelling of a text. That it is one, and the only one, are laws of `proofs/Spelling`.
 abbrev pub utf : List ℕ → List ℕ
 utf units = flat_map unit_bytes units
+
+-- The byte of an ASCII character, but the zero: it spells the unit of its own number.
+abbrev pub SpellsItself : ℕ → Type 0
+SpellsItself byte = (1 ≤ byte) × (byte < 0x80)

@@ -1,8 +1,17 @@
 //! Lists over `Vec`, which contracts see as lists.
-ghost use Rattle.std.specs.Prelude.{◌≡◌, [], ◌∷◌, ◌++◌, length, take, OnOk, OnErr, IfOk, IsTrue, ◌↔◌};
+ghost use Rattle.std.specs.Prelude.{◌≡◌, [], ◌∷◌, ◌++◌, ◌-◌, ◌^◌, ◌<◌, length, take, All, slice_get, slice_index_or, OnOk, OnErr, IfOk, IsTrue, ◌↔◌};
+ghost use Rattle.std.specs.Iterator.Adapters.{IterYieldsInOrder, IterYieldsInReverse};
+ghost use Rattle.std.specs.Iterator.Runs.{EveryRun, ItemsAre, ItemsMapTo};
+ghost use Rattle.std.specs.Option.{option_copied};
+ghost use Rattle.std.specs.Slice.{IsItemAt, IsGetResult};
+ghost use Rattle.std.specs.Slice.Iter.{iter_rest, iter_steps};
+ghost use Rattle.std.specs.Vec.Iter.{into_iter_items, into_iter_len, into_iter_steps};
+ghost use Rattle.mod_utf.specs.Utf.{SpellsItself, Utf};
 
 use std::alloc::{AllocError, Global};
 use std::marker::Model;
+use std::ops::Index;
+use std::{slice, vec};
 
 /// A value that can be copied where there is memory for the copy.
 pub trait TryCopy {
@@ -101,6 +110,43 @@ impl<T> Sequence<T> {
         self.items.as_slice()
     }
 
+    /// The items in order, to go over them.
+    pub fn iter(&self) -> slice::Iter<'_, T>
+        ensures rest { iter_rest result ≡ self.now }
+        ensures len { length (iter_rest result) ≡ length self.now }
+        ensures bound { length (iter_rest result) < 2 ^ 64 }
+
+        // It gives them in order, or from the back.
+        ensures runs { IterYieldsInOrder T }
+        ensures runs_back { IterYieldsInReverse T }
+    {
+        self.items.iter()
+    }
+
+    /// The item at a place, counted from 0: none where the list is no longer than that.
+    pub fn get(&self, index: usize) -> Option<&T>
+        ensures value { option_copied result ≡ slice_get self.now index }
+        ensures item { IsItemAt self.now index result }
+    {
+        self.items.get(index)
+    }
+
+    /// The first item, if there is one.
+    pub fn first(&self) -> Option<&T>
+        ensures value { option_copied result ≡ slice_get self.now 0 }
+        ensures item { IsItemAt self.now 0 result }
+    {
+        self.items.first()
+    }
+
+    /// The last item, if there is one.
+    pub fn last(&self) -> Option<&T>
+        ensures value { option_copied result ≡ slice_get self.now (length self.now - 1) }
+        ensures item { IsGetResult self.now 0 (length self.now - 1) result }
+    {
+        self.items.last()
+    }
+
     /// How many items there are.
     pub fn len(&self) -> usize
         ensures { result ≡ length self.now }
@@ -164,6 +210,60 @@ impl<T: Copy> Sequence<T> {
     }
 }
 
+impl Units {
+    /// The text of these ASCII characters, one unit each: a unit's number is its byte's. Where none is 0 or above 7F, the
+    /// bytes are also the text's modified UTF. It is refused only for want of memory.
+    #[tactic(auto, using(crate::proofs::Spelling::ascii_spelled))]
+    pub fn from_ascii(alloc: Global, bytes: &[u8]) -> Result<Units, AllocError>
+        ensures value { IfOk result (λ units. units ≡ bytes.now) }
+        ensures spelled { IfOk result (λ units. All SpellsItself bytes.now → Utf units bytes.now) }
+    {
+        Ok(Sequence {
+            items: bytes.iter().map(|byte| u16::from(*byte)).collect(alloc)?,
+        })
+    }
+}
+
+impl<T> Index<usize> for Sequence<T> {
+    type Output = T;
+
+    ghost can_index = { λ list index. index < length list };
+
+    ghost index_gives = { λ list index item. item ≡ slice_index_or list index item };
+
+    fn index(&self, index: usize) -> &T {
+        &self.items[index]
+    }
+}
+
+impl<'a, T> IntoIterator for &'a Sequence<T> {
+    type Item = &'a T;
+
+    type IntoIter = slice::Iter<'a, T>;
+
+    ghost into_iter_gives = { λ list rest. (iter_rest rest ≡ list.now) × (length (iter_rest rest) < 2 ^ 64)
+        × EveryRun (iter_steps {A = T}) (λ p. ItemsMapTo p (λ x. x.now) (iter_rest p.from)) };
+
+    fn into_iter(self) -> slice::Iter<'a, T> {
+        self.iter()
+    }
+}
+
+impl<T: Drop> IntoIterator for Sequence<T> {
+    ghost use Rattle.std.specs.declared.alloc.Global.{Global};
+
+    type Item = T;
+
+    type IntoIter = vec::IntoIter<T>;
+
+    ghost into_iter_gives = { λ list rest. (into_iter_items rest ≡ list) × (into_iter_len rest ≡ length list) × (into_iter_len rest < 2 ^ 64)
+        × EveryRun (into_iter_steps {X = T} {Z = Global}) (λ p. ItemsAre p (into_iter_items p.from)) };
+
+    fn into_iter(self) -> vec::IntoIter<T> {
+        self.items.into_iter()
+    }
+}
+
 impl<T: TryCopy + Drop> Sequence<T> {
     /// A copy, which equals its source. It is refused only for want of memory.
     pub fn copy(&self, alloc: Global) -> Result<Sequence<T>, AllocError>
@@ -200,33 +300,4 @@ fn are_same<T: Same>(a: &[T], b: &[T]) -> bool
         }
     }
     true
-}
-
-#[cfg(test)]
-mod tests {
-    use super::*;
-    use std::test::Fail;
-
-    #[test]
-    fn grows_copies_and_compares(rt: HostRuntime) -> Result<(), Fail> {
-        let alloc = rt.alloc();
-        let mut name = Units::new(alloc);
-        assert!(rt; name.is_empty());
-        name.reserve(2)?;
-        name.push(7)?;
-        name.append(&[8, 9])?;
-        assert_eq!(rt; name.as_slice(), [7, 8, 9].as_slice());
-        let mut names = NameList::new(alloc);
-        names.push(name.copy(alloc)?)?;
-        names.push(Units::from_vec(name.into_vec()))?;
-        let copy = names.copy(alloc)?;
-        assert_eq!(rt; copy.len(), 2);
-        assert!(rt; copy.is_same(&names));
-        names.push(Units::new(alloc))?;
-        assert!(rt; !copy.is_same(&names));
-        let flags = BoolList::from_slice(alloc, &[true, false])?;
-        let others = BoolList::from_slice(alloc, &[true, true])?;
-        assert!(rt; flags.copy(alloc)?.is_same(&flags) && !flags.is_same(&others));
-        Ok(())
-    }
 }

@@ -58,33 +58,3 @@ fn unit_len(unit: u16) -> u64
         3
     }
 }
-
-#[cfg(test)]
-mod tests {
-    use super::*;
-    use std::test::Fail;
-
-    // The vectors are those of Java's DataOutputStream.writeUTF, without its length.
-    #[test]
-    fn spells_each_width_and_each_edge(rt: HostRuntime) -> Result<(), Fail> {
-        let alloc = rt.alloc();
-        let rows: [(&[u16], &[u8]); 5] = [
-            (&[], &[]),
-            (&[0], &[0xC0, 0x80]),
-            (&[0x61, 1], &[0x61, 1]),
-            (
-                &[0x7F, 0x80, 0x7FF, 0x800, 0xFFFF],
-                &[
-                    0x7F, 0xC2, 0x80, 0xDF, 0xBF, 0xE0, 0xA0, 0x80, 0xEF, 0xBF, 0xBF,
-                ],
-            ),
-            (&[0xD83D, 0xDE00], &[0xED, 0xA0, 0xBD, 0xED, 0xB8, 0x80]),
-        ];
-        for (units, bytes) in rows {
-            let units = Units::from_slice(alloc, units)?;
-            assert_eq!(rt; encode(alloc, &units)?.as_slice(), bytes);
-            assert_eq!(rt; encoded_len(&units), bytes.len() as u64);
-        }
-        Ok(())
-    }
-}

@@ -1,0 +1,9 @@
+//! Tests of the crates that speak of streams, from units and lists up to the text of a graph.
+//!
+//! A case is a line of text with what it must give, and one loop runs all lines of its kind.
+#![tactic(auto)]
+
+#[cfg(test)]
+mod text;
+#[cfg(test)]
+mod utf_tests;
