@@ -1,0 +1,7 @@
+//! Tests of the crates that calls stand on.
+//!
+//! A case is a line of text with what it must give, and one loop runs all lines of its kind.
+#![tactic(auto)]
+
+#[cfg(test)]
+mod method_tests;

@@ -1,0 +1,193 @@
+//! Method texts and their hashes.
+use class_desc::TypeCode;
+use method_hash::{Method, MethodFault, fold_hash, hash};
+use std::alloc::{AllocError, Global};
+use std::process::Abort;
+use std::test::Fail;
+
+/// Stops where this does not hold, and says what it is.
+fn must(rt: &impl Abort, holds: bool, what: &str) {
+    assert!(rt; holds, "{what}");
+}
+
+/// Methods of interfaces of the Java library, and the hash that Java 17's own `computeMethodHash` gives each.
+const HASHES: &str = "add(ILjava/lang/Object;)V -7917740368934075498
+add(Ljava/lang/Object;)Z 7632703886422736073
+addAll(ILjava/util/Collection;)Z 124696328729152289
+addAll(Ljava/util/Collection;)Z 3758720003833848459
+bind(Ljava/lang/String;Ljava/rmi/Remote;)V 7583982177005850366
+clean([Ljava/rmi/server/ObjID;JLjava/rmi/dgc/VMID;Z)V -5803803475088455571
+compute(Ljava/lang/Object;Ljava/util/function/BiFunction;)Ljava/lang/Object; 8575171751418810734
+computeIfAbsent(Ljava/lang/Object;Ljava/util/function/Function;)Ljava/lang/Object; 8949860885842319503
+containsAll(Ljava/util/Collection;)Z 241752281689676622
+dirty([Ljava/rmi/server/ObjID;JLjava/rmi/dgc/Lease;)Ljava/rmi/dgc/Lease; -8139341527526761862
+get(Ljava/lang/Object;)Ljava/lang/Object; 6832719500409870279
+getAsciiStream()Ljava/io/InputStream; 4133330996454960716
+getBinaryStream()Ljava/io/InputStream; -1549927484365264700
+getBinaryStream(JJ)Ljava/io/InputStream; 1476709930246956506
+getBytes(JI)[B -668565138677364431
+getClassAnnotation(Ljava/lang/Class;)Ljava/lang/String; -5110240237250631749
+getSubString(JI)Ljava/lang/String; 1915378705229544949
+hashCode()I 2593808613140459179
+keySet()Ljava/util/Set; -3654007840389775963
+list()[Ljava/lang/String; 2571371476350237748
+listIterator()Ljava/util/ListIterator; -1022211269330248268
+listIterator(I)Ljava/util/ListIterator; -3766707076957039918
+lookup(Ljava/lang/String;)Ljava/rmi/Remote; -7538657168040752697
+next()Ljava/lang/Object; 3295034085224809097
+notify()V -9010469446377035049
+notifyAll()V 2779594630257146775
+position(Ljava/lang/String;J)J 8960019935282574843
+position(Ljava/sql/Blob;J)J -4662994947635872521
+position([BJ)J -7502179361045483782
+putAll(Ljava/util/Map;)V 6292447698899276240
+putIfAbsent(Ljava/lang/Object;Ljava/lang/Object;)Ljava/lang/Object; 6970056438613982363
+readByte()B 5530578855165420152
+readDouble()D -7649512574817605783
+readFully([B)V -4609180155712823848
+readFully([BII)V -6962648150703751614
+readUTF()Ljava/lang/String; -4806268686373167633
+readUnsignedShort()I -3259694414750018014
+rebind(Ljava/lang/String;Ljava/rmi/Remote;)V -8381844669958460146
+removeAll(Ljava/util/Collection;)Z 2702358819389066271
+replace(Ljava/lang/Object;Ljava/lang/Object;Ljava/lang/Object;)Z -2361708917029173664
+replaceAll(Ljava/util/function/UnaryOperator;)V -3153633548125375243
+reversed()Ljava/util/Comparator; 4479990712712283771
+setAsciiStream(J)Ljava/io/OutputStream; -6296927449124563330
+setString(JLjava/lang/String;)I -8349621152191248851
+setString(JLjava/lang/String;II)I -1446507402067372011
+size()I 4495240443643581991
+skipBytes(I)I -8541439912875297851
+sort(Ljava/util/Comparator;)V -9111781497593121150
+spliterator()Ljava/util/Spliterator; 756941812734079431
+thenComparing(Ljava/util/Comparator;)Ljava/util/Comparator; -357270277867295939
+thenComparing(Ljava/util/function/Function;)Ljava/util/Comparator; -6065788491920961310
+thenComparingLong(Ljava/util/function/ToLongFunction;)Ljava/util/Comparator; -8299167993699744560
+truncate(J)V 7599018077992566169
+unbind(Ljava/lang/String;)V 7305022919901907578
+values()Ljava/util/Collection; -2518452077531405751
+write(I)V 1985515759536595603
+writeByte(I)V -6603867576975789220
+writeBytes(Ljava/lang/String;)V 6876170769527200258
+writeChar(I)V 6846165210205610547
+writeChars(Ljava/lang/String;)V -4633508766419883461
+writeUTF(Ljava/lang/String;)V 1504297677398557983";
+
+#[test]
+fn hashes_are_javas(rt: HostRuntime) -> Result<(), Fail> {
+    for line in HASHES.split('\n') {
+        let (text, number) = line.split_once(' ').unwrap_or((line, ""));
+        let method = Method::parse(rt.alloc(), text.as_bytes())?;
+        must(&rt, number.parse::<i64>() == Ok(hash(&method)), line);
+    }
+    Ok(())
+}
+
+/// Texts that are no method's, and how long the longest front is with which some method's text begins.
+const BROKEN: &str = " 0
+()V 0
+a.b()V 1
+a/b()V 1
+a 1
+a;()V 1
+a(V)V 2
+a(L;)V 3
+a([)V 3
+a(La[;)V 4
+a([La(;)V 5
+add) 3
+add(J 5
+add(J) 6
+add(Q)V 4
+add(J)Q 6
+add(J)JJ 7
+add(J)V; 7
+add(J)[V 7
+a()[[V 5
+a()L; 4
+a()La 5";
+
+/// Where a text breaks; None where it doesn't.
+fn break_of(alloc: Global, text: &[u8]) -> Option<usize> {
+    match Method::parse(alloc, text) {
+        Err(MethodFault::BadDescriptor { at }) => Some(at),
+        _ => None,
+    }
+}
+
+#[test]
+fn other_texts_break_where_no_method_goes_on(rt: HostRuntime) -> Result<(), Fail> {
+    for line in BROKEN.split('\n') {
+        let (text, at) = line.split_once(' ').unwrap_or((line, ""));
+        let found = break_of(rt.alloc(), text.as_bytes());
+        must(
+            &rt,
+            found.is_some() && at.parse::<usize>().ok() == found,
+            line,
+        );
+    }
+    Ok(())
+}
+
+/// A text of a start, so many bytes alike, and an end.
+fn text_of(
+    alloc: Global,
+    start: &str,
+    byte: u8,
+    count: usize,
+    end: &str,
+) -> Result<Vec<u8>, AllocError> {
+    let mut text = Vec::new(alloc);
+    text.extend_from_slice(start.as_bytes())?;
+    for _ in 0..count {
+        text.push(byte)?;
+    }
+    text.extend_from_slice(end.as_bytes())?;
+    Ok(text)
+}
+
+#[test]
+fn texts_are_taken_up_to_their_limits(rt: HostRuntime) -> Result<(), Fail> {
+    let cases: [(&str, u8, usize, &str, Option<usize>); 6] = [
+        ("", b'n', 255, "()V", None),
+        ("", b'n', 256, "()V", Some(255)),
+        ("a(", b'J', 255, ")V", None),
+        ("a(", b'J', 256, ")V", Some(257)),
+        ("a(L", b'x', 65_529, ";)V", None),
+        ("a(L", b'x', 65_530, ";)V", Some(65_532)),
+    ];
+    for (start, byte, count, end, at) in cases {
+        let text = text_of(rt.alloc(), start, byte, count, end)?;
+        must(&rt, break_of(rt.alloc(), text.as_slice()) == at, start);
+    }
+    Ok(())
+}
+
+#[test]
+fn the_parts_of_a_method_are_told(rt: HostRuntime) -> Result<(), Fail> {
+    let method = Method::parse(rt.alloc(), b"put(ILa/B;[[J)Z")?;
+    must(&rt, method.name.as_slice() == b"put".as_slice(), "the name");
+    must(
+        &rt,
+        method.text.as_slice() == b"put(ILa/B;[[J)Z".as_slice(),
+        "the text",
+    );
+    let params = [TypeCode::I, TypeCode::Object, TypeCode::Array];
+    must(
+        &rt,
+        method.params.as_slice() == params.as_slice(),
+        "the parameters",
+    );
+    must(&rt, method.result == Some(TypeCode::Z), "the result");
+    Ok(())
+}
+
+#[test]
+fn the_digest_of_abc_is_folded(rt: HostRuntime) -> Result<(), Fail> {
+    let digest = [
+        0xA9, 0x99, 0x3E, 0x36, 0x47, 0x06, 0x81, 0x6A, 0xBA, 0x3E, 0x25, 0x71, 0x78, 0x50, 0xC2,
+        0x6C, 0x9C, 0xD0, 0xD8, 0x9D,
+    ];
+    must(&rt, fold_hash(digest) == 0x6A81_0647_363E_99A9, "folded");
+    Ok(())
+}

@@ -1,0 +1,5 @@
+mod Tests
+mod Types
+mod Steps
+mod Places
+mod Whole

@@ -1,0 +1,26 @@
+//! The hash by which a call names a method (Java RMI Specification, 8.3).
+ghost use Rattle.std.specs.Prelude.{◌≡◌, IfOk};
+ghost use Rattle.method_hash.specs.Hash.{folded, hash_of};
+
+use crate::method::Method;
+use sha1::Sha1;
+
+/// The hash of a method: the digest of its text's length in 16 bits and of its text, folded.
+pub fn hash(method: &Method) -> i64
+    ensures { result ≡ hash_of method.now.text }
+{
+    let text = method.text.as_slice();
+    let mut hasher = Sha1::new();
+    hasher.update(&(text.len() as u16).to_be_bytes());
+    hasher.update(text);
+    fold_hash(hasher.finalize())
+}
+
+/// The first eight bytes of a digest, as a number with its lowest byte first.
+pub fn fold_hash(digest: [u8; 20]) -> i64
+    ensures { result ≡ folded digest }
+{
+    i64::from_le_bytes([
+        digest[0], digest[1], digest[2], digest[3], digest[4], digest[5], digest[6], digest[7],
+    ])
+}

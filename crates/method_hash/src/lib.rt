@@ -1,0 +1,11 @@
+//! Method texts and their hashes, by which a call names a remote method (Java RMI Specification, 8.3).
+#![tactic(auto)]
+
+mod digest;
+mod method;
+mod place;
+mod system;
+
+pub use digest::{fold_hash, hash};
+pub use method::{CodeList, Method, MethodFault};
+pub use system::{CollectorMethod, RegistryMethod};

@@ -1,0 +1,162 @@
+//! Where reading a method's text has come to.
+ghost use Rattle.std.specs.Prelude.{◌≡◌, ◌↔◌, IsTrue};
+ghost use Rattle.method_hash.specs.declared.place.Place.TheVariants.{End};
+ghost use Rattle.method_hash.specs.MethodText.{is_name_byte, is_class_byte};
+ghost use Rattle.method_hash.specs.Next.{begin, part_next, next, in_parameter, in_result, need};
+
+use class_desc::TypeCode;
+
+/// The greatest number of bytes of a method's name, and of its parameters.
+const MOST: u32 = 255;
+
+/// Where in a type's text reading stands.
+#[derive(Clone, Copy, Debug, PartialEq, Eq)]
+pub(crate) enum Part {
+    /// Behind a bracket: before the type of the elements.
+    Elements,
+    /// Behind the letter `L`: before the class's name.
+    Class,
+    /// In the class's name.
+    ClassName,
+}
+
+/// How far a type has come.
+#[derive(Clone, Copy, Debug, PartialEq, Eq)]
+pub(crate) enum Begun {
+    /// It is whole.
+    Whole,
+    /// It goes on.
+    In(Part),
+}
+
+/// Where in a method's text reading stands.
+#[derive(Clone, Copy, Debug, PartialEq, Eq)]
+pub(crate) enum Place {
+    /// In the name, of which so many bytes were read.
+    Name(u32),
+    /// Before a parameter or the closing parenthesis; so many parameters were read.
+    Parameters(u32),
+    /// In the type of a parameter, with which so many were begun.
+    Parameter(u32, Part),
+    /// Before the result's type.
+    Returned,
+    /// In the result's type.
+    ReturnedType(Part),
+    /// At the end.
+    End,
+}
+
+/// Whether a byte may stand in a class's name.
+fn is_class_byte(byte: u8) -> bool
+    ensures { result ≡ is_class_byte byte }
+{
+    0x21 <= byte && byte <= 0x7E && byte != b';' && byte != b'(' && byte != b')' && byte != b'['
+}
+
+/// Whether a byte may stand in a method's name.
+fn is_name_byte(byte: u8) -> bool
+    ensures { result ≡ is_name_byte byte }
+{
+    is_class_byte(byte) && byte != b'/' && byte != b'.'
+}
+
+/// How far a type has come behind its first byte; None where no type begins with it.
+#[tactic(auto, unfolding(crate::specs::Next::begin))]
+fn begin(byte: u8) -> Option<Begun>
+    ensures { result ≡ begin byte }
+{
+    match TypeCode::from_letter(byte) {
+        Some(TypeCode::Array) => Some(Begun::In(Part::Elements)),
+        Some(TypeCode::Object) => Some(Begun::In(Part::Class)),
+        Some(_) => Some(Begun::Whole),
+        None => None,
+    }
+}
+
+impl Part {
+    /// How far the type has come behind a further byte; None where no type goes on with it.
+    #[tactic(auto, unfolding(crate::specs::Next::part_next))]
+    fn next(self, byte: u8) -> Option<Begun>
+        ensures { result ≡ part_next self byte }
+    {
+        match self {
+            Part::Elements => begin(byte),
+            Part::Class if is_class_byte(byte) => Some(Begun::In(Part::ClassName)),
+            Part::Class => None,
+            Part::ClassName if byte == b';' => Some(Begun::Whole),
+            Part::ClassName if is_class_byte(byte) => Some(Begun::In(Part::ClassName)),
+            Part::ClassName => None,
+        }
+    }
+}
+
+impl Place {
+    /// Where reading stands behind so much of a parameter's type.
+    fn in_parameter(count: u32, begun: Begun) -> Place
+        ensures { result ≡ in_parameter count begun }
+    {
+        match begun {
+            Begun::Whole => Place::Parameters(count),
+            Begun::In(part) => Place::Parameter(count, part),
+        }
+    }
+
+    /// Where reading stands behind so much of the result's type.
+    fn in_result(begun: Begun) -> Place
+        ensures { result ≡ in_result begun }
+    {
+        match begun {
+            Begun::Whole => Place::End,
+            Begun::In(part) => Place::ReturnedType(part),
+        }
+    }
+
+    /// Where reading stands behind a further byte; None where no method's text goes on with it.
+    #[tactic(auto, unfolding(crate::specs::Next::next))]
+    pub(crate) fn next(self, byte: u8) -> Option<Place>
+        ensures { result ≡ next self byte }
+    {
+        match self {
+            Place::Name(read) if byte == b'(' && read > 0 => Some(Place::Parameters(0)),
+            Place::Name(read) if is_name_byte(byte) && read < MOST => Some(Place::Name(read + 1)),
+            Place::Name(_) => None,
+            Place::Parameters(_) if byte == b')' => Some(Place::Returned),
+            Place::Parameters(read) if read < MOST => {
+                Some(Place::in_parameter(read + 1, begin(byte)?))
+            }
+            Place::Parameters(_) => None,
+            Place::Parameter(count, part) => { Some(Place::in_parameter(count, part.next(byte)?)) }
+            Place::Returned if byte == b'V' => Some(Place::End),
+            Place::Returned => Some(Place::in_result(begin(byte)?)),
+            Place::ReturnedType(part) => Some(Place::in_result(part.next(byte)?)),
+            Place::End => None,
+        }
+    }
+
+    /// Whether the text is whole.
+    pub(crate) fn is_end(self) -> bool
+        ensures { IsTrue result ↔ (self ≡ End) }
+    {
+        match self {
+            Place::End => true,
+            _ => false,
+        }
+    }
+
+    /// How many bytes are still to come at the least.
+    pub(crate) fn need(self) -> usize
+        ensures { result ≡ need self }
+    {
+        match self {
+            Place::Name(0) => 4,
+            Place::Name(_) => 3,
+            Place::Parameters(_) => 2,
+            Place::Parameter(_, Part::Class) => 4,
+            Place::Parameter(_, _) => 3,
+            Place::Returned => 1,
+            Place::ReturnedType(Part::Class) => 2,
+            Place::ReturnedType(_) => 1,
+            Place::End => 0,
+        }
+    }
+}
