@@ -13,5 +13,6 @@ pub mod Outputs
 pub mod Counting
 pub mod Few
 pub mod Told
+pub mod Trimmed
 pub mod Without
 pub mod Kept

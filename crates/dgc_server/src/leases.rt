@@ -4,7 +4,7 @@ ghost use Rattle.history.specs.declared.calls.Call.{Call};
 ghost use Rattle.history.specs.declared.limits.TheConstants.{MAX_CLIENTS, MAX_PAIRS};
 ghost use Rattle.history.specs.Leases.{is_dirty_kind, is_held, holders, pairs, lease_rows};
 ghost use Rattle.dgc_server.specs.Counts.{dirty_call, clean_call, clean_kind, without, clients_with, pairs_with_call};
-ghost use Rattle.dgc_server.specs.Stands.{IsSound, StandsFor, ForEachLog, ForEachLogBy, entry_after, table_after};
+ghost use Rattle.dgc_server.specs.Stands.{IsSound, IsTrimmed, StandsFor, ForEachLog, entry_after, table_after};
 ghost use Rattle.dgc_server.specs.Table.{entry_of, clients_after, pairs_after};
 
 use crate::entry::ClientEntry;
@@ -75,15 +75,16 @@ impl Leases {
     /// numbers but those of strong cleans.
     pub fn lapse(&mut self, now: u64)
         requires { now < 2 ^ 62 }
-        ensures { ForEachLog self.old (λ lease moment calls. StandsFor lease self.new (max now moment) calls) }
+        ensures freed { IsTrimmed self.new }
+        ensures stands { ForEachLog self.old (λ lease moment calls. StandsFor lease self.new (max now moment) calls) }
     {
         self.moment = now.max(self.moment);
         table::lapse(&mut self.entries, self.moment);
     }
 
     /// Notes a dirty call (Java RMI Specification, chapter 9: `DGC.dirty`), and answers the duration of the
-    /// lease that it grants. Time passes to `now`, which is at least as great as each moment before. After
-    /// a refusal all is as it was.
+    /// lease that it grants. Time passes to `now`, as by `lapse`; a moment before the greatest one is read as the
+    /// greatest. After a refusal all is as it was.
     pub fn dirty(
         &mut self,
         client: &Vmid,
@@ -92,16 +93,18 @@ impl Leases {
         now: u64,
     ) -> Result<u64, LeaseFault>
         requires { now < 2 ^ 62 }
-        ensures ok { OnOk result (ForEachLogBy now self.old (λ lease calls.
-            StandsFor lease self.new now (dirty_call now client.now number objects.now ∷ calls))) }
+        ensures ok { OnOk result (ForEachLog self.old (λ lease moment calls. let at = max now moment in
+            StandsFor lease self.new at (dirty_call at client.now number objects.now ∷ calls))) }
+        ensures freed { OnOk result (IsTrimmed self.new) }
         ensures granted { IfOk result (λ granted. ForEachLog self.old (λ lease moment calls. granted ≡ lease)) }
 
         // Clients is tested first.
-        ensures clients { ForEachLogBy now self.old (λ lease calls.
-            (result ≡ Err LeaseFault.Clients) ↔ (MAX_CLIENTS < clients_with lease now calls client.now)) }
-        ensures pairs { ForEachLogBy now self.old (λ lease calls. let x = dirty_call now client.now number objects.now in
+        ensures clients { ForEachLog self.old (λ lease moment calls.
+            (result ≡ Err LeaseFault.Clients) ↔ (MAX_CLIENTS < clients_with lease (max now moment) calls client.now)) }
+        ensures pairs { ForEachLog self.old (λ lease moment calls.
+            let x = dirty_call (max now moment) client.now number objects.now in
             (result ≡ Err LeaseFault.Pairs)
-            ↔ ((clients_with lease now calls client.now ≤ MAX_CLIENTS) × (MAX_PAIRS < pairs_with_call lease calls x))) }
+            ↔ ((clients_with lease (max now moment) calls client.now ≤ MAX_CLIENTS) × (MAX_PAIRS < pairs_with_call lease calls x))) }
         ensures err { OnErr result (self.new ≡ self.old) }
     {
         let at = self.at(now);
@@ -112,8 +115,8 @@ impl Leases {
         Ok(self.lease)
     }
 
-    /// Notes a clean call (Java RMI Specification, chapter 9: `DGC.clean`). Time passes to `now`, which is at
-    /// least as great as each moment before. After a refusal all is as it was.
+    /// Notes a clean call (Java RMI Specification, chapter 9: `DGC.clean`). Time passes to `now`, as by `lapse`; a
+    /// moment before the greatest one is read as the greatest. After a refusal all is as it was.
     pub fn clean(
         &mut self,
         client: &Vmid,
@@ -123,10 +126,12 @@ impl Leases {
         now: u64,
     ) -> Result<(), LeaseFault>
         requires { now < 2 ^ 62 }
-        ensures ok { OnOk result (ForEachLogBy now self.old (λ lease calls.
-            StandsFor lease self.new now (clean_call now client.now number objects.now strong ∷ calls))) }
+        ensures ok { OnOk result (ForEachLog self.old (λ lease moment calls. let at = max now moment in
+            StandsFor lease self.new at (clean_call at client.now number objects.now strong ∷ calls))) }
+        ensures freed { OnOk result (IsTrimmed self.new) }
         ensures clients { result ≢ Err LeaseFault.Clients }
-        ensures pairs { ForEachLogBy now self.old (λ lease calls. let x = clean_call now client.now number objects.now strong in
+        ensures pairs { ForEachLog self.old (λ lease moment calls.
+            let x = clean_call (max now moment) client.now number objects.now strong in
             (result ≡ Err LeaseFault.Pairs) ↔ (MAX_PAIRS < pairs_with_call lease calls x)) }
         ensures err { OnErr result (self.new ≡ self.old) }
     {

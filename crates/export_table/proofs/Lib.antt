@@ -1,6 +1,9 @@
 pub mod Dropped
-pub mod Laws
+pub mod RowLaws
 pub mod Parts
 pub mod Places
 pub mod Sifting
 pub mod Sound
+pub mod StandLaws
+pub mod WaitLaws
+pub mod WaitSteps

@@ -41,6 +41,11 @@ listed ack t o u waits =
     filter (λ w. not (is_wait_of o u w)) (waiting t waits)
     ++ record { object = o; uid = u; until = max (t + ack) (until_of o u waits) } ∷ []
 
+-- The waits once objects are listed in a return at the moment t, one after another.
+abbrev pub listed_each : ℕ → ℕ → Uid → List ObjId → List Wait → List Wait
+listed_each ack t uid [] waits = waits
+listed_each ack t uid (o ∷ os) waits = listed_each ack t uid os (listed ack t o uid waits)
+
 -- The waits once a return is acknowledged.
 abbrev pub acknowledged : Uid → List Wait → List Wait
 acknowledged u waits = filter (λ w. not (same_uid w.uid u)) waits

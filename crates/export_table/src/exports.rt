@@ -12,6 +12,7 @@ use crate::rows::{self, Export, RowList};
 use crate::waits::{self, Wait};
 use dgc_server::Leases;
 use history::limits::{MAX_AWAITING, MAX_EXPORTS};
+use history::plain::places::id_at;
 use object_ids::{FullKind, ObjId, Uid};
 use std::alloc::{AllocError, Global};
 use std::marker::Model;
@@ -104,7 +105,7 @@ impl Exports {
             return Err(ExportFault::Full(FullKind::Exports));
         }
         self.rows.reserve(1)?;
-        let id = id_at(&self.space, self.added);
+        let id = id_at(self.space, self.added);
         rows::put(&mut self.rows, Export::new(&id, kind, pinned));
         self.added += 1;
         Ok(id)
@@ -256,17 +257,6 @@ impl Exports {
         rows::keep(&mut self.rows, &self.waits, leases, now, gone);
         waits::forget(&mut self.waits, now);
         drop_all(leases, &gone[before..]);
-    }
-}
-
-/// The identifier of the k-th object, from 0, that a space adds.
-fn id_at(space: &Uid, added: u64) -> ObjId
-    requires { added < 2 ^ 62 }
-    ensures { result ≡ id_at space.now added }
-{
-    ObjId {
-        number: (16 + added) as i64,
-        space: *space,
     }
 }
 

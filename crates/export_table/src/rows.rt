@@ -117,10 +117,7 @@ pub fn put(rows: &mut Vec<Export>, row: Export)
     ensures len { vec_len rows.new ≡ vec_len rows.old + 1 }
     ensures capacity { vec_capacity rows.old ≤ vec_capacity rows.new }
 {
-    match rows.push(row) {
-        Ok(()) => {}
-        Err(_) => {}
-    }
+    rows.push_reserved(row);
 }
 
 /// Begins a call of an object, if it is there.
@@ -243,8 +240,5 @@ fn note_gone(gone: &mut Vec<ObjId>, id: &ObjId)
     ensures len { vec_len gone.new ≡ vec_len gone.old + 1 }
     ensures capacity { vec_capacity gone.old ≤ vec_capacity gone.new }
 {
-    match gone.push(*id) {
-        Ok(()) => {}
-        Err(_) => {}
-    }
+    gone.push_reserved(*id);
 }

@@ -133,10 +133,7 @@ fn put(waits: &mut Vec<Wait>, wait: Wait)
     ensures len { vec_len waits.new ≡ vec_len waits.old + 1 }
     ensures capacity { vec_capacity waits.old ≤ vec_capacity waits.new }
 {
-    match waits.push(wait) {
-        Ok(()) => {}
-        Err(_) => {}
-    }
+    waits.push_reserved(wait);
 }
 
 /// Forgets the waits that ended.

@@ -1,6 +1,6 @@
 -- A running call is ended, by what its parts answered.
-use Rattle.std.proofs.Common.{◌≡◌, ℕ, suc, ◌+◌, ◌<◌, ◌≤◌, ◌^◌, List, [], ◌∷◌, ◌++◌, length, refl, ap, sym, subst, ◌∙◌, map, max, drop, arith, Option, None, Ok, length-append}
-use Rattle.std.specs.Prelude.{Bool, true, false, ◌||◌, filter, nat_lt, if◌then◌else◌}
+use Rattle.std.proofs.Common.{◌≡◌, ℕ, suc, ◌+◌, ◌<◌, ◌≤◌, ◌^◌, List, [], ◌∷◌, ◌++◌, length, refl, ap, sym, subst, ◌∙◌, map, max, drop, arith, None, Ok, length-append}
+use Rattle.std.specs.Prelude.{Bool, true, false, ◌||◌, if◌then◌else◌}
 use Rattle.std.specs.List.{list_any}
 use Rattle.std.proofs.lemmas.Bool.{lt-ltb, le-ltb}
 use Rattle.object_ids.specs.declared.ids.ObjId.{ObjId}
@@ -9,7 +9,6 @@ use Rattle.history.specs.declared.asks.Event.{Event}
 use Rattle.history.specs.declared.asks.Ask.TheVariants.{Abandon}
 use Rattle.history.specs.declared.limits.TheConstants.{MAX_UNITS, MAX_EXPORTS}
 use Rattle.history.specs.declared.places.Withdrawal.{Withdrawal}
-use Rattle.history.specs.declared.replies.Refused.{Refused}
 use Rattle.history.specs.Running.{running}
 use Rattle.history.specs.Steps.{Step, turn_of}
 use Rattle.history.specs.Table.{is_effective, table, places}
@@ -18,10 +17,10 @@ use Rattle.export_table.specs.declared.rows.Export.{Export}
 use Rattle.export_table.specs.Rows.{changed, ended, running_of}
 use Rattle.export_table.specs.Table.{ExportTable}
 use Rattle.space.specs.declared.runs.Run.{Run}
-use Rattle.space.specs.Acts.{event_of, acted, acted_runs, room_refusal, withdrawal_at}
+use Rattle.space.specs.Acts.{event_of, room_refusal, withdrawal_at}
 use Rattle.space.specs.Ahead.{HasRoom}
 use Rattle.space.specs.Built.{SpaceHistory}
-use Rattle.space.specs.Kept.{rows_of, Keeps}
+use Rattle.space.specs.Kept.{Keeps}
 use Rattle.space.specs.Runs.{is_run, without_first}
 use Rattle.space.proofs.Acting.{effective-is}
 use Rattle.space.proofs.AheadLaws.{room-next}
@@ -29,6 +28,7 @@ use Rattle.space.proofs.AskLaws.{abandon-counted}
 use Rattle.space.proofs.EndLaws.{goes-few}
 use Rattle.space.proofs.Keeping.{step-taken}
 use Rattle.space.proofs.TurnLaws.{IsAsked, HasActed, HasWithdrawn, taken, turn-keeps}
+use Rattle.export_table.specs.Stands.{rows_of}
 
 -- ---- before it acts
 

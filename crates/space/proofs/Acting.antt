@@ -1,12 +1,10 @@
 -- What an ask does to the export table and to the running calls is what its event does to the history.
-use Rattle.std.proofs.Common.{◌≡◌, ℕ, ◌+◌, ◌-◌, ◌<◌, ◌≤◌, List, [], ◌∷◌, ◌++◌, length, refl, ap, sym, subst, ◌∙◌, cond, map, max, arith, Option, Some, None, append-nil}
-use Rattle.std.specs.Prelude.{Bool, true, false, ◌&&◌, ◌||◌, ◌==◌, filter, find, flat_map, nat_lt, if◌then◌else◌, option_map, option_to_list, unwrap_or}
-use Rattle.std.specs.List.{list_any}
+use Rattle.std.proofs.Common.{◌≡◌, ℕ, ◌+◌, ◌<◌, List, [], ◌∷◌, ◌++◌, length, refl, ap, sym, subst, ◌∙◌, map, max, arith, None, append-nil}
+use Rattle.std.specs.Prelude.{Bool, true, false, ◌&&◌, ◌==◌, filter, flat_map, nat_lt, if◌then◌else◌, option_to_list}
 use Rattle.std.proofs.lemmas.List.{map-append}
 use Rattle.object_ids.specs.declared.ids.Uid.{Uid}
 use Rattle.object_ids.specs.declared.ids.ObjId.{ObjId}
 use Rattle.object_ids.specs.Same.{same_id}
-use Rattle.object_ids.proofs.Exact.{same_id-equal, same_id-self}
 use Rattle.history.specs.declared.asks.SpaceConfig.{SpaceConfig}
 use Rattle.history.specs.declared.asks.Event.{Event}
 use Rattle.history.specs.declared.asks.Ask.{Ask}
@@ -20,95 +18,28 @@ use Rattle.history.specs.Places.{has, now, added, id_at, exported_from}
 use Rattle.history.specs.Replies.{ids}
 use Rattle.history.specs.Running.{is_begin_of, is_end_of, running, running_calls}
 use Rattle.history.specs.Table.{is_effective, exports, lists, table, place_of, places}
-use Rattle.history.proofs.ListLemmas.{Every, Every-weaker, list_any-map, list_any-length, and_false}
+use Rattle.history.proofs.ListLemmas.{Every, Every-weaker, list_any-length, and_false}
 use Rattle.history.proofs.NumberLaws.{has-self}
 use Rattle.history.proofs.Partitions.{one_if}
-use Rattle.history.proofs.RunningLaws.{running_calls-push}
 use Rattle.history.proofs.TableLaws.{ask-place_of}
-use Rattle.dgc_server.proofs.Distinct.{Decides, turned}
 use Rattle.export_table.specs.declared.rows.Export.{Export}
 use Rattle.export_table.specs.declared.waits.Wait.{Wait}
-use Rattle.export_table.specs.Rows.{is_of, is_exported, kind_of, running_of, new_row, changed, begun, ended}
+use Rattle.export_table.specs.Rows.{is_exported, new_row, changed, begun, ended}
 use Rattle.export_table.specs.Table.{ExportTable}
 use Rattle.space.specs.declared.runs.Run.{Run}
-use Rattle.space.specs.Acts.{effective_by, acted, acted_runs, new_rows, new_ids, returned_by, references, listed_each}
+use Rattle.space.specs.Acts.{effective_by, acted, acted_runs, new_rows, new_ids, returned_by}
 use Rattle.space.specs.Built.{IsBuilt}
-use Rattle.space.specs.Kept.{row_of, rows_of}
-use Rattle.space.specs.Runs.{without_first, is_run_of, is_run_on, RunsStand, caller_of, object_of, is_run}
-use Rattle.space.specs.Waits.{WaitsStand, reference_of, end_of}
+use Rattle.space.specs.Runs.{RunsStand, caller_of, object_of, is_run}
+use Rattle.export_table.specs.Stands.{WaitsStand, reference_of, end_of, references, rows_of}
 use Rattle.space.proofs.NextLaws.{new-not-old, not-exported-nowhere, not-there-runs-none}
 use Rattle.space.proofs.Quiet.{opened_by, adds-built}
-use Rattle.space.proofs.ReferenceLaws.{listed-each-is}
 use Rattle.space.proofs.RunSteps.{runs-begin, runs-end, runs-other, abandon-ends, finish-ends}
 use Rattle.std.proofs.lemmas.Bool.{ltb-true}
-use Rattle.space.proofs.WaitSteps.{listed_all, waits-push, waits-push-ack}
+use Rattle.export_table.proofs.WaitSteps.{listed_all, waits-push, waits-push-ack}
+use Rattle.export_table.specs.Waits.{listed_each}
+use Rattle.export_table.proofs.StandLaws.{begun-row, count-push, ended-row, exported-has, id-turned, listed-each-is, row-changed, row-same, row_with}
 
 -- ---- the rows
-
--- An exported object with this many running calls.
-abbrev row_with : (ObjId → ℕ) → Exported → Export
-row_with count x = record { id = x.id; kind = x.kind; pinned = x.pinned; running = count x.id; pins = 0 }
-
--- An object is exported by the rows exactly where it is in the table.
-pub exported-has : (h : List Place) (objects : List Exported) (o : ObjId) → is_exported (rows_of h objects) o ≡ has objects o
-exported-has h objects o = list_any-map (is_of o) (row_of h) objects
-
-pub kind-is : (h : List Place) (objects : List Exported) (o : ObjId) → kind_of (rows_of h objects) o ≡ option_map (λ (x : Exported). x.kind) (find (λ x. same_id x.id o) objects)
-kind-is h [] o = refl
-kind-is h (x ∷ objects) o = go (same_id x.id o) (kind-is h objects o)
-  where
-    go : (b : Bool) → kind_of (rows_of h objects) o ≡ option_map (λ (y : Exported). y.kind) (find (λ y. same_id y.id o) objects) →
-        option_map (λ (y : Export). y.kind) (cond b (Some (row_of h x)) (find (is_of o) (rows_of h objects))) ≡ option_map (λ (y : Exported). y.kind) (cond b (Some x) (find (λ y. same_id y.id o) objects))
-    go true e = refl
-    go false e = e
-
--- How many calls run of an object that is exported, and of any.
-pub running-there : (h : List Place) (objects : List Exported) (o : ObjId) → has objects o ≡ true → running_of (rows_of h objects) o ≡ running_calls h o
-running-there h [] o t = absurd (cc)
-running-there h (x ∷ objects) o t = go (same_id x.id o) refl t (running-there h objects o)
-  where
-    go : (b : Bool) → same_id x.id o ≡ b → (b || has objects o) ≡ true → (has objects o ≡ true → running_of (rows_of h objects) o ≡ running_calls h o) →
-        unwrap_or (option_map (λ (y : Export). y.running) (cond b (Some (row_of h x)) (find (is_of o) (rows_of h objects)))) 0 ≡ running_calls h o
-    go true e t rest = ap (running_calls h) (same_id-equal x.id o e)
-    go false e t rest = rest t
-
-pub running-few : (h : List Place) (objects : List Exported) (o : ObjId) → running_of (rows_of h objects) o ≤ running_calls h o
-running-few h [] o = omega arith
-running-few h (x ∷ objects) o = go (same_id x.id o) refl (running-few h objects o)
-  where
-    go : (b : Bool) → same_id x.id o ≡ b → running_of (rows_of h objects) o ≤ running_calls h o →
-        unwrap_or (option_map (λ (y : Export). y.running) (cond b (Some (row_of h x)) (find (is_of o) (rows_of h objects)))) 0 ≤ running_calls h o
-    go true e rest = let same = ap (running_calls h) (same_id-equal x.id o e) in omega (arith, same)
-    go false e rest = rest
-
-count-push : (config : SpaceConfig) (events : List Event) (e : Event) (o : ObjId) →
-    running_calls (place_of config (places config events) e ∷ places config events) o + one_if (is_effective config (places config events) e.by e.ask && is_end_of o e.ask)
-    ≡ running_calls (places config events) o + one_if (is_effective config (places config events) e.by e.ask && is_begin_of o e.ask)
-unfolding place_of
-count-push config events e o = running_calls-push config events e o
-
-id-turned : (a b : ObjId) → same_id a b ≡ same_id b a
-id-turned a b = turned (record { equal = same_id-equal; self = same_id-self }) a b
-
--- The rows, where the counts of running calls are the old and the new ones.
-row-same : (old new : ObjId → ℕ) → ((o : ObjId) → new o ≡ old o) → (objects : List Exported) → map (row_with old) objects ≡ map (row_with new) objects
-row-same old new same [] = refl
-row-same old new same (x ∷ objects) = rw (same x.id, row-same old new same objects) refl
-
-row-changed : (old new : ObjId → ℕ) (f : Export → Export) (o : ObjId) → ((x : Exported) → (if same_id x.id o then f (row_with old x) else row_with old x) ≡ row_with new x) → (objects : List Exported) →
-    changed f o (map (row_with old) objects) ≡ map (row_with new) objects
-row-changed old new f o same [] = refl
-row-changed old new f o same (x ∷ objects) = rw (same x, row-changed old new f o same objects) refl
-
-begun-row : (old new : ObjId → ℕ) (o : ObjId) (x : Exported) (b : Bool) → new x.id ≡ old x.id + one_if b → (if b then begun (row_with old x) else row_with old x) ≡ row_with new x
-unfolding one_if
-begun-row old new o x true e = rw e refl
-begun-row old new o x false e = (let same : new x.id ≡ old x.id = omega (arith, e) in rw same refl)
-
-ended-row : (old new : ObjId → ℕ) (o : ObjId) (x : Exported) (b : Bool) → new x.id + one_if b ≡ old x.id → (if b then ended (row_with old x) else row_with old x) ≡ row_with new x
-unfolding one_if
-ended-row old new o x true e = (let same : old x.id - 1 ≡ new x.id = omega (arith, e) in rw same refl)
-ended-row old new o x false e = (let same : old x.id ≡ new x.id = omega (arith, e) in rw same refl)
 
 -- THE ROWS after an ask.
 new-rows : (space : Uid) (k place : ℕ) (new : ObjId → ℕ) (kinds : List ℕ) → Every (λ (x : Exported). new x.id ≡ 0) (exported_from space k place false kinds) →

@@ -1,16 +1,13 @@
 -- The room that a space keeps, after one more event.
-use Rattle.std.proofs.Common.{◌≡◌, ℕ, suc, ◌+◌, ◌<◌, ◌≤◌, ◌^◌, List, [], ◌∷◌, ◌++◌, length, refl, ap, sym, subst, ◌∙◌, cond, map, arith, length-append}
-use Rattle.std.specs.Prelude.{Bool, true, false, not, ◌&&◌, filter}
+use Rattle.std.proofs.Common.{◌≡◌, ℕ, ◌+◌, ◌<◌, ◌≤◌, ◌^◌, List, [], ◌∷◌, ◌++◌, length, refl, ap, sym, subst, ◌∙◌, cond, arith, length-append}
+use Rattle.std.specs.Prelude.{Bool, true, false, not, filter}
 use Rattle.std.proofs.lemmas.List.{length-map}
 use Rattle.object_ids.specs.declared.ids.ObjId.{ObjId}
 use Rattle.history.specs.declared.asks.SpaceConfig.{SpaceConfig}
 use Rattle.history.specs.declared.asks.Event.{Event}
-use Rattle.history.specs.declared.asks.Ask.{Ask}
-use Rattle.history.specs.declared.places.Place.{Place}
 use Rattle.history.specs.declared.places.Exported.{Exported}
 use Rattle.history.specs.declared.places.Withdrawal.{Withdrawal}
 use Rattle.history.specs.Limits.{reserved, starts, ends}
-use Rattle.history.specs.Places.{added}
 use Rattle.history.specs.Table.{is_effective, is_kept, table, place_of, places, withdrawn, withdrawals_at_end, withdrawals}
 use Rattle.history.proofs.GoneLaws.{withdrawals-push}
 use Rattle.history.proofs.Partitions.{one_if}
@@ -22,8 +19,9 @@ use Rattle.space.specs.declared.runs.Run.{Run}
 use Rattle.space.specs.Acts.{opens}
 use Rattle.space.specs.Ahead.{HasRoom}
 use Rattle.space.specs.Built.{IsBuilt}
-use Rattle.space.specs.Kept.{row_of, Keeps}
+use Rattle.space.specs.Kept.{Keeps}
 use Rattle.space.proofs.Quiet.{adds-length}
+use Rattle.export_table.specs.Stands.{row_of}
 
 pub some-or-not : {X : Type 0} (p : X → Bool) (xs : List X) → length (filter p xs) + length (filter (λ x. not (p x)) xs) ≡ length xs
 some-or-not p [] = refl

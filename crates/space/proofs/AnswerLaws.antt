@@ -1,5 +1,5 @@
 -- What an event is answered is one of its ask's row.
-use Rattle.std.proofs.Common.{◌≡◌, ◌≢◌, ℕ, ◌+◌, ◌<◌, ◌≤◌, List, [], ◌∷◌, length, refl, ap, sym, subst, ◌∙◌, max, arith, inl, inr, Option, Some, None, Ok, Err}
+use Rattle.std.proofs.Common.{◌≡◌, ℕ, ◌+◌, ◌<◌, ◌≤◌, List, [], length, refl, sym, subst, ◌∙◌, max, arith, inl, inr, Option, Some, None, Ok, Err}
 use Rattle.std.specs.Prelude.{Bool, true, false, ◌&&◌, ◌⊎◌, Result, nat_lt, if◌then◌else◌}
 use Rattle.std.proofs.lemmas.Bool.{lt-ltb, ltb-true}
 use Rattle.std.proofs.lemmas.List.{length-map}
@@ -22,22 +22,21 @@ use Rattle.history.specs.declared.replies.Turn.{Turn}
 use Rattle.history.specs.LeaseCalls.{call_with, lease_calls}
 use Rattle.history.specs.Leases.{is_dirty_kind}
 use Rattle.history.specs.Limits.{limits, refusal}
-use Rattle.history.specs.Steps.{turn_of, Step}
+use Rattle.history.specs.Steps.{Step}
 use Rattle.history.specs.declared.replies.Reply.{Reply}
 use Rattle.history.specs.declared.replies.Reply.TheVariants.{Started, NoObject, Finished, NotRunning, Done}
 use Rattle.history.specs.Places.{added, exported_from, has, kind_of, now}
 use Rattle.history.specs.Replies.{ids, reply}
 use Rattle.history.specs.Running.{running}
 use Rattle.history.specs.Table.{exports, is_effective, table, place_of, places}
-use Rattle.dgc_server.specs.Counts.{clients_with, pairs_with_call}
 use Rattle.dgc_server.specs.Stands.{LeaseTable}
 use Rattle.export_table.specs.declared.rows.Export.{Export}
 use Rattle.export_table.specs.declared.waits.Wait.{Wait}
 use Rattle.export_table.specs.Table.{ExportTable}
 use Rattle.space.specs.declared.runs.Run.{Run}
-use Rattle.space.specs.Acts.{opens, room_refusal, await_refusal, lease_refusal, first_of_two}
+use Rattle.space.specs.Acts.{room_refusal, await_refusal, lease_refusal, first_of_two}
 use Rattle.space.specs.Built.{IsBuilt, SpaceHistory}
-use Rattle.space.specs.Kept.{live_calls, rows_of, HasDurations, Keeps}
+use Rattle.space.specs.Kept.{live_calls, HasDurations, Keeps}
 use Rattle.space.proofs.AbandonLaws.{rows-length}
 use Rattle.space.proofs.Keeping.{refusal-kept}
 use Rattle.space.proofs.NotedLaws.{taken-turn, refused-turn}

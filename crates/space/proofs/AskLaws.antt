@@ -2,7 +2,6 @@
 use Rattle.std.proofs.Common.{◌≡◌, ℕ, ◌+◌, ◌<◌, ◌≤◌, ◌^◌, suc, List, [], ◌∷◌, ◌++◌, length, refl, ap, sym, subst, ◌∙◌, cond, map, max, arith, Option, Some, None, length-append}
 use Rattle.std.specs.Prelude.{Bool, true, false, not, ◌&&◌, ◌==◌, filter, nat_lt, if◌then◌else◌}
 use Rattle.std.proofs.lemmas.Bool.{and_parts, ltb-true, ltb-false}
-use Rattle.std.proofs.Math.Seq.{drop-append_seam}
 use Rattle.object_ids.specs.declared.ids.Uid.{Uid}
 use Rattle.object_ids.specs.declared.ids.ObjId.{ObjId}
 use Rattle.object_ids.specs.declared.ids.FullKind.TheVariants.{Exports}
@@ -16,24 +15,24 @@ use Rattle.history.specs.declared.places.Withdrawal.{Withdrawal}
 use Rattle.history.specs.declared.replies.Refused.{Refused}
 use Rattle.history.specs.declared.replies.Refused.TheVariants.{HistoryFull, Full}
 use Rattle.history.specs.Places.{now, added, id_at}
-use Rattle.history.specs.Limits.{units_of, units, reserved, is_begin, is_end}
+use Rattle.history.specs.Limits.{units_of, is_begin, is_end}
 use Rattle.history.specs.Running.{running, running_calls}
 use Rattle.history.specs.Table.{is_effective, table, places}
 use Rattle.dgc_server.specs.Stands.{LeaseTable}
 use Rattle.export_table.specs.declared.rows.Export.{Export}
 use Rattle.export_table.specs.declared.waits.Wait.{Wait}
-use Rattle.export_table.specs.Rows.{is_of, is_exported, is_kept as row_kept, running_of, new_row, changed, begun, ended, withdrawn as rows_withdrawn}
+use Rattle.export_table.specs.Rows.{is_exported, is_kept as row_kept, running_of, new_row, changed, begun, ended, withdrawn as rows_withdrawn}
 use Rattle.export_table.specs.Table.{ExportTable}
 use Rattle.space.specs.declared.runs.Run.{Run}
 use Rattle.space.specs.Acts.{effective_by, opens, new_rows, new_ids, returned_by, awaiting_with, acted, room_refusal, await_refusal}
 use Rattle.space.specs.Built.{IsBuilt}
-use Rattle.space.specs.Kept.{rows_of, Keeps}
-use Rattle.space.specs.Runs.{is_run, is_run_on, caller_of, object_of}
-use Rattle.space.specs.Waits.{WaitsStand, reference_of, end_of}
+use Rattle.space.specs.Kept.{Keeps}
+use Rattle.space.specs.Runs.{is_run, is_run_on, object_of}
+use Rattle.export_table.specs.Stands.{WaitsStand, reference_of, end_of}
 use Rattle.space.proofs.AwaitLaws.{new-length, return-few}
-use Rattle.space.proofs.Acting.{running-there as rows-running, running-few}
 use Rattle.space.proofs.ObjectLaws.{running-there}
-use Rattle.space.proofs.TurnLaws.{IsAsked, is-effective, keeps-room, keeps-alike}
+use Rattle.space.proofs.TurnLaws.{IsAsked, is-effective, keeps-room}
+use Rattle.export_table.proofs.StandLaws.{running-there as rows-running, running-few}
 
 -- What is kept once there is room.
 pub keeps-roomy : (config : SpaceConfig) (events events' : List Event) (leases leases' : LeaseTable) (x y : ExportTable) (runs runs' : List Run) (withdrawn withdrawn' : List Withdrawal) (told opened used moment : ℕ) →

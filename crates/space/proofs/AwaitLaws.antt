@@ -1,6 +1,6 @@
 -- When the references that an event returns pass the limit of those that await.
-use Rattle.std.proofs.Common.{◌≡◌, ℕ, ◌+◌, ◌≤◌, List, [], ◌∷◌, ◌++◌, length, refl, ap, sym, subst, ◌∙◌, map, max, arith, suc, Option, Some, None}
-use Rattle.std.specs.Prelude.{Bool, true, false, ◌&&◌, filter, flat_map, option_to_list, nat_lt, if◌then◌else◌}
+use Rattle.std.proofs.Common.{◌≡◌, ℕ, ◌+◌, ◌≤◌, List, [], ◌∷◌, ◌++◌, length, refl, ap, sym, subst, ◌∙◌, max, arith, suc, Some, None}
+use Rattle.std.specs.Prelude.{Bool, true, false, filter, flat_map, option_to_list, nat_lt, if◌then◌else◌}
 use Rattle.std.specs.List.{list_any}
 use Rattle.std.proofs.lemmas.Bool.{le-ltb, ltb-false}
 use Rattle.object_ids.specs.declared.ids.Uid.{Uid}
@@ -12,12 +12,9 @@ use Rattle.history.specs.declared.asks.Event.{Event}
 use Rattle.history.specs.declared.asks.Ask.{Ask}
 use Rattle.history.specs.declared.asks.Ask.TheVariants.{Open, Begin, Finish, Abandon, Dirty, Clean, Ack, Bind, Rebind, Unbind, Lookup, List as ListNames, Tick}
 use Rattle.history.specs.declared.limits.TheConstants.{MAX_AWAITING}
-use Rattle.history.specs.declared.places.Place.{Place}
 use Rattle.history.specs.declared.places.Exported.{Exported}
-use Rattle.history.specs.declared.places.Returned.{Returned}
-use Rattle.history.specs.declared.replies.Refused.{Refused}
 use Rattle.history.specs.declared.replies.Refused.TheVariants.{Full}
-use Rattle.history.specs.Awaiting.{same_returned, returned, return_uid, awaits, awaiting}
+use Rattle.history.specs.Awaiting.{same_returned, returned, return_uid, awaiting}
 use Rattle.history.specs.Limits.{awaiting_with as awaiting_with_event}
 use Rattle.history.specs.Lists.{distinct}
 use Rattle.history.specs.Places.{has, now, added, exported_from}
@@ -28,11 +25,10 @@ use Rattle.history.proofs.TableLaws.{moment-place_of}
 use Rattle.export_table.specs.declared.rows.Export.{Export}
 use Rattle.export_table.specs.declared.waits.Wait.{Wait}
 use Rattle.export_table.specs.Rows.{is_exported}
-use Rattle.export_table.specs.Waits.{is_waiting}
-use Rattle.space.specs.Acts.{new_ids, returned_by, references, awaiting_with, awaiting_after, return_refusal, await_refusal}
+use Rattle.space.specs.Acts.{new_ids, returned_by, awaiting_with, awaiting_after, return_refusal, await_refusal}
 use Rattle.space.specs.Built.{IsBuilt}
-use Rattle.space.specs.Kept.{rows_of, IsWithin}
-use Rattle.space.specs.Waits.{WaitsStand, reference_of, end_of}
+use Rattle.space.specs.Kept.{IsWithin}
+use Rattle.export_table.specs.Stands.{WaitsStand, reference_of, end_of, references, rows_of}
 use Rattle.space.proofs.Acting.{new-ids, live-same, returned-is, returned-finish}
 use Rattle.space.proofs.Named.{any-ids}
 use Rattle.space.proofs.NextLaws.{new-not-old, not-exported-nowhere, not-there-awaits}
@@ -41,7 +37,7 @@ use Rattle.space.proofs.Quiet.{opened_by, adds-built}
 use Rattle.space.proofs.ReferenceLaws.{awaiting-counted-with}
 use Rattle.space.proofs.Room.{awaiting-few}
 use Rattle.space.proofs.RowLaws.{apart-once}
-use Rattle.space.proofs.WaitLaws.{count-awaiting-with, waiting_refs, waits-await, refs-await}
+use Rattle.export_table.proofs.WaitLaws.{count-awaiting-with, waiting_refs, waits-await, refs-await}
 
 pub new-length : (space : Uid) (k : ℕ) (kinds : List ℕ) → length (new_ids space k kinds) ≡ length kinds
 new-length space k [] = refl

@@ -15,16 +15,14 @@ use Rattle.history.specs.Lists.{distinct}
 use Rattle.history.specs.LeaseCalls.{call_with}
 use Rattle.history.specs.Leases.{is_dirty, lease_end, has_time_left, calls_of, clients, clients_with_time_left}
 use Rattle.history.proofs.LeaseLaws.{list_any-clients}
-use Rattle.history.proofs.ListLemmas.{IsEquality, AllOnce-distinct, length-fewer, length-members, list_any-distinct, and_false}
+use Rattle.history.proofs.ListLemmas.{IsEquality, AllOnce-distinct, length-fewer, and_false}
 use Rattle.dgc_server.proofs.Distinct.{any-filtered, turned}
+use Rattle.export_table.proofs.WaitLaws.{any-distinct}
 use Rattle.dgc_server.proofs.Rising.{decides-client}
 use Rattle.dgc_server.proofs.Outputs.{time-called}
 use Rattle.dgc_server.proofs.Steps.{earlier}
 
 -- ---- how many items a list has, each counted once
-
-pub any-distinct : {X : Type 0} (same : X → X → Bool) → IsEquality same → (k : X) (xs : List X) → list_any (same k) (distinct same xs) ≡ list_any (same k) xs
-any-distinct same e k xs = list_any-distinct same (same k) (λ a b h. ap (same k) (e.equal a b h)) xs
 
 -- Items that all stand in another list are no more than those.
 pub distinct-fewer : {X : Type 0} (same : X → X → Bool) → IsEquality same → (xs ys : List X) → ((k : X) → list_any (same k) xs ≡ true → list_any (same k) ys ≡ true) →
@@ -32,13 +30,6 @@ pub distinct-fewer : {X : Type 0} (same : X → X → Bool) → IsEquality same 
 distinct-fewer same e xs ys f =
     length-fewer same e (distinct same xs) (distinct same ys) (AllOnce-distinct same e xs)
     (λ k h. any-distinct same e k ys ∙ f k (sym (any-distinct same e k xs) ∙ h))
-
--- Lists with the same items have as many.
-pub distinct-same : {X : Type 0} (same : X → X → Bool) → IsEquality same → (xs ys : List X) → ((k : X) → list_any (same k) xs ≡ list_any (same k) ys) →
-    length (distinct same xs) ≡ length (distinct same ys)
-distinct-same same e xs ys f =
-    length-members same e (distinct same xs) (distinct same ys) (AllOnce-distinct same e xs) (AllOnce-distinct same e ys)
-    (λ k. any-distinct same e k xs ∙ f k ∙ sym (any-distinct same e k ys))
 
 -- ---- clients with time left
 

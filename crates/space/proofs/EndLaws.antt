@@ -1,5 +1,5 @@
 -- The end of a turn, by what its parts answered.
-use Rattle.std.proofs.Common.{◌≡◌, ℕ, ◌+◌, ◌<◌, ◌≤◌, ◌^◌, List, [], ◌∷◌, ◌++◌, length, refl, ap, sym, subst, ◌∙◌, map, max, drop, arith, Option, None, length-append}
+use Rattle.std.proofs.Common.{◌≡◌, ℕ, ◌<◌, ◌≤◌, ◌^◌, List, ◌++◌, length, ap, sym, subst, ◌∙◌, map, max, drop, arith, Option, None, length-append}
 use Rattle.std.specs.Prelude.{Bool, filter}
 use Rattle.std.proofs.Math.Seq.{drop-append_seam}
 use Rattle.object_ids.specs.declared.ids.ObjId.{ObjId}
@@ -10,12 +10,13 @@ use Rattle.history.specs.declared.replies.Refused.{Refused}
 use Rattle.history.specs.LeaseCalls.{call_with}
 use Rattle.history.specs.Places.{now}
 use Rattle.history.specs.Table.{places}
-use Rattle.dgc_server.specs.Stands.{LeaseTable, StandsFor, ForEachLog, ForEachLogBy}
+use Rattle.dgc_server.specs.Stands.{LeaseTable, StandsFor, ForEachLog}
 use Rattle.export_table.specs.Rows.{is_exported, is_kept as row_kept, held_by, without_all, withdrawn as rows_withdrawn}
 use Rattle.export_table.specs.Table.{ExportTable}
 use Rattle.export_table.specs.Waits.{waiting}
 use Rattle.space.specs.declared.runs.Run.{Run}
-use Rattle.space.specs.Acts.{effective_by, acted, withdrawal_at, room_refusal, await_refusal, lease_refusal}
+use Rattle.space.specs.Acts.{ForEachLogBy, effective_by, acted, room_refusal, await_refusal, lease_refusal}
+use Rattle.space.specs.Ahead.{HasRoom}
 use Rattle.space.specs.Built.{IsBuilt}
 use Rattle.space.specs.Kept.{Keeps}
 use Rattle.space.proofs.Keeping.{told_calls, going_now}
@@ -69,3 +70,12 @@ goes-few config events e leases leases1 leases2 exports t x3 runs withdrawn told
     let seam = ap length (drop-append_seam told_gone (going_now config events e t)) in
     let few = gone-few (max e.moment (now (places config events))) (held_by config.lease_ms (max e.moment (now (places config events))) (told_calls config events e)) t.waits t.rows in
     omega (arith, rest, seam, few)
+
+-- What is kept of events, once they are there and there is as much room.
+pub appended : (config : SpaceConfig) (events events' : List Event) (leases : LeaseTable) (exports : ExportTable) (runs : List Run) (withdrawn : List Withdrawal) (told opened used moment : ℕ) (scratch : List ObjId) (room room' withdrawn_room scratch_room : ℕ) →
+    Keeps config events leases exports runs withdrawn told opened used moment × HasRoom events room runs withdrawn withdrawn_room exports scratch scratch_room → events' ≡ events → room ≤ room' →
+    Keeps config events' leases exports runs withdrawn told opened used moment × HasRoom events' room' runs withdrawn withdrawn_room exports scratch scratch_room
+appended config events events' leases exports runs withdrawn told opened used moment scratch room room' withdrawn_room scratch_room (k, r) e le =
+    let P : List Event → Type 0 = λ es. Keeps config es leases exports runs withdrawn told opened used moment in
+    let ends = r.ends in let same = ap length e in
+    (subst P (sym e) k, record { ends = omega (arith, ends, same, le); withdrawals = r.withdrawals; objects = r.objects; empty = r.empty })

@@ -1,30 +1,28 @@
 -- What is kept of no events.
-use Rattle.std.proofs.Common.{◌≡◌, ℕ, List, [], length, refl, ap, sym, subst, ◌∙◌, arith, map}
-use Rattle.std.specs.Prelude.{filter, drop, nat_le}
+use Rattle.std.proofs.Common.{◌≡◌, List, [], length, refl, ap, sym, subst, arith, map}
+use Rattle.std.specs.Prelude.{filter, nat_le}
 use Rattle.history.specs.declared.asks.SpaceConfig.{SpaceConfig}
 use Rattle.history.specs.declared.asks.Event.{Event}
 use Rattle.history.specs.declared.places.Place.{Place}
-use Rattle.history.specs.declared.places.Exported.{Exported}
 use Rattle.history.specs.declared.places.Withdrawal.{Withdrawal}
-use Rattle.history.specs.declared.places.Returned.{Returned}
 use Rattle.history.specs.Awaiting.{awaiting}
 use Rattle.history.specs.LeaseCalls.{lease_calls}
 use Rattle.history.specs.Leases.{clients, clients_with_time_left, pairs_with}
-use Rattle.history.specs.Limits.{units, reserved}
+use Rattle.history.specs.Limits.{reserved}
 use Rattle.history.specs.Names.{names}
 use Rattle.history.specs.Places.{now, added}
 use Rattle.history.specs.Replies.{first_untold}
-use Rattle.history.specs.Table.{table, places, withdrawals}
+use Rattle.history.proofs.StepLaws.{IsLegal-none}
 use Rattle.history.proofs.GoneLaws.{withdrawals-none}
 use Rattle.history.proofs.TableLaws.{places-none, table-none, units-none}
 use Rattle.dgc_server.specs.Stands.{LeaseTable, StandsFor}
 use Rattle.export_table.specs.Table.{ExportTable, no_room}
 use Rattle.space.specs.declared.runs.Run.{Run}
-use Rattle.space.specs.Kept.{live_calls, HasDurations, IsWithin, rows_of, to_tell, Stands, Keeps}
-use Rattle.space.specs.Runs.{RunsStand, caller_of, object_of}
-use Rattle.space.specs.Waits.{reference_of, end_of}
+use Rattle.space.specs.Kept.{HasDurations, IsWithin, Stands, Keeps}
+use Rattle.space.specs.Runs.{caller_of, object_of}
+use Rattle.export_table.specs.Stands.{rows_of}
 use Rattle.space.proofs.RunSteps.{runs-none}
-use Rattle.space.proofs.WaitLaws.{until-none}
+use Rattle.export_table.proofs.WaitLaws.{until-none}
 
 abbrev pub nothing_exported : SpaceConfig → ExportTable
 nothing_exported config = record { space = config.uid; ack = config.ack_ms; added = 0; rows = []; waits = []; room = no_room }
@@ -68,4 +66,5 @@ keeps-nothing config leases exports events runs withdrawn d s x r v w =
       few_events = omega arith;
       few_opened = omega arith;
       built = tt;
+      legal = IsLegal-none config;
     }))))

@@ -1,5 +1,5 @@
 -- What is kept after one more event, and what a turn answers.
-use Rattle.std.proofs.Common.{◌≡◌, ℕ, suc, ◌+◌, ◌<◌, ◌≤◌, ◌^◌, inl, inr, List, [], ◌∷◌, ◌++◌, length, refl, ap, sym, subst, ◌∙◌, cond, map, arith, max, drop, Some, None, Ok, Err, length-append, append_assoc}
+use Rattle.std.proofs.Common.{◌≡◌, ℕ, suc, ◌+◌, ◌<◌, ◌≤◌, ◌^◌, inl, inr, List, [], ◌∷◌, ◌++◌, length, refl, ap, sym, subst, ◌∙◌, cond, map, arith, max, drop, Some, None, Ok, Err, length-append}
 use Rattle.std.specs.Prelude.{Bool, true, false, not, ◌&&◌, ◌||◌, reverse, filter, find, nat_lt, if◌then◌else◌, Option, is_some, option_map, unwrap_or}
 use Rattle.std.specs.List.{list_any}
 use Rattle.std.proofs.lemmas.List.{reverse-append, map-append, drop-append-le, drop_all}
@@ -19,39 +19,39 @@ use Rattle.history.specs.declared.replies.Reply.TheVariants.{Started, NoObject, 
 use Rattle.history.specs.declared.replies.Turn.{Turn}
 use Rattle.history.specs.LeaseCalls.{call_with, lease_calls}
 use Rattle.history.specs.Leases.{is_held}
-use Rattle.history.specs.Limits.{units_of, units, limits, refusal}
+use Rattle.history.specs.Limits.{units_of, limits, refusal}
 use Rattle.history.specs.Places.{has, now, added, exported_from}
 use Rattle.history.specs.Replies.{reply, gone, ids, is_abandon}
 use Rattle.history.specs.Steps.{turn_of, answer_with, history_with, Step}
-use Rattle.history.specs.Table.{is_effective, exports, is_kept, table, place_of, places, withdrawn, withdrawals_at_end, withdrawals}
+use Rattle.history.specs.Table.{is_effective, exports, is_kept, table, place_of, places, withdrawn, withdrawals}
 use Rattle.history.proofs.GoneLaws.{pending, pending-push, withdrawals-push}
-use Rattle.history.proofs.ListLemmas.{Every, Every-two, Every-weaker}
-use Rattle.history.proofs.TableLaws.{places-push, places-numbered, length-places, now-push, table-place, units-push, ask-place_of, index-place_of, added-push, withdrawn-place}
+use Rattle.history.proofs.ListLemmas.{Every, Every-weaker}
+use Rattle.history.proofs.StepLaws.{IsLegal-step}
+use Rattle.history.proofs.TableLaws.{places-push, places-numbered, length-places, now-push, table-place, units-push, ask-place_of, index-place_of, added-push}
 use Rattle.dgc_server.specs.Stands.{LeaseTable, StandsFor}
 use Rattle.export_table.specs.declared.rows.Export.{Export}
 use Rattle.export_table.specs.declared.waits.Wait.{Wait}
-use Rattle.export_table.specs.Rows.{is_kept as row_kept, held_by, without_all, withdrawn as rows_withdrawn, kind_of, is_exported}
+use Rattle.export_table.specs.Rows.{is_kept as row_kept, held_by, without_all, withdrawn as rows_withdrawn, is_exported}
 use Rattle.export_table.specs.Table.{ExportTable}
-use Rattle.export_table.specs.Waits.{goes_on, waiting, is_awaited}
+use Rattle.export_table.specs.Waits.{waiting, is_awaited}
 use Rattle.space.specs.declared.runs.Run.{Run}
 use Rattle.space.specs.Acts.{opens, new_ids, reply_at, started_reply, withdrawal_at, told_after, room_refusal, await_refusal, lease_refusal, first_of_two, Agrees}
 use Rattle.space.specs.Built.{IsBuilt}
-use Rattle.space.specs.Kept.{live_calls, HasDurations, IsWithin, AllBuilt, row_of, rows_of, to_tell, Stands, Keeps}
+use Rattle.space.specs.Kept.{live_calls, AllBuilt, to_tell, Stands, Keeps}
 use Rattle.space.specs.Runs.{RunsStand, caller_of, object_of}
-use Rattle.space.specs.Waits.{WaitsFor, WaitsStand, reference_of, end_of, until_of}
-use Rattle.space.proofs.Acting.{kind-is, exported-has, new-ids}
+use Rattle.export_table.specs.Stands.{WaitsStand, reference_of, end_of, row_of, rows_of}
+use Rattle.space.proofs.Acting.{new-ids}
 use Rattle.space.proofs.AwaitLaws.{await-is}
 use Rattle.space.proofs.LimitLaws.{within-next}
 use Rattle.space.proofs.LiveLaws.{gone_of}
 use Rattle.space.proofs.NextLaws.{live-next, kept-next, gone-next, withdrawn-ids}
 use Rattle.space.proofs.Quiet.{IsQuiet, quiet-place, quiet, adds-length, not-named}
 use Rattle.space.proofs.Room.{refusal-is}
-use Rattle.space.proofs.WaitLaws.{refs-await, waiting_refs}
-use Rattle.space.proofs.WaitSteps.{going-until, going}
-use Rattle.history.proofs.ListLemmas.{AllOnce-filter}
-use Rattle.history.specs.Awaiting.{same_returned, awaits}
+use Rattle.export_table.proofs.WaitLaws.{refs-await, waiting_refs}
+use Rattle.export_table.proofs.StandLaws.{waits-going, kind-is, exported-has}
+use Rattle.history.specs.Awaiting.{awaits}
 use Rattle.history.specs.Running.{running, running_calls}
-use Rattle.space.proofs.WaitLaws.{numbered-place}
+use Rattle.export_table.proofs.WaitLaws.{numbered-place}
 
 -- ---- lists
 
@@ -95,12 +95,6 @@ at-place n [] = refl
 at-place n (x ∷ xs) = ap (λ l. withdrawal_at n x.id ∷ l) (at-place n xs)
 
 -- The waits that go on.
-waits-going : (m : ℕ) (ack : ℕ) (h : List Place) (ws : List Wait) → WaitsStand reference_of end_of ack m h ws → WaitsStand reference_of end_of ack m h (waiting m ws)
-waits-going m ack h ws w = record {
-  once = AllOnce-filter (λ a b. same_returned (reference_of a) (reference_of b)) (λ v. nat_lt m (end_of v)) ws w.once;
-  each = λ r. going-until reference_of end_of m r ws w.once ∙ w.each r;
-}
-
 -- ---- after the act, and before anything is withdrawn
 
 pub record IsActed (config : SpaceConfig) (events : List Event) (e : Event) (leases : LeaseTable) (exports : ExportTable) (runs : List Run) : Type 0 where
@@ -253,6 +247,19 @@ stands-push config events e leases leases1 leases2 exports t runs runs1 withdraw
     told-few true n xs ys h = let long = length-append xs ys in omega (arith, h, long)
     told-few false n xs ys h = omega arith
 
+-- ---- the answer
+
+pub step-refused : (config : SpaceConfig) (events : List Event) (e : Event) (refused : Refused) → refusal limits config (places config events) e ≡ Some refused → Step config events e (Err refused) events
+step-refused config events e refused r = inl (ap (answer_with config events e) (sym r), ap (history_with events e) (sym r))
+
+pub step-taken : (config : SpaceConfig) (events : List Event) (e : Event) (turn : Turn) → refusal limits config (places config events) e ≡ None → turn ≡ turn_of config events e → Step config events e (Ok turn) (events ++ e ∷ [])
+step-taken config events e turn r t = inl (ap (λ x. Ok x) t ∙ ap (answer_with config events e) (sym r), ap (history_with events e) (sym r))
+
+-- An answer that agrees with the refusal is a step.
+pub step-agrees : (config : SpaceConfig) (events : List Event) (e : Event) (refused : Refused) → Agrees {T = Unit {0}} (refusal limits config (places config events) e) (Err refused) → Step config events e (Err refused) events
+step-agrees config events e refused (inl r) = step-refused config events e refused r
+step-agrees config events e refused (inr m) = inr (ap (λ x. Err x) m, refl)
+
 pub keeps-push : (config : SpaceConfig) (events : List Event) (e : Event) (leases leases1 leases2 : LeaseTable) (exports t : ExportTable) (runs runs1 : List Run) (withdrawn : List Withdrawal) (told opened used moment : ℕ) (effective : Bool) → effective ≡ is_effective config (places config events) e.by e.ask →
     Keeps config events leases exports runs withdrawn told opened used moment → IsBuilt e.ask → e.moment < 2 ^ 62 → refusal limits config (places config events) e ≡ None →
     IsActed config events e leases1 t runs1 → t.space ≡ config.uid → t.ack ≡ config.ack_ms → t.added ≡ opened + opens effective e.ask →
@@ -271,6 +278,7 @@ keeps-push config events e leases leases1 leases2 exports t runs runs1 withdrawn
       few_events = (let before = k.few_events in let some = some-units e.ask in omega (arith, before, some, longer));
       few_opened = (let before = k.few_opened in let few = opened-few effective e.ask in omega (arith, before, few));
       built = subst B (sym (reverse-append events (e ∷ []))) (b, k.built);
+      legal = IsLegal-step config events (events ++ e ∷ []) e (Ok (turn_of config events e)) k.legal (step-taken config events e (turn_of config events e) r refl);
     }
 
 -- ---- refusals
@@ -376,14 +384,3 @@ turn-is config events e leases leases1 exports t runs runs1 withdrawn told opene
   where
     two : (r s : Reply) (g g' : List ObjId) → r ≡ s → g ≡ g' → ◌≡◌ {A = Turn} (record { place = length events; reply = r; gone = g }) (record { place = length events; reply = s; gone = g' })
     two r s g g' p q = cc
-
-pub step-refused : (config : SpaceConfig) (events : List Event) (e : Event) (refused : Refused) → refusal limits config (places config events) e ≡ Some refused → Step config events e (Err refused) events
-step-refused config events e refused r = inl (ap (answer_with config events e) (sym r), ap (history_with events e) (sym r))
-
-pub step-taken : (config : SpaceConfig) (events : List Event) (e : Event) (turn : Turn) → refusal limits config (places config events) e ≡ None → turn ≡ turn_of config events e → Step config events e (Ok turn) (events ++ e ∷ [])
-step-taken config events e turn r t = inl (ap (λ x. Ok x) t ∙ ap (answer_with config events e) (sym r), ap (history_with events e) (sym r))
-
--- An answer that agrees with the refusal is a step.
-pub step-agrees : (config : SpaceConfig) (events : List Event) (e : Event) (refused : Refused) → Agrees {T = Unit {0}} (refusal limits config (places config events) e) (Err refused) → Step config events e (Err refused) events
-step-agrees config events e refused (inl r) = step-refused config events e refused r
-step-agrees config events e refused (inr m) = inr (ap (λ x. Err x) m, refl)

@@ -4,6 +4,7 @@ pub mod AheadLaws
 pub mod AnswerLaws
 pub mod AskLaws
 pub mod AwaitLaws
+pub mod BalanceLaws
 pub mod Clients
 pub mod EndLaws
 pub mod FirstLaws
@@ -25,9 +26,8 @@ pub mod Refusals
 pub mod Room
 pub mod RowLaws
 pub mod RunSteps
+pub mod StepsLaws
 pub mod SummaryLaws
 pub mod TextLaws
 pub mod TieSteps
 pub mod TurnLaws
-pub mod WaitLaws
-pub mod WaitSteps

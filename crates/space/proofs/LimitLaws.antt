@@ -38,13 +38,13 @@ use Rattle.history.proofs.RunningLaws.{reserved-push}
 use Rattle.history.proofs.TableLaws.{places-push, places-numbered, table-place, now-push, moment-place_of, ask-place_of, units-push}
 use Rattle.dgc_server.specs.Counts.{clients_with as clients_with_call, pairs_with_call}
 use Rattle.space.specs.Kept.{live_calls, IsWithin}
-use Rattle.space.proofs.Clients.{distinct-fewer, distinct-same, client-equality, left-more}
+use Rattle.space.proofs.Clients.{distinct-fewer, client-equality, left-more}
 use Rattle.space.proofs.LiveLaws.{pairs-live, new_pairs-live, left-live}
 use Rattle.space.proofs.Named.{NamesOnly, call-names, calls-names, naming-has, any-ids, lease_calls-push}
 use Rattle.space.proofs.NextLaws.{new-not-old}
 use Rattle.space.proofs.Pairs.{pair-equality, any-pairs_with, remembered-named, remembered-earlier, pair-after}
-use Rattle.space.specs.Waits.{until_of}
-use Rattle.space.proofs.WaitLaws.{awaits-until, numbered-place}
+use Rattle.export_table.specs.Stands.{until_of}
+use Rattle.export_table.proofs.WaitLaws.{awaits-until, numbered-place, distinct-same}
 use Rattle.dgc_server.proofs.Steps.{earlier}
 
 -- ---- an event that is not refused

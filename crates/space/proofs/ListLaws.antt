@@ -20,8 +20,8 @@ use Rattle.export_table.specs.declared.waits.Wait.{Wait}
 use Rattle.export_table.specs.Rows.{kind_of, row_at}
 use Rattle.space.specs.declared.lists.ObjectKind.{ObjectKind}
 use Rattle.space.specs.Built.{SpaceHistory}
-use Rattle.space.specs.Kept.{row_of, rows_of}
 use Rattle.space.specs.Lists.{Takes, kind_among, with_kind, row_kind}
+use Rattle.export_table.specs.Stands.{row_of, rows_of}
 
 -- ---- one event
 

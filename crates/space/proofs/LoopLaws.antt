@@ -1,5 +1,5 @@
 -- Steps of loops over what a return brings, from the front.
-use Rattle.std.proofs.Common.{◌≡◌, ℕ, ◌+◌, ◌<◌, ◌≤◌, suc, List, [], ◌∷◌, ◌++◌, length, drop, get_or, refl, ap, sym, subst, ◌∙◌, cond, arith, add-one, append_assoc, append-nil}
+use Rattle.std.proofs.Common.{◌≡◌, ℕ, ◌+◌, ◌<◌, ◌≤◌, List, [], ◌∷◌, ◌++◌, length, drop, get_or, refl, ap, sym, ◌∙◌, arith, add-one, append_assoc, append-nil}
 use Rattle.std.proofs.Math.Seq.{drop-cons}
 use Rattle.std.specs.Prelude.{Bool, true, false, not, ◌&&◌, ◌||◌, filter, if◌then◌else◌}
 use Rattle.std.specs.List.{list_any}
@@ -15,7 +15,7 @@ use Rattle.history.specs.Places.{id_at}
 use Rattle.history.proofs.ListLemmas.{Every, Every-append, Every-weaker}
 use Rattle.export_table.specs.declared.rows.Export.{Export}
 use Rattle.export_table.specs.Rows.{is_of, is_exported, new_row, changed, ended}
-use Rattle.export_table.proofs.Laws.{exported-changed}
+use Rattle.export_table.proofs.RowLaws.{exported-changed}
 use Rattle.space.proofs.Named.{passing}
 use Rattle.space.specs.Acts.{new_ids, new_rows}
 

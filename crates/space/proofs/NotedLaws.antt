@@ -1,7 +1,6 @@
 -- What a turn's entry needs, by what is kept.
-use Rattle.std.proofs.Common.{◌≡◌, ◌≢◌, ℕ, suc, ◌+◌, ◌<◌, ◌≤◌, inl, inr, List, [], ◌∷◌, ◌++◌, length, refl, ap, sym, subst, ◌∙◌, cond, map, max, drop, arith, Option, Some, None, Ok, Err, length-append}
-use Rattle.std.specs.Prelude.{Bool, true, false, not, ◌⊎◌, filter, if◌then◌else◌, Result}
-use Rattle.std.proofs.lemmas.Bool.{lt-ltb, le-ltb, ltb-true}
+use Rattle.std.proofs.Common.{◌≡◌, ℕ, ◌+◌, ◌≤◌, inl, inr, List, [], ◌∷◌, ◌++◌, length, refl, ap, sym, subst, ◌∙◌, map, drop, arith, Option, Some, None, Ok, Err, length-append}
+use Rattle.std.specs.Prelude.{Bool, true, false, not, ◌⊎◌, filter, if◌then◌else◌, Result, IfOk, OnErr}
 use Rattle.std.proofs.lemmas.List.{length-map}
 use Rattle.object_ids.specs.declared.ids.ObjId.{ObjId}
 use Rattle.history.specs.declared.asks.SpaceConfig.{SpaceConfig}
@@ -13,7 +12,6 @@ use Rattle.history.specs.declared.places.Exported.{Exported}
 use Rattle.history.specs.declared.places.Withdrawal.{Withdrawal}
 use Rattle.history.specs.declared.replies.Refused.{Refused}
 use Rattle.history.specs.declared.replies.Refused.TheVariants.{OutOfMemory}
-use Rattle.history.specs.declared.replies.Reply.{Reply}
 use Rattle.history.specs.declared.replies.Reply.TheVariants.{Started, NoObject, Finished, NotRunning, Done, Names}
 use Rattle.history.specs.declared.replies.Turn.{Turn}
 use Rattle.history.specs.Limits.{units_of, limits, refusal}
@@ -26,12 +24,13 @@ use Rattle.history.proofs.TableLaws.{places-numbered, withdrawn-place}
 use Rattle.dgc_server.specs.Stands.{LeaseTable}
 use Rattle.export_table.specs.Table.{ExportTable}
 use Rattle.space.specs.declared.runs.Run.{Run}
-use Rattle.space.specs.Acts.{opens}
 use Rattle.space.specs.Built.{IsBuilt, SpaceHistory}
-use Rattle.space.specs.Kept.{row_of, to_tell, Keeps}
+use Rattle.space.specs.Kept.{to_tell, Keeps}
+use Rattle.space.specs.Noted.{FitsIn}
 use Rattle.space.proofs.AheadLaws.{some-or-not}
 use Rattle.space.proofs.Keeping.{opened-few}
 use Rattle.space.proofs.Quiet.{adds-length, exported_from-length}
+use Rattle.export_table.specs.Stands.{row_of}
 
 -- ---- what a step says
 
@@ -163,3 +162,26 @@ turn-small config events h2 e leases exports runs withdrawn_before told opened u
       gone = gone-few config events e leases exports runs withdrawn_before told opened used moment k b;
       names = λ ns p. reply-names config (places config events) e ns b p;
     })
+
+-- The same as there is room for a copy.
+pub fits-turn : (config : SpaceConfig) (events h2 : List Event) (e : Event) (leases : LeaseTable) (exports : ExportTable) (runs : List Run) (withdrawn_before : List Withdrawal) (told opened used moment : ℕ) (s : SpaceHistory) (answer : Result Turn Refused) (ids_room gone_room : ℕ) (names : List (List ℕ)) →
+    Keeps config events leases exports runs withdrawn_before told opened used moment → IsBuilt e.ask → record { configuration = config; events = events } ≡ s → Step s.configuration s.events e answer h2 →
+    units_of e.ask ≤ ids_room → length (map (λ (w : Withdrawal). w.object) (drop told withdrawn_before)) + (length exports.rows + units_of e.ask) ≤ gone_room → FitsIn answer ids_room gone_room names
+fits-turn config events h2 e leases exports runs withdrawn_before told opened used moment s (Ok turn) ids_room gone_room names k b v t i g =
+    let small = turn-small config events h2 e leases exports runs withdrawn_before told opened used moment s turn k b v t in
+    let gone_few = small.gone in
+    record {
+      ids_fit = λ os p. (let few = small.ids os p in omega (arith, few, i));
+      gone_fit = omega (arith, gone_few, g);
+      names_are = λ ns p. absurd (small.names ns p);
+    }
+fits-turn config events h2 e leases exports runs withdrawn_before told opened used moment s (Err refused) ids_room gone_room names k b v t i g = tt
+
+-- What follows of a value follows of it where there is one.
+pub if-ok : {T E : Type 0} (r : Result T E) (P Q : T → Type 0) → IfOk r P → ((x : T) → P x → Q x) → IfOk r Q
+if-ok (Ok x) P Q p f = f x p
+if-ok (Err e) P Q p f = tt
+
+pub on-err : {T E P Q : Type 0} (r : Result T E) → OnErr r P → (P → Q) → OnErr r Q
+on-err (Ok x) p f = tt
+on-err (Err e) p f = f p

@@ -32,8 +32,8 @@ use Rattle.history.proofs.RunningLaws.{begins_any, ends_any, running_calls-diffe
 use Rattle.history.proofs.TableLaws.{places-numbered, places-push, places-none, table-place, now-push}
 use Rattle.dgc_server.proofs.Steps.{earlier}
 use Rattle.space.proofs.Named.{any-ids}
-use Rattle.space.specs.Waits.{until_of}
-use Rattle.space.proofs.WaitLaws.{awaits-until, numbered-place}
+use Rattle.export_table.specs.Stands.{until_of}
+use Rattle.export_table.proofs.WaitLaws.{awaits-until, numbered-place}
 
 -- ---- from event to event
 

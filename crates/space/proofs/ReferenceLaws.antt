@@ -2,7 +2,7 @@
 use Rattle.std.proofs.Common.{◌≡◌, ℕ, ◌+◌, ◌<◌, ◌≤◌, List, [], ◌∷◌, ◌++◌, length, suc, refl, ap, sym, subst, ◌∙◌, cond, map, max, arith, drop, get_or, inl, inr, ◌⊎◌, Ok, Err, Result, length-append}
 use Rattle.std.specs.Prelude.{Bool, true, false, ◌&&◌, ◌||◌, not, filter, nat_lt, if◌then◌else◌, ◌≢◌, OnOk, IfErr}
 use Rattle.std.specs.List.{list_any}
-use Rattle.std.proofs.lemmas.Bool.{lt-ltb, or_parts, or_left, or_right}
+use Rattle.std.proofs.lemmas.Bool.{lt-ltb, or_left, or_right}
 use Rattle.std.proofs.lemmas.List.Folds.{list_any-append}
 use Rattle.std.proofs.lemmas.List.{map-append}
 use Rattle.object_ids.specs.declared.ids.Uid.{Uid}
@@ -15,22 +15,20 @@ use Rattle.history.specs.declared.places.Returned.{Returned}
 use Rattle.history.specs.Awaiting.{same_returned}
 use Rattle.history.specs.Lists.{distinct}
 use Rattle.history.proofs.AwaitingLaws.{returned-equality}
-use Rattle.history.proofs.ListLemmas.{IsEquality, AllOnce, AllOnce-distinct, AllOnce-filter, AllOnce-push, length-members, list_any-map, and_true, and_false}
+use Rattle.history.proofs.ListLemmas.{IsEquality, AllOnce, AllOnce-distinct, AllOnce-filter, AllOnce-push, length-members, and_true, and_false}
 use Rattle.dgc_server.proofs.Distinct.{Decides, any-filtered, turned}
 use Rattle.export_table.specs.declared.waits.Wait.{Wait}
 use Rattle.export_table.specs.declared.exports.ExportFault.{ExportFault}
 use Rattle.export_table.specs.declared.exports.ExportFault.TheVariants.{Full as ExportFull, OutOfMemory as NoMemory}
 use Rattle.export_table.specs.Table.{ExportTable}
-use Rattle.export_table.specs.Waits.{waiting, is_waiting, until_of, listed}
-use Rattle.export_table.proofs.Laws.{waiting-listed}
-use Rattle.space.specs.Acts.{references, awaiting_with, awaiting_after, listed_each}
-use Rattle.space.specs.Waits.{waits_once, reference_of, end_of}
-use Rattle.space.proofs.Clients.{any-distinct, distinct-same}
+use Rattle.export_table.specs.Waits.{waiting, is_waiting, until_of, listed, listed_each}
+use Rattle.export_table.proofs.RowLaws.{waiting-listed}
+use Rattle.space.specs.Acts.{awaiting_with, awaiting_after}
+use Rattle.export_table.specs.Stands.{waits_once, reference_of, end_of, references}
 use Rattle.space.proofs.LimitLaws.{distinct-longer}
 use Rattle.space.proofs.LoopLaws.{front}
-use Rattle.space.proofs.RowLaws.{object-equality}
-use Rattle.space.proofs.WaitLaws.{decides-returned, waiting_refs, refs-any, refs-waiting-once}
-use Rattle.space.proofs.WaitSteps as steps
+use Rattle.export_table.proofs.WaitLaws.{decides-returned, waiting_refs, refs-waiting-once, any-distinct, distinct-same}
+use Rattle.export_table.proofs.StandLaws.{listed-stays-once, any-waiting}
 
 -- ---- how many items there are in a list of three parts
 
@@ -126,10 +124,6 @@ references-filter p q uid s (o ∷ os) = rw (s o) (go (q o) (references-filter p
     go true h = ap suc h
     go false h = h
 
--- A reference is among those of a list of waits exactly where it waits.
-pub any-waiting : (t : ℕ) (r : Returned) (waits : List Wait) → list_any (same_returned r) (waiting_refs reference_of end_of t waits) ≡ is_waiting t r.object r.uid waits
-any-waiting t r waits = refs-any reference_of end_of t r waits
-
 refs-length : (ws : List Wait) → length (map reference_of ws) ≡ length ws
 refs-length [] = refl
 refs-length (w ∷ ws) = ap suc (refs-length ws)
@@ -161,24 +155,6 @@ awaiting-counted-with t uid ns live waits once new apart other =
     sums p q r = rw (p, q, r) refl
 
 -- ---- one after another
-
--- A wait that is listed, as the laws of lists of waits say it.
-listed-is : (ack t : ℕ) (r : Returned) (waits : List Wait) → steps.listed reference_of end_of (λ s n. record { object = s.object; uid = s.uid; until = n }) ack t r waits ≡ listed ack t r.object r.uid waits
-listed-is ack t r waits =
-    ap (λ (n : ℕ). steps.but reference_of r (steps.going end_of t waits) ++ record { object = r.object; uid = r.uid; until = max (t + ack) n } ∷ []) (steps.until_in-find reference_of end_of r waits)
-
-pub listed-each-is : (ack t : ℕ) (uid : Uid) (os : List ObjId) (waits : List Wait) →
-    steps.listed_all reference_of end_of (λ s n. record { object = s.object; uid = s.uid; until = n }) ack t (references uid os) waits ≡ listed_each ack t uid os waits
-listed-each-is ack t uid [] waits = refl
-listed-each-is ack t uid (o ∷ os) waits =
-    ap (steps.listed_all reference_of end_of (λ s n. record { object = s.object; uid = s.uid; until = n }) ack t (references uid os)) (listed-is ack t (record { object = o; uid = uid }) waits)
-    ∙ listed-each-is ack t uid os (listed ack t o uid waits)
-
-pub listed-stays-once : (ack t : ℕ) (o : ObjId) (uid : Uid) (waits : List Wait) → waits_once reference_of waits → waits_once reference_of (listed ack t o uid waits)
-listed-stays-once ack t o uid waits once =
-    let P : List Wait → Type 0 = λ ws. waits_once reference_of ws in
-    subst P (listed-is ack t (record { object = o; uid = uid }) waits)
-    (steps.listed-once reference_of end_of (λ s n. record { object = s.object; uid = s.uid; until = n }) ack t (record { object = o; uid = uid }) waits (λ s n. refl) once)
 
 -- What is counted with the rest stays the same as one is listed.
 pub awaiting-step : (ack t : ℕ) (uid : Uid) (o : ObjId) (os : List ObjId) (waits : List Wait) → 1 ≤ ack → awaiting_with t uid os (listed ack t o uid waits) ≡ awaiting_with t uid (o ∷ os) waits

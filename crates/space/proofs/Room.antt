@@ -7,7 +7,7 @@ use Rattle.object_ids.specs.Same.{same_client, same_bytes}
 use Rattle.history.specs.declared.asks.SpaceConfig.{SpaceConfig}
 use Rattle.history.specs.declared.asks.Event.{Event}
 use Rattle.history.specs.declared.asks.Ask.{Ask}
-use Rattle.history.specs.declared.asks.Ask.TheVariants.{Open, Dirty, Clean}
+use Rattle.history.specs.declared.asks.Ask.TheVariants.{Dirty, Clean}
 use Rattle.history.specs.declared.limits.TheConstants.{MAX_EXPORTS, MAX_AWAITING, MAX_CLIENTS, MAX_PAIRS, MAX_NAMES, MAX_UNITS}
 use Rattle.history.specs.declared.places.Place.{Place}
 use Rattle.history.specs.declared.replies.Refused.{Refused}
@@ -17,7 +17,7 @@ use Rattle.history.specs.LeaseCalls.{lease_calls}
 use Rattle.history.specs.Leases.{clients_with_time_left, same_pair, pairs_with}
 use Rattle.history.specs.Limits.{units_of, units, reserved, is_begin, is_end, limits, exports_with, awaiting_with, lease_call, clients_with, pairs_with_event, names_with, is_full, refusal}
 use Rattle.history.specs.Lists.{distinct}
-use Rattle.history.specs.Places.{has, now, added}
+use Rattle.history.specs.Places.{has, now}
 use Rattle.history.specs.Replies.{ids}
 use Rattle.history.specs.Table.{is_effective, table, place_of}
 use Rattle.history.proofs.AwaitingLaws.{returned-equality, awaiting-member}
@@ -30,7 +30,7 @@ use Rattle.space.specs.Kept.{live_calls, IsWithin}
 use Rattle.space.proofs.Clients.{fewer-left}
 use Rattle.space.proofs.LimitLaws.{awaiting-later, pairs-later, pairs-told, clients-told}
 use Rattle.space.proofs.Quiet.{IsQuiet, quiet-place, adds-length, no-names}
-use Rattle.space.proofs.WaitLaws.{count-awaiting}
+use Rattle.export_table.proofs.WaitLaws.{count-awaiting}
 
 -- ---- the history, and the exported objects
 

@@ -1,5 +1,5 @@
 -- What an outline and a summary say of a table, by what is kept, generic in the ask.
-use Rattle.std.proofs.Common.{◌≡◌, ℕ, suc, ◌≤◌, List, [], ◌∷◌, ◌++◌, length, refl, ap, sym, ◌∙◌, cond, map, arith}
+use Rattle.std.proofs.Common.{◌≡◌, ℕ, List, [], ◌∷◌, ◌++◌, length, refl, ap, sym, ◌∙◌, arith}
 use Rattle.std.specs.Prelude.{Bool, true, false, ◌&&◌, ◌||◌, not, filter, flat_map, nat_lt}
 use Rattle.std.specs.List.{list_any}
 use Rattle.std.proofs.lemmas.Bool.{and_parts, or_parts}
@@ -15,7 +15,7 @@ use Rattle.history.specs.declared.calls.Pair.{Pair}
 use Rattle.history.specs.declared.places.Place.{Place}
 use Rattle.history.specs.declared.places.Exported.{Exported}
 use Rattle.history.specs.declared.places.Returned.{Returned}
-use Rattle.history.specs.Awaiting.{awaiting, awaiting_of}
+use Rattle.history.specs.Awaiting.{awaiting_of}
 use Rattle.history.specs.LeaseCalls.{lease_calls}
 use Rattle.history.specs.Leases.{calls_of, clients, holders, is_remembered, same_pair, pairs_of, pairs_with, pairs, objects_named}
 use Rattle.history.specs.Lists.{distinct}
@@ -34,43 +34,8 @@ use Rattle.space.proofs.LiveLaws.{holders-live, pairs-live}
 use Rattle.space.proofs.Named.{any-ids}
 use Rattle.space.proofs.Pairs.{pair-equality, any-pairs_of}
 use Rattle.space.specs.Runs.{is_run_on, RunsStand}
-use Rattle.space.specs.Waits.{WaitsStand}
-use Rattle.space.proofs.WaitLaws.{waiting_refs, refs-await, refs-waiting-once, count-awaiting, count-awaiting_of}
-
--- ---- the references that await
-
-refs-of : {W : Type 0} (ref : W → Returned) (until : W → ℕ) (t : ℕ) (o : ObjId) (ws : List W) →
-    length (filter (λ r. same_id r.object o) (waiting_refs ref until t ws)) ≡ length (filter (λ w. nat_lt t (until w) && same_id (ref w).object o) ws)
-refs-of ref until t o [] = refl
-refs-of {W} ref until t o (w ∷ ws) = go (nat_lt t (until w)) (refs-of ref until t o ws)
-  where
-    kept : (b : Bool) (xs : List Returned) (ys : List W) → length xs ≡ length ys → length (cond b (ref w ∷ xs) xs) ≡ length (cond b (w ∷ ys) ys)
-    kept true xs ys h = ap suc h
-    kept false xs ys h = h
-
-    go : (b : Bool) → length (filter (λ r. same_id r.object o) (waiting_refs ref until t ws)) ≡ length (filter (λ v. nat_lt t (until v) && same_id (ref v).object o) ws) →
-        length (filter (λ r. same_id r.object o) (map ref (cond b (w ∷ filter (λ v. nat_lt t (until v)) ws) (filter (λ v. nat_lt t (until v)) ws))))
-        ≡ length (cond (b && same_id (ref w).object o) (w ∷ filter (λ v. nat_lt t (until v) && same_id (ref v).object o) ws) (filter (λ v. nat_lt t (until v) && same_id (ref v).object o) ws))
-    go true h = kept (same_id (ref w).object o) (filter (λ r. same_id r.object o) (waiting_refs ref until t ws)) (filter (λ v. nat_lt t (until v) && same_id (ref v).object o) ws) h
-    go false h = h
-
-refs-length : {W : Type 0} (ref : W → Returned) (until : W → ℕ) (t : ℕ) (ws : List W) → length (waiting_refs ref until t ws) ≡ length (filter (λ w. nat_lt t (until w)) ws)
-refs-length ref until t ws = go (filter (λ w. nat_lt t (until w)) ws)
-  where
-    go : (vs : List _) → length (map ref vs) ≡ length vs
-    go [] = refl
-    go (v ∷ vs) = ap suc (go vs)
-
--- HOW MANY REFERENCES AWAIT, by a list of waits.
-pub awaiting-counted : {W : Type 0} (ref : W → Returned) (until : W → ℕ) (ack m t : ℕ) (h : List Place) (ws : List W) → m ≤ t → WaitsStand ref until ack m h ws →
-    length (awaiting ack t h) ≡ length (filter (λ w. nat_lt t (until w)) ws)
-awaiting-counted ref until ack m t h ws le s =
-    count-awaiting ack t h (waiting_refs ref until t ws) (refs-waiting-once ref until t ws s.once) (refs-await ref until ack m t h ws le s) ∙ refs-length ref until t ws
-
-pub awaiting_of-counted : {W : Type 0} (ref : W → Returned) (until : W → ℕ) (ack m t : ℕ) (h : List Place) (o : ObjId) (ws : List W) → m ≤ t → WaitsStand ref until ack m h ws →
-    length (awaiting_of ack t h o) ≡ length (filter (λ w. nat_lt t (until w) && same_id (ref w).object o) ws)
-awaiting_of-counted ref until ack m t h o ws le s =
-    count-awaiting_of ack t h o (waiting_refs ref until t ws) (refs-waiting-once ref until t ws s.once) (refs-await ref until ack m t h ws le s) ∙ refs-of ref until t o ws
+use Rattle.export_table.specs.Stands.{WaitsStand}
+use Rattle.export_table.proofs.StandLaws.{awaiting_of-counted}
 
 -- ---- THE ROW of an object of the table, by running calls, waits and live calls.
 

@@ -12,7 +12,6 @@ use Rattle.history.specs.declared.asks.SpaceConfig.{SpaceConfig}
 use Rattle.history.specs.declared.asks.Event.{Event}
 use Rattle.history.specs.declared.asks.Ask.{Ask}
 use Rattle.history.specs.declared.asks.Ask.TheVariants.{Begin, Finish, Abandon}
-use Rattle.history.specs.declared.places.Place.{Place}
 use Rattle.history.specs.Limits.{is_begin, is_end, starts, ends, reserved}
 use Rattle.history.specs.Places.{has}
 use Rattle.history.specs.Running.{connections, is_begin_of, is_end_of, begins_call, ends_call, running, running_calls}

@@ -24,12 +24,13 @@ use Rattle.export_table.specs.Waits.{waiting}
 use Rattle.space.specs.declared.journal_text.Counts.{Counts}
 use Rattle.space.specs.declared.runs.Run.{Run}
 use Rattle.space.specs.Built.{SpaceHistory}
-use Rattle.space.specs.Kept.{live_calls, row_of, Keeps}
+use Rattle.space.specs.Kept.{live_calls, Keeps}
 use Rattle.space.specs.Summary.{counts_text}
-use Rattle.space.specs.Waits.{reference_of, end_of}
+use Rattle.export_table.specs.Stands.{reference_of, end_of, row_of}
 use Rattle.space.proofs.LiveLaws.{left-live}
 use Rattle.space.proofs.Quiet.{quiet, no-names}
-use Rattle.space.proofs.RowLaws.{awaiting-counted, pairs-counted-live}
+use Rattle.space.proofs.RowLaws.{pairs-counted-live}
+use Rattle.export_table.proofs.StandLaws.{awaiting-counted}
 
 -- ---- counts
 

@@ -30,12 +30,12 @@ use Rattle.export_table.specs.Table.{ExportTable}
 use Rattle.export_table.specs.Waits.{awaiting_of as waits_of}
 use Rattle.space.specs.declared.runs.Run.{Run}
 use Rattle.space.specs.Built.{SpaceHistory}
-use Rattle.space.specs.Kept.{live_calls, AllBuilt, row_of, rows_of, Stands, Keeps}
+use Rattle.space.specs.Kept.{live_calls, AllBuilt, Keeps}
 use Rattle.space.specs.Rows.{held_row}
-use Rattle.space.specs.Waits.{WaitsStand, reference_of, end_of}
+use Rattle.export_table.specs.Stands.{WaitsStand, reference_of, end_of, row_of, rows_of}
 use Rattle.space.proofs.LiveLaws.{holders-live, lease_rows-live}
 use Rattle.space.proofs.Quiet.{IsQuiet, quiet, no-names, no-names_of}
-use Rattle.space.proofs.RowLaws.{awaiting_of-counted}
+use Rattle.export_table.proofs.StandLaws.{awaiting_of-counted}
 
 -- One more line of a list's lines.
 pub lines-more : {X : Type 0} (f : X → List ℕ) (xs : List X) (i : ℕ) (d : X) (start before after line : List ℕ) → i < length xs →

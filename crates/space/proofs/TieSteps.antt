@@ -1,18 +1,17 @@
 -- How one more turn leaves a port tied to its space.
 use Rattle.std.proofs.Common.{◌≡◌, ℕ, ◌+◌, ◌<◌, ◌≤◌, List, [], ◌∷◌, ◌++◌, length, refl, ap, sym, subst, ◌∙◌, arith, Ok, Err, length-append}
-use Rattle.std.specs.Prelude.{Result, Bool, true, false, ◌&&◌, ◌==◌, filter, if◌then◌else◌, nat_lt}
-use Rattle.std.proofs.lemmas.Bool.{lt-ltb, ltb-true}
+use Rattle.std.specs.Prelude.{Result, Bool, true, false, ◌&&◌, filter, if◌then◌else◌}
+use Rattle.std.proofs.lemmas.Bool.{lt-ltb}
 use Rattle.std.proofs.lemmas.Bool.Decides.{Decides-eqb}
 use Rattle.std.specs.List.{list_any}
 use Rattle.object_ids.specs.declared.ids.ObjId.{ObjId}
 use Rattle.object_ids.specs.Same.{same_id}
-use Rattle.object_ids.proofs.Exact.{same_id-equal, same_id-self}
+use Rattle.object_ids.proofs.Exact.{same_id-equal}
 use Rattle.history.specs.declared.asks.SpaceConfig.{SpaceConfig}
 use Rattle.history.specs.declared.asks.Event.{Event}
 use Rattle.history.specs.declared.asks.Ask.{Ask}
-use Rattle.history.specs.declared.asks.Ask.TheVariants.{Open, Begin, Finish, Abandon, Dirty, Clean, Ack, Bind, Rebind, Unbind, Lookup, List as ListNames, Tick}
+use Rattle.history.specs.declared.asks.Ask.TheVariants.{Begin, Finish, Abandon}
 use Rattle.history.specs.declared.replies.Refused.{Refused}
-use Rattle.history.specs.declared.replies.Reply.{Reply}
 use Rattle.history.specs.declared.replies.Reply.TheVariants.{Started, NoObject, Finished, NotRunning, Done}
 use Rattle.history.specs.declared.replies.Turn.{Turn}
 use Rattle.history.specs.Replies.{reply}
@@ -24,7 +23,7 @@ use Rattle.history.proofs.Partitions.{one_if}
 use Rattle.history.proofs.RunningLaws.{running-push}
 use Rattle.history.proofs.TableLaws.{places-push}
 use Rattle.space.specs.declared.asked.Asked.{Asked}
-use Rattle.space.specs.declared.asked.AskedEnd.TheVariants.{Turned, Abandoned, Refused as Denied}
+use Rattle.space.specs.declared.asked.AskedEnd.TheVariants.{Turned, Refused as Denied}
 use Rattle.space.specs.Acts.{event_of}
 use Rattle.space.specs.Built.{SpaceHistory}
 use Rattle.space.specs.Entries.{entry_of}
@@ -87,7 +86,7 @@ few-next false _ calls = omega arith
 
 -- ---- what the entry of a turn shows
 
-agree-begins : (config : SpaceConfig) (events : List Event) (by m : ℕ) (a : Ask) (o : ObjId) → begins_with o a (Turned (turn_of config events (event_of by m a))) ≡ (is_effective config (places config events) by a && is_begin_of o a)
+pub agree-begins : (config : SpaceConfig) (events : List Event) (by m : ℕ) (a : Ask) (o : ObjId) → begins_with o a (Turned (turn_of config events (event_of by m a))) ≡ (is_effective config (places config events) by a && is_begin_of o a)
 unfolding reply place_of
 agree-begins config events by m (Begin x) o = two (is_effective config (places config events) by (Begin x)) (same_id x o) _
   where
@@ -98,7 +97,7 @@ agree-begins config events by m (Begin x) o = two (is_effective config (places c
     two false false kind = refl
 agree-begins config events by m a o = sym (and_false (is_effective config (places config events) by a))
 
-agree-ends : (config : SpaceConfig) (events : List Event) (by m : ℕ) (a : Ask) (o : ObjId) → ends_with o a (Turned (turn_of config events (event_of by m a))) ≡ (is_effective config (places config events) by a && is_end_of o a)
+pub agree-ends : (config : SpaceConfig) (events : List Event) (by m : ℕ) (a : Ask) (o : ObjId) → ends_with o a (Turned (turn_of config events (event_of by m a))) ≡ (is_effective config (places config events) by a && is_end_of o a)
 unfolding reply place_of
 agree-ends config events by m (Finish x made listed uid) o = two (is_effective config (places config events) by (Finish x made listed uid)) (same_id x o) _
   where
@@ -120,11 +119,11 @@ and_true : (b : Bool) → (b && true) ≡ b
 and_true true = refl
 and_true false = refl
 
-own-begins : (config : SpaceConfig) (events : List Event) (by m : ℕ) (a : Ask) (o : ObjId) → begins_call by o (place_of config (places config events) (event_of by m a)) ≡ (is_effective config (places config events) by a && is_begin_of o a)
+pub own-begins : (config : SpaceConfig) (events : List Event) (by m : ℕ) (a : Ask) (o : ObjId) → begins_call by o (place_of config (places config events) (event_of by m a)) ≡ (is_effective config (places config events) by a && is_begin_of o a)
 unfolding place_of
 own-begins config events by m a o = ap (λ v. (is_effective config (places config events) by a && v) && is_begin_of o a) ((Decides-eqb by by).1 refl) ∙ ap (λ v. v && is_begin_of o a) (and_true (is_effective config (places config events) by a))
 
-own-ends : (config : SpaceConfig) (events : List Event) (by m : ℕ) (a : Ask) (o : ObjId) → ends_call by o (place_of config (places config events) (event_of by m a)) ≡ (is_effective config (places config events) by a && is_end_of o a)
+pub own-ends : (config : SpaceConfig) (events : List Event) (by m : ℕ) (a : Ask) (o : ObjId) → ends_call by o (place_of config (places config events) (event_of by m a)) ≡ (is_effective config (places config events) by a && is_end_of o a)
 unfolding place_of
 own-ends config events by m a o = ap (λ v. (is_effective config (places config events) by a && v) && is_end_of o a) ((Decides-eqb by by).1 refl) ∙ ap (λ v. v && is_end_of o a) (and_true (is_effective config (places config events) by a))
 
@@ -169,9 +168,18 @@ tied-turned by m a s s2 entries room room2 turn t step c big =
     (tied-next s.configuration s.events by m a entries (record { moment = m; ask = a; end = Turned (turn_of s.configuration s.events (event_of by m a)) }) room room2 t
     (λ o. agree-begins s.configuration s.events by m a o) (λ o. agree-ends s.configuration s.events by m a o) (omega (arith, more, few, big)))))
 
-none-of : one_if false ≡ 0
+pub none-of : one_if false ≡ 0
 unfolding one_if
 none-of = refl
+
+pub no-begins : (refused : Refused) (a : Ask) (o : ObjId) → begins_with o a (Denied refused) ≡ false
+no-begins refused (Begin x) o = refl
+no-begins refused _ o = refl
+
+pub no-ends : (refused : Refused) (a : Ask) (o : ObjId) → ends_with o a (Denied refused) ≡ false
+no-ends refused (Finish x made listed uid) o = refl
+no-ends refused (Abandon x) o = refl
+no-ends refused _ o = refl
 
 -- After one that was refused.
 pub tied-refused : (by m : ℕ) (a : Ask) (s s2 : SpaceHistory) (entries : List Asked) (room room2 : ℕ) (refused : Refused) → IsTied by s entries room → Step s.configuration s.events (event_of by m a) (Err refused) s2.events → s2.configuration ≡ s.configuration →
@@ -188,20 +196,11 @@ tied-refused by m a s s2 entries room room2 refused t step c big =
           omega (arith, before, config, events));
       shown = λ o. (
           let before = t.shown o in let ended = count-last (ends o) entries entry in let begun = count-last (begins o) entries entry in
-          let one = ap one_if (no-ends a o) in let other = ap one_if (no-begins a o) in let zero_if = none-of in
+          let one = ap one_if (no-ends refused a o) in let other = ap one_if (no-begins refused a o) in let zero_if = none-of in
           omega (arith, before, ended, begun, one, other, zero_if));
       few = omega (arith, few, longer);
       within = omega (arith, few, longer, big);
     }
-  where
-    no-begins : (a : Ask) (o : ObjId) → begins_with o a (Denied refused) ≡ false
-    no-begins (Begin x) o = refl
-    no-begins _ o = refl
-
-    no-ends : (a : Ask) (o : ObjId) → ends_with o a (Denied refused) ≡ false
-    no-ends (Finish x made listed uid) o = refl
-    no-ends (Abandon x) o = refl
-    no-ends _ o = refl
 
 -- A call that the entries show is one that runs.
 pub shown-runs : (by : ℕ) (s : SpaceHistory) (entries : List Asked) (room : ℕ) (o : ObjId) → IsTied by s entries room → Shows entries o → 0 < running (places s.configuration s.events) by o
@@ -215,7 +214,7 @@ end-fits by s entries room o t h =
     let less = length-without (is_call_of o) t.calls (there t.calls o some) in
     omega (arith, within, less)
 
-runs-effective : (config : SpaceConfig) (events : List Event) (by : ℕ) (o : ObjId) → 0 < running (places config events) by o → is_effective config (places config events) by (Abandon o) ≡ true
+pub runs-effective : (config : SpaceConfig) (events : List Event) (by : ℕ) (o : ObjId) → 0 < running (places config events) by o → is_effective config (places config events) by (Abandon o) ≡ true
 unfolding is_effective
 runs-effective config events by o r = lt-ltb 0 (running (places config events) by o) r
 

@@ -1,6 +1,6 @@
 -- A turn, by what its parts answered.
-use Rattle.std.proofs.Common.{◌≡◌, ℕ, ◌+◌, ◌<◌, ◌≤◌, ◌^◌, List, [], ◌∷◌, ◌++◌, length, inl, inr, refl, ap, sym, subst, ◌∙◌, arith, map, max, Option, Some, None, Ok, Err}
-use Rattle.std.specs.Prelude.{Bool, true, Result, drop}
+use Rattle.std.proofs.Common.{◌≡◌, ℕ, ◌+◌, ◌<◌, ◌^◌, List, [], ◌∷◌, ◌++◌, length, inl, inr, refl, ap, sym, subst, ◌∙◌, arith, map, max, Option, Some, None, Ok, Err}
+use Rattle.std.specs.Prelude.{Bool, true, Result, OnErr, drop}
 use Rattle.history.specs.declared.asks.SpaceConfig.{SpaceConfig}
 use Rattle.history.specs.declared.asks.Event.{Event}
 use Rattle.history.specs.declared.places.Withdrawal.{Withdrawal}
@@ -14,12 +14,12 @@ use Rattle.history.specs.Limits.{units_of, limits, refusal}
 use Rattle.history.specs.Places.{has, now}
 use Rattle.history.specs.Steps.{Step}
 use Rattle.history.specs.Table.{is_effective, table, place_of, places}
-use Rattle.dgc_server.specs.Stands.{LeaseTable, StandsFor, ForEachLogBy, ForEachLog}
+use Rattle.dgc_server.specs.Stands.{LeaseTable, StandsFor, ForEachLog}
 use Rattle.export_table.specs.Rows.{is_kept as row_kept, held_by, without_all, withdrawn as rows_withdrawn, is_exported}
 use Rattle.export_table.specs.Table.{ExportTable, Room}
 use Rattle.export_table.specs.Waits.{waiting}
 use Rattle.space.specs.declared.runs.Run.{Run}
-use Rattle.space.specs.Acts.{effective_by, acted, acted_runs, opens, reply_at, withdrawal_at, told_after, room_refusal, await_refusal, lease_refusal, first_of_two, Agrees}
+use Rattle.space.specs.Acts.{ForEachLogBy, effective_by, acted, acted_runs, opens, reply_at, withdrawal_at, told_after, room_refusal, await_refusal, lease_refusal, first_of_two, Agrees}
 use Rattle.space.specs.Built.{IsBuilt, SpaceHistory}
 use Rattle.space.specs.Kept.{live_calls, Keeps}
 use Rattle.std.specs.Prelude.{false, filter}
@@ -30,7 +30,7 @@ use Rattle.history.specs.declared.calls.Call.{Call}
 use Rattle.export_table.specs.declared.rows.Export.{Export}
 use Rattle.export_table.specs.declared.waits.Wait.{Wait}
 use Rattle.space.specs.Runs.{RunsStand, caller_of, object_of}
-use Rattle.space.specs.Waits.{WaitsStand, reference_of, end_of}
+use Rattle.export_table.specs.Stands.{WaitsStand, reference_of, end_of}
 use Rattle.space.proofs.Acting.{rows-act, waits-act, runs-act, effective-is}
 use Rattle.space.proofs.Keeping.{IsActed, told_calls, going_now, left, withdrawn_then, keeps-push, call-alike, rows-has, refusal-kept, turn-is, step-refused, step-taken, step-agrees}
 
@@ -179,6 +179,7 @@ keeps-alike config events leases x y runs withdrawn told opened used moment s a 
       few_events = k.few_events;
       few_opened = k.few_opened;
       built = k.built;
+      legal = k.legal;
     }
 
 pub keeps-room : (config : SpaceConfig) (events : List Event) (leases : LeaseTable) (x y : ExportTable) (runs : List Run) (withdrawn : List Withdrawal) (told opened used moment : ℕ) (room : Room) →
@@ -302,3 +303,8 @@ step-viewed config events events' e answer s v t = let P : SpaceHistory → Type
 -- Where there is no memory.
 pub memory-step : (config : SpaceConfig) (events events' : List Event) (e : Event) (refused : Refused) → refused ≡ OutOfMemory → events' ≡ events → Step config events e (Err refused) events'
 memory-step config events events' e refused r s = inr (ap (λ x. Err x) r, s)
+
+-- What holds in any case holds of a refusal.
+pub whole-err : {T E A B : Type 0} (r : Result T E) → A → B → OnErr r (A × B)
+whole-err (Ok x) a b = tt
+whole-err (Err e) a b = (a, b)

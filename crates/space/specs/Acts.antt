@@ -1,5 +1,5 @@
 -- What an event does to what a space keeps.
-use Rattle.std.specs.Prelude.{◌≡◌, ℕ, ◌+◌, Bool, true, false, not, List, [], ◌∷◌, ◌++◌, length, map, filter, ◌&&◌, nat_lt, Option, Some, None, Result, Ok, Err, ◌⊎◌, if◌then◌else◌}
+use Rattle.std.specs.Prelude.{◌≡◌, ◌≤◌, ℕ, ◌+◌, Bool, true, false, not, List, [], ◌∷◌, ◌++◌, length, map, filter, ◌&&◌, nat_lt, Option, Some, None, Result, Ok, Err, ◌⊎◌, if◌then◌else◌}
 use Rattle.std.specs.List.{list_any}
 use Rattle.object_ids.specs.declared.ids.Uid.{Uid}
 use Rattle.object_ids.specs.declared.ids.ObjId.{ObjId}
@@ -11,7 +11,6 @@ use Rattle.history.specs.declared.asks.Ask.{Ask}
 use Rattle.history.specs.declared.asks.Ask.TheVariants.{Open, Begin, Finish, Abandon, Dirty, Ack}
 use Rattle.history.specs.declared.calls.Call.{Call}
 use Rattle.history.specs.declared.limits.TheConstants.{MAX_EXPORTS, MAX_AWAITING, MAX_CLIENTS, MAX_PAIRS, MAX_UNITS}
-use Rattle.history.specs.declared.places.Returned.{Returned}
 use Rattle.history.specs.declared.places.Withdrawal.{Withdrawal}
 use Rattle.history.specs.Awaiting.{same_returned}
 use Rattle.history.specs.declared.replies.Refused.{Refused}
@@ -24,14 +23,15 @@ use Rattle.history.specs.Lists.{distinct}
 use Rattle.history.specs.Places.{id_at}
 use Rattle.history.specs.Replies.{is_abandon}
 use Rattle.dgc_server.specs.Counts.{clients_with, pairs_with_call}
+use Rattle.dgc_server.specs.Stands.{LeaseTable, ForEachLog}
 use Rattle.export_table.specs.declared.rows.Export.{Export}
 use Rattle.export_table.specs.Rows.{is_exported, kind_of, new_row, changed, begun, ended}
 use Rattle.export_table.specs.Table.{ExportTable}
-use Rattle.export_table.specs.Waits.{waiting, is_waiting, listed as listed_once, acknowledged}
+use Rattle.export_table.specs.Waits.{waiting, is_waiting, listed_each, acknowledged}
 use Rattle.export_table.specs.declared.waits.Wait.{Wait}
 use Rattle.space.specs.declared.runs.Run.{Run}
 use Rattle.space.specs.Runs.{is_run, without_first}
-use Rattle.space.specs.Waits.{reference_of}
+use Rattle.export_table.specs.Stands.{reference_of, references}
 
 abbrev pub event_of : ℕ → ℕ → Ask → Event
 event_of by moment ask = record { by = by; moment = moment; ask = ask }
@@ -66,17 +66,9 @@ abbrev pub returned_by : Uid → ℕ → List Export → Bool → Ask → List O
 returned_by space k rows effective (Finish object made listed uid) = if effective then new_ids space k made ++ filter (is_exported rows) listed else []
 returned_by space k rows effective _ = []
 
--- References to objects in a return, and how many references await at the moment t, these included.
-abbrev pub references : Uid → List ObjId → List Returned
-references uid os = map (λ o. record { object = o; uid = uid }) os
-
+-- How many references await at the moment t, with those to objects in a return.
 abbrev pub awaiting_with : ℕ → Uid → List ObjId → List Wait → ℕ
 awaiting_with t uid os waits = length (distinct same_returned (map reference_of (waiting t waits) ++ references uid os))
-
--- The waits once objects are listed in a return at the moment t, one after another.
-abbrev pub listed_each : ℕ → ℕ → Uid → List ObjId → List Wait → List Wait
-listed_each ack t uid [] waits = waits
-listed_each ack t uid (o ∷ os) waits = listed_each ack t uid os (listed_once ack t o uid waits)
 
 -- The table after a call of an object returns at the moment t: it has ended, objects of the kinds `made` are added, and references to the
 -- objects `os` await.
@@ -148,6 +140,10 @@ abbrev pub await_refusal : ℕ → List Export → List Wait → Bool → Ask �
 await_refusal t rows waits effective (Finish object made listed uid) =
     if effective then return_refusal t uid (length made) (filter (is_exported rows) listed) waits else None
 await_refusal t rows waits effective _ = None
+
+-- This holds for each duration and calls that a lease table stands for, where no moment so far is later than this one.
+abbrev pub ForEachLogBy : ℕ → LeaseTable → (ℕ → List Call → Type 0) → Type 0
+ForEachLogBy now table P = ForEachLog table (λ lease moment calls. moment ≤ now → P lease calls)
 
 -- Whether a lease call is refused after others.
 abbrev pub call_refusal : ℕ → ℕ → List Call → Call → Option Refused

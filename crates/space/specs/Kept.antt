@@ -17,15 +17,14 @@ use Rattle.history.specs.Lists.{distinct}
 use Rattle.history.specs.Names.{names}
 use Rattle.history.specs.Places.{has, now, added}
 use Rattle.history.specs.Replies.{ids, first_untold}
-use Rattle.history.specs.Running.{running_calls}
+use Rattle.history.specs.Steps.{IsLegal}
 use Rattle.history.specs.Table.{places, table, withdrawals}
 use Rattle.dgc_server.specs.Stands.{LeaseTable, StandsFor}
-use Rattle.export_table.specs.declared.rows.Export.{Export}
 use Rattle.export_table.specs.Table.{ExportTable}
 use Rattle.space.specs.declared.runs.Run.{Run}
 use Rattle.space.specs.Built.{IsBuilt}
 use Rattle.space.specs.Runs.{RunsStand, caller_of, object_of}
-use Rattle.space.specs.Waits.{WaitsStand, reference_of, end_of}
+use Rattle.export_table.specs.Stands.{WaitsStand, reference_of, end_of, rows_of}
 
 -- A lease call that names those of its objects that are among these.
 abbrev pub live_call : List Exported → Call → Call
@@ -55,13 +54,6 @@ abbrev pub AllBuilt : List Event → Type 0
 AllBuilt [] = Unit {0}
 AllBuilt (e ∷ before) = IsBuilt e.ask × AllBuilt before
 
--- An exported object as an export table has it, with how many calls of it run. No names stand for it.
-abbrev pub row_of : List Place → Exported → Export
-row_of h x = record { id = x.id; kind = x.kind; pinned = x.pinned; running = running_calls h x.id; pins = 0 }
-
-abbrev pub rows_of : List Place → List Exported → List Export
-rows_of h objects = map (row_of h) objects
-
 -- The objects of the withdrawals of a history since its last event that is no Abandon.
 abbrev pub to_tell : SpaceConfig → List Place → List ObjId
 to_tell config h = map (λ w. w.object) (filter (λ w. nat_le (first_untold h) w.place) (withdrawals config h))
@@ -84,7 +76,7 @@ pub record Stands (config : SpaceConfig) (h : List Place) (leases : LeaseTable) 
   pub moment_is : moment ≡ now h
   pub within : IsWithin config h
 
--- The same of a list of events, each of which is served, with what bounds the numbers.
+-- The same of a list of events, each of which is served, with what bounds the numbers. They are a legal history.
 pub record Keeps (config : SpaceConfig) (events : List Event) (leases : LeaseTable) (exports : ExportTable) (runs : List Run) (withdrawn : List Withdrawal) (told opened used moment : ℕ) : Type 0 where
   pub durations : HasDurations config
   pub stands : Stands config (places config events) leases exports runs withdrawn told opened used moment
@@ -92,3 +84,4 @@ pub record Keeps (config : SpaceConfig) (events : List Event) (leases : LeaseTab
   pub few_events : length events ≤ used
   pub few_opened : opened ≤ used
   pub built : AllBuilt (reverse events)
+  pub legal : IsLegal config events

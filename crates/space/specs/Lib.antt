@@ -1,14 +1,16 @@
 pub mod Acts
 pub mod Ahead
+pub mod Balance
 pub mod Built
 pub mod Entries
 pub mod Faults
 pub mod Kept
 pub mod Lists
+pub mod Noted
 pub mod Ports
 pub mod Rows
 pub mod Runs
 pub mod TieLaws
 pub mod Ties
-pub mod Waits
 pub mod Summary
+pub mod Whole

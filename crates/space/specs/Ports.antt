@@ -1,5 +1,5 @@
 -- What a port's entries show, and how they follow one another.
-use Rattle.std.specs.Prelude.{◌≡◌, ◌<◌, ◌≤◌, ℕ, Bool, true, false, ◌&&◌, List, [], ◌∷◌, ◌++◌, length, filter, Result, Ok, Err}
+use Rattle.std.specs.Prelude.{◌≡◌, ◌<◌, ◌≤◌, ℕ, Bool, true, false, ◌&&◌, List, [], ◌∷◌, length, filter, Result, Ok, Err}
 use Rattle.std.specs.List.{AllByRecursion}
 use Rattle.object_ids.specs.declared.ids.FullKind.{FullKind}
 use Rattle.object_ids.specs.declared.ids.FullKind.TheVariants.{Exports, Awaiting, Clients, Pairs, Names as FullNames}
@@ -14,8 +14,10 @@ use Rattle.history.specs.declared.replies.Reply.{Reply}
 use Rattle.history.specs.declared.replies.Reply.TheVariants.{Opened, Started, NoObject, Finished, NotRunning, Granted, Done, Bound, AlreadyBound, Unbound, NotBound, Found, Names}
 use Rattle.history.specs.declared.replies.Turn.{Turn}
 use Rattle.history.specs.declared.replies.Refused.{Refused}
-use Rattle.history.specs.declared.replies.Refused.TheVariants.{HistoryFull, Full, OutOfMemory}
+use Rattle.history.specs.declared.replies.Refused.TheVariants.{Full, OutOfMemory}
+use Rattle.history.specs.Running.{running}
 use Rattle.history.specs.Steps.{Step, turn_of}
+use Rattle.history.specs.Table.{places}
 use Rattle.space.specs.declared.asked.Asked.{Asked}
 use Rattle.space.specs.declared.asked.AskedEnd.{AskedEnd}
 use Rattle.space.specs.declared.asked.AskedEnd.TheVariants.{Turned, Abandoned, Refused as Denied}
@@ -121,11 +123,16 @@ IsAnswerTo runs ask (Err refused) = IsRefusalOf ask refused
 
 -- ---- the history
 
+-- The ask ends a call that a connection runs, without an answer.
+abbrev pub GivesUp : SpaceConfig → List Event → ℕ → Ask → Type 0
+GivesUp config h by (Abandon object) = 0 < running (places config h) by object
+GivesUp config h by _ = ⊥
+
 -- The entry is what a connection's event was answered after a history, and leaves a history.
 abbrev pub GoesBy : SpaceConfig → ℕ → List Event → ℕ → Ask → AskedEnd → List Event → Type 0
 GoesBy config by h moment ask (Turned turn) next = Step config h (event_of by moment ask) (Ok turn) next
 GoesBy config by h moment ask (Denied refused) next = Step config h (event_of by moment ask) (Err refused) next
-GoesBy config by h moment ask (Abandoned place) next = (place ≡ length h) × Step config h (event_of by moment ask) (Ok (turn_of config h (event_of by moment ask))) next
+GoesBy config by h moment ask (Abandoned place) next = GivesUp config h by ask × (place ≡ length h) × Step config h (event_of by moment ask) (Ok (turn_of config h (event_of by moment ask))) next
 
 -- A connection's entries lead from a history to another, one after the other, and no other event comes between.
 abbrev pub Went : SpaceConfig → ℕ → List Event → List Asked → List Event → Type 0

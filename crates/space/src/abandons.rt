@@ -25,18 +25,19 @@ impl Space {
         ensures step { let e = event_of by moment (Abandon object) in
             Step self.old.configuration self.old.events e (Ok (turn_of self.old.configuration self.old.events e)) self.new.events }
     {
-        let now = moment.max(self.moment);
-        let place = self.events.len() as u64;
-        self.leases.lapse(now);
-        self.exports.end(object);
-        drop_first(&mut self.runs, by, &object);
-        self.exports
-            .withdraw(now, &mut self.leases, &mut self.scratch);
-        note_withdrawn(&mut self.withdrawn, &self.scratch, 0, place);
-        self.scratch.clear();
-        self.units += 1;
-        self.moment = now;
+        let now = moment.max(self.tables.moment);
+        let place = self.tables.events.len() as u64;
+        self.tables.leases.lapse(now);
+        self.tables.exports.end(object);
+        drop_first(&mut self.tables.runs, by, &object);
+        self.tables
+            .exports
+            .withdraw(now, &mut self.tables.leases, &mut self.tables.scratch);
+        note_withdrawn(&mut self.tables.withdrawn, &self.tables.scratch, 0, place);
+        self.tables.scratch.clear();
+        self.tables.units += 1;
+        self.tables.moment = now;
         let ask = Ask::Abandon { object };
-        put_event(&mut self.events, Event { by, moment, ask });
+        put_event(&mut self.tables.events, Event { by, moment, ask });
     }
 }

@@ -7,8 +7,9 @@ ghost use Rattle.history.specs.declared.asks.Ask.TheVariants.{Abandon, Finish};
 ghost use Rattle.history.specs.Places.{id_at};
 ghost use Rattle.history.proofs.ListLemmas.{Every};
 ghost use Rattle.export_table.specs.Rows.{is_exported, running_of, new_row};
-ghost use Rattle.space.specs.Acts.{acted, awaiting_with, listed_each, new_rows, opens, returned_by, returned_from, withdrawal_at};
-ghost use Rattle.space.specs.Waits.{waits_once, reference_of};
+ghost use Rattle.space.specs.Acts.{acted, awaiting_with, new_rows, opens, returned_by, returned_from, withdrawal_at};
+ghost use Rattle.export_table.specs.Stands.{waits_once, reference_of};
+ghost use Rattle.export_table.specs.Waits.{listed_each};
 
 use export_table::Exports;
 use history::{Ask, Event, Withdrawal};
@@ -196,10 +197,7 @@ fn put(withdrawn: &mut Vec<Withdrawal>, withdrawal: Withdrawal)
     ensures len { vec_len withdrawn.new ≡ vec_len withdrawn.old + 1 }
     ensures capacity { vec_capacity withdrawn.old ≤ vec_capacity withdrawn.new }
 {
-    match withdrawn.push(withdrawal) {
-        Ok(()) => {}
-        Err(_refused) => {}
-    }
+    withdrawn.push_reserved(withdrawal);
 }
 
 /// Appends an event, for which there is room.
@@ -208,8 +206,5 @@ pub(crate) fn put_event(events: &mut Vec<Event>, event: Event)
     ensures items { events.new.items ≡ events.old.items ++ event ∷ [] }
     ensures capacity { vec_capacity events.old ≤ vec_capacity events.new }
 {
-    match events.push(event) {
-        Ok(()) => {}
-        Err(_refused) => {}
-    }
+    events.push_reserved(event);
 }

@@ -3,8 +3,8 @@ ghost use Rattle.std.specs.Prelude.{◌≡◌, ◌<◌, ◌^◌, ◌++◌, ◌�
 ghost use Rattle.history.specs.LeaseCalls.{call_with};
 ghost use Rattle.export_table.specs.Rows.{is_exported};
 ghost use Rattle.dgc_server.specs.Counts.{dirty_call, clean_call};
-ghost use Rattle.dgc_server.specs.Stands.{StandsFor, ForEachLogBy};
-ghost use Rattle.space.specs.Acts.{call_refusal, lease_refusal, Agrees};
+ghost use Rattle.dgc_server.specs.Stands.{StandsFor};
+ghost use Rattle.space.specs.Acts.{ForEachLogBy, call_refusal, lease_refusal, Agrees};
 ghost use Rattle.space.specs.Faults.{refused_for};
 
 use crate::asks::is_exported;

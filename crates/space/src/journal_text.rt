@@ -18,8 +18,8 @@ pub fn journal(alloc: Global, space: &Space) -> Result<ByteList, AllocError>
     ensures { IfOk result (λ text. text ≡ written.journal_text space.now.configuration space.now.events) }
 {
     let mut text = ByteList::new(alloc);
-    put_first_line(&mut text, &space.config)?;
-    put_events(&mut text, space.config.uid, &space.events)?;
+    put_first_line(&mut text, &space.tables.config)?;
+    put_events(&mut text, space.tables.config.uid, &space.tables.events)?;
     Ok(text)
 }
 
@@ -53,18 +53,18 @@ pub fn summary(alloc: Global, space: &Space) -> Result<ByteList, AllocError>
     let mut text = ByteList::new(alloc);
     put_events_line(
         &mut text,
-        space.events.len() as u64,
-        space.units,
-        space.moment,
+        space.tables.events.len() as u64,
+        space.tables.units,
+        space.tables.moment,
     )?;
-    let clients = space.leases.clients(alloc, space.moment)?;
+    let clients = space.tables.leases.clients(alloc, space.tables.moment)?;
     let counts = Counts {
-        objects: u64::from(space.exports.count()),
+        objects: u64::from(space.tables.exports.count()),
         clients: clients.len() as u64,
-        pairs: u64::from(space.leases.pairs(space.moment)),
-        awaiting: u64::from(space.exports.waiting(space.moment)),
+        pairs: u64::from(space.tables.leases.pairs(space.tables.moment)),
+        awaiting: u64::from(space.tables.exports.waiting(space.tables.moment)),
         names: 0,
-        withdrawn: space.withdrawn.len() as u64,
+        withdrawn: space.tables.withdrawn.len() as u64,
     };
     put_counts(&mut text, counts)?;
     Ok(text)

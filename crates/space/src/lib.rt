@@ -9,6 +9,7 @@ mod asks;
 mod calls;
 pub mod direct_port;
 pub mod journal_text;
+pub mod laws;
 pub mod lists;
 mod noted;
 pub mod port;
@@ -16,6 +17,7 @@ mod prepared;
 mod returns;
 mod rooms;
 mod runs;
+mod tables;
 #[cfg(test)]
 mod tests;
 pub mod texts;

@@ -1,7 +1,8 @@
 //! Whole lists of events, and what they leave exported.
-ghost use Rattle.std.specs.Prelude.{◌≡◌, ◌≤◌, ◌<◌, ◌+◌, ◌^◌, ◌++◌, ◌∷◌, [], map, IfOk, OnErr, vec_len, vec_capacity};
+ghost use Rattle.std.specs.Prelude.{◌≡◌, ◌≢◌, ◌≤◌, ◌<◌, ◌^◌, [], map, Err, IfOk, OnErr};
 ghost use Rattle.std.specs.List.{AllByRecursion};
-ghost use Rattle.history.specs.Steps.{IsLegal};
+ghost use Rattle.history.specs.Steps.{Steps, IsLegal, answers as answers_to};
+ghost use Rattle.history.specs.Limits.{limits};
 ghost use Rattle.history.specs.Table.{places, table};
 ghost use Rattle.space.specs.Built.{IsBuilt};
 ghost use Rattle.space.specs.Lists.{TakesFront, kind_among, with_kind, row_kind};
@@ -64,11 +65,11 @@ impl Space {
         ensures config { self.new.configuration ≡ self.old.configuration }
         ensures err { OnErr result (self.new ≡ self.old) }
     {
-        let mut turns = Vec::with_capacity(self.alloc, events.len())?;
+        let mut turns = Vec::with_capacity(self.tables.alloc, events.len())?;
         for event in events {
             let Event { by, moment, ask } = event;
             match self.turn(by, moment, ask) {
-                Ok(turn) => put_turn(&mut turns, turn),
+                Ok(turn) => turns.push_reserved(turn),
                 Err(refused) => {
                     return Ok(Turns {
                         turns,
@@ -83,19 +84,43 @@ impl Space {
         })
     }
 
+    /// Asks events, the one after the other, also after one that is refused, and answers them in their order. It fails only where there is no
+    /// memory for the list of the answers; then none was asked.
+    pub fn answers(&mut self, events: Vec<Event>) -> Result<Vec<Result<Turn, Refused>>, AllocError>
+        requires moments { AllByRecursion (λ e. e.moment < 2 ^ 62) events.items }
+        requires built { AllByRecursion (λ e. IsBuilt e.ask) events.items }
+        ensures answered { IfOk result (λ answers. Steps self.old.configuration self.old.events events.items answers.items self.new.events) }
+
+        // No memory wanting, there is one list of answers.
+        ensures exact { IfOk result (λ answers. AllByRecursion (λ a. a ≢ Err Refused.OutOfMemory) answers.items →
+            answers.items ≡ answers_to limits self.old.configuration self.old.events events.items) }
+        ensures config { self.new.configuration ≡ self.old.configuration }
+        ensures err { OnErr result (self.new ≡ self.old) }
+    {
+        let mut answers = Vec::with_capacity(self.tables.alloc, events.len())?;
+        for event in events {
+            let Event { by, moment, ask } = event;
+            answers.push_reserved(self.turn(by, moment, ask));
+        }
+        Ok(answers)
+    }
+
     /// The kind of an exported object; None where it isn't exported.
     pub fn kind_of(&self, object: ObjId) -> Option<u32>
         ensures { result ≡ kind_among (table self.now.configuration (places self.now.configuration self.now.events)) object }
     {
-        self.exports.find(object)
+        self.tables.exports.find(object)
     }
 
     /// The exported objects, by rising number. It is refused only for want of memory.
     pub fn exported(&self) -> Result<Vec<ObjectKind>, AllocError>
         ensures { IfOk result (λ objects. objects.items ≡ map with_kind (table self.now.configuration (places self.now.configuration self.now.events))) }
     {
-        let rows = self.exports.rows(self.alloc, self.moment)?;
-        let objects = kinds(self.alloc, rows.as_slice())?;
+        let rows = self
+            .tables
+            .exports
+            .rows(self.tables.alloc, self.tables.moment)?;
+        let objects = kinds(self.tables.alloc, rows.as_slice())?;
         Ok(objects)
     }
 }
@@ -110,17 +135,4 @@ fn kinds(alloc: Global, rows: &[ExportRow]) -> Result<Vec<ObjectKind>, AllocErro
             kind: row.kind,
         })
         .collect(alloc)
-}
-
-/// Appends a turn, for which there is room.
-fn put_turn(turns: &mut Vec<Turn>, turn: Turn)
-    requires { vec_len turns.old < vec_capacity turns.old }
-    ensures items { turns.new.items ≡ turns.old.items ++ turn ∷ [] }
-    ensures len { vec_len turns.new ≡ vec_len turns.old + 1 }
-    ensures capacity { vec_capacity turns.old ≤ vec_capacity turns.new }
-{
-    match turns.push(turn) {
-        Ok(()) => {}
-        Err(_refused) => {}
-    }
 }

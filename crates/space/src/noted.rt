@@ -1,17 +1,21 @@
 //! Turns with their entries.
-ghost use Rattle.std.specs.Prelude.{◌≡◌, ◌≢◌, ◌≤◌, ◌<◌, ◌+◌, ◌^◌, ℕ, List, [], length, Err, IfOk, OnErr, vec_len, vec_capacity};
+ghost use Rattle.std.specs.Prelude.{◌≡◌, ◌≢◌, ◌≤◌, ◌<◌, ◌+◌, ◌^◌, ◌↔◌, ℕ, List, [], length, map, drop, Err, IfOk, OnErr, IsTrue, vec_capacity};
 ghost use Rattle.object_ids.specs.declared.ids.ObjId.{ObjId};
 ghost use Rattle.history.specs.declared.replies.Reply.TheVariants.{Finished, Names};
+ghost use Rattle.history.specs.Limits.{units_of};
 ghost use Rattle.history.specs.Running.{running};
 ghost use Rattle.history.specs.Steps.{Step};
 ghost use Rattle.history.specs.Table.{places};
 ghost use Rattle.space.specs.Acts.{event_of};
 ghost use Rattle.space.specs.Built.{IsBuilt};
-ghost use Rattle.space.specs.Entries.{entry_of};
+ghost use Rattle.space.specs.Entries.{end_of, entry_of};
+ghost use Rattle.space.specs.Noted.{Fits, FitsIn};
 ghost use Rattle.space.specs.Ports.{IsAnswerTo};
+ghost use Rattle.space.specs.Whole.{IsWhole};
 
 use crate::acts::still_to_tell;
 use crate::asked::{Asked, AskedEnd};
+use crate::tables::Tables;
 use crate::turns::Space;
 use history::plain::limits::units_of;
 use history::{Ask, Refused, Reply, Turn};
@@ -37,38 +41,97 @@ impl Space {
         ensures config { self.new.configuration ≡ self.old.configuration }
         ensures err { OnErr result (self.new ≡ self.old) }
     {
-        let alloc = self.alloc;
-        let noted = ask.copy(alloc)?;
-        let units = units_of(&ask) as usize;
-        let ids = Vec::with_capacity(alloc, units)?;
-        let objects = self.exports.count() as usize + units;
-        let gone = still_to_tell(alloc, &self.withdrawn, self.told, objects)?;
-        match self.turn(by, moment, ask) {
-            Ok(turn) => {
-                let copy = copied(&turn, ids, gone, NameList::new(alloc));
-                let end = AskedEnd::Turned(copy);
-                Ok((
-                    Ok(turn),
-                    Asked {
-                        moment,
-                        ask: noted,
-                        end,
-                    },
-                ))
-            }
-            Err(Refused::OutOfMemory) => Err(AllocError),
-            Err(refused) => {
-                let end = AskedEnd::Refused(refused);
-                Ok((
-                    Err(refused),
-                    Asked {
-                        moment,
-                        ask: noted,
-                        end,
-                    },
-                ))
-            }
-        }
+        let note = take_note(&self.tables, &ask)?;
+        let answer = self.turn(by, moment, ask);
+        with_entry(moment, note, answer)
+    }
+}
+
+/// A copy of an ask, and room for a copy of its turn.
+#[derive(Debug, Drop)]
+struct Note {
+    /// The ask.
+    ask: Ask,
+    /// Room for the identifiers that the turn answers.
+    ids: Vec<ObjId>,
+    /// Room for the objects that it tells as gone.
+    gone: Vec<ObjId>,
+    /// The names that it answers.
+    names: NameList,
+}
+
+/// A copy of an ask, and room for a copy of its turn.
+fn take_note(tables: &Tables, ask: &Ask) -> Result<Note, AllocError>
+    requires whole { IsWhole tables.now }
+    ensures ask { IfOk result (λ n. n.ask ≡ ask.now) }
+    ensures ids { IfOk result (λ n. units_of ask.now ≤ vec_capacity n.ids) }
+    ensures gone { IfOk result (λ n. length (map (λ w. w.object) (drop tables.now.told tables.now.withdrawn.items))
+        + (length tables.now.exports.rows + units_of ask.now) ≤ vec_capacity n.gone) }
+    ensures names { IfOk result (λ n. n.names ≡ []) }
+{
+    let alloc = tables.alloc;
+    let units = units_of(ask) as usize;
+    let objects = tables.exports.count() as usize + units;
+    let gone = still_to_tell(alloc, &tables.withdrawn, tables.told, objects)?;
+    let ids = Vec::with_capacity(alloc, units)?;
+    let ask = ask.copy(alloc)?;
+    let names = NameList::new(alloc);
+    Ok(Note {
+        ask,
+        ids,
+        gone,
+        names,
+    })
+}
+
+/// A turn's answer with its entry, unless there was no memory.
+fn with_entry(
+    moment: u64,
+    note: Note,
+    answer: Result<Turn, Refused>,
+) -> Result<(Result<Turn, Refused>, Asked), AllocError>
+    requires fits { Fits answer note }
+    ensures answer { IfOk result (λ x. x.0 ≡ answer) }
+    ensures noted { IfOk result (λ x. x.1 ≡ entry_of moment note.ask answer) }
+    ensures known { IfOk result (λ x. x.0 ≢ Err Refused.OutOfMemory) }
+    ensures err { OnErr result (answer ≡ Err Refused.OutOfMemory) }
+{
+    if wants_memory(&answer) {
+        return Err(AllocError);
+    }
+    let Note {
+        ask,
+        ids,
+        gone,
+        names,
+    } = note;
+    let end = end_of(&answer, ids, gone, names);
+    Ok((answer, Asked { moment, ask, end }))
+}
+
+/// Whether an event is refused for want of memory.
+fn wants_memory(answer: &Result<Turn, Refused>) -> bool
+    ensures { IsTrue result ↔ (answer.now ≡ Err Refused.OutOfMemory) }
+{
+    match answer {
+        Ok(_turn) => false,
+        Err(refused) => *refused == Refused::OutOfMemory,
+    }
+}
+
+/// How a turn that is answered so ends, in memory that has room for it.
+fn end_of(
+    answer: &Result<Turn, Refused>,
+    ids: Vec<ObjId>,
+    gone: Vec<ObjId>,
+    names: NameList,
+) -> AskedEnd
+    requires fits { FitsIn answer.now (vec_capacity ids) (vec_capacity gone) names }
+    ensures { result ≡ end_of answer.now }
+{
+    match answer {
+        Ok(turn) => AskedEnd::Turned(copied(turn, ids, gone, names)),
+        Err(refused) => AskedEnd::Refused(*refused),
     }
 }
 

@@ -72,10 +72,7 @@ fn put(runs: &mut Vec<Run>, run: Run)
     requires { vec_len runs.old < vec_capacity runs.old }
     ensures { runs.new.items ≡ runs.old.items ++ run ∷ [] }
 {
-    match runs.push(run) {
-        Ok(()) => {}
-        Err(_refused) => {}
-    }
+    runs.push_reserved(run);
 }
 
 /// Drops the first call of an object that a connection runs.

@@ -22,20 +22,20 @@ pub fn outline(alloc: Global, space: &Space) -> Result<ByteList, AllocError>
     let mut text = ByteList::new(alloc);
     put_events_line(
         &mut text,
-        space.events.len() as u64,
-        space.units,
-        space.moment,
+        space.tables.events.len() as u64,
+        space.tables.units,
+        space.tables.moment,
     )?;
-    let rows = space.exports.rows(alloc, space.moment)?;
+    let rows = space.tables.exports.rows(alloc, space.tables.moment)?;
     put_objects(
         &mut text,
-        &space.config,
-        &space.leases,
-        space.moment,
+        &space.tables.config,
+        &space.tables.leases,
+        space.tables.moment,
         rows.as_slice(),
     )?;
-    put_leases(alloc, &mut text, &space.leases, space.moment)?;
-    put_withdrawals(&mut text, &space.config, &space.withdrawn)?;
+    put_leases(alloc, &mut text, &space.tables.leases, space.tables.moment)?;
+    put_withdrawals(&mut text, &space.tables.config, &space.tables.withdrawn)?;
     Ok(text)
 }
 

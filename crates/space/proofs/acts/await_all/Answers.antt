@@ -1,4 +1,3 @@
-use Rattle.std.proofs.Common.{◌≡◌}
 use Rattle.space.proofs.ReferenceLaws.{awaits-next}
 use Rattle.space.proofs.acts.await_all.Goals as goal
 

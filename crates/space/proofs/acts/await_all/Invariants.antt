@@ -1,8 +1,9 @@
 use Rattle.std.proofs.Common.{◌≡◌, ◌+◌, ◌≤◌, drop, length}
 use Rattle.history.specs.declared.limits.TheConstants.{MAX_AWAITING}
-use Rattle.space.specs.Acts.{awaiting_with, listed_each}
-use Rattle.space.specs.Waits.{waits_once, reference_of}
+use Rattle.space.specs.Acts.{awaiting_with}
+use Rattle.export_table.specs.Stands.{waits_once, reference_of}
 use Rattle.space.proofs.acts.await_all.Given as goal
+use Rattle.export_table.specs.Waits.{listed_each}
 
 abbrev pub invariant-loop-object : goal.invariant-loop-object
 invariant-loop-object l =

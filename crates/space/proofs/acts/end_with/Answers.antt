@@ -1,4 +1,4 @@
-use Rattle.std.proofs.Common.{◌≡◌, ◌++◌, ap, ◌∙◌}
+use Rattle.std.proofs.Common.{◌++◌, ap, ◌∙◌}
 use Rattle.export_table.specs.Table.{ExportTable}
 use Rattle.space.specs.Acts.{new_rows}
 use Rattle.space.proofs.LoopLaws.{there-after}

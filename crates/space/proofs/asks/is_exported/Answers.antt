@@ -1,6 +1,6 @@
-use Rattle.std.proofs.Common.{◌≡◌, ap, sym, ◌∙◌, rules}
+use Rattle.std.proofs.Common.{◌≡◌, ◌∙◌, rules}
 use Rattle.std.specs.Prelude.{is_some}
-use Rattle.export_table.specs.Rows.{is_exported, kind_of}
+use Rattle.export_table.specs.Rows.{kind_of}
 use Rattle.space.proofs.Found.{exported-kind}
 use Rattle.space.proofs.asks.is_exported.Goals as goal
 

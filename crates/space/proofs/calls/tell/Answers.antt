@@ -26,7 +26,7 @@ returns-in_default c =
           let P : List Call → Type 0 = λ xs. StandsFor lease c.lapse.new.self c.args.now (xs ++ calls) in
           let Q : ℕ → Type 0 = λ n. StandsFor lease c.lapse.new.self n calls in
           let at_now : max c.args.now moment ≡ c.args.now = omega arith in
-          subst P (sym none) (subst Q at_now (c.lapse.ensures lease moment calls s)));
+          subst P (sym none) (subst Q at_now (c.lapse.ensures.stands lease moment calls s)));
       refusal = λ lease moment calls s le. ap (lease_refusal lease c.args.now calls) none;
       err = tt;
     }

@@ -1,4 +1,4 @@
-use Rattle.std.proofs.Common.{◌≡◌, ◌∷◌, ◌⊎◌, List, sym, subst, rules, w64, FitsSigned, Option, Some, None}
+use Rattle.std.proofs.Common.{◌≡◌, ℕ, ◌∷◌, ◌⊎◌, List, arith, max, sym, subst, rules, w64, FitsSigned, Option, Some, None}
 use Rattle.std.specs.Prelude.{ℤ, filter}
 use Rattle.std.proofs.lemmas.Int.{to_z-of_z}
 use Rattle.object_ids.specs.declared.ids.ObjId.{ObjId}
@@ -15,24 +15,32 @@ use Rattle.space.proofs.calls.tell_dirty.Goals as goal
 pub returns-in-Ok-dirty-clause-ok : goal.returns-in-Ok-dirty-clause-ok
 returns-in-Ok-dirty-clause-ok c lease moment calls s le =
     let fits : FitsSigned w64 c.args.number.now = search rules in
-    let P : ℤ → Type 0 = λ n. StandsFor lease c.dirty.new.self c.args.now (dirty_call c.args.now c.args.client.now n c.in-Ok.live ∷ calls) in
-    let Q : List ObjId → Type 0 = λ os. StandsFor lease c.dirty.new.self c.args.now (dirty_call c.args.now c.args.client.now c.args.number.now os ∷ calls) in
-    subst Q c.in-Ok.ensures (subst P (to_z-of_z w64 c.args.number.now fits) (c.in-Ok-dirty.ensures.ok lease moment calls s le))
+    let time : max c.args.now moment ≡ c.args.now = omega arith in
+    let T : ℕ → ℤ → List ObjId → Type 0 = λ t n os. StandsFor lease c.dirty.new.self t (dirty_call t c.args.client.now n os ∷ calls) in
+    let P : ℤ → Type 0 = λ n. T (max c.args.now moment) n c.in-Ok.live in
+    let Q : List ObjId → Type 0 = λ os. T (max c.args.now moment) c.args.number.now os in
+    let M : ℕ → Type 0 = λ t. T t c.args.number.now (filter (is_exported c.args.exports.now.rows) c.args.named.now) in
+    subst M time (subst Q c.in-Ok.ensures (subst P (to_z-of_z w64 c.args.number.now fits) (c.in-Ok-dirty.ensures.ok lease moment calls s)))
 
 pub returns-in-Ok-dirty-clause-refusal : goal.returns-in-Ok-dirty-clause-refusal
 returns-in-Ok-dirty-clause-refusal c lease moment calls s le =
     let fits : FitsSigned w64 c.args.number.now = search rules in
-    let told : ℤ → List ObjId → Option Refused = λ n os. call_refusal lease c.args.now calls (dirty_call c.args.now c.args.client.now n os) in
-    let P : ℤ → Type 0 = λ n. told n c.in-Ok.live ≡ None in
-    let Q : List ObjId → Type 0 = λ os. told c.args.number.now os ≡ None in
-    subst Q c.in-Ok.ensures (subst P (to_z-of_z w64 c.args.number.now fits) (dirty-taken _ _ _ (c.in-Ok-dirty.ensures.clients lease moment calls s le) (c.in-Ok-dirty.ensures.pairs lease moment calls s le)))
+    let time : max c.args.now moment ≡ c.args.now = omega arith in
+    let told : ℕ → ℤ → List ObjId → Option Refused = λ t n os. call_refusal lease t calls (dirty_call t c.args.client.now n os) in
+    let P : ℤ → Type 0 = λ n. told (max c.args.now moment) n c.in-Ok.live ≡ None in
+    let Q : List ObjId → Type 0 = λ os. told (max c.args.now moment) c.args.number.now os ≡ None in
+    let M : ℕ → Type 0 = λ t. told t c.args.number.now (filter (is_exported c.args.exports.now.rows) c.args.named.now) ≡ None in
+    subst M time (subst Q c.in-Ok.ensures (subst P (to_z-of_z w64 c.args.number.now fits) (dirty-taken _ _ _ (c.in-Ok-dirty.ensures.clients lease moment calls s) (c.in-Ok-dirty.ensures.pairs lease moment calls s))))
 
 pub returns-clause-refusal : goal.returns-clause-refusal
 returns-clause-refusal c lease moment calls s le =
     let fits : FitsSigned w64 c.args.number.now = search rules in
-    let told : ℤ → List ObjId → Option Refused = λ n os. call_refusal lease c.args.now calls (dirty_call c.args.now c.args.client.now n os) in
-    let P : ℤ → Type 0 = λ n. (told n c.in-Ok.live ≡ Some (refused_for c.in-Err.fault)) ⊎ (refused_for c.in-Err.fault ≡ OutOfMemory) in
-    let Q : List ObjId → Type 0 = λ os. (told c.args.number.now os ≡ Some (refused_for c.in-Err.fault)) ⊎ (refused_for c.in-Err.fault ≡ OutOfMemory) in
-    let R : Refused → Type 0 = λ r. (told c.args.number.now (filter (is_exported c.args.exports.now.rows) c.args.named.now) ≡ Some r) ⊎ (r ≡ OutOfMemory) in
-    subst R (sym c.refused_for.ensures) (subst Q c.in-Ok.ensures (subst P (to_z-of_z w64 c.args.number.now fits)
-    (dirty-refused _ _ c.in-Err.fault (c.in-Err.ensures.clients lease moment calls s le) (c.in-Err.ensures.pairs lease moment calls s le))))
+    let time : max c.args.now moment ≡ c.args.now = omega arith in
+    let told : ℕ → ℤ → List ObjId → Option Refused = λ t n os. call_refusal lease t calls (dirty_call t c.args.client.now n os) in
+    let A : ℕ → ℤ → List ObjId → Refused → Type 0 = λ t n os r. (told t n os ≡ Some r) ⊎ (r ≡ OutOfMemory) in
+    let P : ℤ → Type 0 = λ n. A (max c.args.now moment) n c.in-Ok.live (refused_for c.in-Err.fault) in
+    let Q : List ObjId → Type 0 = λ os. A (max c.args.now moment) c.args.number.now os (refused_for c.in-Err.fault) in
+    let M : ℕ → Type 0 = λ t. A t c.args.number.now (filter (is_exported c.args.exports.now.rows) c.args.named.now) (refused_for c.in-Err.fault) in
+    let R : Refused → Type 0 = λ r. A c.args.now c.args.number.now (filter (is_exported c.args.exports.now.rows) c.args.named.now) r in
+    subst R (sym c.refused_for.ensures) (subst M time (subst Q c.in-Ok.ensures (subst P (to_z-of_z w64 c.args.number.now fits)
+    (dirty-refused _ _ c.in-Err.fault (c.in-Err.ensures.clients lease moment calls s) (c.in-Err.ensures.pairs lease moment calls s)))))

@@ -5,6 +5,6 @@ use Rattle.space.proofs.SummaryLaws.{journalled}
 use Rattle.space.proofs.journal_text.journal.Goals as goal
 
 pub returns : goal.returns
-returns c = journalled c.space.inside.config c.space.inside.events.items c.new-text.result c.put_first_line.new.out c.put_events.new.text c.args.space.now c.space.view_is
+returns c = journalled c.space.inside.tables.config c.space.inside.tables.events.items c.new-text.result c.put_first_line.new.out c.put_events.new.text c.args.space.now c.space.view_is
     c.new-text.ensures (c.in_ok-put_first_line.ensures {u = tt}).text
-    (c.in_ok-put_events.ensures {u = tt} ∙ ap (λ (es : List Event). c.put_first_line.new.out ++ flat_map (event_line c.space.inside.config.uid) es) c.deref.ensures.value)
+    (c.in_ok-put_events.ensures {u = tt} ∙ ap (λ (es : List Event). c.put_first_line.new.out ++ flat_map (event_line c.space.inside.tables.config.uid) es) c.deref.ensures.value)

@@ -5,12 +5,12 @@ use Rattle.space.proofs.journal_text.summary.Goals as goal
 
 pub returns : goal.returns
 returns c =
-    let count : c.len.result ≡ length c.space.inside.events.items = search rules in
-    let gone : c.len-3.result ≡ length c.space.inside.withdrawn.items = search rules in
-    summarized c.space.inside.config c.space.inside.events.items c.space.inside.leases c.space.inside.exports c.space.inside.runs.items c.space.inside.withdrawn.items c.space.inside.told c.space.inside.added c.space.inside.units c.space.inside.moment
+    let count : c.len.result ≡ length c.space.inside.tables.events.items = search rules in
+    let gone : c.len-3.result ≡ length c.space.inside.tables.withdrawn.items = search rules in
+    summarized c.space.inside.tables.config c.space.inside.tables.events.items c.space.inside.tables.leases c.space.inside.tables.exports c.space.inside.tables.runs.items c.space.inside.tables.withdrawn.items c.space.inside.tables.told c.space.inside.tables.added c.space.inside.tables.units c.space.inside.tables.moment
     c.in_ok-clients.clients (record { objects = c.from.result; clients = c.len-2.result; pairs = c.from-2.result; awaiting = c.from-3.result; names = 0; withdrawn = c.len-3.result })
     c.new-text.result c.put_events_line.new.out c.put_counts.new.text c.args.space.now c.space.view_is c.space.invariant.0
     c.in_ok-clients.ensures (λ lease m calls stands. c.from-2.ensures ∙ c.pairs.ensures lease m calls stands)
     (c.from.ensures ∙ c.count.ensures.value) c.len-2.ensures (c.from-3.ensures ∙ c.waiting.ensures) refl gone
-    c.new-text.ensures ((c.in_ok-put_events_line.ensures {u = tt}).ok ∙ ap (λ (n : ℕ). c.new-text.result ++ events_text n c.space.inside.units c.space.inside.moment) count)
+    c.new-text.ensures ((c.in_ok-put_events_line.ensures {u = tt}).ok ∙ ap (λ (n : ℕ). c.new-text.result ++ events_text n c.space.inside.tables.units c.space.inside.tables.moment) count)
     (c.in_ok-put_counts.ensures {u = tt})

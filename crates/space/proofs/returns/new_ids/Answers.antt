@@ -1,4 +1,4 @@
-use Rattle.std.proofs.Common.{◌≡◌, ◌+◌, ◌++◌, ◌∷◌, [], drop, ap, ◌∙◌}
+use Rattle.std.proofs.Common.{◌+◌, ◌++◌, ◌∷◌, [], drop, ap, ◌∙◌}
 use Rattle.space.specs.Acts.{new_ids}
 use Rattle.space.proofs.LoopLaws.{ids-more}
 use Rattle.space.proofs.returns.new_ids.Goals as goal

@@ -1,4 +1,4 @@
-use Rattle.std.proofs.Common.{◌≡◌, ◌≤◌, length, ap, sym, ◌∙◌, rules, arith}
+use Rattle.std.proofs.Common.{◌≡◌, length, ap, sym, ◌∙◌, rules, arith}
 use Rattle.std.specs.Prelude.{vec_len}
 use Rattle.space.specs.Runs.{is_run, without_first}
 use Rattle.space.proofs.FirstLaws.{first-dropped, none-dropped}

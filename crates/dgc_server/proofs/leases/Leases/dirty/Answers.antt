@@ -1,47 +1,48 @@
-use Rattle.std.proofs.Common.{◌≡◌, ℕ, ◌<◌, refl, ap, sym, subst, ◌∙◌, arith, w64, Err}
+use Rattle.std.proofs.Common.{◌≡◌, ℕ, ◌<◌, refl, ap, sym, subst, ◌∙◌, arith, w64, Err, max}
 use Rattle.std.specs.Prelude.{ℤ}
 use Rattle.std.proofs.lemmas.Int.{to_z-of_z}
 use Rattle.history.specs.declared.calls.CallKind.TheVariants.{Dirty}
 use Rattle.history.specs.declared.limits.TheConstants.{MAX_CLIENTS, MAX_PAIRS}
 use Rattle.dgc_server.specs.declared.leases.LeaseFault.TheVariants.{Clients, Pairs}
 use Rattle.dgc_server.specs.Counts.{dirty_call, clients_with, pairs_with_call}
-use Rattle.dgc_server.specs.Stands.{LeaseTable, table_after}
-use Rattle.dgc_server.specs.Table.{clients_after, pairs_after}
+use Rattle.dgc_server.specs.Stands.{LeaseTable, IsTrimmed, entry_after, table_after}
+use Rattle.dgc_server.specs.Table.{entry_of, with_entry, clients_after, pairs_after}
+use Rattle.dgc_server.proofs.Trimmed.{trimmed-noted}
 use Rattle.dgc_server.proofs.Told.{call-told, pairs-told, clients-told, error-is, error-same}
 use Rattle.dgc_server.proofs.leases.Leases.dirty.Goals as goal
 
 pub returns-then-clients_after-gt-MAX_CLIENTS-clause-clients : goal.returns-then-clients_after-gt-MAX_CLIENTS-clause-clients
-returns-then-clients_after-gt-MAX_CLIENTS-clause-clients c lease moment calls s le =
-    let counted : c.clients_after.result ≡ clients_with lease c.args.now calls c.args.client.now =
+returns-then-clients_after-gt-MAX_CLIENTS-clause-clients c lease moment calls s =
+    let counted : c.clients_after.result ≡ clients_with lease (max c.args.now moment) calls c.args.client.now =
     c.clients_after.ensures ∙ ap (λ es. clients_after es c.args.client.now c.at-at.result) (c.deref.ensures.value ∙ ap (λ (t : LeaseTable). t.entries) c.self.view_is)
-    ∙ sym (clients-told lease moment c.args.now c.at-at.result c.args.client.now c.args.self.now calls c.at-at.ensures.sound.ordered c.at-at.ensures.value s le) in
+    ∙ sym (clients-told lease moment c.args.now c.at-at.result c.args.client.now c.args.self.now calls c.at-at.ensures.sound.ordered c.at-at.ensures.value s) in
     let P : ℕ → Type 0 = λ n. MAX_CLIENTS < n in
     (λ h. subst P counted c.if-clients_after-gt-MAX_CLIENTS.true, λ h. refl)
 
 pub returns-then-clients_after-gt-MAX_CLIENTS-clause-pairs : goal.returns-then-clients_after-gt-MAX_CLIENTS-clause-pairs
-returns-then-clients_after-gt-MAX_CLIENTS-clause-pairs c lease moment calls s le =
-    let counted : c.clients_after.result ≡ clients_with lease c.args.now calls c.args.client.now =
+returns-then-clients_after-gt-MAX_CLIENTS-clause-pairs c lease moment calls s =
+    let counted : c.clients_after.result ≡ clients_with lease (max c.args.now moment) calls c.args.client.now =
     c.clients_after.ensures ∙ ap (λ es. clients_after es c.args.client.now c.at-at.result) (c.deref.ensures.value ∙ ap (λ (t : LeaseTable). t.entries) c.self.view_is)
-    ∙ sym (clients-told lease moment c.args.now c.at-at.result c.args.client.now c.args.self.now calls c.at-at.ensures.sound.ordered c.at-at.ensures.value s le) in
+    ∙ sym (clients-told lease moment c.args.now c.at-at.result c.args.client.now c.args.self.now calls c.at-at.ensures.sound.ordered c.at-at.ensures.value s) in
     let many = c.if-clients_after-gt-MAX_CLIENTS.true in
     (λ h. absurd (cc), λ h. (let few = h.0 in absurd (omega arith)))
 
 pub returns-in_err-note-clause-clients : goal.returns-in_err-note-clause-clients
-returns-in_err-note-clause-clients c lease moment calls s le =
-    let counted : c.clients_after.result ≡ clients_with lease c.args.now calls c.args.client.now =
+returns-in_err-note-clause-clients c lease moment calls s =
+    let counted : c.clients_after.result ≡ clients_with lease (max c.args.now moment) calls c.args.client.now =
     c.clients_after.ensures ∙ ap (λ es. clients_after es c.args.client.now c.at-at.result) (c.deref.ensures.value ∙ ap (λ (t : LeaseTable). t.entries) c.self.view_is)
-    ∙ sym (clients-told lease moment c.args.now c.at-at.result c.args.client.now c.args.self.now calls c.at-at.ensures.sound.ordered c.at-at.ensures.value s le) in
+    ∙ sym (clients-told lease moment c.args.now c.at-at.result c.args.client.now c.args.self.now calls c.at-at.ensures.sound.ordered c.at-at.ensures.value s) in
     let few = c.if-clients_after-gt-MAX_CLIENTS.false in
     let error : c.from_residual.result ≡ Err c.in_err-note.field-0.0 = error-is c.from_residual.result c.in_err-note.field-0.0 c.from_residual.ensures.1 in
     (λ h. absurd (c.in_err-note.ensures.clients (ap (λ f. Err f) (error-same c.in_err-note.field-0.0 Clients (sym error ∙ h)))), λ h. absurd (omega arith))
 
 pub returns-in_err-note-clause-pairs : goal.returns-in_err-note-clause-pairs
-returns-in_err-note-clause-pairs c lease moment calls s le =
-    let counted : c.clients_after.result ≡ clients_with lease c.args.now calls c.args.client.now =
+returns-in_err-note-clause-pairs c lease moment calls s =
+    let counted : c.clients_after.result ≡ clients_with lease (max c.args.now moment) calls c.args.client.now =
     c.clients_after.ensures ∙ ap (λ es. clients_after es c.args.client.now c.at-at.result) (c.deref.ensures.value ∙ ap (λ (t : LeaseTable). t.entries) c.self.view_is)
-    ∙ sym (clients-told lease moment c.args.now c.at-at.result c.args.client.now c.args.self.now calls c.at-at.ensures.sound.ordered c.at-at.ensures.value s le) in
-    let pairs : pairs_with_call lease calls (dirty_call c.args.now c.args.client.now c.args.number c.args.objects.now) ≡ pairs_after c.at-at.result c.args.self.now.entries c.args.client.now Dirty c.args.objects.now =
-    pairs-told lease moment c.args.now c.at-at.result Dirty c.args.client.now c.args.number c.args.objects.now c.args.self.now calls c.at-at.ensures.sound.ordered c.at-at.ensures.value s le in
+    ∙ sym (clients-told lease moment c.args.now c.at-at.result c.args.client.now c.args.self.now calls c.at-at.ensures.sound.ordered c.at-at.ensures.value s) in
+    let pairs : pairs_with_call lease calls (dirty_call (max c.args.now moment) c.args.client.now c.args.number c.args.objects.now) ≡ pairs_after c.at-at.result c.args.self.now.entries c.args.client.now Dirty c.args.objects.now =
+    pairs-told lease moment c.args.now c.at-at.result Dirty c.args.client.now c.args.number c.args.objects.now c.args.self.now calls c.at-at.ensures.sound.ordered c.at-at.ensures.value s in
     let P : ℕ → Type 0 = λ n. MAX_PAIRS < n in
     let few = c.if-clients_after-gt-MAX_CLIENTS.false in
     let error : c.from_residual.result ≡ Err c.in_err-note.field-0.0 = error-is c.from_residual.result c.in_err-note.field-0.0 c.from_residual.ensures.1 in (
@@ -50,21 +51,24 @@ returns-in_err-note-clause-pairs c lease moment calls s le =
     )
 
 pub returns-clause-ok : goal.returns-clause-ok
-returns-clause-ok c lease moment calls s le =
+returns-clause-ok c lease moment calls s =
     call-told lease moment c.args.now c.at-at.result Dirty c.args.client.now c.args.number c.args.objects.now c.args.self.now c.note.new.self calls c.at-at.ensures.sound.ordered c.at-at.ensures.value
-    (c.in_ok-note.ensures.ok ∙ ap (λ (n : ℤ). table_after Dirty c.args.client.now n c.args.objects.now c.at-at.result c.args.self.now) (to_z-of_z w64 c.args.number c.ranges.number)) s le
+    (c.in_ok-note.ensures.ok ∙ ap (λ (n : ℤ). table_after Dirty c.args.client.now n c.args.objects.now c.at-at.result c.args.self.now) (to_z-of_z w64 c.args.number c.ranges.number)) s
 
 pub returns-clause-clients : goal.returns-clause-clients
-returns-clause-clients c lease moment calls s le =
-    let counted : c.clients_after.result ≡ clients_with lease c.args.now calls c.args.client.now =
+returns-clause-clients c lease moment calls s =
+    let counted : c.clients_after.result ≡ clients_with lease (max c.args.now moment) calls c.args.client.now =
     c.clients_after.ensures ∙ ap (λ es. clients_after es c.args.client.now c.at-at.result) (c.deref.ensures.value ∙ ap (λ (t : LeaseTable). t.entries) c.self.view_is)
-    ∙ sym (clients-told lease moment c.args.now c.at-at.result c.args.client.now c.args.self.now calls c.at-at.ensures.sound.ordered c.at-at.ensures.value s le) in
+    ∙ sym (clients-told lease moment c.args.now c.at-at.result c.args.client.now c.args.self.now calls c.at-at.ensures.sound.ordered c.at-at.ensures.value s) in
     let few = c.if-clients_after-gt-MAX_CLIENTS.false in
     (λ h. absurd (cc), λ h. absurd (omega arith))
 
 pub returns-clause-pairs : goal.returns-clause-pairs
-returns-clause-pairs c lease moment calls s le =
-    let pairs : pairs_with_call lease calls (dirty_call c.args.now c.args.client.now c.args.number c.args.objects.now) ≡ pairs_after c.at-at.result c.args.self.now.entries c.args.client.now Dirty c.args.objects.now =
-    pairs-told lease moment c.args.now c.at-at.result Dirty c.args.client.now c.args.number c.args.objects.now c.args.self.now calls c.at-at.ensures.sound.ordered c.at-at.ensures.value s le in
+returns-clause-pairs c lease moment calls s =
+    let pairs : pairs_with_call lease calls (dirty_call (max c.args.now moment) c.args.client.now c.args.number c.args.objects.now) ≡ pairs_after c.at-at.result c.args.self.now.entries c.args.client.now Dirty c.args.objects.now =
+    pairs-told lease moment c.args.now c.at-at.result Dirty c.args.client.now c.args.number c.args.objects.now c.args.self.now calls c.at-at.ensures.sound.ordered c.at-at.ensures.value s in
     let P : ℕ → Type 0 = λ n. MAX_PAIRS < n in
     (λ h. absurd (cc), λ h. (let never = c.in_ok-note.ensures.pairs.1 (subst P pairs h.1) in absurd (cc)))
+
+pub returns-clause-freed : goal.returns-clause-freed
+returns-clause-freed c = trimmed-noted Dirty c.args.client.now _ c.args.objects.now c.at-at.result c.args.self.now c.note.new.self c.in_ok-note.ensures.ok

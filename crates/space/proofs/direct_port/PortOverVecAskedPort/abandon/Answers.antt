@@ -1,5 +1,4 @@
-use Rattle.std.proofs.Common.{◌≡◌, ◌≤◌, ap, sym, arith, vec_capacity}
-use Rattle.space.specs.Ports.{abandoned_at}
+use Rattle.std.proofs.Common.{arith, vec_capacity}
 use Rattle.space.proofs.TieSteps.{tied-as, tied-abandoned}
 use Rattle.space.proofs.direct_port.PortOverVecAskedPort.abandon.Goals as goal
 

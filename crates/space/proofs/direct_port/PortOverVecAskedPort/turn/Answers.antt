@@ -1,4 +1,4 @@
-use Rattle.std.proofs.Common.{◌≡◌, ◌≤◌, ◌<◌, ◌+◌, ◌++◌, ◌∷◌, [], ℕ, length, ap, sym, ◌∙◌, rules, arith, vec_len, vec_capacity}
+use Rattle.std.proofs.Common.{◌≡◌, ◌≤◌, ◌<◌, ◌+◌, ◌++◌, ◌∷◌, [], length, ap, ◌∙◌, rules, arith, vec_len, vec_capacity}
 use Rattle.history.specs.Running.{running}
 use Rattle.history.specs.Table.{places}
 use Rattle.space.specs.Entries.{entry_of}

@@ -4,5 +4,5 @@ use Rattle.space.proofs.turns.Space.exported.Goals as goal
 
 pub returns : goal.returns
 returns c =
-    kinds-told c.self.inside.config c.self.inside.events.items c.self.inside.exports.rows c.self.inside.moment c.self.inside.exports.waits c.as_slice.result.now c.in_ok-objects.objects.items c.args.self.now
+    kinds-told c.self.inside.tables.config c.self.inside.tables.events.items c.self.inside.tables.exports.rows c.self.inside.tables.moment c.self.inside.tables.exports.waits c.as_slice.result.now c.in_ok-objects.objects.items c.args.self.now
     c.self.view_is c.self.invariant.0.stands.rows_are (c.as_slice.ensures ∙ c.in_ok-rows.ensures) c.in_ok-objects.ensures

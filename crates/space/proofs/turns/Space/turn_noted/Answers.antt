@@ -1,43 +1,33 @@
-use Rattle.std.proofs.Common.{◌≡◌, ◌≤◌, ◌+◌, ℕ, List, length, Ok, Err, map, drop, ap, ◌∙◌, rules, arith, vec_len}
-use Rattle.history.specs.declared.places.Withdrawal.{Withdrawal}
+use Rattle.std.proofs.Common.{◌≡◌, ◌<◌, Result, sym, subst, rules}
+use Rattle.std.specs.Prelude.{OnErr}
+use Rattle.history.specs.declared.replies.Refused.{Refused}
+use Rattle.history.specs.declared.replies.Turn.{Turn}
+use Rattle.history.specs.Running.{running}
+use Rattle.history.specs.Steps.{Step}
+use Rattle.history.specs.Table.{places}
 use Rattle.space.specs.Acts.{event_of}
+use Rattle.space.specs.Ports.{IsAnswerTo}
 use Rattle.space.proofs.AnswerLaws.{answer-row}
-use Rattle.space.proofs.NotedLaws.{turn-small}
+use Rattle.space.proofs.NotedLaws.{fits-turn, if-ok, on-err}
 use Rattle.space.proofs.turns.Space.turn_noted.Goals as goal
 
-pub copied-copy-requires-clause-ids : goal.copied-copy-requires-clause-ids
-copied-copy-requires-clause-ids c os s =
-    let few = (turn-small c.self.inside.config c.self.inside.events.items c.turn.new.self.events (event_of c.args.by c.args.moment c.args.ask) c.self.inside.leases c.self.inside.exports c.self.inside.runs.items c.self.inside.withdrawn.items
-    c.self.inside.told c.self.inside.added c.self.inside.units c.self.inside.moment c.args.self.now c.in-Ok.turn c.self.invariant.0 c.requires.built c.self.view_is c.in-Ok.ensures.step).ids os s in
-    let units = c.units_of-units.ensures.value in let room = c.in_ok-ids.ensures.capacity in
-    omega (arith, few, units, room)
+pub with_entry-requires : goal.with_entry-requires
+with_entry-requires c = record {
+  fits = fits-turn c.self.inside.tables.config c.self.inside.tables.events.items c.turn-answer.new.self.events (event_of c.args.by c.args.moment c.args.ask) c.self.inside.tables.leases c.self.inside.tables.exports c.self.inside.tables.runs.items c.self.inside.tables.withdrawn.items
+      c.self.inside.tables.told c.self.inside.tables.added c.self.inside.tables.units c.self.inside.tables.moment c.args.self.now c.turn-answer.result _ _ c.in_ok-note.note.names c.self.invariant.0 c.requires.built c.self.view_is c.turn-answer.ensures.step
+      c.in_ok-note.ensures.ids c.in_ok-note.ensures.gone;
+}
 
-pub copied-copy-requires-clause-gone : goal.copied-copy-requires-clause-gone
-copied-copy-requires-clause-gone c =
-    let few = (turn-small c.self.inside.config c.self.inside.events.items c.turn.new.self.events (event_of c.args.by c.args.moment c.args.ask) c.self.inside.leases c.self.inside.exports c.self.inside.runs.items c.self.inside.withdrawn.items
-    c.self.inside.told c.self.inside.added c.self.inside.units c.self.inside.moment c.args.self.now c.in-Ok.turn c.self.invariant.0 c.requires.built c.self.view_is c.in-Ok.ensures.step).gone in
-    let units = c.units_of-units.ensures.value in let count = c.count.ensures.value in let room = c.in_ok-gone.ensures.room in
-    let len : vec_len c.in_ok-gone.gone ≡ length c.in_ok-gone.gone.items = search rules in
-    let told = ap length (c.in_ok-gone.ensures.items ∙ ap (λ l. map (λ (w : Withdrawal). w.object) (drop c.self.inside.told l)) c.deref.ensures.value) in
-    omega (arith, few, units, count, room, len, told)
-
-pub copied-copy-requires-clause-names : goal.copied-copy-requires-clause-names
-copied-copy-requires-clause-names c ns s =
-    absurd ((turn-small c.self.inside.config c.self.inside.events.items c.turn.new.self.events (event_of c.args.by c.args.moment c.args.ask) c.self.inside.leases c.self.inside.exports c.self.inside.runs.items c.self.inside.withdrawn.items
-    c.self.inside.told c.self.inside.added c.self.inside.units c.self.inside.moment c.args.self.now c.in-Ok.turn c.self.invariant.0 c.requires.built c.self.view_is c.in-Ok.ensures.step).names ns s)
-
-pub returns-in-Ok-clause-row : goal.returns-in-Ok-clause-row
-returns-in-Ok-clause-row c =
-    answer-row c.self.inside.config c.self.inside.events.items c.turn.new.self.events (event_of c.args.by c.args.moment c.args.ask) c.self.inside.leases c.self.inside.exports c.self.inside.runs.items c.self.inside.withdrawn.items
-    c.self.inside.told c.self.inside.added c.self.inside.units c.self.inside.moment c.args.self.now (Ok c.in-Ok.turn) c.self.invariant.0 c.requires.built c.self.view_is c.in-Ok.ensures.step
-
-pub returns-in-Err : goal.returns-in-Err
-returns-in-Err c = record {
-  step = search rules;
+pub returns : goal.returns
+returns c = record {
+  step = if-ok c.with_entry.result (λ x. x.0 ≡ c.turn-answer.result) (λ x. Step c.args.self.now.configuration c.args.self.now.events (event_of c.args.by c.args.moment c.args.ask) x.0 c.turn-answer.new.self.events) c.with_entry.ensures.answer
+      (λ x e. (let P : Result Turn Refused → Type 0 = λ a. Step c.args.self.now.configuration c.args.self.now.events (event_of c.args.by c.args.moment c.args.ask) a c.turn-answer.new.self.events in subst P (sym e) c.turn-answer.ensures.step));
   noted = search rules;
-  row = answer-row c.self.inside.config c.self.inside.events.items c.turn.new.self.events (event_of c.args.by c.args.moment c.args.ask) c.self.inside.leases c.self.inside.exports c.self.inside.runs.items c.self.inside.withdrawn.items
-      c.self.inside.told c.self.inside.added c.self.inside.units c.self.inside.moment c.args.self.now (Err c.in-Err.refused) c.self.invariant.0 c.requires.built c.self.view_is c.in-Err.ensures.step;
+  row = if-ok c.with_entry.result (λ x. x.0 ≡ c.turn-answer.result) (λ x. IsAnswerTo (λ o. 0 < running (places c.args.self.now.configuration c.args.self.now.events) c.args.by o) c.args.ask x.0) c.with_entry.ensures.answer
+      (λ x e. (let P : Result Turn Refused → Type 0 = λ a. IsAnswerTo (λ o. 0 < running (places c.args.self.now.configuration c.args.self.now.events) c.args.by o) c.args.ask a in
+      subst P (sym e) (answer-row c.self.inside.tables.config c.self.inside.tables.events.items c.turn-answer.new.self.events (event_of c.args.by c.args.moment c.args.ask) c.self.inside.tables.leases c.self.inside.tables.exports c.self.inside.tables.runs.items c.self.inside.tables.withdrawn.items
+      c.self.inside.tables.told c.self.inside.tables.added c.self.inside.tables.units c.self.inside.tables.moment c.args.self.now c.turn-answer.result c.self.invariant.0 c.requires.built c.self.view_is c.turn-answer.ensures.step)));
   known = search rules;
   config = search rules;
-  err = search rules;
+  err = on-err c.with_entry.result c.with_entry.ensures.err (λ e. (let P : Result Turn Refused → Type 0 = λ a. OnErr a (c.turn-answer.new.self ≡ c.args.self.now) in subst P e c.turn-answer.ensures.err));
 }

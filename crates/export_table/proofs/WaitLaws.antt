@@ -16,12 +16,23 @@ use Rattle.history.specs.Lists.{distinct, option_any}
 use Rattle.history.specs.Places.{now}
 use Rattle.history.specs.Table.{place_of, places_back, places}
 use Rattle.history.proofs.AwaitingLaws.{returned-equality, awaits-returned, awaits-acknowledged, awaits-passed, awaiting-member, awaiting-once}
-use Rattle.history.proofs.ListLemmas.{AllOnce, AllOnce-filter, length-members, same_test, and_true, and_false}
+use Rattle.history.proofs.ListLemmas.{AllOnce, IsEquality, AllOnce-distinct, AllOnce-filter, length-members, list_any-distinct, same_test, and_true, and_false}
 use Rattle.history.proofs.TableLaws.{IsNumbered, index-place_of, adds-place, places_back-numbered, moment-place_of, now-push, places-numbered}
 use Rattle.dgc_server.proofs.Distinct.{Decides, any-filtered, turned}
 use Rattle.dgc_server.proofs.Outputs.{no_time}
-use Rattle.space.specs.Waits.{until_of, until_in, waits_once, WaitsFor, WaitsStand}
-use Rattle.space.proofs.Clients.{distinct-same}
+use Rattle.export_table.specs.Stands.{until_of, until_in, waits_once, WaitsFor, WaitsStand}
+
+-- ---- how many items a list has, each counted once
+
+pub any-distinct : {X : Type 0} (same : X → X → Bool) → IsEquality same → (k : X) (xs : List X) → list_any (same k) (distinct same xs) ≡ list_any (same k) xs
+any-distinct same e k xs = list_any-distinct same (same k) (λ a b h. ap (same k) (e.equal a b h)) xs
+
+-- Lists with the same items have as many.
+pub distinct-same : {X : Type 0} (same : X → X → Bool) → IsEquality same → (xs ys : List X) → ((k : X) → list_any (same k) xs ≡ list_any (same k) ys) →
+    length (distinct same xs) ≡ length (distinct same ys)
+distinct-same same e xs ys f =
+    length-members same e (distinct same xs) (distinct same ys) (AllOnce-distinct same e xs) (AllOnce-distinct same e ys)
+    (λ k. any-distinct same e k xs ∙ f k ∙ sym (any-distinct same e k ys))
 
 -- ---- until when
 

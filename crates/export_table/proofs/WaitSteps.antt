@@ -19,8 +19,8 @@ use Rattle.history.proofs.AwaitingLaws.{returned-equality}
 use Rattle.history.proofs.ListLemmas.{AllOnce-filter}
 use Rattle.history.proofs.TableLaws.{moment-place_of, ask-place_of}
 use Rattle.dgc_server.proofs.Distinct.{turned}
-use Rattle.space.specs.Waits.{until_of, until_in, waits_once, WaitsFor, WaitsStand}
-use Rattle.space.proofs.WaitLaws.{until-push, until-bound, decides-returned, absent-until, others-absent, numbered-place}
+use Rattle.export_table.specs.Stands.{until_of, until_in, waits_once, WaitsFor, WaitsStand}
+use Rattle.export_table.proofs.WaitLaws.{until-push, until-bound, decides-returned, absent-until, others-absent, numbered-place}
 
 -- The same moment, by the first wait that is of the reference.
 pub until_in-find : {W : Type 0} (ref : W → Returned) (until : W → ℕ) (r : Returned) (ws : List W) →

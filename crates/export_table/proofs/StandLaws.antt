@@ -1,0 +1,261 @@
+-- An export table stands for a history: what waits in it, and what its rows count.
+use Rattle.std.proofs.Common.{◌≡◌, ℕ, suc, ◌+◌, ◌-◌, ◌<◌, ◌≤◌, List, [], ◌∷◌, ◌++◌, length, refl, ap, sym, subst, ◌∙◌, cond, map, max, arith, Option, Some, None, append-nil}
+use Rattle.std.specs.Prelude.{Bool, true, false, not, ◌&&◌, ◌||◌, ◌==◌, filter, find, flat_map, nat_lt, if◌then◌else◌, option_map, option_to_list, unwrap_or}
+use Rattle.std.specs.List.{list_any}
+use Rattle.object_ids.specs.declared.ids.Uid.{Uid}
+use Rattle.object_ids.specs.declared.ids.ObjId.{ObjId}
+use Rattle.object_ids.specs.Same.{same_id, same_uid}
+use Rattle.object_ids.proofs.Exact.{same_id-equal, same_id-self}
+use Rattle.history.specs.declared.asks.SpaceConfig.{SpaceConfig}
+use Rattle.history.specs.declared.asks.Event.{Event}
+use Rattle.history.specs.declared.asks.Ask.{Ask}
+use Rattle.history.specs.declared.asks.Ask.TheVariants.{Begin, Finish, Abandon, Ack, Lookup}
+use Rattle.history.specs.declared.places.Place.{Place}
+use Rattle.history.specs.declared.places.Exported.{Exported}
+use Rattle.history.specs.declared.places.Returned.{Returned}
+use Rattle.history.specs.Awaiting.{same_returned, returned, return_uid, is_ack_of, awaiting, awaiting_of}
+use Rattle.history.specs.Places.{has, now}
+use Rattle.history.specs.Running.{is_begin_of, is_end_of, running_calls}
+use Rattle.history.specs.Table.{is_effective, place_of, places}
+use Rattle.history.proofs.ListLemmas.{list_any-map}
+use Rattle.history.proofs.Partitions.{one_if}
+use Rattle.history.proofs.RunningLaws.{running_calls-push}
+use Rattle.history.proofs.TableLaws.{ask-place_of, places-push}
+use Rattle.dgc_server.proofs.Distinct.{Decides, turned}
+use Rattle.export_table.specs.declared.rows.Export.{Export}
+use Rattle.export_table.specs.declared.waits.Wait.{Wait}
+use Rattle.export_table.specs.Rows.{is_of, is_exported, kind_of, running_of, changed, begun, ended}
+use Rattle.export_table.specs.Stands.{until_of, row_of, rows_of, waits_once, references, reference_of, end_of, WaitsStand, AreWaits, NoneAwaits, WaitingAwaits, WaitingStands, ReturnLists, AckEnds, RowsCount, BeginCounts, EndsCallOf, EndCounts}
+use Rattle.export_table.specs.Waits.{waiting, is_waiting, listed as listed_wait, listed_each}
+use Rattle.export_table.proofs.WaitLaws.{until-none, waits-await, waiting_refs, refs-any, refs-await, refs-waiting-once, count-awaiting, count-awaiting_of}
+use Rattle.export_table.proofs.WaitSteps.{until_in-find, waits-later, going, going-until, but, listed, listed-once, listed_all, waits-push, waits-push-ack}
+use Rattle.history.proofs.ListLemmas.{AllOnce-filter}
+
+-- ---- the references that await
+
+refs-of : {W : Type 0} (ref : W → Returned) (until : W → ℕ) (t : ℕ) (o : ObjId) (ws : List W) →
+    length (filter (λ r. same_id r.object o) (waiting_refs ref until t ws)) ≡ length (filter (λ w. nat_lt t (until w) && same_id (ref w).object o) ws)
+refs-of ref until t o [] = refl
+refs-of {W} ref until t o (w ∷ ws) = go (nat_lt t (until w)) (refs-of ref until t o ws)
+  where
+    kept : (b : Bool) (xs : List Returned) (ys : List W) → length xs ≡ length ys → length (cond b (ref w ∷ xs) xs) ≡ length (cond b (w ∷ ys) ys)
+    kept true xs ys h = ap suc h
+    kept false xs ys h = h
+
+    go : (b : Bool) → length (filter (λ r. same_id r.object o) (waiting_refs ref until t ws)) ≡ length (filter (λ v. nat_lt t (until v) && same_id (ref v).object o) ws) →
+        length (filter (λ r. same_id r.object o) (map ref (cond b (w ∷ filter (λ v. nat_lt t (until v)) ws) (filter (λ v. nat_lt t (until v)) ws))))
+        ≡ length (cond (b && same_id (ref w).object o) (w ∷ filter (λ v. nat_lt t (until v) && same_id (ref v).object o) ws) (filter (λ v. nat_lt t (until v) && same_id (ref v).object o) ws))
+    go true h = kept (same_id (ref w).object o) (filter (λ r. same_id r.object o) (waiting_refs ref until t ws)) (filter (λ v. nat_lt t (until v) && same_id (ref v).object o) ws) h
+    go false h = h
+
+refs-length : {W : Type 0} (ref : W → Returned) (until : W → ℕ) (t : ℕ) (ws : List W) → length (waiting_refs ref until t ws) ≡ length (filter (λ w. nat_lt t (until w)) ws)
+refs-length ref until t ws = go (filter (λ w. nat_lt t (until w)) ws)
+  where
+    go : (vs : List _) → length (map ref vs) ≡ length vs
+    go [] = refl
+    go (v ∷ vs) = ap suc (go vs)
+
+-- HOW MANY REFERENCES AWAIT, by a list of waits.
+pub awaiting-counted : {W : Type 0} (ref : W → Returned) (until : W → ℕ) (ack m t : ℕ) (h : List Place) (ws : List W) → m ≤ t → WaitsStand ref until ack m h ws →
+    length (awaiting ack t h) ≡ length (filter (λ w. nat_lt t (until w)) ws)
+awaiting-counted ref until ack m t h ws le s =
+    count-awaiting ack t h (waiting_refs ref until t ws) (refs-waiting-once ref until t ws s.once) (refs-await ref until ack m t h ws le s) ∙ refs-length ref until t ws
+
+pub awaiting_of-counted : {W : Type 0} (ref : W → Returned) (until : W → ℕ) (ack m t : ℕ) (h : List Place) (o : ObjId) (ws : List W) → m ≤ t → WaitsStand ref until ack m h ws →
+    length (awaiting_of ack t h o) ≡ length (filter (λ w. nat_lt t (until w) && same_id (ref w).object o) ws)
+awaiting_of-counted ref until ack m t h o ws le s =
+    count-awaiting_of ack t h o (waiting_refs ref until t ws) (refs-waiting-once ref until t ws s.once) (refs-await ref until ack m t h ws le s) ∙ refs-of ref until t o ws
+
+-- A reference is among those of a list of waits exactly where it waits.
+pub any-waiting : (t : ℕ) (r : Returned) (waits : List Wait) → list_any (same_returned r) (waiting_refs reference_of end_of t waits) ≡ is_waiting t r.object r.uid waits
+any-waiting t r waits = refs-any reference_of end_of t r waits
+
+-- ---- one after another
+
+-- A wait that is listed, as the laws of lists of waits say it.
+listed-is : (ack t : ℕ) (r : Returned) (waits : List Wait) → listed reference_of end_of (λ s n. record { object = s.object; uid = s.uid; until = n }) ack t r waits ≡ listed_wait ack t r.object r.uid waits
+listed-is ack t r waits =
+    ap (λ (n : ℕ). but reference_of r (going end_of t waits) ++ record { object = r.object; uid = r.uid; until = max (t + ack) n } ∷ []) (until_in-find reference_of end_of r waits)
+
+pub listed-each-is : (ack t : ℕ) (uid : Uid) (os : List ObjId) (waits : List Wait) →
+    listed_all reference_of end_of (λ s n. record { object = s.object; uid = s.uid; until = n }) ack t (references uid os) waits ≡ listed_each ack t uid os waits
+listed-each-is ack t uid [] waits = refl
+listed-each-is ack t uid (o ∷ os) waits =
+    ap (listed_all reference_of end_of (λ s n. record { object = s.object; uid = s.uid; until = n }) ack t (references uid os)) (listed-is ack t (record { object = o; uid = uid }) waits)
+    ∙ listed-each-is ack t uid os (listed_wait ack t o uid waits)
+
+pub listed-stays-once : (ack t : ℕ) (o : ObjId) (uid : Uid) (waits : List Wait) → waits_once reference_of waits → waits_once reference_of (listed_wait ack t o uid waits)
+listed-stays-once ack t o uid waits once =
+    let P : List Wait → Type 0 = λ ws. waits_once reference_of ws in
+    subst P (listed-is ack t (record { object = o; uid = uid }) waits)
+    (listed-once reference_of end_of (λ s n. record { object = s.object; uid = s.uid; until = n }) ack t (record { object = o; uid = uid }) waits (λ s n. refl) once)
+
+-- ---- what ended is forgotten
+
+pub waits-going : (m : ℕ) (ack : ℕ) (h : List Place) (ws : List Wait) → WaitsStand reference_of end_of ack m h ws → WaitsStand reference_of end_of ack m h (waiting m ws)
+waits-going m ack h ws w = record {
+  once = AllOnce-filter (λ a b. same_returned (reference_of a) (reference_of b)) (λ v. nat_lt m (end_of v)) ws w.once;
+  each = λ r. going-until reference_of end_of m r ws w.once ∙ w.each r;
+}
+
+-- ---- the rows
+
+-- An exported object with this many running calls.
+abbrev pub row_with : (ObjId → ℕ) → Exported → Export
+row_with count x = record { id = x.id; kind = x.kind; pinned = x.pinned; running = count x.id; pins = 0 }
+
+-- An object is exported by the rows exactly where it is in the table.
+pub exported-has : (h : List Place) (objects : List Exported) (o : ObjId) → is_exported (rows_of h objects) o ≡ has objects o
+exported-has h objects o = list_any-map (is_of o) (row_of h) objects
+
+pub kind-is : (h : List Place) (objects : List Exported) (o : ObjId) → kind_of (rows_of h objects) o ≡ option_map (λ (x : Exported). x.kind) (find (λ x. same_id x.id o) objects)
+kind-is h [] o = refl
+kind-is h (x ∷ objects) o = go (same_id x.id o) (kind-is h objects o)
+  where
+    go : (b : Bool) → kind_of (rows_of h objects) o ≡ option_map (λ (y : Exported). y.kind) (find (λ y. same_id y.id o) objects) →
+        option_map (λ (y : Export). y.kind) (cond b (Some (row_of h x)) (find (is_of o) (rows_of h objects))) ≡ option_map (λ (y : Exported). y.kind) (cond b (Some x) (find (λ y. same_id y.id o) objects))
+    go true e = refl
+    go false e = e
+
+-- How many calls run of an object that is exported, and of any.
+pub running-there : (h : List Place) (objects : List Exported) (o : ObjId) → has objects o ≡ true → running_of (rows_of h objects) o ≡ running_calls h o
+running-there h [] o t = absurd (cc)
+running-there h (x ∷ objects) o t = go (same_id x.id o) refl t (running-there h objects o)
+  where
+    go : (b : Bool) → same_id x.id o ≡ b → (b || has objects o) ≡ true → (has objects o ≡ true → running_of (rows_of h objects) o ≡ running_calls h o) →
+        unwrap_or (option_map (λ (y : Export). y.running) (cond b (Some (row_of h x)) (find (is_of o) (rows_of h objects)))) 0 ≡ running_calls h o
+    go true e t rest = ap (running_calls h) (same_id-equal x.id o e)
+    go false e t rest = rest t
+
+pub running-few : (h : List Place) (objects : List Exported) (o : ObjId) → running_of (rows_of h objects) o ≤ running_calls h o
+running-few h [] o = omega arith
+running-few h (x ∷ objects) o = go (same_id x.id o) refl (running-few h objects o)
+  where
+    go : (b : Bool) → same_id x.id o ≡ b → running_of (rows_of h objects) o ≤ running_calls h o →
+        unwrap_or (option_map (λ (y : Export). y.running) (cond b (Some (row_of h x)) (find (is_of o) (rows_of h objects)))) 0 ≤ running_calls h o
+    go true e rest = let same = ap (running_calls h) (same_id-equal x.id o e) in omega (arith, same)
+    go false e rest = rest
+
+pub count-push : (config : SpaceConfig) (events : List Event) (e : Event) (o : ObjId) →
+    running_calls (place_of config (places config events) e ∷ places config events) o + one_if (is_effective config (places config events) e.by e.ask && is_end_of o e.ask)
+    ≡ running_calls (places config events) o + one_if (is_effective config (places config events) e.by e.ask && is_begin_of o e.ask)
+unfolding place_of
+count-push config events e o = running_calls-push config events e o
+
+pub id-turned : (a b : ObjId) → same_id a b ≡ same_id b a
+id-turned a b = turned (record { equal = same_id-equal; self = same_id-self }) a b
+
+-- The rows, where the counts of running calls are the old and the new ones.
+pub row-same : (old new : ObjId → ℕ) → ((o : ObjId) → new o ≡ old o) → (objects : List Exported) → map (row_with old) objects ≡ map (row_with new) objects
+row-same old new same [] = refl
+row-same old new same (x ∷ objects) = rw (same x.id, row-same old new same objects) refl
+
+pub row-changed : (old new : ObjId → ℕ) (f : Export → Export) (o : ObjId) → ((x : Exported) → (if same_id x.id o then f (row_with old x) else row_with old x) ≡ row_with new x) → (objects : List Exported) →
+    changed f o (map (row_with old) objects) ≡ map (row_with new) objects
+row-changed old new f o same [] = refl
+row-changed old new f o same (x ∷ objects) = rw (same x, row-changed old new f o same objects) refl
+
+pub begun-row : (old new : ObjId → ℕ) (o : ObjId) (x : Exported) (b : Bool) → new x.id ≡ old x.id + one_if b → (if b then begun (row_with old x) else row_with old x) ≡ row_with new x
+unfolding one_if
+begun-row old new o x true e = rw e refl
+begun-row old new o x false e = (let same : new x.id ≡ old x.id = omega (arith, e) in rw same refl)
+
+pub ended-row : (old new : ObjId → ℕ) (o : ObjId) (x : Exported) (b : Bool) → new x.id + one_if b ≡ old x.id → (if b then ended (row_with old x) else row_with old x) ≡ row_with new x
+unfolding one_if
+ended-row old new o x true e = (let same : old x.id - 1 ≡ new x.id = omega (arith, e) in rw same refl)
+ended-row old new o x false e = (let same : old x.id ≡ new x.id = omega (arith, e) in rw same refl)
+
+none-of : one_if false ≡ 0
+unfolding one_if
+none-of = refl
+
+-- ---- THE LAWS of waits
+
+pub none-awaits : NoneAwaits
+none-awaits ack = record { once = tt; each = λ r. rw (until-none ack r) refl }
+
+pub waiting-awaits : WaitingAwaits
+waiting-awaits ack m t h waits le s = (
+  λ o u. waits-await reference_of end_of ack m t h waits le s (record { object = o; uid = u }),
+  sym (awaiting-counted reference_of end_of ack m t h waits le s),
+  λ o. sym (awaiting_of-counted reference_of end_of ack m t h o waits le s),
+)
+
+pub waiting-stands : WaitingStands
+waiting-stands ack m t h waits le s = waits-going t ack h waits (waits-later reference_of end_of m t (until_of ack h) waits le s)
+
+no-ack : (a : Ask) (uid u : Uid) → return_uid a ≡ Some uid → is_ack_of u a ≡ false
+no-ack (Finish o made listed x) uid u r = refl
+no-ack (Lookup n x) uid u r = refl
+no-ack (Ack x) uid u r = absurd (cc)
+no-ack _ uid u r = absurd (cc)
+
+pub return-lists : ReturnLists
+return-lists config events e uid waits r s =
+    let m : ℕ = max e.moment (now (places config events)) in
+    let asked = ask-place_of config (places config events) e in
+    let pushed = waits-push reference_of end_of (λ x n. record { object = x.object; uid = x.uid; until = n }) config events e waits (λ x n. refl) (λ x n. refl)
+    (λ u. ap (is_ack_of u) asked ∙ no-ack e.ask uid u r) s in
+    let all : returned (place_of config (places config events) e) ≡ references uid (place_of config (places config events) e).lists =
+    ap (λ u. flat_map (λ x. map (λ o. record { object = o; uid = x }) (place_of config (places config events) e).lists) (option_to_list u)) (ap return_uid asked ∙ r) ∙ one_list uid (place_of config (places config events) e).lists in
+    let H : List Place → Type 0 = λ h. AreWaits config.ack_ms (max e.moment (now (places config events))) h (listed_each config.ack_ms (max e.moment (now (places config events))) uid (place_of config (places config events) e).lists waits) in
+    let R : List Returned → Type 0 = λ rs. AreWaits config.ack_ms (max e.moment (now (places config events))) (place_of config (places config events) e ∷ places config events)
+    (listed_all reference_of end_of (λ x n. record { object = x.object; uid = x.uid; until = n }) config.ack_ms (max e.moment (now (places config events))) rs waits) in
+    let W : List Wait → Type 0 = λ ws. AreWaits config.ack_ms (max e.moment (now (places config events))) (place_of config (places config events) e ∷ places config events) ws in
+    subst H (sym (places-push config events e)) (subst W (listed-each-is config.ack_ms (max e.moment (now (places config events))) uid (place_of config (places config events) e).lists waits) (subst R all pushed))
+  where
+    one_list : (u : Uid) (os : List ObjId) → flat_map (λ x. map (λ o. record { object = o; uid = x }) os) (u ∷ []) ≡ references u os
+    one_list u os = append-nil (references u os)
+
+pub ack-ends : AckEnds
+ack-ends config events e uid waits a s =
+    let H : List Place → Type 0 = λ h. AreWaits config.ack_ms (max e.moment (now (places config events))) h (filter (λ w. not (same_uid w.uid uid)) waits) in
+    subst H (sym (places-push config events e)) (waits-push-ack reference_of end_of config events e uid waits a s)
+
+-- ---- THE LAWS of rows
+
+pub rows-count : RowsCount
+rows-count h objects o t = running-there h objects o t
+
+pub begin-counts : BeginCounts
+begin-counts config events e o objects asked eff =
+    let old : ObjId → ℕ = running_calls (places config events) in
+    let new : ObjId → ℕ = running_calls (place_of config (places config events) e ∷ places config events) in
+    let H : List Place → Type 0 = λ h. changed begun o (rows_of (places config events) objects) ≡ rows_of h objects in
+    subst H (sym (places-push config events e)) (row-changed old new begun o (λ x. begun-row old new o x (same_id x.id o) (step x.id)) objects)
+  where
+    step : (x : ObjId) → running_calls (place_of config (places config events) e ∷ places config events) x ≡ running_calls (places config events) x + one_if (same_id x o)
+    step x =
+        let push = count-push config events e x in
+        let ends : one_if (is_effective config (places config events) e.by e.ask && is_end_of x e.ask) ≡ one_if false = ap (λ a. one_if (is_effective config (places config events) e.by e.ask && is_end_of x a)) asked ∙ ap (λ v. one_if (v && false)) eff in
+        let begins : one_if (is_effective config (places config events) e.by e.ask && is_begin_of x e.ask) ≡ one_if (same_id x o) =
+        ap (λ a. one_if (is_effective config (places config events) e.by e.ask && is_begin_of x a)) asked ∙ ap (λ v. one_if (v && same_id o x)) eff ∙ ap one_if (id-turned o x) in
+        let zero_if = none-of in
+        omega (arith, push, ends, begins, zero_if)
+
+pub end-counts : EndCounts
+end-counts config events e o objects asked eff =
+    let old : ObjId → ℕ = running_calls (places config events) in
+    let new : ObjId → ℕ = running_calls (place_of config (places config events) e ∷ places config events) in
+    let H : List Place → Type 0 = λ h. changed ended o (rows_of (places config events) objects) ≡ rows_of h objects in
+    subst H (sym (places-push config events e)) (row-changed old new ended o (λ x. ended-row old new o x (same_id x.id o) (step x.id)) objects)
+  where
+    is-end : (a : Ask) (x : ObjId) → EndsCallOf o a → is_end_of x a ≡ same_id o x
+    is-end (Finish object made listed uid) x h = ap (λ y. same_id y x) h
+    is-end (Abandon object) x h = ap (λ y. same_id y x) h
+    is-end _ x h = absurd h
+
+    no-begin : (a : Ask) (x : ObjId) → EndsCallOf o a → is_begin_of x a ≡ false
+    no-begin (Finish object made listed uid) x h = refl
+    no-begin (Abandon object) x h = refl
+    no-begin _ x h = absurd h
+
+    step : (x : ObjId) → running_calls (place_of config (places config events) e ∷ places config events) x + one_if (same_id x o) ≡ running_calls (places config events) x
+    step x =
+        let push = count-push config events e x in
+        let ends : one_if (is_effective config (places config events) e.by e.ask && is_end_of x e.ask) ≡ one_if (same_id x o) =
+        ap (λ v. one_if (v && is_end_of x e.ask)) eff ∙ ap one_if (is-end e.ask x asked ∙ id-turned o x) in
+        let begins : one_if (is_effective config (places config events) e.by e.ask && is_begin_of x e.ask) ≡ one_if false =
+        ap (λ v. one_if (v && is_begin_of x e.ask)) eff ∙ ap one_if (no-begin e.ask x asked) in
+        let zero_if = none-of in
+        omega (arith, push, ends, begins, zero_if)

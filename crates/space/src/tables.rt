@@ -1,0 +1,103 @@
+//! What a space keeps, and what a turn does to it.
+ghost use Rattle.std.specs.Prelude.{◌≡◌, ◌<◌, ◌^◌, ◌++◌, ◌∷◌, [], Ok, Err, IfOk, IfErr, OnOk, OnErr};
+ghost use Rattle.history.specs.Steps.{Step};
+ghost use Rattle.space.specs.Acts.{event_of};
+ghost use Rattle.space.specs.Built.{IsBuilt};
+ghost use Rattle.space.specs.Whole.{IsWhole, IsWholeWith};
+
+use crate::acts::{act, note_withdrawn};
+use crate::asks::{is_effective, room_refusal, told_after};
+use crate::calls::tell;
+use crate::prepared::prepare;
+use crate::rooms::{room_for_event, room_for_gone, room_in_table};
+use crate::runs::{Run, act_on_runs};
+use dgc_server::Leases;
+use export_table::Exports;
+use history::plain::limits::units_of;
+use history::{Ask, Event, Refused, SpaceConfig, Turn, Withdrawal};
+use object_ids::{ObjId, ObjIds};
+use std::alloc::Global;
+
+/// What a space keeps of the events that it took.
+#[derive(Debug, Drop)]
+pub struct Tables {
+    /// Where it takes memory.
+    pub alloc: Global,
+    /// The configuration of the space.
+    pub config: SpaceConfig,
+    /// The greatest moment so far, in milliseconds.
+    pub moment: u64,
+    /// The units of the events.
+    pub units: u64,
+    /// The leases of clients.
+    pub leases: Leases,
+    /// The exported objects, and the references that await.
+    pub exports: Exports,
+    /// The calls that run.
+    pub runs: Vec<Run>,
+    /// The events.
+    pub events: Vec<Event>,
+    /// The withdrawals, in their order.
+    pub withdrawn: Vec<Withdrawal>,
+    /// How many withdrawals were told as gone.
+    pub told: usize,
+    /// How many objects were ever exported.
+    pub added: u64,
+    /// Empty between two calls, with room for every exported object.
+    pub scratch: Vec<ObjId>,
+}
+
+impl Tables {
+    /// Does what a turn does but for the event itself, which the caller appends: there is room for it. A refused turn leaves more room at
+    /// most.
+    pub(crate) fn turn(&mut self, by: u32, moment: u64, ask: &Ask) -> Result<Turn, Refused>
+        requires moment { moment < 2 ^ 62 }
+        requires built { IsBuilt ask.now }
+        requires whole { IsWhole self.old }
+        ensures taken { IfOk result (λ turn. let e = event_of by moment ask.now in
+            Step self.old.config self.old.events.items e (Ok turn) (self.old.events.items ++ e ∷ [])) }
+        ensures refused { IfErr result (λ refused. let e = event_of by moment ask.now in
+            Step self.old.config self.old.events.items e (Err refused) self.old.events.items) }
+        ensures with_event { OnOk result (IsWholeWith self.new (self.new.events.items ++ event_of by moment ask.now ∷ [])) }
+        ensures whole { OnErr result (IsWhole self.new) }
+        ensures events { self.new.events.items ≡ self.old.events.items }
+        ensures config { self.new.config ≡ self.old.config }
+    {
+        let effective = is_effective(&self.exports, &self.runs, by, ask);
+        let exported = self.exports.count();
+        let running = self.runs.len();
+        if let Some(refused) = room_refusal(self.units, running, exported, effective, ask) {
+            return Err(refused);
+        }
+        let now = moment.max(self.moment);
+        let mut ready = prepare(
+            self.alloc,
+            &self.config,
+            self.added,
+            &self.exports,
+            &self.withdrawn,
+            self.told,
+            effective,
+            now,
+            ask,
+        )?;
+        room_for_event(&mut self.events, &mut self.runs)?;
+        room_for_gone(&mut self.withdrawn, &mut self.scratch, ready.objects)?;
+        room_in_table(&mut self.exports, ready.opened, ready.references.len())?;
+        tell(self.alloc, &mut self.leases, &self.exports, now, ask)?;
+        let place = self.events.len() as u64;
+        act(&mut self.exports, effective, now, &ready.references, ask);
+        act_on_runs(&mut self.runs, effective, by, ask);
+        let untold = ready.gone.len();
+        self.exports
+            .withdraw(now, &mut self.leases, &mut ready.gone);
+        note_withdrawn(&mut self.withdrawn, &ready.gone, untold, place);
+        self.told = told_after(self.told, self.withdrawn.len(), ask);
+        self.added += ready.opened;
+        self.units += units_of(ask);
+        self.moment = now;
+        let gone = ObjIds::from_vec(ready.gone);
+        let reply = ready.reply;
+        Ok(Turn { place, reply, gone })
+    }
+}
