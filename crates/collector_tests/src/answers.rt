@@ -1,0 +1,81 @@
+//! What events are answered, as lines.
+use history::{Refused, Reply, Turn};
+use journal::Word;
+use journal::outline::put_line;
+use mod_utf::list::ByteList;
+use object_ids::{FullKind, ObjIds, Uid};
+use std::alloc::AllocError;
+
+/// Appends the lines of an answer, in the journal of the space of this identifier: `> REPLY` or `> REFUSAL`, and `> gone OBJECTS` where
+/// objects are told as gone.
+pub(crate) fn put_answer(
+    text: &mut ByteList,
+    space: Uid,
+    answer: &Result<Turn, Refused>,
+) -> Result<(), AllocError> {
+    match answer {
+        Ok(turn) => put_turn(text, space, turn),
+        Err(refused) => put_refusal(text, *refused),
+    }
+}
+
+/// Appends the lines of a turn.
+pub(crate) fn put_turn(text: &mut ByteList, space: Uid, turn: &Turn) -> Result<(), AllocError> {
+    put_reply(text, space, &turn.reply)?;
+    put_gone(text, space, &turn.gone)
+}
+
+/// Appends the line of a refusal.
+pub(crate) fn put_refusal(text: &mut ByteList, refused: Refused) -> Result<(), AllocError> {
+    put_line(text, &[Word::Text(b">"), Word::Text(refusal(refused))])
+}
+
+fn refusal(refused: Refused) -> &'static [u8] {
+    match refused {
+        Refused::HistoryFull => b"history full",
+        Refused::Full(FullKind::Exports) => b"exports full",
+        Refused::Full(FullKind::Awaiting) => b"awaiting full",
+        Refused::Full(FullKind::Clients) => b"clients full",
+        Refused::Full(FullKind::Pairs) => b"pairs full",
+        Refused::Full(FullKind::Names) => b"names full",
+        Refused::OutOfMemory => b"out of memory",
+    }
+}
+
+fn put_gone(text: &mut ByteList, space: Uid, gone: &ObjIds) -> Result<(), AllocError> {
+    if gone.is_empty() {
+        return Ok(());
+    }
+    let objects = Word::Objects {
+        space,
+        objects: gone,
+    };
+    put_line(text, &[Word::Text(b"> gone"), objects])
+}
+
+fn put_reply(text: &mut ByteList, space: Uid, reply: &Reply) -> Result<(), AllocError> {
+    match reply {
+        Reply::Opened(object) => {
+            let object = Word::Object {
+                space,
+                object: *object,
+            };
+            put_line(text, &[Word::Text(b"> opened"), object])
+        }
+        Reply::Started(kind) => {
+            let kind = Word::Number(u64::from(*kind));
+            put_line(text, &[Word::Text(b"> started"), kind])
+        }
+        Reply::Finished(objects) => {
+            let objects = Word::Objects { space, objects };
+            put_line(text, &[Word::Text(b"> finished"), objects])
+        }
+        Reply::Granted(duration) => {
+            put_line(text, &[Word::Text(b"> granted"), Word::Number(*duration)])
+        }
+        Reply::NoObject => text.append(b"> no object\n"),
+        Reply::NotRunning => text.append(b"> not running\n"),
+        Reply::Done => text.append(b"> done\n"),
+        _ => text.append(b"> another reply\n"),
+    }
+}

@@ -1,0 +1,214 @@
+//! Transcripts of lease tables: a journal's lines of lease calls, and of ticks, which let time pass. A line `? MOMENT` asks for the remembered
+//! pairs, for the holders of objects 16 and 17, and for the clients with time left; `! NUMBER` drops an object.
+ghost use Rattle.std.specs.Prelude.{◌<◌, ◌^◌};
+
+use crate::scripts::{must_be, put_script_line};
+use dgc_server::Leases;
+use history::Ask;
+use history::limits::END_OF_TIME;
+use journal::outline::{put_lease_line, put_line};
+use journal::{Word, read_event};
+use mod_utf::list::ByteList;
+use object_ids::{ObjId, Uid};
+use std::alloc::{AllocError, Global};
+use std::test::Fail;
+
+const SPACE: Uid = Uid {
+    unique: -1,
+    time: -5,
+    count: 0,
+};
+
+fn numbered(number: i64) -> ObjId {
+    ObjId {
+        number,
+        space: SPACE,
+    }
+}
+
+/// Appends a line, if it is an input, and what comes of it.
+fn put_line_of(
+    alloc: Global,
+    leases: &mut Leases,
+    line: &str,
+    text: &mut ByteList,
+) -> Result<(), Fail> {
+    if line.is_empty() || line.starts_with('>') {
+        return Ok(());
+    }
+    put_script_line(text, line)?;
+    if let Some(moment) = line.strip_prefix("? ") {
+        put_table(alloc, leases, moment.parse::<u64>()?, text)?;
+    } else if let Some(number) = line.strip_prefix("! ") {
+        leases.drop_object(numbered(number.parse::<i64>()?));
+    } else {
+        let event = read_event(alloc, SPACE, line.as_bytes())?.ok_or("no event")?;
+        if event.moment >= END_OF_TIME {
+            return Err("too late".into());
+        }
+        tell(leases, event.moment, &event.ask, text)?;
+    }
+    Ok(())
+}
+
+/// Tells the table of a call, or that time has passed, and appends the answer.
+fn tell(leases: &mut Leases, moment: u64, ask: &Ask, text: &mut ByteList) -> Result<(), AllocError>
+    requires { moment < 2 ^ 62 }
+{
+    match ask {
+        Ask::Dirty {
+            client,
+            number,
+            asked: _,
+            objects,
+        } => match leases.dirty(client, *number, objects, moment) {
+            Ok(granted) => put_line(text, &[Word::Text(b"> granted"), Word::Number(granted)]),
+            Err(_fault) => text.append(b"> refused\n"),
+        },
+        Ask::Clean {
+            client,
+            number,
+            objects,
+            strong,
+        } => match leases.clean(client, *number, objects, *strong, moment) {
+            Ok(()) => text.append(b"> done\n"),
+            Err(_fault) => text.append(b"> refused\n"),
+        },
+        Ask::Tick => {
+            leases.lapse(moment);
+            Ok(())
+        }
+        _ => text.append(b"> no lease call\n"),
+    }
+}
+
+/// Appends what a table answers of a moment.
+fn put_table(
+    alloc: Global,
+    leases: &Leases,
+    moment: u64,
+    text: &mut ByteList,
+) -> Result<(), AllocError> {
+    let pairs = u64::from(leases.pairs(moment));
+    put_line(text, &[Word::Text(b"> pairs"), Word::Number(pairs)])?;
+    for number in [16, 17] {
+        put_holders(leases, numbered(number), moment, text)?;
+    }
+    let rows = leases.clients(alloc, moment)?;
+    for row in rows.as_slice() {
+        text.append(b"> ")?;
+        put_lease_line(text, &row.client, row.until)?;
+    }
+    Ok(())
+}
+
+fn put_holders(
+    leases: &Leases,
+    object: ObjId,
+    moment: u64,
+    text: &mut ByteList,
+) -> Result<(), AllocError> {
+    let state: &[u8] = if leases.is_held(object, moment) {
+        b"held by"
+    } else {
+        b"free of"
+    };
+    let named = Word::Object {
+        space: SPACE,
+        object,
+    };
+    let holders = u64::from(leases.holders(object, moment));
+    put_line(
+        text,
+        &[
+            Word::Text(b">"),
+            named,
+            Word::Text(state),
+            Word::Number(holders),
+        ],
+    )
+}
+
+const LEASE_OF_100: &str = "1 70 dirty 00@3/4/5 1 1 16
+> granted 100
+? 0
+> pairs 1
+> 16 held by 1
+> 17 free of 0
+> lease 00@3/4/5 until 170
+? 169
+> pairs 1
+> 16 held by 1
+> 17 free of 0
+> lease 00@3/4/5 until 170
+? 170
+> pairs 0
+> 16 free of 0
+> 17 free of 0
+";
+
+const STRONG_CLEAN: &str = "1 1 clean aa@3/4/5 -1 strong 16
+> done
+1 9 dirty aa@3/4/5 6 1 16
+> granted 1
+? 9
+> pairs 1
+> 16 held by 1
+> 17 free of 0
+> lease aa@3/4/5 until 10
+1 10 tick
+1 18 dirty aa@3/4/5 -9223372036854775808 1 16,17,16
+> granted 1
+? 18
+> pairs 2
+> 16 free of 0
+> 17 held by 1
+> lease aa@3/4/5 until 19
+! 16
+? 18
+> pairs 1
+> 16 free of 0
+> 17 held by 1
+> lease aa@3/4/5 until 19
+1 18 dirty aa@3/4/5 0 1 16
+> granted 1
+? 18
+> pairs 2
+> 16 held by 1
+> 17 held by 1
+> lease aa@3/4/5 until 19
+? 19
+> pairs 0
+> 16 free of 0
+> 17 free of 0
+";
+
+const LATE_DIRTY: &str = "1 0 dirty 01@3/4/5 1 1 16,17
+> granted 100
+1 0 dirty -@3/4/5 1 1 16,17
+> granted 100
+1 1 clean 01@3/4/5 5 weak 16
+> done
+1 2 dirty 01@3/4/5 5 1 16,17
+> granted 100
+? 2
+> pairs 4
+> 16 held by 1
+> 17 held by 2
+> lease -@3/4/5 until 100
+> lease 01@3/4/5 until 102
+";
+
+#[test]
+fn lease_tables_are_told(rt: HostRuntime) -> Result<(), Fail> {
+    let alloc = rt.alloc();
+    for (lease, script) in [(100, LEASE_OF_100), (1, STRONG_CLEAN), (100, LATE_DIRTY)] {
+        let mut leases = Leases::fresh(alloc, lease);
+        let mut text = ByteList::new(alloc);
+        for line in script.split('\n') {
+            put_line_of(alloc, &mut leases, line, &mut text)?;
+        }
+        must_be(&rt, &text, script);
+    }
+    Ok(())
+}
