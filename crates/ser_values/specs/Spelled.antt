@@ -21,7 +21,8 @@ use Rattle.ser_values.specs.declared.node.Node.{Node}
 use Rattle.ser_values.specs.declared.node.Node.TheVariants.{Text, Desc, Proxy, Object, Array, Class, Enum}
 use Rattle.ser_values.specs.declared.node.Place.TheVariants as places
 use Rattle.ser_values.specs.Node.{has, Want, admits, admits_null, takes, inside}
-use Rattle.ser_values.specs.Shape.{fits_chain, count_of, is_shaped}
+use Rattle.ser_values.specs.Shape.{fits_chain, count_of, is_shaped, parts_in}
+use Rattle.ser_values.specs.Ranges.{NumbersFit, UnitsFit}
 
 -- ---- what is written of a node, in order
 
@@ -173,7 +174,11 @@ Spells nodes zero unread w n bs rest m = Spell nodes zero never unread w n bs re
 Spells nodes (suc d) unread w n bs rest m = Spell nodes (suc d) (Spells nodes d) unread w n bs rest m
 
 -- The bytes are a stream of these items: the magic number and the version, then the items, which give these nodes their handles in order.
+-- The nodes' numbers are in range, and their objects have at most 2^20 parts.
 pub record IsStream (nodes : List Node) (items : List Item) (bytes : List ℕ) : Type 0 where
   pub contents : List ℕ
   pub headed : bytes ≡ 0xAC ∷ 0xED ∷ 0x00 ∷ 0x05 ∷ contents
   pub spelled : SpellsItems (Spells nodes 200 []) items 0 contents [] (length nodes)
+  pub numbers : NumbersFit nodes
+  pub units : UnitsFit nodes
+  pub few_parts : parts_in nodes ≤ 1048576

@@ -6,6 +6,7 @@ ghost use Rattle.ser_values.specs.Seen.{Once};
 ghost use Rattle.ser_values.specs.Shape.{is_joined};
 
 use crate::fault::BuildFault;
+use crate::limits::{LEVELS, PARTS};
 use crate::loose::Loose;
 use crate::node::Node;
 use crate::renumber::Renumber;
@@ -15,11 +16,6 @@ use class_desc::Item;
 use mod_utf::list::{TryCopy, Units};
 use std::alloc::{AllocError, Global};
 use std::mem;
-
-/// The greatest depth of a graph.
-const LEVELS: u32 = 200;
-/// The greatest number of parts that the objects of a graph have in all.
-const PARTS: usize = 0x10_0000;
 
 /// How many parts a node has, if there is one.
 fn parts_at(node: Option<&Node>) -> usize
