@@ -33,13 +33,14 @@ pub struct Builder {
 impl Model for Builder {
     ghost use Rattle.std.specs.Prelude.{All, List, ◌≤◌, length};
     ghost use Rattle.ser_values.specs.declared.node.Node.{Node};
+    ghost use Rattle.ser_values.specs.declared.limits.TheConstants.{NODES};
     ghost use Rattle.ser_values.specs.Ranges.{InRange};
 
     ghost Value = { List Node };
 
     ghost view = { λ b. b.nodes.items };
 
-    ghost invariant = { λ b. (length b.nodes.items ≤ 65536) × All InRange b.nodes.items };
+    ghost invariant = { λ b. (length b.nodes.items ≤ NODES) × All InRange b.nodes.items };
 }
 
 /// The number that a class or a name is kept by.
