@@ -44,3 +44,4 @@ pub mod ObjectSound
 pub mod Sound
 mod Rows
 pub mod Exact
+pub mod FrontLaws

@@ -5,6 +5,7 @@ use Rattle.std.proofs.lemmas.Option.{slice_get_within}
 use Rattle.std.proofs.lemmas.Map.Steps.{length-le_from_distinct_below}
 use Rattle.std.proofs.Math.Logic.{∥∥₁_elim}
 use Rattle.std.proofs.Math.Bridge.{le_prop}
+use mathlib.Core.Bool.{Bool-set}
 use Rattle.std.specs.Prelude.{All}
 use Rattle.std.specs.List.{IsDistinct, list_any, AllByRecursion}
 use Rattle.class_desc.specs.declared.slot.Slot.{Slot}
@@ -308,3 +309,6 @@ few_nodes nodes items h = ∥∥₁_elim h le_prop (λ g. g.few_nodes)
 
 pub in_range : (nodes : List Node) (items : List Item) → IsGraph nodes items → All InRange nodes
 in_range nodes items g = both_of nodes g.numbers g.units
+
+pub joined_items : (nodes : List Node) (items : List Item) → ∥ IsGraph nodes items ∥₁ → is_joined items ≡ true
+joined_items nodes items h = ∥∥₁_elim h (Bool-set _ _) (λ g. g.joined)

@@ -31,7 +31,7 @@ token_wants (truth b ∷ ts) = token_wants ts
 token_wants (want w ∷ ts) = w ∷ token_wants ts
 token_wants (note is ∷ ts) = item_wants is ++ token_wants ts
 
-put_wants : (b : List ℕ) (is : List Item) → item_wants (put_block b is) ≡ item_wants is
+pub put_wants : (b : List ℕ) (is : List Item) → item_wants (put_block b is) ≡ item_wants is
 unfolding item_wants
 put_wants [] is = refl
 put_wants (x ∷ b) [] = refl
@@ -227,7 +227,7 @@ spells_numbered nodes (suc d) unread w n bs rest m h = spell_numbered nodes (suc
 
 -- ---- joined items
 
-joined_put : (b : List ℕ) (is : List Item) → is_joined is ≡ true → is_joined (put_block b is) ≡ true
+pub joined_put : (b : List ℕ) (is : List Item) → is_joined is ≡ true → is_joined (put_block b is) ≡ true
 unfolding joined_from
 joined_put [] is h = h
 joined_put (x ∷ b) [] h = refl

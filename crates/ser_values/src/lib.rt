@@ -7,6 +7,7 @@ mod copying;
 mod equality;
 mod fault;
 mod finishing;
+mod fronts;
 mod graph;
 pub mod laws;
 pub mod limits;
