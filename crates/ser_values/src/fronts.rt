@@ -1,5 +1,5 @@
 //! Graphs with other bytes before their items.
-ghost use Rattle.std.specs.Prelude.{◌≡◌, ◌∷◌, ◌≤◌, true, length, drop, None, Some, IfOk, IfSome, OnOk, option_map};
+ghost use Rattle.std.specs.Prelude.{◌≡◌, ◌∷◌, ◌≤◌, true, List, length, drop, None, Some, IfOk, IfSome, OnOk, option_map};
 ghost use Rattle.class_desc.specs.declared.slot.Item.{Item as OneItem};
 ghost use Rattle.class_desc.specs.declared.slot.Item.TheVariants as contents;
 ghost use Rattle.ser_values.specs.Fronts.{begin_with_bytes, front_len, without_front, HasFront};
