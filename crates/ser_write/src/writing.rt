@@ -332,7 +332,7 @@ fn put_slots(
 /// bytes may stand there.
 pub fn write_items_onto(alloc: Global, out: &mut ByteList, graph: &Graph) -> Result<(), AllocError>
     ensures written { OnOk result (out.new ≡ out.old ++ contents graph.now.nodes graph.now.items) }
-    ensures spelled { SpellContents graph.now.nodes graph.now.items (contents graph.now.nodes graph.now.items) }
+    ensures spelled { OnOk result (SpellContents graph.now.nodes graph.now.items (contents graph.now.nodes graph.now.items)) }
 {
     let _count = put_items(
         alloc,
