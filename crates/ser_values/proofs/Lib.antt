@@ -1,4 +1,5 @@
 pub mod Lists
+pub mod Ranged
 pub mod Shapes
 pub mod Keeps
 pub mod Runs
@@ -43,3 +44,4 @@ pub mod ObjectSound
 pub mod Sound
 mod Rows
 pub mod Exact
+pub mod FrontLaws

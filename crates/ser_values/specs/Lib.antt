@@ -11,3 +11,5 @@ pub mod Builder
 pub mod Spelled
 pub mod Ranges
 pub mod Reading
+pub mod Fronts
+pub mod Laws

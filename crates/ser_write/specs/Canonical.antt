@@ -18,9 +18,9 @@ use Rattle.ser_values.specs.declared.node.Node.{Node}
 use Rattle.ser_values.specs.declared.node.Node.TheVariants.{Text, Desc, Proxy, Object, Array, Class, Enum}
 use Rattle.ser_values.specs.declared.node.Place.TheVariants as places
 use Rattle.ser_values.specs.Shape.{is_short, count_of}
+use Rattle.ser_values.specs.declared.limits.TheConstants.{LEVELS}
 use Rattle.ser_values.specs.Numbered.{IsGraph}
-use Rattle.ser_values.specs.Ranges.{NumbersFit}
-use Rattle.ser_values.specs.Spelled.{Token, raw, truth, want, note, short_text, long_text, field_tokens, element_tokens, writers, part_tokens}
+use Rattle.ser_values.specs.Spelled.{Token, raw, truth, want, note, short_text, long_text, field_tokens, element_tokens, writers, part_tokens, SpellsItems, Spells}
 
 -- ---- block data
 
@@ -172,14 +172,22 @@ unfoldable pub write_at : ℕ → List Node → Writing
 write_at zero nodes n s = write_one zero nodes nothing n s
 write_at (suc d) nodes n s = write_one (suc d) nodes (write_at d nodes) n s
 
+-- The bytes of a graph's items.
+unfoldable pub contents : List Node → List Item → List ℕ
+contents nodes items = (write_items (write_at LEVELS nodes) 0 items).0
+
 -- The bytes of a stream: the magic number, the version, and the items.
 unfoldable pub canonical : List Node → List Item → List ℕ
-canonical nodes items = 0xAC ∷ 0xED ∷ 0x00 ∷ 0x05 ∷ (write_items (write_at 200 nodes) 0 items).0
+canonical nodes items = 0xAC ∷ 0xED ∷ 0x00 ∷ 0x05 ∷ contents nodes items
 
--- The bytes are those of no other graph. The numbers of a program's graphs are always in their types' ranges.
+-- The bytes spell the items, whatever stands after them, and give these nodes their handles in order.
+abbrev pub SpellContents : List Node → List Item → List ℕ → Type 0
+SpellContents nodes items bytes = (rest : List ℕ) → ∥ SpellsItems (Spells nodes LEVELS []) items 0 (bytes ++ rest) rest (length nodes) ∥₁
+
+-- The bytes are those of no other graph.
 abbrev pub AreOfNoOther : List Node → List Item → List ℕ → Type 0
 AreOfNoOther nodes items bytes =
-    (others : List Node) (contents : List Item) → NumbersFit nodes → NumbersFit others → ∥ IsGraph others contents ∥₁ → canonical others contents ≡ bytes → ∥ (others ≡ nodes) × (contents ≡ items) ∥₁
+    (others : List Node) (their_items : List Item) → ∥ IsGraph others their_items ∥₁ → canonical others their_items ≡ bytes → ∥ (others ≡ nodes) × (their_items ≡ items) ∥₁
 
 -- what was written stands at the end, unless memory ran out
 abbrev pub Adds : List ℕ → List ℕ → Result ℕ AllocError → Written → Type 0

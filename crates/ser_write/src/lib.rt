@@ -5,7 +5,7 @@ mod numbers;
 mod pieces;
 mod writing;
 
-pub use writing::write_stream;
+pub use writing::{write_items_onto, write_stream};
 
 #[cfg(test)]
 mod tests;

@@ -1,8 +1,8 @@
 //! Nodes are written where they are first wanted.
-ghost use Rattle.std.specs.Prelude.{◌≡◌, IfOk, map, slice_get};
+ghost use Rattle.std.specs.Prelude.{◌≡◌, ◌++◌, IfOk, OnOk, map, slice_get};
 ghost use Rattle.ser_values.specs.Spelled.{field_tokens, value_token, reference, part_tokens};
 ghost use Rattle.ser_values.specs.Spelled.{IsStream};
-ghost use Rattle.ser_write.specs.Canonical.{write_items, write_all, tokens_before, object_tokens, note_tokens, tokens_after, write_new, write_at, canonical, AreOfNoOther, Adds};
+ghost use Rattle.ser_write.specs.Canonical.{write_items, write_all, tokens_before, object_tokens, note_tokens, tokens_after, write_new, write_at, contents, canonical, SpellContents, AreOfNoOther, Adds};
 
 use crate::numbers::{Spelled, put_16, put_32, put_byte, put_short_text};
 use crate::pieces::{
@@ -11,11 +11,10 @@ use crate::pieces::{
 };
 use class_desc::{FieldDesc, Item, Slot, is_primitive};
 use mod_utf::list::ByteList;
+use ser_values::limits::LEVELS;
 use ser_values::{Graph, Node, Part, Value, Values};
 use std::alloc::{AllocError, Global};
 
-/// The greatest depth of a graph.
-const LEVELS: u32 = 200;
 /// The handle of the first node.
 const FIRST_HANDLE: usize = 0x7E_0000;
 
@@ -328,23 +327,32 @@ fn put_slots(
     Ok(next)
 }
 
-/// The bytes of a graph: the stream's head, and its items. Blocks have 1,024 bytes and one shorter rest; a handle stands
-/// for each node that was written before. Two graphs have the same bytes only where they are equal. It is refused only for want of
-/// memory.
-pub fn write_stream(alloc: Global, graph: &Graph) -> Result<ByteList, AllocError>
-    ensures spelled { IfOk result (λ bytes. ∥ IsStream graph.now.nodes graph.now.items bytes ∥₁) }
-    ensures canonical { IfOk result (λ bytes. bytes ≡ canonical graph.now.nodes graph.now.items) }
-    ensures alone { IfOk result (AreOfNoOther graph.now.nodes graph.now.items) }
+/// Appends the bytes of a graph's items, as they stand in a stream after its head. Blocks have 1,024 bytes and one shorter
+/// rest; a handle stands for each node that was written before. It is refused only for want of memory; then a front of the
+/// bytes may stand there.
+pub fn write_items_onto(alloc: Global, out: &mut ByteList, graph: &Graph) -> Result<(), AllocError>
+    ensures written { OnOk result (out.new ≡ out.old ++ contents graph.now.nodes graph.now.items) }
+    ensures spelled { OnOk result (SpellContents graph.now.nodes graph.now.items (contents graph.now.nodes graph.now.items)) }
 {
-    let mut out = ByteList::new(alloc);
-    out.append(&[0xAC, 0xED, 0x00, 0x05])?;
     let _count = put_items(
         alloc,
-        &mut out,
+        out,
         graph.nodes().as_slice(),
         0,
         graph.items().as_slice(),
         LEVELS,
     )?;
+    Ok(())
+}
+
+/// The bytes of a graph: the stream's head, and its items, as `write_items_onto` writes them. Two graphs have the same bytes
+/// only where they are equal. It is refused only for want of memory.
+pub fn write_stream(alloc: Global, graph: &Graph) -> Result<ByteList, AllocError>
+    ensures spelled { IfOk result (λ bytes. ∥ IsStream graph.now.nodes graph.now.items bytes ∥₁) }
+    ensures canonical { IfOk result (λ bytes. bytes ≡ canonical graph.now.nodes graph.now.items) }
+    ensures alone { IfOk result (AreOfNoOther graph.now.nodes graph.now.items) }
+{
+    let mut out = ByteList::from_slice(alloc, &[0xAC, 0xED, 0x00, 0x05])?;
+    write_items_onto(alloc, &mut out, graph)?;
     Ok(out)
 }
