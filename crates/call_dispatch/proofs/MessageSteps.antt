@@ -1,6 +1,6 @@
 -- The messages of a dialogue, over plain lists.
 use Rattle.std.proofs.Common.{◌≡◌, ℕ, ◌+◌, ◌^◌, ◌<◌, List, [], ◌∷◌, length, Option, Result, Ok, Err, refl, sym, ap, ◌∙◌, inr, arith}
-use Rattle.wire_io.specs.Wire.{with_front-nothing, with_front}
+use Rattle.wire_io.specs.Wire.{Wires, with_front-nothing, with_front}
 use Rattle.wire_io.specs.Pulled.{Place}
 use Rattle.wire_io.specs.declared.pull.PullEnd.TheVariants.{End, Limit, ReadFault, OutOfMemory}
 use Rattle.jrmp_frames.specs.declared.header.Protocol.TheVariants.{Stream, SingleOp}
@@ -11,7 +11,7 @@ use Rattle.call_dispatch.specs.declared.setup.Setup.{Setup}
 use Rattle.call_dispatch.specs.declared.end.ConnEnd.{ConnEnd}
 use Rattle.call_dispatch.specs.declared.end.ConnEnd.TheVariants as ends
 use Rattle.call_dispatch.specs.Dialogue.{Opening, stream, single_op, protocol_of, most_messages, Exchange, taken_by, written_by, Whole, opened, IsAtCode}
-use Rattle.call_dispatch.specs.Progress.{Halves, Stands, Talks, StepsTo, Writes, IsNoLimit, end_from}
+use Rattle.call_dispatch.specs.Progress.{Stands, Talks, StepsTo, Writes, IsNoLimit, end_from}
 use Rattle.call_dispatch.proofs.Steps.{talks_after, talks_stop, talks_cut, stands_more}
 
 -- No limit is met in a code's place.
@@ -25,7 +25,7 @@ code_in_limit old new (Pull ReadFault) room h = tt
 code_in_limit old new (Pull OutOfMemory) room h = tt
 
 -- The connection ends in a code's place.
-pub code_ends : (setup : Setup) (start : Halves) (old new : Place) (held : Option (List ℕ)) (sent : ℕ) (w : Whole) (fault : FrameFault)
+pub code_ends : (setup : Setup) (start : Wires) (old new : Place) (held : Option (List ℕ)) (sent : ℕ) (w : Whole) (fault : FrameFault)
     → Stands setup start (record { left = old.left; held = held }) old.at sent w → IsAtCode w → old.at < old.stop → GivesCode old new (Err fault)
     → Talks setup start (record { left = new.left; held = held }) (end_from fault)
 code_ends setup start old new held sent w (BadHeader at) stands code room h = absurd h
@@ -44,7 +44,7 @@ limit_left single_op [] code few = omega arith
 limit_left single_op (e ∷ exchanges) code few = absurd code
 
 -- A message was read and its answer written, or cut.
-pub answered_steps : (setup : Setup) (start before now : Halves) (at sent at2 : ℕ) (opening : Opening) (exchanges : List Exchange) (e : Exchange) (result : Result ℕ ConnEnd)
+pub answered_steps : (setup : Setup) (start before now : Wires) (at sent at2 : ℕ) (opening : Opening) (exchanges : List Exchange) (e : Exchange) (result : Result ℕ ConnEnd)
     → Stands setup start before at sent (opened opening exchanges) → IsAtCode (opened opening exchanges) → length exchanges < 2 ^ 28
     → before.left ≡ with_front (taken_by e) now.left → at2 ≡ at + length (taken_by e) → Writes before.held now.held sent (written_by e) result
     → StepsTo setup start now at2 opening exchanges result
@@ -54,7 +54,7 @@ answered_steps setup start before now at sent at2 opening exchanges e (Err end) 
     rw is (talks_cut setup start before now at sent part (opened opening exchanges) (taken_by e) (written_by e) stands (inr (inr (code, room, (e, refl, refl)))) less taken written)
 
 -- Single-op's one message was served.
-pub one_served : (setup : Setup) (start now : Halves) (at sent : ℕ) (opening : Opening) (e : Exchange) → protocol_of opening ≡ SingleOp
+pub one_served : (setup : Setup) (start now : Wires) (at sent : ℕ) (opening : Opening) (e : Exchange) → protocol_of opening ≡ SingleOp
     → Stands setup start now at sent (opened opening (e ∷ [])) → Talks setup start now ends.Ended
 one_served setup start now at sent (stream endpoint) e is stands = absurd (cc)
 one_served setup start now at sent single_op e is stands =

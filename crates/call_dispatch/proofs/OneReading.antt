@@ -3,7 +3,7 @@ use Rattle.std.proofs.Common.{◌≡◌, ◌≢◌, ℕ, suc, ◌+◌, ◌*◌, 
 use Rattle.std.proofs.lemmas.List.{drop_at, take-append-drop}
 use Rattle.std.proofs.lemmas.Bool.Decides.{eqb_tells, nat_tests}
 use Rattle.std.specs.List.{flat_map}
-use Rattle.wire_io.specs.Wire.{with_front, with_end}
+use Rattle.wire_io.specs.Wire.{Wires, with_front, with_end}
 use Rattle.jrmp_frames.specs.declared.code.Code.TheVariants.{Call, Ping, DgcAck}
 use Rattle.jrmp_frames.specs.Frames.{header_start, IsInHeader, BreaksHeader, IsEndpoint, IsInEndpoint, protocol_ack, protocol_not_supported, IsCode, ping_ack}
 use Rattle.call_dispatch.specs.declared.setup.Setup.{Setup}
@@ -11,7 +11,7 @@ use Rattle.call_dispatch.specs.declared.end.ConnEnd.{ConnEnd}
 use Rattle.call_dispatch.specs.declared.end.ConnEnd.TheVariants.{Ended, BadHeader, UnknownProtocol, BadMessage, Truncated, NotBuilt, MessageLimit, ReadFault, WriteFault, OutOfMemory}
 use Rattle.call_dispatch.specs.End.{IsSettled}
 use Rattle.call_dispatch.specs.Dialogue.{stream, single_op, Exchange, ping, taken_by, written_by, Whole, nothing, greeted, opened, IsWhole, taken_in, written_in, count_of, IsAtCode, IsDone, IsInside, IsUnbuilt, Ends, Dialogue}
-use Rattle.call_dispatch.specs.Progress.{Halves, Talks, Settles}
+use Rattle.call_dispatch.specs.Progress.{Talks, Settles}
 
 -- what reading gives: the end, what is written, and what is left
 abbrev Reading : Type 0
@@ -276,7 +276,7 @@ front_told input taken None same = cc
 front_told input taken (Some rest) same = (rest, refl, (cc))
 
 -- A connection whose dialogue is told went as each settled dialogue of its input says.
-pub talks_settle : (setup : Setup) (start now : Halves) (result : ConnEnd) → Talks setup start now result → Settles setup start now result
+pub talks_settle : (setup : Setup) (start now : Wires) (result : ConnEnd) → Talks setup start now result → Settles setup start now result
 unfolding Settles
 talks_settle setup start now result (taken2, output2, left2, held2, second) taken rest output end told first settled settled2 =
     let (rest2, is, whole) = front_told (taken ++ rest) taken2 now.left (sym told ∙ left2) in

@@ -1,6 +1,6 @@
 -- The opening of a dialogue, over plain lists.
 use Rattle.std.proofs.Common.{◌≡◌, ◌≢◌, ℕ, suc, zero, ◌+◌, ◌^◌, ◌<◌, ◌≤◌, List, [], ◌∷◌, ◌++◌, length, take, Option, Ok, Err, refl, ◌∙◌, ap, sym, inl, inr, arith, append-nil, length-append, ℤ}
-use Rattle.wire_io.specs.Wire.{with_front, with_end, with_front-nothing, with_end-nothing}
+use Rattle.wire_io.specs.Wire.{Wires, with_front, with_end, with_front-nothing, with_end-nothing}
 use Rattle.wire_io.specs.Pulled.{Place, Takes}
 use Rattle.wire_io.specs.declared.pull.PullEnd.TheVariants.{End, Limit, ReadFault, OutOfMemory}
 use Rattle.mod_utf.specs.Utf.{utf}
@@ -13,7 +13,7 @@ use Rattle.call_dispatch.specs.declared.setup.Setup.{Setup}
 use Rattle.call_dispatch.specs.declared.end.ConnEnd.{ConnEnd}
 use Rattle.call_dispatch.specs.declared.end.ConnEnd.TheVariants as ends
 use Rattle.call_dispatch.specs.Dialogue.{nothing, greeted, opened, stream, single_op}
-use Rattle.call_dispatch.specs.Progress.{Halves, Stands, Talks, Writes, Refuses, IsNoLimit, end_from}
+use Rattle.call_dispatch.specs.Progress.{Stands, Talks, Writes, Refuses, IsNoLimit, end_from}
 use Rattle.call_dispatch.proofs.Steps.{talks_on, talks_cut, stands_nothing, stands_on, talks_after, talks_stop}
 
 -- What begins the header is short.
@@ -60,7 +60,7 @@ header_ends setup old new held (Pull e) first last told h =
     (omega (arith, in_header_short h.part h.inside, first, last)) (λ at is. h.inside) (inl h.inside)
 
 -- The header of the stream protocol and its acknowledgement stand.
-pub stands_greeted : (setup : Setup) (start before now : Halves) (at sent : ℕ)
+pub stands_greeted : (setup : Setup) (start before now : Wires) (at sent : ℕ)
     → start.left ≡ with_front (header Stream) before.left → before.held ≡ start.held → at ≡ 7 → now.left ≡ before.left
     → Writes before.held now.held 0 (protocol_ack setup.peer_host setup.peer_port) (Ok sent) → Stands setup start now at sent greeted
 stands_greeted setup start before now at sent taken held place left (written, sents) =
@@ -69,7 +69,7 @@ stands_greeted setup start before now at sent taken held place left (written, se
     place sents
 
 -- The acknowledgement of the stream protocol was cut.
-pub greeting_cut : (setup : Setup) (start before now : Halves) (end : ConnEnd)
+pub greeting_cut : (setup : Setup) (start before now : Wires) (end : ConnEnd)
     → start.left ≡ with_front (header Stream) before.left → before.held ≡ start.held → now.left ≡ before.left
     → Writes before.held now.held 0 (protocol_ack setup.peer_host setup.peer_port) (Err end) → Talks setup start now end
 greeting_cut setup start before now end taken held left (part, less, is, written) =
@@ -78,7 +78,7 @@ greeting_cut setup start before now end taken held left (part, less, is, written
     (written ∙ ap (λ told. with_end told (take part (protocol_ack setup.peer_host setup.peer_port))) held))
 
 -- The whole opening of the stream protocol stands.
-pub stands_opened : (setup : Setup) (start : Halves) (old new : Place) (held : Option (List ℕ)) (sent : ℕ) (endpoint : List ℕ)
+pub stands_opened : (setup : Setup) (start : Wires) (old new : Place) (held : Option (List ℕ)) (sent : ℕ) (endpoint : List ℕ)
     → Stands setup start (record { left = old.left; held = held }) old.at sent greeted → Takes old new endpoint → IsEndpoint endpoint
     → Stands setup start (record { left = new.left; held = held }) new.at sent (opened (stream endpoint) [])
 stands_opened setup start old new held sent endpoint stands takes is =
@@ -98,7 +98,7 @@ endpoint_in_limit old new (Pull ReadFault) room h = tt
 endpoint_in_limit old new (Pull OutOfMemory) room h = tt
 
 -- The connection ends in the client's endpoint.
-pub endpoint_ends : (setup : Setup) (start : Halves) (old new : Place) (held : Option (List ℕ)) (sent : ℕ) (fault : FrameFault)
+pub endpoint_ends : (setup : Setup) (start : Wires) (old new : Place) (held : Option (List ℕ)) (sent : ℕ) (fault : FrameFault)
     → Stands setup start (record { left = old.left; held = held }) old.at sent greeted → old.at + 65541 < old.stop
     → GivesEndpoint {A = Unit {0}} old new (Err fault) → Talks setup start (record { left = new.left; held = held }) (end_from fault)
 endpoint_ends setup start old new held sent (BadHeader at) stands room h = absurd h
@@ -109,12 +109,12 @@ endpoint_ends setup start old new held sent (Pull e) stands room h =
     (omega (arith, in_endpoint_short h.part h.inside, room)) (λ at is. h.inside) (inl h.inside)
 
 -- No memory was there at all.
-pub memory_at_once : (setup : Setup) (start : Halves) → Talks setup start start ends.OutOfMemory
+pub memory_at_once : (setup : Setup) (start : Wires) → Talks setup start start ends.OutOfMemory
 memory_at_once setup start =
     talks_after setup start start start 0 0 nothing [] ends.OutOfMemory (stands_nothing setup start 0 refl) (sym (with_front-nothing start.left)) refl (refl, inl refl, refl)
 
 -- No memory was there for the acknowledgement.
-pub memory_ends : (setup : Setup) (start now : Halves) → start.left ≡ with_front (header Stream) now.left → now.held ≡ start.held → Talks setup start now ends.OutOfMemory
+pub memory_ends : (setup : Setup) (start now : Wires) → start.left ≡ with_front (header Stream) now.left → now.held ≡ start.held → Talks setup start now ends.OutOfMemory
 memory_ends setup start now taken held =
     talks_after setup start start now 0 0 nothing (header Stream) ends.OutOfMemory (stands_nothing setup start 0 refl) taken held (refl, inr refl, refl)
 

@@ -1,9 +1,9 @@
 //! The messages of a connection, after its opening.
 ghost use Rattle.std.specs.Prelude.{◌≡◌, ◌<◌, ◌≤◌, ◌+◌, ◌^◌, Err, IfErr, IfOk, OnOk};
-ghost use Rattle.wire_io.specs.Wire.{Rose};
+ghost use Rattle.wire_io.specs.Wire.{Rose, wires};
 ghost use Rattle.call_dispatch.specs.End.{IsWriteFault};
 ghost use Rattle.jrmp_frames.specs.declared.header.Protocol.TheVariants.{Stream, SingleOp};
-ghost use Rattle.call_dispatch.specs.Progress.{halves, GoesOn, Steps};
+ghost use Rattle.call_dispatch.specs.Progress.{GoesOn, Steps};
 
 use crate::answer::write_answer;
 use crate::end::{ConnEnd, end_of};
@@ -28,8 +28,8 @@ pub fn serve_messages<S: Source, K: Sink>(
 ) -> ConnEnd
     requires at { pull.old.at < 2 ^ 17 }
     requires sent { opened.sent < 2 ^ 17 }
-    ensures goes_on { GoesOn opened.protocol (halves S.left K.held pull.old.source.now sink.old)
-        (halves S.left K.held pull.new.source.now sink.new) pull.old.at opened.sent result }
+    ensures goes_on { GoesOn opened.protocol (wires S.left K.held pull.old.source.now sink.old)
+        (wires S.left K.held pull.new.source.now sink.new) pull.old.at opened.sent result }
     ensures lent { pull.new.source.ghost_name ≡ pull.old.source.ghost_name }
     ensures read_fault { result ≡ ConnEnd.ReadFault → Rose (S.faults pull.old.source.now) (S.faults pull.new.source.now) }
     ensures write_fault { IsWriteFault result → Rose (K.faults sink.old) (K.faults sink.new) }
@@ -46,8 +46,8 @@ pub fn serve_messages<S: Source, K: Sink>(
 fn serve_one<S: Source, K: Sink>(pull: &mut Pull<'_, S>, sink: &mut K, before: u64) -> ConnEnd
     requires at { pull.old.at < 2 ^ 17 }
     requires sent { before < 2 ^ 17 }
-    ensures goes_on { GoesOn SingleOp (halves S.left K.held pull.old.source.now sink.old)
-        (halves S.left K.held pull.new.source.now sink.new) pull.old.at before result }
+    ensures goes_on { GoesOn SingleOp (wires S.left K.held pull.old.source.now sink.old)
+        (wires S.left K.held pull.new.source.now sink.new) pull.old.at before result }
     ensures lent { pull.new.source.ghost_name ≡ pull.old.source.ghost_name }
     ensures read_fault { result ≡ ConnEnd.ReadFault → Rose (S.faults pull.old.source.now) (S.faults pull.new.source.now) }
     ensures write_fault { IsWriteFault result → Rose (K.faults sink.old) (K.faults sink.new) }
@@ -64,8 +64,8 @@ fn serve_one<S: Source, K: Sink>(pull: &mut Pull<'_, S>, sink: &mut K, before: u
 fn serve_many<S: Source, K: Sink>(pull: &mut Pull<'_, S>, sink: &mut K, before: u64) -> ConnEnd
     requires at { pull.old.at < 2 ^ 17 }
     requires sent { before < 2 ^ 17 }
-    ensures goes_on { GoesOn Stream (halves S.left K.held pull.old.source.now sink.old)
-        (halves S.left K.held pull.new.source.now sink.new) pull.old.at before result }
+    ensures goes_on { GoesOn Stream (wires S.left K.held pull.old.source.now sink.old)
+        (wires S.left K.held pull.new.source.now sink.new) pull.old.at before result }
     ensures lent { pull.new.source.ghost_name ≡ pull.old.source.ghost_name }
     ensures read_fault { result ≡ ConnEnd.ReadFault → Rose (S.faults pull.old.source.now) (S.faults pull.new.source.now) }
     ensures write_fault { IsWriteFault result → Rose (K.faults sink.old) (K.faults sink.new) }
@@ -94,8 +94,8 @@ fn serve_message<S: Source, K: Sink>(
     requires at { pull.old.at < 2 ^ 61 }
     requires sent { sent < 2 ^ 61 }
     requires served { served ≤ 2 ^ 28 }
-    ensures steps { Steps (halves S.left K.held pull.old.source.now sink.old)
-        (halves S.left K.held pull.new.source.now sink.new) pull.old.at sent served pull.new.at result }
+    ensures steps { Steps (wires S.left K.held pull.old.source.now sink.old)
+        (wires S.left K.held pull.new.source.now sink.new) pull.old.at sent served pull.new.at result }
     ensures going { OnOk result (served < 2 ^ 28) }
     ensures most { IfOk result (λ after. (after ≤ sent + 2 ^ 30) × (pull.new.at ≤ pull.old.at + 2 ^ 24)) }
     ensures lent { pull.new.source.ghost_name ≡ pull.old.source.ghost_name }

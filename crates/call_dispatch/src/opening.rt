@@ -1,10 +1,10 @@
 //! The opening of a connection.
 ghost use Rattle.std.specs.Prelude.{◌≡◌, ◌≤◌, ◌<◌, ◌+◌, ◌^◌, length, Err, IfErr, IfOk};
-ghost use Rattle.wire_io.specs.Wire.{Rose};
+ghost use Rattle.wire_io.specs.Wire.{Rose, wires};
 ghost use Rattle.mod_utf.specs.Utf.{utf};
 ghost use Rattle.jrmp_frames.specs.Frames.{header_start, IsNoProtocol, protocol_ack};
 ghost use Rattle.call_dispatch.specs.End.{IsWriteFault};
-ghost use Rattle.call_dispatch.specs.Progress.{halves, Opens, OpensStream, Refuses};
+ghost use Rattle.call_dispatch.specs.Progress.{Opens, OpensStream, Refuses};
 
 use crate::answer::write_answer;
 use crate::end::{ConnEnd, end_of};
@@ -38,8 +38,8 @@ pub fn open_connection<S: Source, K: Sink>(
     requires host { length (utf setup.now.peer_host) ≤ 255 }
     requires at { pull.old.at ≡ 0 }
     requires stop { pull.old.stop ≡ 2 ^ 62 }
-    ensures opens { Opens setup.now (halves S.left K.held pull.old.source.now sink.old)
-        (halves S.left K.held pull.new.source.now sink.new) pull.new.at result }
+    ensures opens { Opens setup.now (wires S.left K.held pull.old.source.now sink.old)
+        (wires S.left K.held pull.new.source.now sink.new) pull.new.at result }
     ensures lent { pull.new.source.ghost_name ≡ pull.old.source.ghost_name }
     ensures read_fault { result ≡ Err ConnEnd.ReadFault → Rose (S.faults pull.old.source.now) (S.faults pull.new.source.now) }
     ensures write_fault { IfErr result (λ end. IsWriteFault end → Rose (K.faults sink.old) (K.faults sink.new)) }
@@ -69,8 +69,8 @@ fn open_stream<S: Source, K: Sink>(
     requires host { length (utf setup.now.peer_host) ≤ 255 }
     requires at { pull.old.at ≡ 7 }
     requires stop { pull.old.stop ≡ 2 ^ 62 }
-    ensures opens { OpensStream setup.now (halves S.left K.held pull.old.source.now sink.old)
-        (halves S.left K.held pull.new.source.now sink.new) pull.new.at result }
+    ensures opens { OpensStream setup.now (wires S.left K.held pull.old.source.now sink.old)
+        (wires S.left K.held pull.new.source.now sink.new) pull.new.at result }
     ensures lent { pull.new.source.ghost_name ≡ pull.old.source.ghost_name }
     ensures read_fault { result ≡ Err ConnEnd.ReadFault → Rose (S.faults pull.old.source.now) (S.faults pull.new.source.now) }
     ensures write_fault { IfErr result (λ end. IsWriteFault end → Rose (K.faults sink.old) (K.faults sink.new)) }

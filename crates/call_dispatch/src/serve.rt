@@ -1,9 +1,9 @@
 //! Serving a connection from its opening to its end.
 ghost use Rattle.std.specs.Prelude.{◌≡◌, ◌≤◌, ◌^◌, length};
-ghost use Rattle.wire_io.specs.Wire.{Rose};
+ghost use Rattle.wire_io.specs.Wire.{Rose, wires};
 ghost use Rattle.mod_utf.specs.Utf.{utf};
 ghost use Rattle.call_dispatch.specs.End.{IsWriteFault};
-ghost use Rattle.call_dispatch.specs.Progress.{halves, Talks, Settles};
+ghost use Rattle.call_dispatch.specs.Progress.{Talks, Settles};
 
 use crate::end::ConnEnd;
 use crate::messages::serve_messages;
@@ -28,10 +28,10 @@ pub fn serve_connection<S: Source, K: Sink>(
     requires { length (utf setup.now.peer_host) ≤ 255 }
 
     // What was taken and written stands in a dialogue with the end.
-    ensures dialogue { Talks setup.now (halves S.left K.held source.old sink.old) (halves S.left K.held source.new sink.new) result }
+    ensures dialogue { Talks setup.now (wires S.left K.held source.old sink.old) (wires S.left K.held source.new sink.new) result }
 
     // Where a settled dialogue stands for the whole input, the connection went so, unless the outside failed.
-    ensures settles { Settles setup.now (halves S.left K.held source.old sink.old) (halves S.left K.held source.new sink.new) result }
+    ensures settles { Settles setup.now (wires S.left K.held source.old sink.old) (wires S.left K.held source.new sink.new) result }
     ensures read_fault { result ≡ ConnEnd.ReadFault → Rose (S.faults source.old) (S.faults source.new) }
     ensures write_fault { IsWriteFault result → Rose (K.faults sink.old) (K.faults sink.new) }
     ensures source_faults { S.faults source.old ≤ S.faults source.new }
@@ -51,7 +51,7 @@ fn talk<S: Source, K: Sink>(
     requires host { length (utf setup.now.peer_host) ≤ 255 }
     requires at { pull.old.at ≡ 0 }
     requires stop { pull.old.stop ≡ 2 ^ 62 }
-    ensures dialogue { Talks setup.now (halves S.left K.held pull.old.source.now sink.old) (halves S.left K.held pull.new.source.now sink.new) result }
+    ensures dialogue { Talks setup.now (wires S.left K.held pull.old.source.now sink.old) (wires S.left K.held pull.new.source.now sink.new) result }
     ensures lent { pull.new.source.ghost_name ≡ pull.old.source.ghost_name }
     ensures read_fault { result ≡ ConnEnd.ReadFault → Rose (S.faults pull.old.source.now) (S.faults pull.new.source.now) }
     ensures write_fault { IsWriteFault result → Rose (K.faults sink.old) (K.faults sink.new) }
