@@ -1,3 +1,5 @@
+pub mod Going
+pub mod Staying
 pub mod Steps
 pub mod OpeningSteps
 pub mod MessageSteps
