@@ -1,5 +1,6 @@
 pub mod Acts
 pub mod Ahead
+pub mod Balance
 pub mod Built
 pub mod Entries
 pub mod Faults
