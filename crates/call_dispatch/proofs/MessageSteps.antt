@@ -1,5 +1,5 @@
 -- The messages of a dialogue, over plain lists.
-use Rattle.std.proofs.Common.{◌≡◌, ℕ, ◌+◌, ◌^◌, ◌<◌, List, [], ◌∷◌, ◌++◌, length, take, Option, Result, Ok, Err, refl, sym, ap, ◌∙◌, inl, inr, arith}
+use Rattle.std.proofs.Common.{◌≡◌, ℕ, ◌+◌, ◌^◌, ◌<◌, List, [], ◌∷◌, length, take, Option, Result, Ok, Err, refl, sym, ap, ◌∙◌, inr, arith}
 use Rattle.wire_io.specs.Wire.{with_front-nothing, with_front}
 use Rattle.wire_io.specs.Pulled.{Place}
 use Rattle.wire_io.specs.declared.pull.PullEnd.TheVariants.{End, Limit, ReadFault, OutOfMemory}
@@ -13,12 +13,12 @@ use Rattle.call_dispatch.specs.declared.end.ConnEnd.{ConnEnd}
 use Rattle.call_dispatch.specs.declared.end.ConnEnd.TheVariants as ends
 use Rattle.call_dispatch.specs.Terms.{Terms}
 use Rattle.call_dispatch.specs.Acts.{Call, States, Side}
-use Rattle.call_dispatch.specs.Spot.{Spot, exchanged, took, Goes}
+use Rattle.call_dispatch.specs.Spot.{Spot}
 use Rattle.call_dispatch.specs.Rows.{Exchange, ping, taken_by, written_by, course_by, IsOpen, GoOn}
 use Rattle.call_dispatch.specs.Dialogue.{Opening, stream, single_op, protocol_of, most_messages, Whole, opened, IsAtCode}
 use Rattle.call_dispatch.specs.Progress.{Stands, Talked, StepsTo, Writes, IsNoLimit, end_from}
 use Rattle.call_dispatch.proofs.Going.{goes_exchanged}
-use Rattle.call_dispatch.proofs.Steps.{spot_at, talks_took, talks_stop, talks_cut, stands_more, goes_on_more}
+use Rattle.call_dispatch.proofs.Steps.{spot_at, talks_took, talks_stop, talks_cut, stands_more}
 
 -- No limit is met in a code's place.
 pub code_in_limit : (old new : Place) (fault : FrameFault) → old.at < old.stop → GivesCode old new (Err fault) → IsNoLimit fault

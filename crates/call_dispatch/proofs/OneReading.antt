@@ -3,7 +3,7 @@ use Rattle.std.proofs.Common.{◌≡◌, ◌≢◌, ℕ, suc, ◌+◌, ◌*◌, 
 use Rattle.std.proofs.lemmas.List.{drop_at, take-append-drop, append_cancel_right}
 use Rattle.std.proofs.lemmas.Bool.Decides.{eqb_tells, nat_tests}
 use Rattle.std.specs.List.{flat_map}
-use Rattle.wire_io.specs.Wire.{with_front, with_end}
+use Rattle.wire_io.specs.Wire.{with_front}
 use Rattle.jrmp_frames.specs.declared.code.Code.TheVariants.{Call, Ping, DgcAck}
 use Rattle.jrmp_frames.specs.Frames.{header_start, IsInHeader, BreaksHeader, IsEndpoint, IsInEndpoint, protocol_ack, protocol_not_supported, IsCode, ping_ack}
 use Rattle.call_dispatch.specs.declared.outcome.Invocation.{Invocation}
@@ -12,10 +12,10 @@ use Rattle.call_dispatch.specs.declared.end.ConnEnd.{ConnEnd}
 use Rattle.call_dispatch.specs.declared.end.ConnEnd.TheVariants.{Ended, BadHeader, UnknownProtocol, BadMessage, Truncated, NotBuilt, MessageLimit, ReadFault, WriteFault, OutOfMemory}
 use Rattle.call_dispatch.specs.End.{IsSettled}
 use Rattle.call_dispatch.specs.Terms.{Terms}
-use Rattle.call_dispatch.specs.Acts.{Act, Call as WorkerCall, States}
-use Rattle.call_dispatch.specs.Spot.{Spot, Course, exchanged, took, followed_by}
+use Rattle.call_dispatch.specs.Acts.{Call as WorkerCall, States}
+use Rattle.call_dispatch.specs.Spot.{Spot, Course, took}
 use Rattle.call_dispatch.specs.Rows.{Exchange, ping, taken_by, acts_by, written_by, draws_in, IsExchange}
-use Rattle.call_dispatch.specs.Dialogue.{stream, single_op, Whole, nothing, greeted, opened, IsWhole, taken_in, written_in, exchanges_in, course_in, count_of, IsAtCode, IsDone, IsInside, IsUnbuilt, Ends, Dialogue}
+use Rattle.call_dispatch.specs.Dialogue.{stream, single_op, Whole, nothing, greeted, opened, IsWhole, taken_in, written_in, exchanges_in, count_of, IsAtCode, IsDone, IsInside, IsUnbuilt, Ends, Dialogue}
 use Rattle.call_dispatch.specs.Tape.{Tick, tape}
 use Rattle.call_dispatch.specs.Progress.{Talks, Settles, Talked, Served}
 use Rattle.call_dispatch.proofs.Steps.{course_is}

@@ -1,6 +1,6 @@
 -- The opening of a dialogue, over plain lists.
 use Rattle.std.proofs.Common.{◌≡◌, ◌≢◌, ℕ, suc, zero, ◌+◌, ◌^◌, ◌<◌, ◌≤◌, List, [], ◌∷◌, ◌++◌, length, take, Option, Ok, Err, refl, ◌∙◌, ap, sym, inl, inr, arith, append-nil, zero-add, length-append, ℤ}
-use Rattle.wire_io.specs.Wire.{with_front, with_end, with_front-nothing, with_end-nothing}
+use Rattle.wire_io.specs.Wire.{with_front-nothing, with_end-nothing}
 use Rattle.wire_io.specs.Pulled.{Place, Takes}
 use Rattle.wire_io.specs.declared.pull.PullEnd.TheVariants.{End, Limit, ReadFault, OutOfMemory}
 use Rattle.mod_utf.specs.Utf.{utf}
@@ -15,7 +15,7 @@ use Rattle.call_dispatch.specs.declared.end.ConnEnd.{ConnEnd}
 use Rattle.call_dispatch.specs.declared.end.ConnEnd.TheVariants as ends
 use Rattle.call_dispatch.specs.Terms.{Terms}
 use Rattle.call_dispatch.specs.Acts.{Call, States, Side}
-use Rattle.call_dispatch.specs.Spot.{Spot, Course, exchanged, took, Goes}
+use Rattle.call_dispatch.specs.Spot.{Spot, exchanged, took, Goes}
 use Rattle.call_dispatch.specs.Dialogue.{nothing, greeted, opened, stream, single_op}
 use Rattle.call_dispatch.specs.Progress.{Stands, Talked, Writes, Refuses, IsNoLimit, end_from}
 use Rattle.call_dispatch.proofs.Going.{goes_exchanged, goes_took, goes_on}

@@ -1,5 +1,5 @@
 -- What steps leave as it was, one after another.
-use Rattle.std.proofs.Common.{◌≡◌, ℕ, ◌≤◌, Result, sym, subst, ◌∙◌, arith}
+use Rattle.std.proofs.Common.{◌≡◌, ℕ, Result, subst, ◌∙◌, arith}
 use Rattle.call_dispatch.specs.declared.connection.Connection.{Connection}
 use Rattle.call_dispatch.specs.declared.outcome.Invocation.{Invocation}
 use Rattle.call_dispatch.specs.declared.outcome.Outcome.{Outcome}

@@ -118,7 +118,7 @@ pub record IsCutIn (terms : Terms) (drawn : ℕ) (w : Whole) (tail : Course) (e 
 
 -- A read failed in the next message, behind its first byte.
 abbrev pub IsCutByRead : Terms → ℕ → Whole → Course → Type 0
-IsCutByRead terms drawn w tail = (e : Exchange) × IsCutIn terms drawn w tail e × (0 < length tail.taken) × (length tail.taken < length (taken_by e))
+IsCutByRead terms drawn w tail = (e : Exchange) × (cut : IsCutIn terms drawn w tail e) × (cut.acts.fails ≡ []) × (0 < length tail.taken) × (length tail.taken < length (taken_by e))
 
 -- There was no memory for the next exchange. Only one that does something beside taking and writing bytes takes any.
 abbrev pub IsCutByMemory : Terms → ℕ → Whole → Course → Type 0

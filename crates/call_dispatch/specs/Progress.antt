@@ -1,6 +1,6 @@
 -- How far a connection has come, for the functions that serve it step by step.
 use Rattle.std.specs.Prelude.{◌≡◌, ℕ, ◌+◌, ◌<◌, ◌^◌, List, [], ◌∷◌, ◌++◌, length, take, Option, Some, Result, Ok, Err}
-use Rattle.wire_io.specs.Wire.{with_front, with_end}
+use Rattle.wire_io.specs.Wire.{with_end}
 use Rattle.wire_io.specs.declared.pull.PullEnd.TheVariants.{End, Limit, ReadFault, OutOfMemory}
 use Rattle.jrmp_frames.specs.declared.fault.FrameFault.{FrameFault}
 use Rattle.jrmp_frames.specs.declared.fault.FrameFault.TheVariants.{BadHeader, UnknownProtocol, BadMessage, Pull}

@@ -1,5 +1,5 @@
 -- Where a connection stands, and what leads from there on.
-use Rattle.std.specs.Prelude.{◌≡◌, ℕ, ◌+◌, ◌≤◌, List, [], ◌++◌, Option}
+use Rattle.std.specs.Prelude.{◌≡◌, ℕ, ◌+◌, List, [], ◌++◌, Option}
 use Rattle.wire_io.specs.Wire.{Wires, with_front, with_end}
 use Rattle.space.specs.declared.asked.Asked.{Asked}
 use Rattle.call_dispatch.specs.declared.setup.Setup.{Setup}

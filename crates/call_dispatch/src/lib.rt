@@ -2,7 +2,7 @@
 #![tactic(auto)]
 
 mod answer;
-pub mod connection;
+mod connection;
 pub mod end;
 pub mod laws;
 mod messages;
@@ -15,7 +15,6 @@ mod tests;
 pub mod words;
 pub mod worker;
 
-pub use connection::Connection;
 pub use end::ConnEnd;
 pub use outcome::{Invocation, Outcome, OutcomeList};
 pub use serve::serve_connection;

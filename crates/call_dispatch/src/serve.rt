@@ -1,8 +1,9 @@
 //! Serving a connection from its opening to its end.
-ghost use Rattle.std.specs.Prelude.{◌≡◌, ◌≤◌, ◌<◌, ◌^◌, pos, ◌<ℤ◌, length};
+ghost use Rattle.std.specs.Prelude.{◌≡◌, ◌≤◌, ◌<◌, ◌^◌, pos, ◌<ℤ◌, ◌++◌, List, length};
 ghost use Rattle.wire_io.specs.Wire.{Rose};
 ghost use Rattle.mod_utf.specs.Utf.{utf};
 ghost use Rattle.space.specs.Balance.{Balanced};
+ghost use Rattle.space.specs.declared.asked.Asked.{Asked};
 ghost use Rattle.call_dispatch.specs.End.{IsWriteFault};
 ghost use Rattle.call_dispatch.specs.Faults.{counts_of, Blames};
 ghost use Rattle.call_dispatch.specs.Spot.{spot, spot_of, Stays};
@@ -48,7 +49,7 @@ pub fn serve_connection<S: Source, K: Sink, C: Clock, P: Port, W: Worker>(
         (spot S.left K.held C.given P.asked W.calls W.seen W.state source.new sink.new clock.new port.new worker.new setup.new) result }
 
     // No call runs afterwards, and the port can be used on.
-    ensures balanced { Balanced (P.asked port.new) }
+    ensures balanced { (more : List Asked) × (P.asked port.new ≡ P.asked port.old ++ more) × Balanced more }
     ensures ready { P.ready port.new }
     ensures leads { P.leads port.old port.new }
     ensures terms { terms_of setup.new ≡ terms_of setup.old }

@@ -1,4 +1,4 @@
-use Rattle.std.proofs.Common.{◌≡◌, ◌∷◌, [], ◌++◌, ◌∙◌, sym, ap, Ok, Err, arith, length-append}
+use Rattle.std.proofs.Common.{◌∷◌, [], ◌++◌, ap, Ok, Err, arith, length-append}
 use Rattle.call_dispatch.specs.Terms.{terms_of}
 use Rattle.call_dispatch.specs.Spot.{spot_of}
 use Rattle.call_dispatch.proofs.Steps.{goes_on_more}

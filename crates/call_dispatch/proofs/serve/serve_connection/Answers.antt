@@ -1,4 +1,4 @@
-use Rattle.std.proofs.Common.{◌≡◌, ◌∙◌, sym, rules}
+use Rattle.std.proofs.Common.{◌∙◌, [], sym, ap, refl, append-nil}
 use Rattle.call_dispatch.proofs.OneReading.{talked_served}
 use Rattle.call_dispatch.proofs.serve.serve_connection.Goals as goal
 
@@ -13,3 +13,8 @@ returns-clause-dialogue g c =
     let setup = c.setup-1.given.1 (sym stays.setup_lent) in
     let talked = rw c.new-pull.ensures.source at c.talk.ensures.dialogue in
     rw (source, sink, clock, port, worker, setup) (talked_served _ _ _ _ _ c.talk.result talked)
+
+pub returns-clause-balanced : goal.returns-clause-balanced
+returns-clause-balanced g c =
+    let port = c.port-1.given.1 (sym c.talk.ensures.stays.port_lent) in
+    ([], ap g.P.Port.asked (port ∙ c.talk.ensures.stays.port) ∙ sym (append-nil (g.P.Port.asked c.args.port.now)), λ o. refl)

@@ -1,5 +1,5 @@
-use Rattle.std.proofs.Common.{◌≡◌, ap, sym, subst}
-use Rattle.call_dispatch.specs.Terms.{Terms, terms_of}
+use Rattle.std.proofs.Common.{ap}
+use Rattle.call_dispatch.specs.Terms.{terms_of}
 use Rattle.call_dispatch.proofs.Staying.{goes_on_terms}
 use Rattle.call_dispatch.proofs.serve.talk.Goals as goal
 
