@@ -3,4 +3,5 @@ pub mod Staying
 pub mod Steps
 pub mod OpeningSteps
 pub mod MessageSteps
+pub mod Quiet
 pub mod OneReading

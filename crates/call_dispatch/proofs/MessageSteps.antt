@@ -55,9 +55,12 @@ pub ping_steps : (may : Invocation → Outcome → Type 0) (moves : States → C
     → before.wires.left ≡ with_front (taken_by ping) now.wires.left → now.side ≡ before.side → now.drawn ≡ before.drawn
     → at2 ≡ at + length (taken_by ping) → Writes before.wires.held now.wires.held sent (written_by ping) result
     → StepsTo may moves terms start now at2 opening exchanges result
-ping_steps may moves terms start before now at sent at2 opening exchanges (Ok sent2) stands code room taken side drawn ats writes =
-    (ping, refl, stands_more may moves terms start before now at sent at2 sent2 opening exchanges ping stands code (limit_left opening exchanges code room) tt
-    (goes_exchanged may moves before now (taken_by ping) (written_by ping) taken writes.0 side drawn) ats writes.1)
+ping_steps may moves terms start before now at sent at2 opening exchanges (Ok sent2) stands code room taken side drawn ats writes = (
+  ping,
+  refl,
+  stands_more may moves terms start before now at sent at2 sent2 opening exchanges ping stands code (limit_left opening exchanges code room) tt
+      (goes_exchanged may moves before now (taken_by ping) (written_by ping) taken writes.0 side drawn) ats writes.1,
+)
 ping_steps may moves terms start before now at sent at2 opening exchanges (Err end) stands code room taken side drawn ats (part, less, is, written) =
     rw is (talks_cut may moves terms start before now at sent part (opened opening exchanges) (course_by ping) stands (inr (inr (ping, (code, room, tt), refl))) less
     (goes_exchanged may moves before now (taken_by ping) (take part (written_by ping)) taken written side drawn))

@@ -18,6 +18,7 @@ use Rattle.call_dispatch.specs.Rows.{Exchange, ping, taken_by, acts_by, written_
 use Rattle.call_dispatch.specs.Dialogue.{stream, single_op, Whole, nothing, greeted, opened, IsWhole, taken_in, written_in, exchanges_in, count_of, IsAtCode, IsDone, IsInside, IsUnbuilt, Ends, Dialogue}
 use Rattle.call_dispatch.specs.Tape.{Tick, tape}
 use Rattle.call_dispatch.specs.Progress.{Talks, Settles, Talked, Served}
+use Rattle.call_dispatch.proofs.Quiet.{quiet_acts, quiet_draws}
 use Rattle.call_dispatch.proofs.Steps.{course_is}
 
 -- what reading gives: the end, what is written, and what is left
@@ -255,30 +256,37 @@ ends_read terms drawn w tail rest (UnknownProtocol byte) (none, other, is) settl
     whole_is terms w nothing tail rest (UnknownProtocol byte) none (reads_is terms nothing tail _ rest (UnknownProtocol byte) is
     ((let many = neq-eqb byte 0x4B other.0 in let single = neq-eqb byte 0x4C other.1 in rw (many, single) refl), refl, refl))
 ends_read terms drawn w tail rest (BadMessage byte at) (code, none, place, is) settled =
-    reads_is terms w tail (took (byte ∷ [])) rest (BadMessage byte at) is (ends_at_code terms w rest byte (BadMessage byte at) code
-    (λ many. no_code_next many (count_of w) (length (taken_in w)) byte rest none ∙ ap (λ n. (BadMessage byte n, [], rest)) (sym place)), refl, refl)
+    reads_is terms w tail (took (byte ∷ [])) rest (BadMessage byte at) is (
+      ends_at_code terms w rest byte (BadMessage byte at) code
+          (λ many. no_code_next many (count_of w) (length (taken_in w)) byte rest none ∙ ap (λ n. (BadMessage byte n, [], rest)) (sym place)),
+      refl,
+      refl,
+    )
 ends_read terms drawn w tail rest (Truncated at) (more, inside, left, place, is) settled =
-    reads_is terms w tail (took more) rest (Truncated at) is (ends_after terms w more rest (Truncated at)
-    (ap (λ xs. next_of terms w (more ++ xs)) left ∙ ap (next_of terms w) (append-nil more) ∙ inside_next terms w more inside
-    ∙ ap (λ n. (Truncated n, [], [])) (sym place) ∙ ap (λ xs. (Truncated at, [], xs)) (sym left)), refl, refl)
+    reads_is terms w tail (took more) rest (Truncated at) is (
+      ends_after terms w more rest (Truncated at)
+          (ap (λ xs. next_of terms w (more ++ xs)) left ∙ ap (next_of terms w) (append-nil more) ∙ inside_next terms w more inside
+          ∙ ap (λ n. (Truncated n, [], [])) (sym place) ∙ ap (λ xs. (Truncated at, [], xs)) (sym left)),
+      refl,
+      refl,
+    )
 ends_read terms drawn w tail rest (NotBuilt byte at) (code, room, unbuilt, place, is) settled =
-    reads_is terms w tail (took (byte ∷ [])) rest (NotBuilt byte at) is (ends_at_code terms w rest byte (NotBuilt byte at) code
-    (λ many. unbuilt_next many (count_of w) (length (taken_in w)) byte rest room unbuilt ∙ ap (λ n. (NotBuilt byte n, [], rest)) (sym place)), refl, refl)
+    reads_is terms w tail (took (byte ∷ [])) rest (NotBuilt byte at) is (
+      ends_at_code terms w rest byte (NotBuilt byte at) code
+          (λ many. unbuilt_next many (count_of w) (length (taken_in w)) byte rest room unbuilt ∙ ap (λ n. (NotBuilt byte n, [], rest)) (sym place)),
+      refl,
+      refl,
+    )
 ends_read terms drawn w tail rest MessageLimit (code, full, (byte, known, is)) settled =
-    reads_is terms w tail (took (byte ∷ [])) rest MessageLimit is (ends_at_code terms w rest byte MessageLimit code
-    (λ many. limit_next many (count_of w) (length (taken_in w)) byte rest full known), refl, refl)
+    reads_is terms w tail (took (byte ∷ [])) rest MessageLimit is (
+      ends_at_code terms w rest byte MessageLimit code
+          (λ many. limit_next many (count_of w) (length (taken_in w)) byte rest full known),
+      refl,
+      refl,
+    )
 ends_read terms drawn w tail rest ReadFault ends settled = absurd settled
 ends_read terms drawn w tail rest (WriteFault sent) ends settled = absurd settled
 ends_read terms drawn w tail rest OutOfMemory ends settled = absurd settled
-
--- The exchanges that are served do nothing beside taking and writing.
-quiet_acts : (exchanges : List Exchange) → flat_map acts_by exchanges ≡ []
-quiet_acts [] = refl
-quiet_acts (ping ∷ exchanges) = quiet_acts exchanges
-
-quiet_draws : (exchanges : List Exchange) → draws_in exchanges ≡ 0
-quiet_draws [] = refl
-quiet_draws (ping ∷ exchanges) = let more = quiet_draws exchanges in omega (arith, more)
 
 -- What a settled dialogue says is what reading the input gives.
 dialogue_reads : (terms : Terms) (drawn : ℕ) (c : Course) (rest : List ℕ) (end : ConnEnd) → Dialogue terms drawn c (Some rest) end → IsSettled end

@@ -23,6 +23,10 @@ use wire_io::{Clock, Pull, Sink, Source};
 /// Serves a connection: the bytes of `source` are taken from its first to its end, and answered in `sink`. Turns are made at
 /// `port` at the moments of `clock`, and calls are done by `worker`. Today only Ping is served, which needs none of the three.
 ///
+/// Its conditions are those under which calls can be served: both hosts take at most 255 bytes as modified UTF, the port is between two
+/// calls, has room for 2^30 of them and shows no call running, the worker was invoked fewer than 2^61 times, and fewer than 2^64 identifiers
+/// were drawn, from a moment below 2^61 on.
+///
 /// No byte is taken but those of the dialogue, whose every answer is written before the next message is taken.
 pub fn serve_connection<S: Source, K: Sink, C: Clock, P: Port, W: Worker>(
     alloc: Global,
