@@ -1,4 +1,7 @@
+pub mod Going
+pub mod Staying
 pub mod Steps
 pub mod OpeningSteps
 pub mod MessageSteps
+pub mod Quiet
 pub mod OneReading

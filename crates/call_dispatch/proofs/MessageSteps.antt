@@ -1,5 +1,5 @@
 -- The messages of a dialogue, over plain lists.
-use Rattle.std.proofs.Common.{◌≡◌, ℕ, ◌+◌, ◌^◌, ◌<◌, List, [], ◌∷◌, length, Option, Result, Ok, Err, refl, sym, ap, ◌∙◌, inr, arith}
+use Rattle.std.proofs.Common.{◌≡◌, ℕ, ◌+◌, ◌^◌, ◌<◌, List, [], ◌∷◌, length, take, Option, Result, Ok, Err, refl, sym, ap, ◌∙◌, inr, arith}
 use Rattle.wire_io.specs.Wire.{with_front-nothing, with_front}
 use Rattle.wire_io.specs.Pulled.{Place}
 use Rattle.wire_io.specs.declared.pull.PullEnd.TheVariants.{End, Limit, ReadFault, OutOfMemory}
@@ -7,12 +7,18 @@ use Rattle.jrmp_frames.specs.declared.header.Protocol.TheVariants.{Stream, Singl
 use Rattle.jrmp_frames.specs.Gives.{GivesCode}
 use Rattle.jrmp_frames.specs.declared.fault.FrameFault.{FrameFault}
 use Rattle.jrmp_frames.specs.declared.fault.FrameFault.TheVariants.{BadHeader, UnknownProtocol, BadMessage, Pull}
-use Rattle.call_dispatch.specs.declared.setup.Setup.{Setup}
+use Rattle.call_dispatch.specs.declared.outcome.Invocation.{Invocation}
+use Rattle.call_dispatch.specs.declared.outcome.Outcome.{Outcome}
 use Rattle.call_dispatch.specs.declared.end.ConnEnd.{ConnEnd}
 use Rattle.call_dispatch.specs.declared.end.ConnEnd.TheVariants as ends
-use Rattle.call_dispatch.specs.Dialogue.{Opening, stream, single_op, protocol_of, most_messages, Exchange, taken_by, written_by, Whole, opened, IsAtCode}
-use Rattle.call_dispatch.specs.Progress.{Halves, Stands, Talks, StepsTo, Writes, IsNoLimit, end_from}
-use Rattle.call_dispatch.proofs.Steps.{talks_after, talks_stop, talks_cut, stands_more}
+use Rattle.call_dispatch.specs.Terms.{Terms}
+use Rattle.call_dispatch.specs.Acts.{Call, States, Side}
+use Rattle.call_dispatch.specs.Spot.{Spot}
+use Rattle.call_dispatch.specs.Rows.{Exchange, ping, taken_by, written_by, course_by, IsOpen, GoOn}
+use Rattle.call_dispatch.specs.Dialogue.{Opening, stream, single_op, protocol_of, most_messages, Whole, opened, IsAtCode}
+use Rattle.call_dispatch.specs.Progress.{Stands, Talked, StepsTo, Writes, IsNoLimit, end_from}
+use Rattle.call_dispatch.proofs.Going.{goes_exchanged}
+use Rattle.call_dispatch.proofs.Steps.{spot_at, talks_took, talks_stop, talks_cut, stands_more}
 
 -- No limit is met in a code's place.
 pub code_in_limit : (old new : Place) (fault : FrameFault) → old.at < old.stop → GivesCode old new (Err fault) → IsNoLimit fault
@@ -25,16 +31,16 @@ code_in_limit old new (Pull ReadFault) room h = tt
 code_in_limit old new (Pull OutOfMemory) room h = tt
 
 -- The connection ends in a code's place.
-pub code_ends : (setup : Setup) (start : Halves) (old new : Place) (held : Option (List ℕ)) (sent : ℕ) (w : Whole) (fault : FrameFault)
-    → Stands setup start (record { left = old.left; held = held }) old.at sent w → IsAtCode w → old.at < old.stop → GivesCode old new (Err fault)
-    → Talks setup start (record { left = new.left; held = held }) (end_from fault)
-code_ends setup start old new held sent w (BadHeader at) stands code room h = absurd h
-code_ends setup start old new held sent w (UnknownProtocol byte) stands code room h = absurd h
-code_ends setup start old new held sent w (BadMessage byte at) stands code room h =
-    talks_after setup start _ _ old.at sent w (byte ∷ []) (ends.BadMessage byte at) stands h.2.left refl
-    (code, h.1, refl, h.0 ∙ stands.position, refl)
-code_ends setup start old new held sent w (Pull e) stands code room (more, h) =
-    talks_stop setup start old new held sent w (λ part. part ≡ []) e stands h
+pub code_ends : (may : Invocation → Outcome → Type 0) (moves : States → Call → States → Type 0) (terms : Terms) (start : Spot) (old new : Place) (held : Option (List ℕ)) (side : Side) (drawn sent : ℕ) (w : Whole) (fault : FrameFault)
+    → Stands may moves terms start (spot_at old held side drawn) old.at sent w → IsAtCode w → old.at < old.stop → GivesCode old new (Err fault)
+    → Talked may moves terms start (spot_at new held side drawn) (end_from fault)
+code_ends may moves terms start old new held side drawn sent w (BadHeader at) stands code room h = absurd h
+code_ends may moves terms start old new held side drawn sent w (UnknownProtocol byte) stands code room h = absurd h
+code_ends may moves terms start old new held side drawn sent w (BadMessage byte at) stands code room h =
+    talks_took may moves terms start _ _ old.at sent w (byte ∷ []) (ends.BadMessage byte at) stands h.2.left refl refl refl
+    (code, h.1, h.0 ∙ stands.position, refl)
+code_ends may moves terms start old new held side drawn sent w (Pull e) stands code room (more, h) =
+    talks_stop may moves terms start old new held side drawn sent w (λ part. part ≡ []) e stands h
     (omega (arith, ap length h.inside, room)) (λ at is. absurd (more at is)) (inr (code, h.inside))
 
 -- Below the limit a further message may follow.
@@ -43,29 +49,35 @@ limit_left (stream endpoint) exchanges code few = few
 limit_left single_op [] code few = omega arith
 limit_left single_op (e ∷ exchanges) code few = absurd code
 
--- A message was read and its answer written, or cut.
-pub answered_steps : (setup : Setup) (start before now : Halves) (at sent at2 : ℕ) (opening : Opening) (exchanges : List Exchange) (e : Exchange) (result : Result ℕ ConnEnd)
-    → Stands setup start before at sent (opened opening exchanges) → IsAtCode (opened opening exchanges) → length exchanges < 2 ^ 28
-    → before.left ≡ with_front (taken_by e) now.left → at2 ≡ at + length (taken_by e) → Writes before.held now.held sent (written_by e) result
-    → StepsTo setup start now at2 opening exchanges result
-answered_steps setup start before now at sent at2 opening exchanges e (Ok sent2) stands code room taken ats writes =
-    (e, stands_more setup start before now at sent at2 sent2 opening exchanges e stands (limit_left opening exchanges code room) taken writes.0 ats writes.1)
-answered_steps setup start before now at sent at2 opening exchanges e (Err end) stands code room taken ats (part, less, is, written) =
-    rw is (talks_cut setup start before now at sent part (opened opening exchanges) (taken_by e) (written_by e) stands (inr (inr (code, room, (e, refl, refl)))) less taken written)
+-- A Ping was read and its answer written, or cut.
+pub ping_steps : (may : Invocation → Outcome → Type 0) (moves : States → Call → States → Type 0) (terms : Terms) (start before now : Spot) (at sent at2 : ℕ) (opening : Opening) (exchanges : List Exchange) (result : Result ℕ ConnEnd)
+    → Stands may moves terms start before at sent (opened opening exchanges) → IsAtCode (opened opening exchanges) → length exchanges < 2 ^ 28
+    → before.wires.left ≡ with_front (taken_by ping) now.wires.left → now.side ≡ before.side → now.drawn ≡ before.drawn
+    → at2 ≡ at + length (taken_by ping) → Writes before.wires.held now.wires.held sent (written_by ping) result
+    → StepsTo may moves terms start now at2 opening exchanges result
+ping_steps may moves terms start before now at sent at2 opening exchanges (Ok sent2) stands code room taken side drawn ats writes = (
+  ping,
+  refl,
+  stands_more may moves terms start before now at sent at2 sent2 opening exchanges ping stands code (limit_left opening exchanges code room) tt
+      (goes_exchanged may moves before now (taken_by ping) (written_by ping) taken writes.0 side drawn) ats writes.1,
+)
+ping_steps may moves terms start before now at sent at2 opening exchanges (Err end) stands code room taken side drawn ats (part, less, is, written) =
+    rw is (talks_cut may moves terms start before now at sent part (opened opening exchanges) (course_by ping) stands (inr (inr (ping, (code, room, tt), refl))) less
+    (goes_exchanged may moves before now (taken_by ping) (take part (written_by ping)) taken written side drawn))
 
 -- Single-op's one message was served.
-pub one_served : (setup : Setup) (start now : Halves) (at sent : ℕ) (opening : Opening) (e : Exchange) → protocol_of opening ≡ SingleOp
-    → Stands setup start now at sent (opened opening (e ∷ [])) → Talks setup start now ends.Ended
-one_served setup start now at sent (stream endpoint) e is stands = absurd (cc)
-one_served setup start now at sent single_op e is stands =
-    talks_after setup start now now at sent (opened single_op (e ∷ [])) [] ends.Ended stands (sym (with_front-nothing now.left)) refl (inr tt, refl, refl)
+pub one_served : (may : Invocation → Outcome → Type 0) (moves : States → Call → States → Type 0) (terms : Terms) (start now : Spot) (at sent : ℕ) (opening : Opening) (e : Exchange) → protocol_of opening ≡ SingleOp → IsOpen e
+    → Stands may moves terms start now at sent (opened opening (e ∷ [])) → Talked may moves terms start now ends.Ended
+one_served may moves terms start now at sent (stream endpoint) e is goes stands = absurd (cc)
+one_served may moves terms start now at sent single_op e is goes stands =
+    talks_took may moves terms start now now at sent (opened single_op (e ∷ [])) [] ends.Ended stands (sym (with_front-nothing now.wires.left)) refl refl refl (inr goes, refl)
 
 -- Before the first message its code is to come.
 pub opened_at_code : (opening : Opening) → IsAtCode (opened opening [])
 opened_at_code (stream endpoint) = tt
 opened_at_code single_op = tt
 
--- In the stream protocol a code is to come after each message.
-pub stream_at_code : (opening : Opening) (exchanges : List Exchange) → protocol_of opening ≡ Stream → IsAtCode (opened opening exchanges)
-stream_at_code (stream endpoint) exchanges is = tt
-stream_at_code single_op exchanges is = absurd (cc)
+-- In the stream protocol a code is to come after each message that leaves the connection open.
+pub stream_at_code : (opening : Opening) (exchanges : List Exchange) → protocol_of opening ≡ Stream → GoOn exchanges → IsAtCode (opened opening exchanges)
+stream_at_code (stream endpoint) exchanges is goes = goes
+stream_at_code single_op exchanges is goes = absurd (cc)

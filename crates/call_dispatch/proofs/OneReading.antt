@@ -1,17 +1,25 @@
--- An input has one settled dialogue: each is what reading the input gives.
-use Rattle.std.proofs.Common.{◌≡◌, ◌≢◌, ℕ, suc, ◌+◌, ◌*◌, ◌^◌, ◌<◌, ◌≤◌, inl, inr, List, [], ◌∷◌, ◌++◌, length, take, drop, slice_index, Option, Some, None, Bool, cond, eqb, ltb, true, false, ◌||◌, refl, ap, sym, ◌∙◌, arith, append_assoc, append-nil, length-append, length-take-le, eq-eqb, add-zero, zero-add, drop-cons}
-use Rattle.std.proofs.lemmas.List.{drop_at, take-append-drop}
+-- An input and the answers of the outside have one settled dialogue: each is what reading the input gives.
+use Rattle.std.proofs.Common.{◌≡◌, ◌≢◌, ℕ, suc, ◌+◌, ◌*◌, ◌^◌, ◌<◌, ◌≤◌, inl, inr, List, [], ◌∷◌, ◌++◌, length, take, drop, slice_index, Option, Some, None, Bool, cond, eqb, ltb, true, false, ◌||◌, refl, ap, sym, subst, ◌∙◌, arith, append_assoc, append-nil, length-append, length-take-le, eq-eqb, add-zero, zero-add, drop-cons}
+use Rattle.std.proofs.lemmas.List.{drop_at, take-append-drop, append_cancel_right}
 use Rattle.std.proofs.lemmas.Bool.Decides.{eqb_tells, nat_tests}
 use Rattle.std.specs.List.{flat_map}
-use Rattle.wire_io.specs.Wire.{with_front, with_end}
+use Rattle.wire_io.specs.Wire.{with_front}
 use Rattle.jrmp_frames.specs.declared.code.Code.TheVariants.{Call, Ping, DgcAck}
 use Rattle.jrmp_frames.specs.Frames.{header_start, IsInHeader, BreaksHeader, IsEndpoint, IsInEndpoint, protocol_ack, protocol_not_supported, IsCode, ping_ack}
-use Rattle.call_dispatch.specs.declared.setup.Setup.{Setup}
+use Rattle.call_dispatch.specs.declared.outcome.Invocation.{Invocation}
+use Rattle.call_dispatch.specs.declared.outcome.Outcome.{Outcome}
 use Rattle.call_dispatch.specs.declared.end.ConnEnd.{ConnEnd}
 use Rattle.call_dispatch.specs.declared.end.ConnEnd.TheVariants.{Ended, BadHeader, UnknownProtocol, BadMessage, Truncated, NotBuilt, MessageLimit, ReadFault, WriteFault, OutOfMemory}
 use Rattle.call_dispatch.specs.End.{IsSettled}
-use Rattle.call_dispatch.specs.Dialogue.{stream, single_op, Exchange, ping, taken_by, written_by, Whole, nothing, greeted, opened, IsWhole, taken_in, written_in, count_of, IsAtCode, IsDone, IsInside, IsUnbuilt, Ends, Dialogue}
-use Rattle.call_dispatch.specs.Progress.{Halves, Talks, Settles}
+use Rattle.call_dispatch.specs.Terms.{Terms}
+use Rattle.call_dispatch.specs.Acts.{Call as WorkerCall, States}
+use Rattle.call_dispatch.specs.Spot.{Spot, Course, took}
+use Rattle.call_dispatch.specs.Rows.{Exchange, ping, taken_by, acts_by, written_by, draws_in, IsExchange}
+use Rattle.call_dispatch.specs.Dialogue.{stream, single_op, Whole, nothing, greeted, opened, IsWhole, taken_in, written_in, exchanges_in, count_of, IsAtCode, IsDone, IsInside, IsUnbuilt, Ends, Dialogue}
+use Rattle.call_dispatch.specs.Tape.{Tick, tape}
+use Rattle.call_dispatch.specs.Progress.{Talks, Settles, Talked, Served}
+use Rattle.call_dispatch.proofs.Quiet.{quiet_acts, quiet_draws}
+use Rattle.call_dispatch.proofs.Steps.{course_is}
 
 -- what reading gives: the end, what is written, and what is left
 abbrev Reading : Type 0
@@ -39,25 +47,25 @@ endpoint_next (high ∷ low ∷ xs) =
     (codes_next true 0 (9 + (256 * high + low + 4)) (drop (256 * high + low + 4) xs))
 
 -- from the header, of which this front is still wanted before the protocol
-abbrev header_next : Setup → List ℕ → ℕ → List ℕ → Reading
-header_next setup [] at [] = (Truncated at, [], [])
-header_next setup [] at (b ∷ xs) =
-    cond (eqb b 0x4B) (with_written (protocol_ack setup.peer_host setup.peer_port) (endpoint_next xs))
+abbrev header_next : Terms → List ℕ → ℕ → List ℕ → Reading
+header_next terms [] at [] = (Truncated at, [], [])
+header_next terms [] at (b ∷ xs) =
+    cond (eqb b 0x4B) (with_written (protocol_ack terms.peer_host terms.peer_port) (endpoint_next xs))
     (cond (eqb b 0x4C) (codes_next false 0 (at + 1) xs) (UnknownProtocol b, protocol_not_supported, xs))
-header_next setup (m ∷ ms) at [] = (Truncated at, [], [])
-header_next setup (m ∷ ms) at (x ∷ xs) = cond (eqb x m) (header_next setup ms (at + 1) xs) (BadHeader at, [], xs)
+header_next terms (m ∷ ms) at [] = (Truncated at, [], [])
+header_next terms (m ∷ ms) at (x ∷ xs) = cond (eqb x m) (header_next terms ms (at + 1) xs) (BadHeader at, [], xs)
 
 -- from the first byte
-abbrev reading : Setup → List ℕ → Reading
-reading setup input = header_next setup header_start 0 input
+abbrev reading : Terms → List ℕ → Reading
+reading terms input = header_next terms header_start 0 input
 
 -- from what stands whole
-abbrev next_of : Setup → Whole → List ℕ → Reading
-next_of setup nothing xs = reading setup xs
-next_of setup greeted xs = endpoint_next xs
-next_of setup (opened (stream endpoint) exchanges) xs = codes_next true (length exchanges) (length (taken_in (opened (stream endpoint) exchanges))) xs
-next_of setup (opened single_op []) xs = codes_next false 0 7 xs
-next_of setup (opened single_op (e ∷ exchanges)) xs = (Ended, [], xs)
+abbrev next_of : Terms → Whole → List ℕ → Reading
+next_of terms nothing xs = reading terms xs
+next_of terms greeted xs = endpoint_next xs
+next_of terms (opened (stream endpoint) exchanges) xs = codes_next true (length exchanges) (length (taken_in (opened (stream endpoint) exchanges))) xs
+next_of terms (opened single_op []) xs = codes_next false 0 7 xs
+next_of terms (opened single_op (e ∷ exchanges)) xs = (Ended, [], xs)
 
 neq-eqb : (a b : ℕ) → a ≢ b → eqb a b ≡ false
 neq-eqb a b other = elim (eqb_tells a b) [ inl is ↦ absurd (other is.1) | inr not ↦ not.0 ]
@@ -75,35 +83,35 @@ with_twice : (a b : List ℕ) (r : Reading) → with_written a (with_written b r
 with_twice a b (end, written, rest) = ap (λ xs. (end, xs, rest)) (sym (append_assoc a b written))
 
 -- A front that is wanted is passed.
-header_front : (setup : Setup) (front wanted : List ℕ) (at : ℕ) (xs : List ℕ) → header_next setup (front ++ wanted) at (front ++ xs) ≡ header_next setup wanted (at + length front) xs
-header_front setup [] wanted at xs = rw add-zero refl
-header_front setup (m ∷ front) wanted at xs =
+header_front : (terms : Terms) (front wanted : List ℕ) (at : ℕ) (xs : List ℕ) → header_next terms (front ++ wanted) at (front ++ xs) ≡ header_next terms wanted (at + length front) xs
+header_front terms [] wanted at xs = rw add-zero refl
+header_front terms (m ∷ front) wanted at xs =
     let yes : eqb m m ≡ true = eq-eqb m m refl in
     let same : at + 1 + length front ≡ at + length (m ∷ front) = omega arith in
-    rw yes (header_front setup front wanted (at + 1) xs ∙ ap (λ n. header_next setup wanted n xs) same)
+    rw yes (header_front terms front wanted (at + 1) xs ∙ ap (λ n. header_next terms wanted n xs) same)
 
 -- The input ends in the header.
-header_stops : (setup : Setup) (wanted : List ℕ) (at : ℕ) → header_next setup wanted at [] ≡ (Truncated at, [], [])
-header_stops setup [] at = refl
-header_stops setup (m ∷ wanted) at = refl
+header_stops : (terms : Terms) (wanted : List ℕ) (at : ℕ) → header_next terms wanted at [] ≡ (Truncated at, [], [])
+header_stops terms [] at = refl
+header_stops terms (m ∷ wanted) at = refl
 
-header_truncated : (setup : Setup) (part : List ℕ) → IsInHeader part → reading setup part ≡ (Truncated (length part), [], [])
-header_truncated setup part (more, is) =
-    ap (λ wanted. header_next setup wanted 0 part) (sym is) ∙ ap (header_next setup (part ++ more) 0) (sym (append-nil part))
-    ∙ header_front setup part more 0 [] ∙ header_stops setup more (0 + length part) ∙ ap (λ n. (Truncated n, [], [])) (zero-add (length part))
+header_truncated : (terms : Terms) (part : List ℕ) → IsInHeader part → reading terms part ≡ (Truncated (length part), [], [])
+header_truncated terms part (more, is) =
+    ap (λ wanted. header_next terms wanted 0 part) (sym is) ∙ ap (header_next terms (part ++ more) 0) (sym (append-nil part))
+    ∙ header_front terms part more 0 [] ∙ header_stops terms more (0 + length part) ∙ ap (λ n. (Truncated n, [], [])) (zero-add (length part))
 
-header_broken : (setup : Setup) (at : ℕ) (bytes rest : List ℕ) → BreaksHeader at bytes → reading setup (bytes ++ rest) ≡ (BadHeader at, [], rest)
-header_broken setup at bytes rest (inside, (byte, other, is)) =
+header_broken : (terms : Terms) (at : ℕ) (bytes rest : List ℕ) → BreaksHeader at bytes → reading terms (bytes ++ rest) ≡ (BadHeader at, [], rest)
+header_broken terms at bytes rest (inside, (byte, other, is)) =
     let front : List ℕ = take at header_start in
     let long : length front ≡ at = length-take-le at header_start (omega (arith, inside)) in
     let wanted : front ++ (slice_index header_start at ∷ drop (suc at) header_start) ≡ header_start =
     ap (λ xs. front ++ xs) (sym (drop-cons header_start at 0 inside)) ∙ take-append-drop at header_start in
     let no : eqb byte (slice_index header_start at) ≡ false = neq-eqb byte (slice_index header_start at) other in
-    let breaks : header_next setup (slice_index header_start at ∷ drop (suc at) header_start) (0 + length front) (byte ∷ rest) ≡ (BadHeader at, [], rest) =
+    let breaks : header_next terms (slice_index header_start at ∷ drop (suc at) header_start) (0 + length front) (byte ∷ rest) ≡ (BadHeader at, [], rest) =
     rw no (ap (λ n. (BadHeader n, [], rest)) (zero-add (length front) ∙ long)) in
-    ap (λ xs. reading setup (xs ++ rest)) is ∙ ap (reading setup) (append_assoc front (byte ∷ []) rest)
-    ∙ ap (λ ms. header_next setup ms 0 (front ++ (byte ∷ rest))) (sym wanted)
-    ∙ header_front setup front (slice_index header_start at ∷ drop (suc at) header_start) 0 (byte ∷ rest) ∙ breaks
+    ap (λ xs. reading terms (xs ++ rest)) is ∙ ap (reading terms) (append_assoc front (byte ∷ []) rest)
+    ∙ ap (λ ms. header_next terms ms 0 (front ++ (byte ∷ rest))) (sym wanted)
+    ∙ header_front terms front (slice_index header_start at ∷ drop (suc at) header_start) 0 (byte ∷ rest) ∙ breaks
 
 -- The input ends in the endpoint.
 endpoint_truncated : (part : List ℕ) → IsInEndpoint part → endpoint_next part ≡ (Truncated (7 + length part), [], [])
@@ -140,24 +148,24 @@ exchanges_passed n at (ping ∷ exchanges) xs few =
     ∙ with_twice ping_ack (flat_map written_by exchanges) (codes_next true (n + length (ping ∷ exchanges)) (at + length (flat_map taken_by (ping ∷ exchanges))) xs))
 
 -- What stands whole is passed.
-whole_passed : (setup : Setup) (w : Whole) (xs : List ℕ) → IsWhole w → reading setup (taken_in w ++ xs) ≡ with_written (written_in setup w) (next_of setup w xs)
-whole_passed setup nothing xs whole = sym (with_nothing (reading setup xs))
-whole_passed setup greeted xs whole = refl
-whole_passed setup (opened single_op []) xs whole = sym (with_nothing (codes_next false 0 7 xs))
-whole_passed setup (opened single_op (ping ∷ [])) xs whole = refl
-whole_passed setup (opened single_op (e ∷ e2 ∷ exchanges)) xs whole = absurd (omega (arith, whole.1))
-whole_passed setup (opened (stream endpoint) exchanges) xs (is, few) =
-    let sent : List ℕ = protocol_ack setup.peer_host setup.peer_port in
+whole_passed : (terms : Terms) (drawn : ℕ) (w : Whole) (xs : List ℕ) → IsWhole terms drawn w → reading terms (taken_in w ++ xs) ≡ with_written (written_in terms w) (next_of terms w xs)
+whole_passed terms drawn nothing xs whole = sym (with_nothing (reading terms xs))
+whole_passed terms drawn greeted xs whole = refl
+whole_passed terms drawn (opened single_op []) xs whole = sym (with_nothing (codes_next false 0 7 xs))
+whole_passed terms drawn (opened single_op (ping ∷ [])) xs whole = refl
+whole_passed terms drawn (opened single_op (e ∷ e2 ∷ exchanges)) xs whole = absurd (omega (arith, whole.2))
+whole_passed terms drawn (opened (stream endpoint) exchanges) xs (is, chain, few) =
+    let sent : List ℕ = protocol_ack terms.peer_host terms.peer_port in
     let bytes : List ℕ = flat_map taken_by exchanges in
     let answers : List ℕ = flat_map written_by exchanges in
     let n : ℕ = length exchanges in
     let place : 7 + length endpoint + length bytes ≡ length (taken_in (opened (stream endpoint) exchanges)) = omega (arith, length-append endpoint bytes) in
-    let after : endpoint_next ((endpoint ++ bytes) ++ xs) ≡ with_written answers (next_of setup (opened (stream endpoint) exchanges) xs) =
+    let after : endpoint_next ((endpoint ++ bytes) ++ xs) ≡ with_written answers (next_of terms (opened (stream endpoint) exchanges) xs) =
     ap endpoint_next (append_assoc endpoint bytes xs) ∙ endpoint_passed endpoint (bytes ++ xs) is
     ∙ exchanges_passed 0 (7 + length endpoint) exchanges xs (omega (arith, few))
     ∙ ap (λ k. with_written answers (codes_next true k (7 + length endpoint + length bytes) xs)) (zero-add n)
     ∙ ap (λ k. with_written answers (codes_next true n k xs)) place in
-    ap (with_written sent) after ∙ with_twice sent answers (next_of setup (opened (stream endpoint) exchanges) xs)
+    ap (with_written sent) after ∙ with_twice sent answers (next_of terms (opened (stream endpoint) exchanges) xs)
 
 code_told : (b : ℕ) → IsCode b → (eqb b 0x50 || (eqb b 0x52 || eqb b 0x54)) ≡ true
 code_told b (Call, is) = rw is refl
@@ -172,12 +180,12 @@ code_untold b none =
     rw (x, y, z) refl
 
 -- What comes next at a code's place.
-at_code_next : (setup : Setup) (w : Whole) (xs : List ℕ) → IsAtCode w → (many : Bool) × (next_of setup w xs ≡ codes_next many (count_of w) (length (taken_in w)) xs)
-at_code_next setup nothing xs code = absurd code
-at_code_next setup greeted xs code = absurd code
-at_code_next setup (opened (stream endpoint) exchanges) xs code = (true, refl)
-at_code_next setup (opened single_op []) xs code = (false, refl)
-at_code_next setup (opened single_op (e ∷ exchanges)) xs code = absurd code
+at_code_next : (terms : Terms) (w : Whole) (xs : List ℕ) → IsAtCode w → (many : Bool) × (next_of terms w xs ≡ codes_next many (count_of w) (length (taken_in w)) xs)
+at_code_next terms nothing xs code = absurd code
+at_code_next terms greeted xs code = absurd code
+at_code_next terms (opened (stream endpoint) exchanges) xs code = (true, refl)
+at_code_next terms (opened single_op []) xs code = (false, refl)
+at_code_next terms (opened single_op (e ∷ exchanges)) xs code = absurd code
 
 no_code_next : (many : Bool) (n at byte : ℕ) (xs : List ℕ) → ¬ IsCode byte → codes_next many n at (byte ∷ xs) ≡ (BadMessage byte at, [], xs)
 no_code_next many n at byte xs none = let told = code_untold byte none in rw told refl
@@ -196,90 +204,140 @@ limit_next many n at byte xs full known =
     rw (told, last) refl
 
 -- What comes next where nothing more is to come.
-done_next : (setup : Setup) (w : Whole) (xs : List ℕ) → IsDone w → next_of setup w xs ≡ (Ended, [], xs)
-done_next setup nothing xs done = absurd done
-done_next setup greeted xs done = absurd done
-done_next setup (opened (stream endpoint) exchanges) xs done = absurd done
-done_next setup (opened single_op []) xs done = absurd done
-done_next setup (opened single_op (e ∷ exchanges)) xs done = refl
+done_next : (terms : Terms) (w : Whole) (xs : List ℕ) → IsDone w → next_of terms w xs ≡ (Ended, [], xs)
+done_next terms nothing xs done = absurd done
+done_next terms greeted xs done = absurd done
+done_next terms (opened (stream endpoint) exchanges) xs done = absurd done
+done_next terms (opened single_op []) xs done = absurd done
+done_next terms (opened single_op (e ∷ exchanges)) xs done = refl
 
 -- The input ends inside what comes next.
-inside_next : (setup : Setup) (w : Whole) (part : List ℕ) → IsInside w part → next_of setup w part ≡ (Truncated (length (taken_in w ++ part)), [], [])
-inside_next setup nothing part inside = header_truncated setup part inside
-inside_next setup greeted part inside = endpoint_truncated part inside ∙ ap (λ n. (Truncated n, [], [])) (omega arith)
-inside_next setup (opened opening exchanges) part inside = absurd inside
+inside_next : (terms : Terms) (w : Whole) (part : List ℕ) → IsInside w part → next_of terms w part ≡ (Truncated (length (taken_in w ++ part)), [], [])
+inside_next terms nothing part inside = header_truncated terms part inside
+inside_next terms greeted part inside = endpoint_truncated part inside ∙ ap (λ n. (Truncated n, [], [])) (omega arith)
+inside_next terms (opened opening exchanges) part inside = absurd inside
 
 -- The end after what stands whole, where nothing more is written.
-ends_after : (setup : Setup) (w : Whole) (more rest output : List ℕ) (end : ConnEnd) → output ≡ written_in setup w
-    → next_of setup w (more ++ rest) ≡ (end, [], rest) → with_written (written_in setup w) (next_of setup w (more ++ rest)) ≡ (end, output, rest)
-ends_after setup w more rest output end written next =
-    ap (with_written (written_in setup w)) next ∙ ap (λ xs. (end, xs, rest)) (append-nil (written_in setup w) ∙ sym written)
+ends_after : (terms : Terms) (w : Whole) (more rest : List ℕ) (end : ConnEnd) → next_of terms w (more ++ rest) ≡ (end, [], rest)
+    → with_written (written_in terms w) (next_of terms w (more ++ rest)) ≡ (end, written_in terms w ++ [], rest)
+ends_after terms w more rest end next = ap (with_written (written_in terms w)) next
 
 -- The same, where one byte was taken at a code's place.
-ends_at_code : (setup : Setup) (w : Whole) (more rest output : List ℕ) (byte : ℕ) (end : ConnEnd) → IsAtCode w → more ≡ byte ∷ [] → output ≡ written_in setup w
+ends_at_code : (terms : Terms) (w : Whole) (rest : List ℕ) (byte : ℕ) (end : ConnEnd) → IsAtCode w
     → ((many : Bool) → codes_next many (count_of w) (length (taken_in w)) (byte ∷ rest) ≡ (end, [], rest))
-    → with_written (written_in setup w) (next_of setup w (more ++ rest)) ≡ (end, output, rest)
-ends_at_code setup w more rest output byte end code one written next =
-    let (many, is) = at_code_next setup w (byte ∷ rest) code in
-    ends_after setup w more rest output end written (ap (λ xs. next_of setup w (xs ++ rest)) one ∙ is ∙ next many)
+    → with_written (written_in terms w) (next_of terms w ((byte ∷ []) ++ rest)) ≡ (end, written_in terms w ++ [], rest)
+ends_at_code terms w rest byte end code next =
+    let (many, is) = at_code_next terms w (byte ∷ rest) code in
+    ends_after terms w (byte ∷ []) rest end (is ∙ next many)
+
+-- What a settled end says of what came after what stands whole: reading gives it, and nothing was done beside taking and writing.
+abbrev Reads : Terms → Whole → Course → List ℕ → ConnEnd → Type 0
+Reads terms w tail rest end = (with_written (written_in terms w) (next_of terms w (tail.taken ++ rest)) ≡ (end, written_in terms w ++ tail.written, rest))
+    × (tail.acts ≡ []) × (tail.draws ≡ 0)
+
+reads_is : (terms : Terms) (w : Whole) (tail other : Course) (rest : List ℕ) (end : ConnEnd) → tail ≡ other → Reads terms w other rest end → Reads terms w tail rest end
+reads_is terms w tail other rest end same reads = let P : Course → Type 0 = λ c. Reads terms w c rest end in subst P (sym same) reads
+
+whole_is : (terms : Terms) (w v : Whole) (tail : Course) (rest : List ℕ) (end : ConnEnd) → w ≡ v → Reads terms v tail rest end → Reads terms w tail rest end
+whole_is terms w v tail rest end same reads = let P : Whole → Type 0 = λ x. Reads terms x tail rest end in subst P (sym same) reads
 
 -- Each settled end is what comes next after what stands whole.
-ends_read : (setup : Setup) (w : Whole) (more rest output : List ℕ) (end : ConnEnd) → Ends setup w more (Some rest) output end → IsSettled end
-    → with_written (written_in setup w) (next_of setup w (more ++ rest)) ≡ (end, output, rest)
-ends_read setup w more rest output Ended (inl (code, left), none, written) settled =
-    let (many, is) = at_code_next setup w [] code in
-    ends_after setup w more rest output Ended written
-    (ap (λ xs. next_of setup w (xs ++ rest)) none ∙ ap (next_of setup w) left ∙ is ∙ ap (λ xs. (Ended, [], xs)) (sym left))
-ends_read setup w more rest output Ended (inr done, none, written) settled =
-    ends_after setup w more rest output Ended written (ap (λ xs. next_of setup w (xs ++ rest)) none ∙ done_next setup w rest done)
-ends_read setup w more rest output (BadHeader at) (none, breaks, written) settled =
-    ap (λ v. with_written (written_in setup v) (next_of setup v (more ++ rest))) none
-    ∙ ends_after setup nothing more rest output (BadHeader at) written (header_broken setup at more rest breaks)
-ends_read setup w more rest output (UnknownProtocol byte) (none, other, one, written) settled =
-    ap (λ v. with_written (written_in setup v) (next_of setup v (more ++ rest))) none
-    ∙ (let many = neq-eqb byte 0x4B other.0 in let single = neq-eqb byte 0x4C other.1 in rw (one, written) (rw (many, single) refl))
-ends_read setup w more rest output (BadMessage byte at) (code, none, one, place, written) settled =
-    ends_at_code setup w more rest output byte (BadMessage byte at) code one written
-    (λ many. no_code_next many (count_of w) (length (taken_in w)) byte rest none ∙ ap (λ n. (BadMessage byte n, [], rest)) (sym place))
-ends_read setup w more rest output (Truncated at) (inside, left, place, written) settled =
-    ends_after setup w more rest output (Truncated at) written
-    (ap (λ xs. next_of setup w (more ++ xs)) left ∙ ap (next_of setup w) (append-nil more) ∙ inside_next setup w more inside
-    ∙ ap (λ n. (Truncated n, [], [])) (sym place) ∙ ap (λ xs. (Truncated at, [], xs)) (sym left))
-ends_read setup w more rest output (NotBuilt byte at) (code, room, unbuilt, one, place, written) settled =
-    ends_at_code setup w more rest output byte (NotBuilt byte at) code one written
-    (λ many. unbuilt_next many (count_of w) (length (taken_in w)) byte rest room unbuilt ∙ ap (λ n. (NotBuilt byte n, [], rest)) (sym place))
-ends_read setup w more rest output MessageLimit (code, full, (byte, known, one), written) settled =
-    ends_at_code setup w more rest output byte MessageLimit code one written (λ many. limit_next many (count_of w) (length (taken_in w)) byte rest full known)
-ends_read setup w more rest output ReadFault ends settled = absurd settled
-ends_read setup w more rest output (WriteFault sent) ends settled = absurd settled
-ends_read setup w more rest output OutOfMemory ends settled = absurd settled
+ends_read : (terms : Terms) (drawn : ℕ) (w : Whole) (tail : Course) (rest : List ℕ) (end : ConnEnd) → Ends terms drawn w tail (Some rest) end → IsSettled end → Reads terms w tail rest end
+ends_read terms drawn w tail rest Ended (inl (code, left), is) settled =
+    let (many, next) = at_code_next terms w [] code in
+    reads_is terms w tail (took []) rest Ended is
+    (ends_after terms w [] rest Ended (ap (next_of terms w) left ∙ next ∙ ap (λ xs. (Ended, [], xs)) (sym left)), refl, refl)
+ends_read terms drawn w tail rest Ended (inr done, is) settled =
+    reads_is terms w tail (took []) rest Ended is (ends_after terms w [] rest Ended (done_next terms w rest done), refl, refl)
+ends_read terms drawn w tail rest (BadHeader at) (none, (more, breaks, is)) settled =
+    whole_is terms w nothing tail rest (BadHeader at) none (reads_is terms nothing tail (took more) rest (BadHeader at) is
+    (ends_after terms nothing more rest (BadHeader at) (header_broken terms at more rest breaks), refl, refl))
+ends_read terms drawn w tail rest (UnknownProtocol byte) (none, other, is) settled =
+    whole_is terms w nothing tail rest (UnknownProtocol byte) none (reads_is terms nothing tail _ rest (UnknownProtocol byte) is
+    ((let many = neq-eqb byte 0x4B other.0 in let single = neq-eqb byte 0x4C other.1 in rw (many, single) refl), refl, refl))
+ends_read terms drawn w tail rest (BadMessage byte at) (code, none, place, is) settled =
+    reads_is terms w tail (took (byte ∷ [])) rest (BadMessage byte at) is (
+      ends_at_code terms w rest byte (BadMessage byte at) code
+          (λ many. no_code_next many (count_of w) (length (taken_in w)) byte rest none ∙ ap (λ n. (BadMessage byte n, [], rest)) (sym place)),
+      refl,
+      refl,
+    )
+ends_read terms drawn w tail rest (Truncated at) (more, inside, left, place, is) settled =
+    reads_is terms w tail (took more) rest (Truncated at) is (
+      ends_after terms w more rest (Truncated at)
+          (ap (λ xs. next_of terms w (more ++ xs)) left ∙ ap (next_of terms w) (append-nil more) ∙ inside_next terms w more inside
+          ∙ ap (λ n. (Truncated n, [], [])) (sym place) ∙ ap (λ xs. (Truncated at, [], xs)) (sym left)),
+      refl,
+      refl,
+    )
+ends_read terms drawn w tail rest (NotBuilt byte at) (code, room, unbuilt, place, is) settled =
+    reads_is terms w tail (took (byte ∷ [])) rest (NotBuilt byte at) is (
+      ends_at_code terms w rest byte (NotBuilt byte at) code
+          (λ many. unbuilt_next many (count_of w) (length (taken_in w)) byte rest room unbuilt ∙ ap (λ n. (NotBuilt byte n, [], rest)) (sym place)),
+      refl,
+      refl,
+    )
+ends_read terms drawn w tail rest MessageLimit (code, full, (byte, known, is)) settled =
+    reads_is terms w tail (took (byte ∷ [])) rest MessageLimit is (
+      ends_at_code terms w rest byte MessageLimit code
+          (λ many. limit_next many (count_of w) (length (taken_in w)) byte rest full known),
+      refl,
+      refl,
+    )
+ends_read terms drawn w tail rest ReadFault ends settled = absurd settled
+ends_read terms drawn w tail rest (WriteFault sent) ends settled = absurd settled
+ends_read terms drawn w tail rest OutOfMemory ends settled = absurd settled
 
 -- What a settled dialogue says is what reading the input gives.
-dialogue_reads : (setup : Setup) (taken rest output : List ℕ) (end : ConnEnd) → Dialogue setup taken (Some rest) output end → IsSettled end
-    → reading setup (taken ++ rest) ≡ (end, output, rest)
-dialogue_reads setup taken rest output end (w, more, whole, is, ends) settled =
-    ap (λ xs. reading setup (xs ++ rest)) is ∙ ap (reading setup) (append_assoc (taken_in w) more rest)
-    ∙ whole_passed setup w (more ++ rest) whole ∙ ends_read setup w more rest output end ends settled
+dialogue_reads : (terms : Terms) (drawn : ℕ) (c : Course) (rest : List ℕ) (end : ConnEnd) → Dialogue terms drawn c (Some rest) end → IsSettled end
+    → (reading terms (c.taken ++ rest) ≡ (end, c.written, rest)) × (c.acts ≡ []) × (c.draws ≡ 0)
+dialogue_reads terms drawn c rest end (w, tail, whole, is, ends) settled =
+    let (reads, acts, draws) = ends_read terms drawn w tail rest end ends settled in
+    let P : Course → Type 0 = λ x. (reading terms (x.taken ++ rest) ≡ (end, x.written, rest)) × (x.acts ≡ []) × (x.draws ≡ 0) in
+    let none : draws_in (exchanges_in w) ≡ 0 = quiet_draws (exchanges_in w) in
+    subst P (sym is) (
+      ap (reading terms) (append_assoc (taken_in w) tail.taken rest) ∙ whole_passed terms drawn w (tail.taken ++ rest) whole ∙ reads,
+      ap (λ xs. xs ++ tail.acts) (quiet_acts (exchanges_in w)) ∙ acts,
+      omega (arith, none, draws),
+    )
 
--- An input has one settled dialogue.
-pub one_dialogue : (setup : Setup) (taken taken2 rest rest2 output output2 : List ℕ) (end end2 : ConnEnd) → taken ++ rest ≡ taken2 ++ rest2
-    → Dialogue setup taken (Some rest) output end → IsSettled end → Dialogue setup taken2 (Some rest2) output2 end2 → IsSettled end2
-    → (end ≡ end2) × (output ≡ output2) × (rest ≡ rest2)
-one_dialogue setup taken taken2 rest rest2 output output2 end end2 same first settled second settled2 =
-    let e : (end, output, rest) ≡ (end2, output2, rest2) =
-    sym (dialogue_reads setup taken rest output end first settled) ∙ ap (reading setup) same ∙ dialogue_reads setup taken2 rest2 output2 end2 second settled2 in
-    (ap (λ r. r.0) e, ap (λ r. r.1) e, ap (λ r. r.2) e)
+-- An input and the answers of the outside have one settled dialogue.
+pub one_dialogue : (terms : Terms) (drawn : ℕ) (c c2 : Course) (rest rest2 : List ℕ) (end end2 : ConnEnd) (t t2 : List Tick)
+    → Dialogue terms drawn c (Some rest) end → IsSettled end → Dialogue terms drawn c2 (Some rest2) end2 → IsSettled end2
+    → c.taken ++ rest ≡ c2.taken ++ rest2 → tape c.acts ++ t ≡ tape c2.acts ++ t2
+    → (end ≡ end2) × (c ≡ c2) × (rest ≡ rest2)
+one_dialogue terms drawn c c2 rest rest2 end end2 t t2 first settled second settled2 same ticking =
+    let (reads, acts, draws) = dialogue_reads terms drawn c rest end first settled in
+    let (reads2, acts2, draws2) = dialogue_reads terms drawn c2 rest2 end2 second settled2 in
+    let e : (end, c.written, rest) ≡ (end2, c2.written, rest2) = sym reads ∙ ap (reading terms) same ∙ reads2 in
+    let rests : rest ≡ rest2 = ap (λ r. r.2) e in
+    let taken : c.taken ≡ c2.taken = append_cancel_right c.taken c2.taken rest2 (ap (λ xs. c.taken ++ xs) (sym rests) ∙ same) in
+    (ap (λ r. r.0) e, course_is c.taken c2.taken c.acts c2.acts c.draws c2.draws c.written c2.written taken (acts ∙ sym acts2) (draws ∙ sym draws2) (ap (λ r. r.1) e), rests)
+
+-- Two exchanges that begin one input and one list of answers are one.
+pub next_is_one : (terms : Terms) (drawn : ℕ) (e f : Exchange) (rest rest2 : List ℕ) (t t2 : List Tick)
+    → IsExchange terms drawn e → IsExchange terms drawn f
+    → taken_by e ++ rest ≡ taken_by f ++ rest2 → tape (acts_by e) ++ t ≡ tape (acts_by f) ++ t2
+    → (e ≡ f) × (rest ≡ rest2) × (t ≡ t2)
+next_is_one terms drawn ping ping rest rest2 t t2 is is2 input ticking = (refl, (cc), ticking)
 
 -- What was taken is a front of what was told.
 front_told : (input taken : List ℕ) (left : Option (List ℕ)) → Some input ≡ with_front taken left → (rest : List ℕ) × (left ≡ Some rest) × (input ≡ taken ++ rest)
 front_told input taken None same = cc
 front_told input taken (Some rest) same = (rest, refl, (cc))
 
--- A connection whose dialogue is told went as each settled dialogue of its input says.
-pub talks_settle : (setup : Setup) (start now : Halves) (result : ConnEnd) → Talks setup start now result → Settles setup start now result
+-- A connection that ended in a dialogue went as each settled dialogue of its input says.
+talks_settle : (may : Invocation → Outcome → Type 0) (moves : States → WorkerCall → States → Type 0) (terms : Terms) (start now : Spot) (c : Course) (result : ConnEnd)
+    → Talks may moves terms start now c result → Settles terms start now c result
 unfolding Settles
-talks_settle setup start now result (taken2, output2, left2, held2, second) taken rest output end told first settled settled2 =
-    let (rest2, is, whole) = front_told (taken ++ rest) taken2 now.left (sym told ∙ left2) in
-    let other = rw is at second in
-    let one = one_dialogue setup taken taken2 rest rest2 output output2 end result whole first settled other settled2 in
-    (sym one.0, is ∙ ap Some (sym one.2), held2 ∙ ap (with_end start.held) (sym one.1))
+talks_settle may moves terms start now c result talks other rest end t t2 told first settled settled2 ticking =
+    let (rest2, is, whole) = front_told (other.taken ++ rest) c.taken now.wires.left (sym told ∙ talks.goes.left) in
+    let P : Option (List ℕ) → Type 0 = λ l. Dialogue terms start.drawn c l result in
+    let mine : Dialogue terms start.drawn c (Some rest2) result = subst P is talks.dialogue in
+    let one = one_dialogue terms start.drawn c other rest2 rest result end t t2 mine settled2 first settled (sym whole) ticking in
+    (one.0, one.1, is ∙ ap Some one.2)
+
+-- A connection that ended in a dialogue was served.
+pub talked_served : (may : Invocation → Outcome → Type 0) (moves : States → WorkerCall → States → Type 0) (terms : Terms) (start now : Spot) (result : ConnEnd)
+    → Talked may moves terms start now result → Served may moves terms start now result
+talked_served may moves terms start now result (c, talks) = record { course = c; talks = talks; settles = talks_settle may moves terms start now c result talks }

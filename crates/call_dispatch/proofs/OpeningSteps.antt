@@ -1,6 +1,6 @@
 -- The opening of a dialogue, over plain lists.
-use Rattle.std.proofs.Common.{◌≡◌, ◌≢◌, ℕ, suc, zero, ◌+◌, ◌^◌, ◌<◌, ◌≤◌, List, [], ◌∷◌, ◌++◌, length, take, Option, Ok, Err, refl, ◌∙◌, ap, sym, inl, inr, arith, append-nil, length-append, ℤ}
-use Rattle.wire_io.specs.Wire.{with_front, with_end, with_front-nothing, with_end-nothing}
+use Rattle.std.proofs.Common.{◌≡◌, ◌≢◌, ℕ, suc, zero, ◌+◌, ◌^◌, ◌<◌, ◌≤◌, List, [], ◌∷◌, ◌++◌, length, take, Option, Ok, Err, refl, ◌∙◌, ap, sym, inl, inr, arith, append-nil, zero-add, length-append, ℤ}
+use Rattle.wire_io.specs.Wire.{with_front-nothing, with_end-nothing}
 use Rattle.wire_io.specs.Pulled.{Place, Takes}
 use Rattle.wire_io.specs.declared.pull.PullEnd.TheVariants.{End, Limit, ReadFault, OutOfMemory}
 use Rattle.mod_utf.specs.Utf.{utf}
@@ -9,12 +9,17 @@ use Rattle.jrmp_frames.specs.Frames.{header_start, header, IsInHeader, IsEndpoin
 use Rattle.jrmp_frames.specs.Gives.{GivesHeader, GivesEndpoint}
 use Rattle.jrmp_frames.specs.declared.fault.FrameFault.{FrameFault}
 use Rattle.jrmp_frames.specs.declared.fault.FrameFault.TheVariants.{BadHeader, UnknownProtocol, BadMessage, Pull}
-use Rattle.call_dispatch.specs.declared.setup.Setup.{Setup}
+use Rattle.call_dispatch.specs.declared.outcome.Invocation.{Invocation}
+use Rattle.call_dispatch.specs.declared.outcome.Outcome.{Outcome}
 use Rattle.call_dispatch.specs.declared.end.ConnEnd.{ConnEnd}
 use Rattle.call_dispatch.specs.declared.end.ConnEnd.TheVariants as ends
+use Rattle.call_dispatch.specs.Terms.{Terms}
+use Rattle.call_dispatch.specs.Acts.{Call, States, Side}
+use Rattle.call_dispatch.specs.Spot.{Spot, exchanged, took, Goes}
 use Rattle.call_dispatch.specs.Dialogue.{nothing, greeted, opened, stream, single_op}
-use Rattle.call_dispatch.specs.Progress.{Halves, Stands, Talks, Writes, Refuses, IsNoLimit, end_from}
-use Rattle.call_dispatch.proofs.Steps.{talks_on, talks_cut, stands_nothing, stands_on, talks_after, talks_stop}
+use Rattle.call_dispatch.specs.Progress.{Stands, Talked, Writes, Refuses, IsNoLimit, end_from}
+use Rattle.call_dispatch.proofs.Going.{goes_exchanged, goes_took, goes_on}
+use Rattle.call_dispatch.proofs.Steps.{spot_at, course_is, talks_on, talks_took, talks_cut, stands_nothing, stands_on, talks_stop}
 
 -- What begins the header is short.
 in_header_short : (part : List ℕ) → IsInHeader part → length part ≤ 6
@@ -46,44 +51,50 @@ header_in_limit old new (Pull ReadFault) first last h = tt
 header_in_limit old new (Pull OutOfMemory) first last h = tt
 
 -- The connection ends in the header.
-pub header_ends : (setup : Setup) (old new : Place) (held : Option (List ℕ)) (fault : FrameFault)
+pub header_ends : (may : Invocation → Outcome → Type 0) (moves : States → Call → States → Type 0) (terms : Terms) (old new : Place) (held : Option (List ℕ)) (side : Side) (drawn : ℕ) (fault : FrameFault)
     → old.at ≡ 0 → old.stop ≡ 2 ^ 62 → ((byte : ℕ) → fault ≢ UnknownProtocol byte) → GivesHeader old new (Err fault)
-    → Talks setup (record { left = old.left; held = held }) (record { left = new.left; held = held }) (end_from fault)
-header_ends setup old new held (BadHeader at) first last told (k, bytes, place, breaks, takes) =
+    → Talked may moves terms (spot_at old held side drawn) (spot_at new held side drawn) (end_from fault)
+header_ends may moves terms old new held side drawn (BadHeader at) first last told (k, bytes, place, breaks, takes) =
     let same : k ≡ at = omega (arith, place, first) in
-    talks_after setup _ _ _ old.at 0 nothing bytes (ends.BadHeader at) (stands_nothing setup _ old.at first) takes.left refl
-    (refl, rw same at breaks, refl)
-header_ends setup old new held (UnknownProtocol byte) first last told h = absurd (told byte refl)
-header_ends setup old new held (BadMessage byte at) first last told h = absurd h
-header_ends setup old new held (Pull e) first last told h =
-    talks_stop setup _ old new held 0 nothing IsInHeader e (stands_nothing setup _ old.at first) h
+    talks_took may moves terms _ _ _ old.at 0 nothing bytes (ends.BadHeader at) (stands_nothing may moves terms _ old.at first) takes.left refl refl refl
+    (refl, (bytes, rw same at breaks, refl))
+header_ends may moves terms old new held side drawn (UnknownProtocol byte) first last told h = absurd (told byte refl)
+header_ends may moves terms old new held side drawn (BadMessage byte at) first last told h = absurd h
+header_ends may moves terms old new held side drawn (Pull e) first last told h =
+    talks_stop may moves terms _ old new held side drawn 0 nothing IsInHeader e (stands_nothing may moves terms _ old.at first) h
     (omega (arith, in_header_short h.part h.inside, first, last)) (λ at is. h.inside) (inl h.inside)
 
 -- The header of the stream protocol and its acknowledgement stand.
-pub stands_greeted : (setup : Setup) (start before now : Halves) (at sent : ℕ)
-    → start.left ≡ with_front (header Stream) before.left → before.held ≡ start.held → at ≡ 7 → now.left ≡ before.left
-    → Writes before.held now.held 0 (protocol_ack setup.peer_host setup.peer_port) (Ok sent) → Stands setup start now at sent greeted
-stands_greeted setup start before now at sent taken held place left (written, sents) =
-    stands_on setup start start now 0 0 at sent nothing greeted (header Stream) (protocol_ack setup.peer_host setup.peer_port) (stands_nothing setup start 0 refl)
-    tt refl refl (taken ∙ ap (with_front (header Stream)) (sym left)) (written ∙ ap (λ told. with_end told (protocol_ack setup.peer_host setup.peer_port)) held)
-    place sents
+pub stands_greeted : (may : Invocation → Outcome → Type 0) (moves : States → Call → States → Type 0) (terms : Terms) (start before now : Spot) (at sent : ℕ)
+    → Goes may moves start before (took (header Stream)) → at ≡ 7 → now.wires.left ≡ before.wires.left → now.side ≡ before.side → now.drawn ≡ before.drawn
+    → Writes before.wires.held now.wires.held 0 (protocol_ack terms.peer_host terms.peer_port) (Ok sent) → Stands may moves terms start now at sent greeted
+stands_greeted may moves terms start before now at sent goes place left side drawn (written, sents) =
+    let answer : List ℕ = protocol_ack terms.peer_host terms.peer_port in
+    let more = goes_exchanged may moves before now [] answer (sym left ∙ sym (with_front-nothing now.wires.left)) written side drawn in
+    record {
+      whole = tt;
+      goes = goes_on may moves start before now (took (header Stream)) (exchanged [] answer) goes more;
+      position = place;
+      count = sents ∙ zero-add (length answer);
+    }
 
 -- The acknowledgement of the stream protocol was cut.
-pub greeting_cut : (setup : Setup) (start before now : Halves) (end : ConnEnd)
-    → start.left ≡ with_front (header Stream) before.left → before.held ≡ start.held → now.left ≡ before.left
-    → Writes before.held now.held 0 (protocol_ack setup.peer_host setup.peer_port) (Err end) → Talks setup start now end
-greeting_cut setup start before now end taken held left (part, less, is, written) =
-    rw is (talks_cut setup start start now 0 0 part nothing (header Stream) (protocol_ack setup.peer_host setup.peer_port) (stands_nothing setup start 0 refl)
-    (inl (refl, refl, refl)) less (taken ∙ ap (with_front (header Stream)) (sym left))
-    (written ∙ ap (λ told. with_end told (take part (protocol_ack setup.peer_host setup.peer_port))) held))
+pub greeting_cut : (may : Invocation → Outcome → Type 0) (moves : States → Call → States → Type 0) (terms : Terms) (start before now : Spot) (end : ConnEnd)
+    → Goes may moves start before (took (header Stream)) → now.wires.left ≡ before.wires.left → now.side ≡ before.side → now.drawn ≡ before.drawn
+    → Writes before.wires.held now.wires.held 0 (protocol_ack terms.peer_host terms.peer_port) (Err end) → Talked may moves terms start now end
+greeting_cut may moves terms start before now end goes left side drawn (part, less, is, written) =
+    let answer : List ℕ = protocol_ack terms.peer_host terms.peer_port in
+    let more = goes_exchanged may moves before now [] (take part answer) (sym left ∙ sym (with_front-nothing now.wires.left)) written side drawn in
+    rw is (talks_cut may moves terms start start now 0 0 part nothing (exchanged (header Stream) answer) (stands_nothing may moves terms start 0 refl)
+    (inl (refl, refl)) less (goes_on may moves start before now (took (header Stream)) (exchanged [] (take part answer)) goes more))
 
 -- The whole opening of the stream protocol stands.
-pub stands_opened : (setup : Setup) (start : Halves) (old new : Place) (held : Option (List ℕ)) (sent : ℕ) (endpoint : List ℕ)
-    → Stands setup start (record { left = old.left; held = held }) old.at sent greeted → Takes old new endpoint → IsEndpoint endpoint
-    → Stands setup start (record { left = new.left; held = held }) new.at sent (opened (stream endpoint) [])
-stands_opened setup start old new held sent endpoint stands takes is =
-    stands_on setup start _ _ old.at sent new.at sent greeted (opened (stream endpoint) []) endpoint [] stands (is, omega arith)
-    (append-nil (header Stream ++ endpoint)) refl takes.left (sym (with_end-nothing held)) takes.at (omega arith)
+pub stands_opened : (may : Invocation → Outcome → Type 0) (moves : States → Call → States → Type 0) (terms : Terms) (start : Spot) (old new : Place) (held : Option (List ℕ)) (side : Side) (drawn sent : ℕ) (endpoint : List ℕ)
+    → Stands may moves terms start (spot_at old held side drawn) old.at sent greeted → Takes old new endpoint → IsEndpoint endpoint
+    → Stands may moves terms start (spot_at new held side drawn) new.at sent (opened (stream endpoint) [])
+stands_opened may moves terms start old new held side drawn sent endpoint stands takes is =
+    stands_on may moves terms start _ _ old.at sent new.at sent greeted (opened (stream endpoint) []) (took endpoint) stands (is, tt, omega arith)
+    (course_is _ _ _ _ _ _ _ _ (append-nil (header Stream ++ endpoint)) refl refl refl) (goes_took may moves _ _ endpoint takes.left refl refl refl) takes.at (omega arith)
 
 -- No limit is met in the client's endpoint.
 pub endpoint_in_limit : (old new : Place) (fault : FrameFault)
@@ -98,32 +109,28 @@ endpoint_in_limit old new (Pull ReadFault) room h = tt
 endpoint_in_limit old new (Pull OutOfMemory) room h = tt
 
 -- The connection ends in the client's endpoint.
-pub endpoint_ends : (setup : Setup) (start : Halves) (old new : Place) (held : Option (List ℕ)) (sent : ℕ) (fault : FrameFault)
-    → Stands setup start (record { left = old.left; held = held }) old.at sent greeted → old.at + 65541 < old.stop
-    → GivesEndpoint {A = Unit {0}} old new (Err fault) → Talks setup start (record { left = new.left; held = held }) (end_from fault)
-endpoint_ends setup start old new held sent (BadHeader at) stands room h = absurd h
-endpoint_ends setup start old new held sent (UnknownProtocol byte) stands room h = absurd h
-endpoint_ends setup start old new held sent (BadMessage byte at) stands room h = absurd h
-endpoint_ends setup start old new held sent (Pull e) stands room h =
-    talks_stop setup start old new held sent greeted IsInEndpoint e stands h
+pub endpoint_ends : (may : Invocation → Outcome → Type 0) (moves : States → Call → States → Type 0) (terms : Terms) (start : Spot) (old new : Place) (held : Option (List ℕ)) (side : Side) (drawn sent : ℕ) (fault : FrameFault)
+    → Stands may moves terms start (spot_at old held side drawn) old.at sent greeted → old.at + 65541 < old.stop
+    → GivesEndpoint {A = Unit {0}} old new (Err fault) → Talked may moves terms start (spot_at new held side drawn) (end_from fault)
+endpoint_ends may moves terms start old new held side drawn sent (BadHeader at) stands room h = absurd h
+endpoint_ends may moves terms start old new held side drawn sent (UnknownProtocol byte) stands room h = absurd h
+endpoint_ends may moves terms start old new held side drawn sent (BadMessage byte at) stands room h = absurd h
+endpoint_ends may moves terms start old new held side drawn sent (Pull e) stands room h =
+    talks_stop may moves terms start old new held side drawn sent greeted IsInEndpoint e stands h
     (omega (arith, in_endpoint_short h.part h.inside, room)) (λ at is. h.inside) (inl h.inside)
 
--- No memory was there at all.
-pub memory_at_once : (setup : Setup) (start : Halves) → Talks setup start start ends.OutOfMemory
-memory_at_once setup start =
-    talks_after setup start start start 0 0 nothing [] ends.OutOfMemory (stands_nothing setup start 0 refl) (sym (with_front-nothing start.left)) refl (refl, inl refl, refl)
-
 -- No memory was there for the acknowledgement.
-pub memory_ends : (setup : Setup) (start now : Halves) → start.left ≡ with_front (header Stream) now.left → now.held ≡ start.held → Talks setup start now ends.OutOfMemory
-memory_ends setup start now taken held =
-    talks_after setup start start now 0 0 nothing (header Stream) ends.OutOfMemory (stands_nothing setup start 0 refl) taken held (refl, inr refl, refl)
+pub memory_ends : (may : Invocation → Outcome → Type 0) (moves : States → Call → States → Type 0) (terms : Terms) (start now : Spot) → Goes may moves start now (took (header Stream)) → Talked may moves terms start now ends.OutOfMemory
+memory_ends may moves terms start now goes =
+    talks_on may moves terms start start now 0 0 nothing (took (header Stream)) ends.OutOfMemory (stands_nothing may moves terms start 0 refl) goes
+    (inl (header Stream, refl, inr refl, refl))
 
 -- The header of the single-op protocol stands.
-pub stands_single : (setup : Setup) (old new : Place) (held : Option (List ℕ)) → old.at ≡ 0 → Takes old new (header SingleOp)
-    → Stands setup (record { left = old.left; held = held }) (record { left = new.left; held = held }) new.at 0 (opened single_op [])
-stands_single setup old new held first takes =
-    stands_on setup _ _ _ old.at 0 new.at 0 nothing (opened single_op []) (header SingleOp) [] (stands_nothing setup _ old.at first)
-    (tt, omega arith) refl refl takes.left (sym (with_end-nothing held)) takes.at refl
+pub stands_single : (may : Invocation → Outcome → Type 0) (moves : States → Call → States → Type 0) (terms : Terms) (old new : Place) (held : Option (List ℕ)) (side : Side) (drawn : ℕ) → old.at ≡ 0 → Takes old new (header SingleOp)
+    → Stands may moves terms (spot_at old held side drawn) (spot_at new held side drawn) new.at 0 (opened single_op [])
+stands_single may moves terms old new held side drawn first takes =
+    stands_on may moves terms _ _ _ old.at 0 new.at 0 nothing (opened single_op []) (took (header SingleOp)) (stands_nothing may moves terms _ old.at first)
+    (tt, tt, omega arith) refl (goes_took may moves _ _ (header SingleOp) takes.left refl refl refl) takes.at refl
 
 -- The client could not be told of an unknown protocol.
 pub refusal_cut : (byte : ℕ) (before after : Option (List ℕ)) (end : ConnEnd) → Writes before after 0 protocol_not_supported (Err end) → Refuses byte before after end
@@ -131,23 +138,24 @@ refusal_cut byte before after end (zero, less, is, written) = rw is (refl, writt
 refusal_cut byte before after end (suc part, less, is, written) = absurd (omega arith)
 
 -- The connection ends with an unknown protocol.
-pub refusal_ends : (setup : Setup) (old new : Place) (held now : Option (List ℕ)) (byte : ℕ) (end : ConnEnd)
+pub refusal_ends : (may : Invocation → Outcome → Type 0) (moves : States → Call → States → Type 0) (terms : Terms) (old new : Place) (held now : Option (List ℕ)) (side : Side) (drawn byte : ℕ) (end : ConnEnd)
     → old.at ≡ 0 → GivesHeader old new (Err (UnknownProtocol byte)) → Refuses byte held now end
-    → Talks setup (record { left = old.left; held = held }) (record { left = new.left; held = now }) end
-refusal_ends setup old new held now byte (ends.UnknownProtocol b) first (none, takes) (same, written) =
-    talks_on setup _ _ _ old.at 0 nothing (header_start ++ byte ∷ []) protocol_not_supported (ends.UnknownProtocol b) (stands_nothing setup _ old.at first)
-    takes.left written (rw same (refl, none, refl, refl))
-refusal_ends setup old new held now byte (ends.WriteFault sent) first (none, takes) (same, written) =
-    rw same (talks_cut setup _ _ _ old.at 0 0 nothing (header_start ++ byte ∷ []) protocol_not_supported (stands_nothing setup _ old.at first)
-    (inr (inl (byte, (refl, none, refl, refl)))) (omega arith) takes.left (written ∙ sym (with_end-nothing held)))
-refusal_ends setup old new held now byte ends.Ended first gives refuses = absurd refuses
-refusal_ends setup old new held now byte (ends.BadHeader at) first gives refuses = absurd refuses
-refusal_ends setup old new held now byte (ends.BadMessage b at) first gives refuses = absurd refuses
-refusal_ends setup old new held now byte (ends.Truncated at) first gives refuses = absurd refuses
-refusal_ends setup old new held now byte (ends.NotBuilt b at) first gives refuses = absurd refuses
-refusal_ends setup old new held now byte ends.MessageLimit first gives refuses = absurd refuses
-refusal_ends setup old new held now byte ends.ReadFault first gives refuses = absurd refuses
-refusal_ends setup old new held now byte ends.OutOfMemory first gives refuses = absurd refuses
+    → Talked may moves terms (spot_at old held side drawn) (spot_at new now side drawn) end
+refusal_ends may moves terms old new held now side drawn byte (ends.UnknownProtocol b) first (none, takes) (same, written) =
+    rw same (talks_on may moves terms _ _ _ old.at 0 nothing (exchanged (header_start ++ byte ∷ []) protocol_not_supported) (ends.UnknownProtocol byte) (stands_nothing may moves terms _ old.at first)
+    (goes_exchanged may moves _ _ (header_start ++ byte ∷ []) protocol_not_supported takes.left written refl refl) (refl, none, refl))
+refusal_ends may moves terms old new held now side drawn byte (ends.WriteFault sent) first (none, takes) (same, written) =
+    rw same (talks_cut may moves terms _ _ _ old.at 0 0 nothing (exchanged (header_start ++ byte ∷ []) protocol_not_supported) (stands_nothing may moves terms _ old.at first)
+    (inr (inl (byte, (refl, none, refl)))) (omega arith)
+    (goes_exchanged may moves _ _ (header_start ++ byte ∷ []) [] takes.left (written ∙ sym (with_end-nothing held)) refl refl))
+refusal_ends may moves terms old new held now side drawn byte ends.Ended first gives refuses = absurd refuses
+refusal_ends may moves terms old new held now side drawn byte (ends.BadHeader at) first gives refuses = absurd refuses
+refusal_ends may moves terms old new held now side drawn byte (ends.BadMessage b at) first gives refuses = absurd refuses
+refusal_ends may moves terms old new held now side drawn byte (ends.Truncated at) first gives refuses = absurd refuses
+refusal_ends may moves terms old new held now side drawn byte (ends.NotBuilt b at) first gives refuses = absurd refuses
+refusal_ends may moves terms old new held now side drawn byte ends.MessageLimit first gives refuses = absurd refuses
+refusal_ends may moves terms old new held now side drawn byte ends.ReadFault first gives refuses = absurd refuses
+refusal_ends may moves terms old new held now side drawn byte ends.OutOfMemory first gives refuses = absurd refuses
 
 -- Refusing a protocol is no fault of reading.
 pub refuses_unread : (byte : ℕ) (before after : Option (List ℕ)) (end : ConnEnd) → Refuses byte before after end → end ≢ ends.ReadFault

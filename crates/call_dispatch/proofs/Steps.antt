@@ -1,89 +1,135 @@
 -- Steps of a dialogue, over plain lists.
-use Rattle.std.proofs.Common.{◌≡◌, ℕ, ◌+◌, ◌<◌, ◌⊎◌, List, [], ◌∷◌, ◌++◌, length, take, Option, refl, ap, sym, ◌∙◌, arith, append-nil, length-append}
+use Rattle.std.proofs.Common.{◌≡◌, ℕ, ◌+◌, ◌<◌, ◌⊎◌, inl, List, [], ◌∷◌, ◌++◌, length, take, Option, refl, ap, sym, subst, ◌∙◌, arith, add-zero, length-append}
 use Rattle.std.proofs.lemmas.List.{flat_map_more}
-use Rattle.wire_io.specs.Wire.{with_front, with_end, with_front-with_front, with_front-nothing, with_end-with_end, with_end-nothing}
+use Rattle.wire_io.specs.Wire.{with_front}
 use Rattle.wire_io.specs.Pulled.{Place, Takes}
 use Rattle.wire_io.specs.declared.pull.PullEnd.{PullEnd}
 use Rattle.wire_io.specs.declared.pull.PullEnd.TheVariants.{End, Limit, ReadFault, OutOfMemory}
 use Rattle.wire_io.proofs.Pulling.{takes_stop}
 use Rattle.jrmp_frames.specs.Gives.{StopsInside}
 use Rattle.jrmp_frames.specs.declared.fault.FrameFault.TheVariants.{Pull}
-use Rattle.call_dispatch.specs.declared.setup.Setup.{Setup}
+use Rattle.call_dispatch.specs.declared.outcome.Invocation.{Invocation}
+use Rattle.call_dispatch.specs.declared.outcome.Outcome.{Outcome}
 use Rattle.call_dispatch.specs.declared.end.ConnEnd.{ConnEnd}
 use Rattle.call_dispatch.specs.declared.end.ConnEnd.TheVariants as ends
-use Rattle.call_dispatch.specs.Dialogue.{Opening, opening_taken, opening_written, most_messages, Exchange, taken_by, written_by, Whole, nothing, opened, IsWhole, taken_in, written_in, IsAtCode, IsInside, IsAnswered, Ends}
-use Rattle.call_dispatch.specs.Progress.{Halves, Stands, Talks, end_from}
+use Rattle.call_dispatch.specs.Terms.{Terms}
+use Rattle.call_dispatch.specs.Acts.{Act, Call, States, Side}
+use Rattle.call_dispatch.specs.Spot.{Spot, Course, took, followed_by, Goes}
+use Rattle.call_dispatch.specs.Rows.{Exchange, taken_by, acts_by, draws_by, written_by, draws_in, course_by, IsExchange, IsOpen, GoOn, IsChain}
+use Rattle.call_dispatch.specs.Dialogue.{Opening, stream, single_op, opening_taken, opening_written, most_messages, Whole, nothing, opened, IsWhole, taken_in, written_in, course_in, IsAtCode, IsInside, IsAnswered, Ends}
+use Rattle.call_dispatch.specs.Progress.{Stands, Talked, end_from}
+use Rattle.call_dispatch.proofs.Going.{goes_nothing, goes_took, goes_on}
+
+-- a course, by its parts
+abbrev course : List ℕ → List Act → ℕ → List ℕ → Course
+course taken acts draws written = record { taken = taken; acts = acts; draws = draws; written = written }
+
+-- Courses of the same parts are the same.
+pub course_is : (t t2 : List ℕ) (a a2 : List Act) (d d2 : ℕ) (w w2 : List ℕ) → t ≡ t2 → a ≡ a2 → d ≡ d2 → w ≡ w2 → course t a d w ≡ course t2 a2 d2 w2
+course_is t t2 a a2 d d2 w w2 taken acts draws written =
+    ap (λ x. course x a d w) taken ∙ ap (λ x. course t2 x d w) acts ∙ ap (λ x. course t2 a2 x w) draws ∙ ap (course t2 a2 d2) written
 
 -- Nothing stands yet.
-pub stands_nothing : (setup : Setup) (start : Halves) (at : ℕ) → at ≡ 0 → Stands setup start start at 0 nothing
-stands_nothing setup start at first =
-    record { whole = tt; taken = sym (with_front-nothing start.left); position = first; written = sym (with_end-nothing start.held); count = refl }
+pub stands_nothing : (may : Invocation → Outcome → Type 0) (moves : States → Call → States → Type 0) (terms : Terms) (start : Spot) (at : ℕ) → at ≡ 0 → Stands may moves terms start start at 0 nothing
+stands_nothing may moves terms start at first = record { whole = tt; goes = goes_nothing may moves start; position = first; count = refl }
 
--- More was taken and an answer written, so that more stands whole.
-pub stands_on : (setup : Setup) (start before now : Halves) (at sent at2 sent2 : ℕ) (w w2 : Whole) (more answer : List ℕ)
-    → Stands setup start before at sent w → IsWhole w2 → taken_in w2 ≡ taken_in w ++ more → written_in setup w2 ≡ written_in setup w ++ answer
-    → before.left ≡ with_front more now.left → now.held ≡ with_end before.held answer → at2 ≡ at + length more → sent2 ≡ sent + length answer
-    → Stands setup start now at2 sent2 w2
-stands_on setup start before now at sent at2 sent2 w w2 more answer stands whole t o taken written ats sents = record {
+-- More was done, so that more stands whole.
+pub stands_on : (may : Invocation → Outcome → Type 0) (moves : States → Call → States → Type 0) (terms : Terms) (start before now : Spot) (at sent at2 sent2 : ℕ) (w w2 : Whole) (c : Course)
+    → Stands may moves terms start before at sent w → IsWhole terms start.drawn w2 → course_in terms w2 ≡ followed_by (course_in terms w) c
+    → Goes may moves before now c → at2 ≡ at + length c.taken → sent2 ≡ sent + length c.written
+    → Stands may moves terms start now at2 sent2 w2
+stands_on may moves terms start before now at sent at2 sent2 w w2 c stands whole is goes ats sents = record {
   whole = whole;
-  taken = stands.taken ∙ ap (with_front (taken_in w)) taken ∙ with_front-with_front (taken_in w) more now.left ∙ ap (λ xs. with_front xs now.left) (sym t);
-  position = ats ∙ ap (λ n. n + length more) stands.position ∙ sym (length-append (taken_in w) more) ∙ ap length (sym t);
-  written = written ∙ ap (λ told. with_end told answer) stands.written ∙ with_end-with_end start.held (written_in setup w) answer ∙ ap (with_end start.held) (sym o);
-  count = sents ∙ ap (λ n. n + length answer) stands.count ∙ sym (length-append (written_in setup w) answer) ∙ ap length (sym o);
+  goes = (let P : Course → Type 0 = λ x. Goes may moves start now x in subst P (sym is) (goes_on may moves start before now (course_in terms w) c stands.goes goes));
+  position = ats ∙ ap (λ n. n + length c.taken) stands.position ∙ sym (length-append (taken_in w) c.taken) ∙ ap (λ (x : Course). length x.taken) (sym is);
+  count = sents ∙ ap (λ n. n + length c.written) stands.count ∙ sym (length-append (written_in terms w) c.written) ∙ ap (λ (x : Course). length x.written) (sym is);
 }
 
--- More was taken and an answer written, and the connection ended.
-pub talks_on : (setup : Setup) (start before now : Halves) (at sent : ℕ) (w : Whole) (more answer : List ℕ) (end : ConnEnd)
-    → Stands setup start before at sent w → before.left ≡ with_front more now.left → now.held ≡ with_end before.held answer
-    → Ends setup w more now.left (written_in setup w ++ answer) end → Talks setup start now end
-talks_on setup start before now at sent w more answer end stands taken written ends = (
-  taken_in w ++ more,
-  written_in setup w ++ answer,
-  stands.taken ∙ ap (with_front (taken_in w)) taken ∙ with_front-with_front (taken_in w) more now.left,
-  written ∙ ap (λ told. with_end told answer) stands.written ∙ with_end-with_end start.held (written_in setup w) answer,
-  (w, more, stands.whole, refl, ends),
+-- More was done, and the connection ended.
+pub talks_on : (may : Invocation → Outcome → Type 0) (moves : States → Call → States → Type 0) (terms : Terms) (start before now : Spot) (at sent : ℕ) (w : Whole) (tail : Course) (end : ConnEnd)
+    → Stands may moves terms start before at sent w → Goes may moves before now tail → Ends terms start.drawn w tail now.wires.left end
+    → Talked may moves terms start now end
+talks_on may moves terms start before now at sent w tail end stands goes ends = (
+  followed_by (course_in terms w) tail,
+  record { goes = goes_on may moves start before now (course_in terms w) tail stands.goes goes; dialogue = (w, tail, stands.whole, refl, ends) },
 )
 
--- More was taken, and the connection ended with nothing more written.
-pub talks_after : (setup : Setup) (start before now : Halves) (at sent : ℕ) (w : Whole) (more : List ℕ) (end : ConnEnd)
-    → Stands setup start before at sent w → before.left ≡ with_front more now.left → now.held ≡ before.held
-    → Ends setup w more now.left (written_in setup w) end → Talks setup start now end
-talks_after setup start before now at sent w more end stands taken held ends =
-    talks_on setup start before now at sent w more [] end stands taken (held ∙ sym (with_end-nothing before.held)) (rw append-nil ends)
+-- More was taken, and the connection ended with nothing else done.
+pub talks_took : (may : Invocation → Outcome → Type 0) (moves : States → Call → States → Type 0) (terms : Terms) (start before now : Spot) (at sent : ℕ) (w : Whole) (more : List ℕ) (end : ConnEnd)
+    → Stands may moves terms start before at sent w → before.wires.left ≡ with_front more now.wires.left → now.wires.held ≡ before.wires.held
+    → now.side ≡ before.side → now.drawn ≡ before.drawn
+    → Ends terms start.drawn w (took more) now.wires.left end → Talked may moves terms start now end
+talks_took may moves terms start before now at sent w more end stands taken held side drawn ends =
+    talks_on may moves terms start before now at sent w (took more) end stands (goes_took may moves before now more taken held side drawn) ends
 
 -- An answer was cut.
-pub talks_cut : (setup : Setup) (start before now : Halves) (at sent part : ℕ) (w : Whole) (more answer : List ℕ)
-    → Stands setup start before at sent w → IsAnswered setup w more answer → part < length answer
-    → before.left ≡ with_front more now.left → now.held ≡ with_end before.held (take part answer)
-    → Talks setup start now (ends.WriteFault (sent + part))
-talks_cut setup start before now at sent part w more answer stands answered less taken written =
-    talks_on setup start before now at sent w more (take part answer) (ends.WriteFault (sent + part)) stands taken written
-    (answer, answered, (part, less, ap (λ n. n + part) stands.count, refl))
+pub talks_cut : (may : Invocation → Outcome → Type 0) (moves : States → Call → States → Type 0) (terms : Terms) (start before now : Spot) (at sent part : ℕ) (w : Whole) (c : Course)
+    → Stands may moves terms start before at sent w → IsAnswered terms start.drawn w c → part < length c.written
+    → Goes may moves before now (record c { written = take part c.written })
+    → Talked may moves terms start now (ends.WriteFault (sent + part))
+talks_cut may moves terms start before now at sent part w c stands answered less goes =
+    talks_on may moves terms start before now at sent w (record c { written = take part c.written }) (ends.WriteFault (sent + part)) stands goes
+    (c, part, answered, less, ap (λ n. n + part) stands.count, refl)
+
+-- a place of a source, with the rest as it stands
+abbrev pub spot_at : Place → Option (List ℕ) → Side → ℕ → Spot
+spot_at p held side drawn = record { wires = record { left = p.left; held = held }; side = side; drawn = drawn }
 
 -- The input stopped inside what was to come next.
-pub talks_stop : (setup : Setup) (start : Halves) (old new : Place) (held : Option (List ℕ)) (sent : ℕ) (w : Whole) (P : List ℕ → Type 0) (e : PullEnd)
-    → Stands setup start (record { left = old.left; held = held }) old.at sent w → (stops : StopsInside P old new e)
+pub talks_stop : (may : Invocation → Outcome → Type 0) (moves : States → Call → States → Type 0) (terms : Terms) (start : Spot) (old new : Place) (held : Option (List ℕ)) (side : Side) (drawn sent : ℕ) (w : Whole)
+    (P : List ℕ → Type 0) (e : PullEnd)
+    → Stands may moves terms start (spot_at old held side drawn) old.at sent w → (stops : StopsInside P old new e)
     → old.at + length stops.part < old.stop → ((at : ℕ) → e ≡ End at → IsInside w stops.part) → IsInside w stops.part ⊎ (IsAtCode w × (stops.part ≡ []))
-    → Talks setup start (record { left = new.left; held = held }) (end_from (Pull e))
-talks_stop setup start old new held sent w P (End at) stands stops room ended inside =
+    → Talked may moves terms start (spot_at new held side drawn) (end_from (Pull e))
+talks_stop may moves terms start old new held side drawn sent w P (End at) stands stops room ended inside =
     let whole : Takes old new stops.part = takes_stop _ _ _ _ stops.takes stops.stops.1 in
-    talks_after setup start _ _ old.at sent w stops.part (ends.Truncated at) stands whole.left refl
-    (ended at refl, stops.stops.2, omega (arith, stops.stops.0, stops.takes.at, stands.position, length-append (taken_in w) stops.part), refl)
-talks_stop setup start old new held sent w P (Limit at) stands stops room ended inside =
+    talks_took may moves terms start _ _ old.at sent w stops.part (ends.Truncated at) stands whole.left refl refl refl
+    (stops.part, ended at refl, stops.stops.2, omega (arith, stops.stops.0, stops.takes.at, stands.position, length-append (taken_in w) stops.part), refl)
+talks_stop may moves terms start old new held side drawn sent w P (Limit at) stands stops room ended inside =
     absurd (omega (arith, stops.stops.1.at_stop, stops.takes.stop, stops.takes.at, room))
-talks_stop setup start old new held sent w P ReadFault stands stops room ended inside =
+talks_stop may moves terms start old new held side drawn sent w P ReadFault stands stops room ended inside =
     let whole : Takes old new stops.part = takes_stop _ _ _ _ stops.takes stops.stops.0 in
-    talks_after setup start _ _ old.at sent w stops.part ends.ReadFault stands whole.left refl (inside, refl)
-talks_stop setup start old new held sent w P OutOfMemory stands stops room ended inside = absurd (stops.memory refl)
+    talks_took may moves terms start _ _ old.at sent w stops.part ends.ReadFault stands whole.left refl refl refl (inl (stops.part, inside, refl))
+talks_stop may moves terms start old new held side drawn sent w P OutOfMemory stands stops room ended inside = absurd (stops.memory refl)
+
+-- ---- chains
+
+-- A further exchange in its place.
+pub chain_more : (terms : Terms) (drawn : ℕ) (exchanges : List Exchange) (e : Exchange)
+    → IsChain terms drawn exchanges → GoOn exchanges → IsExchange terms (drawn + draws_in exchanges) e → IsChain terms drawn (exchanges ++ e ∷ [])
+chain_more terms drawn [] e chain goes is =
+    let P : ℕ → Type 0 = λ n. IsExchange terms n e in subst P (add-zero drawn) is
+chain_more terms drawn (x ∷ []) e chain goes is =
+    let P : ℕ → Type 0 = λ n. IsExchange terms (drawn + n) e in (chain, goes, subst P (add-zero (draws_by x)) is)
+chain_more terms drawn (x ∷ y ∷ more) e chain goes is =
+    let same : drawn + (draws_by x + draws_in (y ∷ more)) ≡ drawn + draws_by x + draws_in (y ∷ more) = omega arith in
+    let P : ℕ → Type 0 = λ n. IsExchange terms n e in
+    (chain.0, chain.1, chain_more terms (drawn + draws_by x) (y ∷ more) e chain.2 goes (subst P same is))
+
+-- The connection goes on after a further exchange that doesn't close it.
+pub goes_on_more : (exchanges : List Exchange) (e : Exchange) → IsOpen e → GoOn (exchanges ++ e ∷ [])
+goes_on_more [] e is = is
+goes_on_more (x ∷ []) e is = is
+goes_on_more (x ∷ y ∷ more) e is = goes_on_more (y ∷ more) e is
+
+draws_more : (exchanges : List Exchange) (e : Exchange) → draws_in (exchanges ++ e ∷ []) ≡ draws_in exchanges + draws_by e
+draws_more [] e = omega arith
+draws_more (x ∷ xs) e = let more = draws_more xs e in omega (arith, more)
+
+at_code_goes : (opening : Opening) (exchanges : List Exchange) → IsAtCode (opened opening exchanges) → GoOn exchanges
+at_code_goes (stream endpoint) exchanges code = code
+at_code_goes single_op [] code = tt
+at_code_goes single_op (e ∷ exchanges) code = absurd code
 
 -- A further exchange.
-pub stands_more : (setup : Setup) (start before now : Halves) (at sent at2 sent2 : ℕ) (opening : Opening) (exchanges : List Exchange) (e : Exchange)
-    → Stands setup start before at sent (opened opening exchanges) → length exchanges < most_messages opening
-    → before.left ≡ with_front (taken_by e) now.left → now.held ≡ with_end before.held (written_by e)
+pub stands_more : (may : Invocation → Outcome → Type 0) (moves : States → Call → States → Type 0) (terms : Terms) (start before now : Spot) (at sent at2 sent2 : ℕ) (opening : Opening) (exchanges : List Exchange) (e : Exchange)
+    → Stands may moves terms start before at sent (opened opening exchanges) → IsAtCode (opened opening exchanges) → length exchanges < most_messages opening
+    → IsExchange terms (start.drawn + draws_in exchanges) e → Goes may moves before now (course_by e)
     → at2 ≡ at + length (taken_by e) → sent2 ≡ sent + length (written_by e)
-    → Stands setup start now at2 sent2 (opened opening (exchanges ++ e ∷ []))
-stands_more setup start before now at sent at2 sent2 opening exchanges e stands room taken written ats sents =
-    stands_on setup start before now at sent at2 sent2 (opened opening exchanges) (opened opening (exchanges ++ e ∷ [])) (taken_by e) (written_by e)
-    stands (stands.whole.0, omega (arith, length-append exchanges (e ∷ []), room))
-    (sym (flat_map_more taken_by (opening_taken opening) exchanges e)) (sym (flat_map_more written_by (opening_written setup opening) exchanges e))
-    taken written ats sents
+    → Stands may moves terms start now at2 sent2 (opened opening (exchanges ++ e ∷ []))
+stands_more may moves terms start before now at sent at2 sent2 opening exchanges e stands code room is goes ats sents =
+    stands_on may moves terms start before now at sent at2 sent2 (opened opening exchanges) (opened opening (exchanges ++ e ∷ [])) (course_by e)
+    stands (stands.whole.0, chain_more terms start.drawn exchanges e stands.whole.1 (at_code_goes opening exchanges code) is, omega (arith, length-append exchanges (e ∷ []), room))
+    (course_is _ _ _ _ _ _ _ _ (sym (flat_map_more taken_by (opening_taken opening) exchanges e)) (sym (flat_map_more acts_by [] exchanges e))
+    (draws_more exchanges e) (sym (flat_map_more written_by (opening_written terms opening) exchanges e)))
+    goes ats sents

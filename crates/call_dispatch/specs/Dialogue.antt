@@ -1,15 +1,17 @@
--- The dialogue of one connection (Java RMI Specification, 10.2), as a relation between whole lists: the bytes taken, the
--- bytes that the source has left then, the bytes written and the end. It is an opening, whole exchanges and an end.
+-- The dialogue of one connection (Java RMI Specification, 10.2), as a relation between whole lists: the bytes taken, what was
+-- done, the bytes that the source has left then, the bytes written and the end. It is an opening, whole exchanges and an end.
 use Rattle.std.specs.Prelude.{◌≡◌, ℕ, ◌+◌, ◌^◌, ◌<◌, ◌≤◌, ◌⊎◌, List, [], ◌∷◌, ◌++◌, length, take, Option}
 use Rattle.std.specs.List.{flat_map}
 use Rattle.wire_io.specs.Wire.{NothingLeft}
 use Rattle.jrmp_frames.specs.declared.header.Protocol.{Protocol}
 use Rattle.jrmp_frames.specs.declared.header.Protocol.TheVariants.{Stream, SingleOp}
-use Rattle.jrmp_frames.specs.declared.code.Code.TheVariants.{Call, Ping, DgcAck}
-use Rattle.jrmp_frames.specs.Frames.{header_start, header, IsNoProtocol, IsInHeader, BreaksHeader, IsEndpoint, IsInEndpoint, protocol_ack, protocol_not_supported, code_byte, IsCode, ping_ack}
-use Rattle.call_dispatch.specs.declared.setup.Setup.{Setup}
+use Rattle.jrmp_frames.specs.declared.code.Code.TheVariants.{Call, DgcAck}
+use Rattle.jrmp_frames.specs.Frames.{header_start, header, IsNoProtocol, IsInHeader, BreaksHeader, IsEndpoint, IsInEndpoint, protocol_ack, protocol_not_supported, code_byte, IsCode}
 use Rattle.call_dispatch.specs.declared.end.ConnEnd.{ConnEnd}
 use Rattle.call_dispatch.specs.declared.end.ConnEnd.TheVariants.{Ended, BadHeader, UnknownProtocol, BadMessage, Truncated, NotBuilt, MessageLimit, ReadFault, WriteFault, OutOfMemory}
+use Rattle.call_dispatch.specs.Terms.{Terms}
+use Rattle.call_dispatch.specs.Spot.{Course, exchanged, took, followed_by}
+use Rattle.call_dispatch.specs.Rows.{Exchange, taken_by, acts_by, draws_by, written_by, draws_in, course_by, IsExchange, GoOn, IsChain, IsCut}
 
 -- an opening: what stands before the first message. The stream protocol's has the client's endpoint.
 pub data Opening : Type 0 where
@@ -30,26 +32,14 @@ opening_taken (stream endpoint) = header Stream ++ endpoint
 opening_taken single_op = header SingleOp
 
 -- the bytes that answer it
-abbrev pub opening_written : Setup → Opening → List ℕ
-opening_written setup (stream endpoint) = protocol_ack setup.peer_host setup.peer_port
-opening_written setup single_op = []
+abbrev pub opening_written : Terms → Opening → List ℕ
+opening_written terms (stream endpoint) = protocol_ack terms.peer_host terms.peer_port
+opening_written terms single_op = []
 
 -- how many messages may follow it
 abbrev pub most_messages : Opening → ℕ
 most_messages (stream endpoint) = 2 ^ 28
 most_messages single_op = 1
-
--- an exchange: one message of the client, and what is done at it
-pub data Exchange : Type 0 where
-  ping : Exchange
-
--- the bytes of its message
-abbrev pub taken_by : Exchange → List ℕ
-taken_by ping = code_byte Ping ∷ []
-
--- the bytes of its answer
-abbrev pub written_by : Exchange → List ℕ
-written_by ping = ping_ack
 
 -- what of a dialogue stands whole: nothing yet; the stream protocol's header and its acknowledgement; or an opening and
 -- the exchanges after it
@@ -58,10 +48,12 @@ pub data Whole : Type 0 where
   greeted : Whole
   opened : Opening → List Exchange → Whole
 
-abbrev pub IsWhole : Whole → Type 0
-IsWhole nothing = Unit {0}
-IsWhole greeted = Unit {0}
-IsWhole (opened opening exchanges) = IsOpening opening × (length exchanges ≤ most_messages opening)
+-- It stands so where so many identifiers were drawn before the connection.
+abbrev pub IsWhole : Terms → ℕ → Whole → Type 0
+IsWhole terms drawn nothing = Unit {0}
+IsWhole terms drawn greeted = Unit {0}
+IsWhole terms drawn (opened opening exchanges) =
+    IsOpening opening × IsChain terms drawn exchanges × (length exchanges ≤ most_messages opening)
 
 -- the bytes that it takes
 abbrev pub taken_in : Whole → List ℕ
@@ -70,77 +62,110 @@ taken_in greeted = header Stream
 taken_in (opened opening exchanges) = opening_taken opening ++ flat_map taken_by exchanges
 
 -- the bytes that are written
-abbrev pub written_in : Setup → Whole → List ℕ
-written_in setup nothing = []
-written_in setup greeted = protocol_ack setup.peer_host setup.peer_port
-written_in setup (opened opening exchanges) = opening_written setup opening ++ flat_map written_by exchanges
+abbrev pub written_in : Terms → Whole → List ℕ
+written_in terms nothing = []
+written_in terms greeted = protocol_ack terms.peer_host terms.peer_port
+written_in terms (opened opening exchanges) = opening_written terms opening ++ flat_map written_by exchanges
+
+-- the exchanges
+abbrev pub exchanges_in : Whole → List Exchange
+exchanges_in (opened opening exchanges) = exchanges
+exchanges_in _ = []
+
+-- what it takes, does, draws and writes
+abbrev pub course_in : Terms → Whole → Course
+course_in terms w = record {
+  taken = taken_in w;
+  acts = flat_map acts_by (exchanges_in w);
+  draws = draws_in (exchanges_in w);
+  written = written_in terms w;
+}
 
 -- how many messages were served
 abbrev pub count_of : Whole → ℕ
-count_of (opened opening exchanges) = length exchanges
-count_of _ = 0
+count_of w = length (exchanges_in w)
 
--- A message's code is to come: in the stream protocol after each message, in single-op before the one.
+-- A message's code is to come: in the stream protocol after each message that leaves the connection open, in single-op before the one.
 abbrev pub IsAtCode : Whole → Type 0
-IsAtCode (opened (stream endpoint) exchanges) = Unit {0}
+IsAtCode (opened (stream endpoint) exchanges) = GoOn exchanges
 IsAtCode (opened single_op []) = Unit {0}
 IsAtCode _ = ⊥
 
 -- Nothing more is to come: single-op's one message was served.
 abbrev pub IsDone : Whole → Type 0
-IsDone (opened single_op (e ∷ exchanges)) = Unit {0}
+IsDone (opened single_op (e ∷ exchanges)) = GoOn (e ∷ exchanges)
 IsDone _ = ⊥
 
--- These bytes, after what stands whole, are a front of what is to come next, and not all of it.
+-- These bytes, after what stands whole, are a front of what is to come next in the opening, and not all of it.
 abbrev pub IsInside : Whole → List ℕ → Type 0
 IsInside nothing more = IsInHeader more
 IsInside greeted more = IsInEndpoint more
 IsInside (opened opening exchanges) more = ⊥
 
--- These bytes, after what stands whole, are the header of the stream protocol, and are acknowledged so.
-abbrev pub IsAcknowledged : Setup → Whole → List ℕ → List ℕ → Type 0
-IsAcknowledged setup w more answer = (w ≡ nothing) × (more ≡ header Stream) × (answer ≡ protocol_ack setup.peer_host setup.peer_port)
+-- This exchange may come next.
+abbrev pub IsNext : Terms → ℕ → Whole → Exchange → Type 0
+IsNext terms drawn w e = IsAtCode w × (count_of w < 2 ^ 28) × IsExchange terms (drawn + draws_in (exchanges_in w)) e
 
--- These bytes are a header with the byte of no protocol, and are refused so.
-abbrev pub IsRefused : Whole → List ℕ → ℕ → List ℕ → Type 0
-IsRefused w more byte answer = (w ≡ nothing) × IsNoProtocol byte × (more ≡ header_start ++ byte ∷ []) × (answer ≡ protocol_not_supported)
+-- What came after what stands whole is an exchange that was cut: a front of its message was taken, nothing was written, and its acts
+-- were cut.
+pub record IsCutIn (terms : Terms) (drawn : ℕ) (w : Whole) (tail : Course) (e : Exchange) : Type 0 where
+  pub next : IsNext terms drawn w e
+  pub later : List ℕ
+  pub message : taken_by e ≡ tail.taken ++ later
+  pub acts : IsCut (acts_by e) tail.acts
+  pub draws : tail.draws ≤ draws_by e
+  pub written : tail.written ≡ []
 
--- These bytes are a message that may follow, and are answered so.
-abbrev pub IsExchanged : Whole → List ℕ → List ℕ → Type 0
-IsExchanged w more answer = IsAtCode w × (count_of w < 2 ^ 28) × ((e : Exchange) × (more ≡ taken_by e) × (answer ≡ written_by e))
+-- A read failed in the next message, behind its first byte.
+abbrev pub IsCutByRead : Terms → ℕ → Whole → Course → Type 0
+IsCutByRead terms drawn w tail = (e : Exchange) × (cut : IsCutIn terms drawn w tail e) × (cut.acts.fails ≡ []) × (0 < length tail.taken) × (length tail.taken < length (taken_by e))
 
--- These bytes come next, and are answered so.
-abbrev pub IsAnswered : Setup → Whole → List ℕ → List ℕ → Type 0
-IsAnswered setup w more answer = IsAcknowledged setup w more answer ⊎ (((byte : ℕ) × IsRefused w more byte answer) ⊎ IsExchanged w more answer)
+-- There was no memory for the next exchange. Only one that does something beside taking and writing bytes takes any.
+abbrev pub IsCutByMemory : Terms → ℕ → Whole → Course → Type 0
+IsCutByMemory terms drawn w tail = (e : Exchange) × IsCutIn terms drawn w tail e × (0 < length (acts_by e) + draws_by e)
+
+-- What comes next is the header of the stream protocol and its acknowledgement.
+abbrev pub IsGreeting : Terms → Whole → Course → Type 0
+IsGreeting terms w c = (w ≡ nothing) × (c ≡ exchanged (header Stream) (protocol_ack terms.peer_host terms.peer_port))
+
+-- What comes next is a header with the byte of no protocol, and its refusal.
+abbrev pub IsRefused : Whole → ℕ → Course → Type 0
+IsRefused w byte c = (w ≡ nothing) × IsNoProtocol byte × (c ≡ exchanged (header_start ++ byte ∷ []) protocol_not_supported)
+
+-- What comes next is a whole exchange.
+abbrev pub IsExchanged : Terms → ℕ → Whole → Course → Type 0
+IsExchanged terms drawn w c = (e : Exchange) × IsNext terms drawn w e × (c ≡ course_by e)
+
+-- This comes next, with its answer.
+abbrev pub IsAnswered : Terms → ℕ → Whole → Course → Type 0
+IsAnswered terms drawn w c = IsGreeting terms w c ⊎ (((byte : ℕ) × IsRefused w byte c) ⊎ IsExchanged terms drawn w c)
 
 -- This byte is the code of a message that isn't served yet.
 abbrev pub IsUnbuilt : ℕ → Type 0
 IsUnbuilt byte = (byte ≡ code_byte Call) ⊎ (byte ≡ code_byte DgcAck)
 
--- Where each end stands: what stands whole, the bytes taken after it, what is left, and what was written.
-abbrev pub Ends : Setup → Whole → List ℕ → Option (List ℕ) → List ℕ → ConnEnd → Type 0
-Ends setup w more rest output Ended =
-    ((IsAtCode w × NothingLeft rest) ⊎ IsDone w) × (more ≡ []) × (output ≡ written_in setup w)
-Ends setup w more rest output (BadHeader at) =
-    (w ≡ nothing) × BreaksHeader at more × (output ≡ [])
-Ends setup w more rest output (UnknownProtocol byte) = IsRefused w more byte output
-Ends setup w more rest output (BadMessage byte at) =
-    IsAtCode w × ¬ IsCode byte × (more ≡ byte ∷ []) × (at ≡ length (taken_in w)) × (output ≡ written_in setup w)
-Ends setup w more rest output (Truncated at) =
-    IsInside w more × NothingLeft rest × (at ≡ length (taken_in w ++ more)) × (output ≡ written_in setup w)
-Ends setup w more rest output (NotBuilt byte at) =
-    IsAtCode w × (count_of w < 2 ^ 28) × IsUnbuilt byte × (more ≡ byte ∷ []) × (at ≡ length (taken_in w)) × (output ≡ written_in setup w)
-Ends setup w more rest output MessageLimit =
-    IsAtCode w × (count_of w ≡ 2 ^ 28) × ((byte : ℕ) × IsCode byte × (more ≡ byte ∷ [])) × (output ≡ written_in setup w)
-Ends setup w more rest output ReadFault =
-    (IsInside w more ⊎ (IsAtCode w × (more ≡ []))) × (output ≡ written_in setup w)
-Ends setup w more rest output (WriteFault sent) =
-    (answer : List ℕ) × IsAnswered setup w more answer
-    × ((part : ℕ) × (part < length answer) × (sent ≡ length (written_in setup w) + part) × (output ≡ written_in setup w ++ take part answer))
-Ends setup w more rest output OutOfMemory =
-    (w ≡ nothing) × ((more ≡ []) ⊎ (more ≡ header Stream)) × (output ≡ [])
+-- Where each end stands: what stands whole, what came after it, and what is left.
+abbrev pub Ends : Terms → ℕ → Whole → Course → Option (List ℕ) → ConnEnd → Type 0
+Ends terms drawn w tail rest Ended = ((IsAtCode w × NothingLeft rest) ⊎ IsDone w) × (tail ≡ took [])
+Ends terms drawn w tail rest (BadHeader at) = (w ≡ nothing) × ((more : List ℕ) × BreaksHeader at more × (tail ≡ took more))
+Ends terms drawn w tail rest (UnknownProtocol byte) = IsRefused w byte tail
+Ends terms drawn w tail rest (BadMessage byte at) =
+    IsAtCode w × ¬ IsCode byte × (at ≡ length (taken_in w)) × (tail ≡ took (byte ∷ []))
+Ends terms drawn w tail rest (Truncated at) =
+    (more : List ℕ) × IsInside w more × NothingLeft rest × (at ≡ length (taken_in w ++ more)) × (tail ≡ took more)
+Ends terms drawn w tail rest (NotBuilt byte at) =
+    IsAtCode w × (count_of w < 2 ^ 28) × IsUnbuilt byte × (at ≡ length (taken_in w)) × (tail ≡ took (byte ∷ []))
+Ends terms drawn w tail rest MessageLimit =
+    IsAtCode w × (count_of w ≡ 2 ^ 28) × ((byte : ℕ) × IsCode byte × (tail ≡ took (byte ∷ [])))
+Ends terms drawn w tail rest ReadFault =
+    ((more : List ℕ) × (IsInside w more ⊎ (IsAtCode w × (more ≡ []))) × (tail ≡ took more)) ⊎ IsCutByRead terms drawn w tail
+Ends terms drawn w tail rest (WriteFault sent) =
+    (c : Course) × (part : ℕ) × IsAnswered terms drawn w c × (part < length c.written)
+    × (sent ≡ length (written_in terms w) + part) × (tail ≡ record c { written = take part c.written })
+Ends terms drawn w tail rest OutOfMemory =
+    ((more : List ℕ) × (w ≡ nothing) × ((more ≡ []) ⊎ (more ≡ header Stream)) × (tail ≡ took more)) ⊎ IsCutByMemory terms drawn w tail
 
--- The dialogue: what stands whole, and the end after it.
-abbrev pub Dialogue : Setup → List ℕ → Option (List ℕ) → List ℕ → ConnEnd → Type 0
-Dialogue setup taken rest output end =
-    (w : Whole) × (more : List ℕ) × IsWhole w × (taken ≡ taken_in w ++ more) × Ends setup w more rest output end
+-- The dialogue: what stands whole, what came after it, and the end.
+abbrev pub Dialogue : Terms → ℕ → Course → Option (List ℕ) → ConnEnd → Type 0
+Dialogue terms drawn c rest end =
+    (w : Whole) × (tail : Course) × IsWhole terms drawn w × (c ≡ followed_by (course_in terms w) tail) × Ends terms drawn w tail rest end

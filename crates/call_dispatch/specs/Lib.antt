@@ -1,4 +1,11 @@
+pub mod Terms
+pub mod Acts
+pub mod Spot
+pub mod Faults
+pub mod Rows
 pub mod End
 pub mod Dialogue
+pub mod Tape
+pub mod Laws
 pub mod Progress
 pub mod Words

@@ -1,57 +1,65 @@
 -- How far a connection has come, for the functions that serve it step by step.
 use Rattle.std.specs.Prelude.{◌≡◌, ℕ, ◌+◌, ◌<◌, ◌^◌, List, [], ◌∷◌, ◌++◌, length, take, Option, Some, Result, Ok, Err}
-use Rattle.wire_io.specs.Wire.{with_front, with_end}
+use Rattle.wire_io.specs.Wire.{with_end}
 use Rattle.wire_io.specs.declared.pull.PullEnd.TheVariants.{End, Limit, ReadFault, OutOfMemory}
 use Rattle.jrmp_frames.specs.declared.fault.FrameFault.{FrameFault}
 use Rattle.jrmp_frames.specs.declared.fault.FrameFault.TheVariants.{BadHeader, UnknownProtocol, BadMessage, Pull}
 use Rattle.jrmp_frames.specs.declared.header.Protocol.{Protocol}
 use Rattle.jrmp_frames.specs.declared.header.Protocol.TheVariants.{Stream}
 use Rattle.jrmp_frames.specs.Frames.{header, protocol_not_supported}
-use Rattle.call_dispatch.specs.declared.setup.Setup.{Setup}
 use Rattle.call_dispatch.specs.declared.opening.Opened.{Opened}
+use Rattle.call_dispatch.specs.declared.outcome.Invocation.{Invocation}
+use Rattle.call_dispatch.specs.declared.outcome.Outcome.{Outcome}
 use Rattle.call_dispatch.specs.declared.end.ConnEnd.{ConnEnd}
 use Rattle.call_dispatch.specs.declared.end.ConnEnd.TheVariants as ends
 use Rattle.call_dispatch.specs.End.{IsSettled}
-use Rattle.call_dispatch.specs.Dialogue.{Opening, protocol_of, Exchange, Whole, opened, IsWhole, taken_in, written_in, IsAtCode, Dialogue}
+use Rattle.call_dispatch.specs.Terms.{Terms}
+use Rattle.call_dispatch.specs.Acts.{Call, States}
+use Rattle.call_dispatch.specs.Spot.{Spot, Course, took, Goes}
+use Rattle.call_dispatch.specs.Rows.{Exchange, IsOpen}
+use Rattle.call_dispatch.specs.Dialogue.{Opening, protocol_of, Whole, opened, IsWhole, taken_in, written_in, course_in, IsAtCode, Dialogue}
+use Rattle.call_dispatch.specs.Tape.{Tick, tape}
 
--- what a connection's source has left and its sink holds
-pub record Halves : Type 0 where
-  pub left : Option (List ℕ)
-  pub held : Option (List ℕ)
+-- The connection began at `start` and ended, and this course since is a dialogue.
+pub record Talks (may : Invocation → Outcome → Type 0) (moves : States → Call → States → Type 0) (terms : Terms) (start now : Spot) (c : Course) (end : ConnEnd) : Type 0 where
+  pub goes : Goes may moves start now c
+  pub dialogue : Dialogue terms start.drawn c now.wires.left end
 
--- the halves of a source and a sink
-abbrev pub halves : {S K : Type 0} → (S → Option (List ℕ)) → (K → Option (List ℕ)) → S → K → Halves
-halves left held source sink = record { left = left source; held = held sink }
+-- Where a settled dialogue stands for the input that was told, and the outside's answers in it begin as those that it gave here do, as far
+-- as both go, the connection went so, unless something outside failed.
+unfoldable pub Settles : Terms → Spot → Spot → Course → ConnEnd → Type 0
+Settles terms start now c result = (other : Course) (rest : List ℕ) (end : ConnEnd) (t t2 : List Tick)
+    → start.wires.left ≡ Some (other.taken ++ rest) → Dialogue terms start.drawn other (Some rest) end → IsSettled end → IsSettled result
+    → tape c.acts ++ t ≡ tape other.acts ++ t2
+    → (result ≡ end) × (c ≡ other) × (now.wires.left ≡ Some rest)
 
--- The connection began at `start` and ended, and what was taken and written since is a dialogue.
-abbrev pub Talks : Setup → Halves → Halves → ConnEnd → Type 0
-Talks setup start now end = (taken output : List ℕ) × (start.left ≡ with_front taken now.left) × (now.held ≡ with_end start.held output)
-    × Dialogue setup taken now.left output end
+-- The connection began at `start` and ended: what it took, did, drew and wrote since is a dialogue, and the one of its input and of
+-- what the outside answered.
+pub record Served (may : Invocation → Outcome → Type 0) (moves : States → Call → States → Type 0) (terms : Terms) (start now : Spot) (end : ConnEnd) : Type 0 where
+  pub course : Course
+  pub talks : Talks may moves terms start now course end
+  pub settles : Settles terms start now course end
 
--- Where a settled dialogue stands for the input that was told, the connection went so, unless something outside failed.
-unfoldable pub Settles : Setup → Halves → Halves → ConnEnd → Type 0
-Settles setup start now result = (taken rest output : List ℕ) (end : ConnEnd)
-    → start.left ≡ Some (taken ++ rest) → Dialogue setup taken (Some rest) output end → IsSettled end → IsSettled result
-    → (result ≡ end) × (now.left ≡ Some rest) × (now.held ≡ with_end start.held output)
+-- The connection began at `start` and ended in a dialogue.
+abbrev pub Talked : (Invocation → Outcome → Type 0) → (States → Call → States → Type 0) → Terms → Spot → Spot → ConnEnd → Type 0
+Talked may moves terms start now end = (c : Course) × Talks may moves terms start now c end
 
 -- The connection began at `start`, and now w stands whole: `at` bytes were taken and `sent` bytes written.
-pub record Stands (setup : Setup) (start now : Halves) (at sent : ℕ) (w : Whole) : Type 0 where
-  pub whole : IsWhole w
-  pub taken : start.left ≡ with_front (taken_in w) now.left
+pub record Stands (may : Invocation → Outcome → Type 0) (moves : States → Call → States → Type 0) (terms : Terms) (start now : Spot) (at sent : ℕ) (w : Whole) : Type 0 where
+  pub whole : IsWhole terms start.drawn w
+  pub goes : Goes may moves start now (course_in terms w)
   pub position : at ≡ length (taken_in w)
-  pub written : now.held ≡ with_end start.held (written_in setup w)
-  pub count : sent ≡ length (written_in setup w)
+  pub count : sent ≡ length (written_in terms w)
 
 -- An opening stands whole, as it is told; or the connection ended in it.
-abbrev pub Opens : Setup → Halves → Halves → ℕ → Result Opened ConnEnd → Type 0
-Opens setup start now at (Ok told) = (opening : Opening) × (protocol_of opening ≡ told.protocol) × (at < 2 ^ 17) × (told.sent < 2 ^ 17)
-    × Stands setup start now at told.sent (opened opening [])
-Opens setup start now at (Err end) = Talks setup start now end
+abbrev pub Opens : (Invocation → Outcome → Type 0) → (States → Call → States → Type 0) → Terms → Spot → Spot → ℕ → Result Opened ConnEnd → Type 0
+Opens may moves terms start now at (Ok told) = (opening : Opening) × (protocol_of opening ≡ told.protocol) × (at < 2 ^ 17) × (told.sent < 2 ^ 17)
+    × Stands may moves terms start now at told.sent (opened opening [])
+Opens may moves terms start now at (Err end) = Talked may moves terms start now end
 
 -- Wherever the header of the stream protocol was just taken, an opening comes to stand whole, or the connection ends in it.
-abbrev pub OpensStream : Setup → Halves → Halves → ℕ → Result Opened ConnEnd → Type 0
-OpensStream setup before now at result = (start : Halves) → start.left ≡ with_front (header Stream) before.left → before.held ≡ start.held
-    → Opens setup start now at result
+abbrev pub OpensStream : (Invocation → Outcome → Type 0) → (States → Call → States → Type 0) → Terms → Spot → Spot → ℕ → Result Opened ConnEnd → Type 0
+OpensStream may moves terms before now at result = (start : Spot) → Goes may moves start before (took (header Stream)) → Opens may moves terms start now at result
 
 -- What refusing the protocol with this byte does: the client is told, or that one byte can't be written.
 abbrev pub Refuses : ℕ → Option (List ℕ) → Option (List ℕ) → ConnEnd → Type 0
@@ -60,20 +68,21 @@ Refuses byte before after (ends.WriteFault sent) = (sent ≡ 0) × (after ≡ be
 Refuses byte before after _ = ⊥
 
 -- Wherever the connection began, its dialogue goes on from an opening of this protocol to the end.
-abbrev pub GoesOn : Protocol → Halves → Halves → ℕ → ℕ → ConnEnd → Type 0
-GoesOn protocol before now at sent end = (setup : Setup) (start : Halves) (opening : Opening) → protocol_of opening ≡ protocol
-    → Stands setup start before at sent (opened opening []) → Talks setup start now end
+abbrev pub GoesOn : (Invocation → Outcome → Type 0) → (States → Call → States → Type 0) → Terms → Protocol → Spot → Spot → ℕ → ℕ → ConnEnd → Type 0
+GoesOn may moves terms protocol before now at sent end = (start : Spot) (opening : Opening) → protocol_of opening ≡ protocol
+    → Stands may moves terms start before at sent (opened opening []) → Talked may moves terms start now end
 
--- A further exchange stands, or the connection ended.
-abbrev pub StepsTo : Setup → Halves → Halves → ℕ → Opening → List Exchange → Result ℕ ConnEnd → Type 0
-StepsTo setup start now at opening exchanges (Ok sent) = (e : Exchange) × Stands setup start now at sent (opened opening (exchanges ++ e ∷ []))
-StepsTo setup start now at opening exchanges (Err end) = Talks setup start now end
+-- A further exchange stands, after which the connection goes on; or the connection ended.
+abbrev pub StepsTo : (Invocation → Outcome → Type 0) → (States → Call → States → Type 0) → Terms → Spot → Spot → ℕ → Opening → List Exchange → Result ℕ ConnEnd → Type 0
+StepsTo may moves terms start now at opening exchanges (Ok sent) =
+    (e : Exchange) × IsOpen e × Stands may moves terms start now at sent (opened opening (exchanges ++ e ∷ []))
+StepsTo may moves terms start now at opening exchanges (Err end) = Talked may moves terms start now end
 
 -- Wherever the connection began and so many exchanges stand, one more exchange comes to stand, or the dialogue ends.
-abbrev pub Steps : Halves → Halves → ℕ → ℕ → ℕ → ℕ → Result ℕ ConnEnd → Type 0
-Steps before now at sent served at2 result = (setup : Setup) (start : Halves) (opening : Opening) (exchanges : List Exchange)
-    → length exchanges ≡ served → IsAtCode (opened opening exchanges) → Stands setup start before at sent (opened opening exchanges)
-    → StepsTo setup start now at2 opening exchanges result
+abbrev pub Steps : (Invocation → Outcome → Type 0) → (States → Call → States → Type 0) → Terms → Spot → Spot → ℕ → ℕ → ℕ → ℕ → Result ℕ ConnEnd → Type 0
+Steps may moves terms before now at sent served at2 result = (start : Spot) (opening : Opening) (exchanges : List Exchange)
+    → length exchanges ≡ served → IsAtCode (opened opening exchanges) → Stands may moves terms start before at sent (opened opening exchanges)
+    → StepsTo may moves terms start now at2 opening exchanges result
 
 -- What writing an answer after `sent` bytes does: it is written whole, or some front of it, and then the sink fails.
 abbrev pub Writes : Option (List ℕ) → Option (List ℕ) → ℕ → List ℕ → Result ℕ ConnEnd → Type 0

@@ -2,11 +2,21 @@
 #![tactic(auto)]
 
 mod answer;
+mod connection;
 pub mod end;
+pub mod laws;
 mod messages;
 mod opening;
+pub mod outcome;
 pub mod serve;
 pub mod setup;
 #[cfg(test)]
 mod tests;
 pub mod words;
+pub mod worker;
+
+pub use end::ConnEnd;
+pub use outcome::{Invocation, Outcome, OutcomeList};
+pub use serve::serve_connection;
+pub use setup::Setup;
+pub use worker::{SilentWorker, Worker};

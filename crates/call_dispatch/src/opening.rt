@@ -4,19 +4,21 @@ ghost use Rattle.wire_io.specs.Wire.{Rose};
 ghost use Rattle.mod_utf.specs.Utf.{utf};
 ghost use Rattle.jrmp_frames.specs.Frames.{header_start, IsNoProtocol, protocol_ack};
 ghost use Rattle.call_dispatch.specs.End.{IsWriteFault};
-ghost use Rattle.call_dispatch.specs.Progress.{halves, Opens, OpensStream, Refuses};
+ghost use Rattle.call_dispatch.specs.Faults.{counts_of, BlamesIn};
+ghost use Rattle.call_dispatch.specs.Spot.{spot_of, Stays};
+ghost use Rattle.call_dispatch.specs.Terms.{terms_of};
+ghost use Rattle.call_dispatch.specs.Progress.{Opens, OpensStream, Refuses};
 
 use crate::answer::write_answer;
+use crate::connection::Connection;
 use crate::end::{ConnEnd, end_of};
 use crate::setup::Setup;
-use jrmp_frames::endpoint::{ack_bytes, skip_endpoint};
-use jrmp_frames::fault::FrameFault;
-use jrmp_frames::header::{Protocol, read_header};
+use crate::worker::Worker;
+use jrmp_frames::{FrameFault, Protocol, ack_bytes, read_header, skip_endpoint};
 use mod_utf::list::ByteList;
+use space::Port;
 use std::alloc::{AllocError, Global};
-use wire_io::pull::Pull;
-use wire_io::sink::Sink;
-use wire_io::source::Source;
+use wire_io::{Clock, Sink, Source};
 
 /// How a connection was opened.
 #[derive(Clone, Copy)]
@@ -29,59 +31,51 @@ pub struct Opened {
 
 /// Serves the opening: the header, and in the stream protocol the acknowledgement and the client's endpoint. An unknown
 /// protocol is refused.
-pub fn open_connection<S: Source, K: Sink>(
+pub fn open_connection<S: Source, K: Sink, C: Clock, P: Port, W: Worker>(
     alloc: Global,
-    pull: &mut Pull<'_, S>,
-    sink: &mut K,
-    setup: &Setup,
+    connection: &mut Connection<S, K, C, P, W>,
 ) -> Result<Opened, ConnEnd>
-    requires host { length (utf setup.now.peer_host) ≤ 255 }
-    requires at { pull.old.at ≡ 0 }
-    requires stop { pull.old.stop ≡ 2 ^ 62 }
-    ensures opens { Opens setup.now (halves S.left K.held pull.old.source.now sink.old)
-        (halves S.left K.held pull.new.source.now sink.new) pull.new.at result }
-    ensures lent { pull.new.source.ghost_name ≡ pull.old.source.ghost_name }
-    ensures read_fault { result ≡ Err ConnEnd.ReadFault → Rose (S.faults pull.old.source.now) (S.faults pull.new.source.now) }
-    ensures write_fault { IfErr result (λ end. IsWriteFault end → Rose (K.faults sink.old) (K.faults sink.new)) }
-    ensures source_faults { S.faults pull.old.source.now ≤ S.faults pull.new.source.now }
-    ensures sink_faults { K.faults sink.old ≤ K.faults sink.new }
+    requires host { length (utf connection.old.setup.now.peer_host) ≤ 255 }
+    requires at { connection.old.pull.at ≡ 0 }
+    requires stop { connection.old.pull.stop ≡ 2 ^ 62 }
+    ensures opens { Opens W.may W.moves (terms_of connection.old.setup.now)
+        (spot_of S.left K.held C.given P.asked W.calls W.seen W.state connection.old)
+        (spot_of S.left K.held C.given P.asked W.calls W.seen W.state connection.new) connection.new.pull.at result }
+    ensures stays { Stays connection.old connection.new }
+    ensures blames { BlamesIn (counts_of S.faults K.faults connection.old) (counts_of S.faults K.faults connection.new) result }
 {
-    match read_header(pull) {
-        Ok(Protocol::Stream) => open_stream(alloc, pull, sink, setup),
+    match read_header(&mut connection.pull) {
+        Ok(Protocol::Stream) => open_stream(alloc, connection),
         Ok(Protocol::SingleOp) => Ok(Opened {
             protocol: Protocol::SingleOp,
             sent: 0,
         }),
         Err(fault) => match fault {
-            FrameFault::UnknownProtocol { byte } => Err(refuse(sink, byte)),
+            FrameFault::UnknownProtocol { byte } => Err(refuse(connection.sink, byte)),
             _ => Err(end_of(fault)),
         },
     }
 }
 
 /// Serves the opening of the stream protocol after its header.
-fn open_stream<S: Source, K: Sink>(
+fn open_stream<S: Source, K: Sink, C: Clock, P: Port, W: Worker>(
     alloc: Global,
-    pull: &mut Pull<'_, S>,
-    sink: &mut K,
-    setup: &Setup,
+    connection: &mut Connection<S, K, C, P, W>,
 ) -> Result<Opened, ConnEnd>
-    requires host { length (utf setup.now.peer_host) ≤ 255 }
-    requires at { pull.old.at ≡ 7 }
-    requires stop { pull.old.stop ≡ 2 ^ 62 }
-    ensures opens { OpensStream setup.now (halves S.left K.held pull.old.source.now sink.old)
-        (halves S.left K.held pull.new.source.now sink.new) pull.new.at result }
-    ensures lent { pull.new.source.ghost_name ≡ pull.old.source.ghost_name }
-    ensures read_fault { result ≡ Err ConnEnd.ReadFault → Rose (S.faults pull.old.source.now) (S.faults pull.new.source.now) }
-    ensures write_fault { IfErr result (λ end. IsWriteFault end → Rose (K.faults sink.old) (K.faults sink.new)) }
-    ensures source_faults { S.faults pull.old.source.now ≤ S.faults pull.new.source.now }
-    ensures sink_faults { K.faults sink.old ≤ K.faults sink.new }
+    requires host { length (utf connection.old.setup.now.peer_host) ≤ 255 }
+    requires at { connection.old.pull.at ≡ 7 }
+    requires stop { connection.old.pull.stop ≡ 2 ^ 62 }
+    ensures opens { OpensStream W.may W.moves (terms_of connection.old.setup.now)
+        (spot_of S.left K.held C.given P.asked W.calls W.seen W.state connection.old)
+        (spot_of S.left K.held C.given P.asked W.calls W.seen W.state connection.new) connection.new.pull.at result }
+    ensures stays { Stays connection.old connection.new }
+    ensures blames { BlamesIn (counts_of S.faults K.faults connection.old) (counts_of S.faults K.faults connection.new) result }
 {
-    let Ok(ack) = acknowledgement(alloc, setup) else {
+    let Ok(ack) = acknowledgement(alloc, connection.setup) else {
         return Err(ConnEnd::OutOfMemory);
     };
-    let sent = write_answer(sink, ack.as_slice(), 0)?;
-    match skip_endpoint(pull) {
+    let sent = write_answer(connection.sink, ack.as_slice(), 0)?;
+    match skip_endpoint(&mut connection.pull) {
         Ok(()) => Ok(Opened {
             protocol: Protocol::Stream,
             sent,

@@ -1,65 +1,97 @@
 //! Serving a connection from its opening to its end.
-ghost use Rattle.std.specs.Prelude.{◌≡◌, ◌≤◌, ◌^◌, length};
+ghost use Rattle.std.specs.Prelude.{◌≡◌, ◌≤◌, ◌<◌, ◌^◌, pos, ◌<ℤ◌, ◌++◌, List, length};
 ghost use Rattle.wire_io.specs.Wire.{Rose};
 ghost use Rattle.mod_utf.specs.Utf.{utf};
+ghost use Rattle.space.specs.Balance.{Balanced};
+ghost use Rattle.space.specs.declared.asked.Asked.{Asked};
 ghost use Rattle.call_dispatch.specs.End.{IsWriteFault};
-ghost use Rattle.call_dispatch.specs.Progress.{halves, Talks, Settles};
+ghost use Rattle.call_dispatch.specs.Faults.{counts_of, Blames};
+ghost use Rattle.call_dispatch.specs.Spot.{spot, spot_of, Stays};
+ghost use Rattle.call_dispatch.specs.Terms.{terms_of};
+ghost use Rattle.call_dispatch.specs.Progress.{Talked, Served};
 
+use crate::connection::Connection;
 use crate::end::ConnEnd;
 use crate::messages::serve_messages;
 use crate::opening::open_connection;
 use crate::setup::Setup;
+use crate::worker::Worker;
+use space::Port;
 use std::alloc::Global;
-use wire_io::pull::Pull;
-use wire_io::sink::Sink;
-use wire_io::source::Source;
+use wire_io::{Clock, Pull, Sink, Source};
 
-/// Serves a connection: the bytes of `source` are taken from its first to its end, and answered in `sink`.
+/// Serves a connection: the bytes of `source` are taken from its first to its end, and answered in `sink`. Turns are made at
+/// `port` at the moments of `clock`, and calls are done by `worker`. Today only Ping is served, which needs none of the three.
 ///
-/// Every answer is written, by one write where the sink takes it whole, before the next message's first byte is asked for.
-/// Nothing more is read after the end.
-#[tactic(auto, using(crate::proofs::OneReading::talks_settle))]
-pub fn serve_connection<S: Source, K: Sink>(
+/// Its conditions are those under which calls can be served: both hosts take at most 255 bytes as modified UTF, the port is between two
+/// calls, has room for 2^30 of them and shows no call running, the worker was invoked fewer than 2^61 times, and fewer than 2^64 identifiers
+/// were drawn, from a moment below 2^61 on.
+///
+/// No byte is taken but those of the dialogue, whose every answer is written before the next message is taken.
+pub fn serve_connection<S: Source, K: Sink, C: Clock, P: Port, W: Worker>(
     alloc: Global,
     source: &mut S,
     sink: &mut K,
-    setup: &Setup,
+    clock: &mut C,
+    port: &mut P,
+    worker: &mut W,
+    setup: &mut Setup,
 ) -> ConnEnd
-    requires { length (utf setup.now.peer_host) ≤ 255 }
+    requires peer_host { length (utf setup.old.peer_host) ≤ 255 }
+    requires host { length (utf setup.old.host) ≤ 255 }
+    requires time { setup.old.draw.time <ℤ pos (2 ^ 61) }
+    requires drawn { setup.old.draw.drawn < 2 ^ 64 }
+    requires ready { P.ready port.old }
+    requires room { 2 ^ 30 ≤ P.room_of port.old }
+    requires balanced { Balanced (P.asked port.old) }
+    requires calls { W.calls worker.old < 2 ^ 61 }
 
-    // What was taken and written stands in a dialogue with the end.
-    ensures dialogue { Talks setup.now (halves S.left K.held source.old sink.old) (halves S.left K.held source.new sink.new) result }
+    // What was taken, done, drawn and written is a dialogue with the end, and the only one of the input and of what the outside
+    // answered, unless something outside failed.
+    ensures dialogue { Served W.may W.moves (terms_of setup.old)
+        (spot S.left K.held C.given P.asked W.calls W.seen W.state source.old sink.old clock.old port.old worker.old setup.old)
+        (spot S.left K.held C.given P.asked W.calls W.seen W.state source.new sink.new clock.new port.new worker.new setup.new) result }
 
-    // Where a settled dialogue stands for the whole input, the connection went so, unless the outside failed.
-    ensures settles { Settles setup.now (halves S.left K.held source.old sink.old) (halves S.left K.held source.new sink.new) result }
+    // No call runs afterwards, and the port can be used on.
+    ensures balanced { (more : List Asked) × (P.asked port.new ≡ P.asked port.old ++ more) × Balanced more }
+    ensures ready { P.ready port.new }
+    ensures leads { P.leads port.old port.new }
+    ensures terms { terms_of setup.new ≡ terms_of setup.old }
+
+    // The outside's failures.
     ensures read_fault { result ≡ ConnEnd.ReadFault → Rose (S.faults source.old) (S.faults source.new) }
     ensures write_fault { IsWriteFault result → Rose (K.faults sink.old) (K.faults sink.new) }
     ensures source_faults { S.faults source.old ≤ S.faults source.new }
     ensures sink_faults { K.faults sink.old ≤ K.faults sink.new }
 {
-    let mut pull = Pull::new(source);
-    talk(alloc, &mut pull, sink, setup)
+    let pull = Pull::new(source);
+    let mut connection = Connection {
+        pull,
+        sink,
+        clock,
+        port,
+        worker,
+        setup,
+    };
+    talk(alloc, &mut connection)
 }
 
-/// Serves a connection from a Pull at its first byte.
-fn talk<S: Source, K: Sink>(
+/// Serves a connection from its first byte.
+fn talk<S: Source, K: Sink, C: Clock, P: Port, W: Worker>(
     alloc: Global,
-    pull: &mut Pull<'_, S>,
-    sink: &mut K,
-    setup: &Setup,
+    connection: &mut Connection<S, K, C, P, W>,
 ) -> ConnEnd
-    requires host { length (utf setup.now.peer_host) ≤ 255 }
-    requires at { pull.old.at ≡ 0 }
-    requires stop { pull.old.stop ≡ 2 ^ 62 }
-    ensures dialogue { Talks setup.now (halves S.left K.held pull.old.source.now sink.old) (halves S.left K.held pull.new.source.now sink.new) result }
-    ensures lent { pull.new.source.ghost_name ≡ pull.old.source.ghost_name }
-    ensures read_fault { result ≡ ConnEnd.ReadFault → Rose (S.faults pull.old.source.now) (S.faults pull.new.source.now) }
-    ensures write_fault { IsWriteFault result → Rose (K.faults sink.old) (K.faults sink.new) }
-    ensures source_faults { S.faults pull.old.source.now ≤ S.faults pull.new.source.now }
-    ensures sink_faults { K.faults sink.old ≤ K.faults sink.new }
+    requires host { length (utf connection.old.setup.now.peer_host) ≤ 255 }
+    requires at { connection.old.pull.at ≡ 0 }
+    requires stop { connection.old.pull.stop ≡ 2 ^ 62 }
+    ensures dialogue { Talked W.may W.moves (terms_of connection.old.setup.now)
+        (spot_of S.left K.held C.given P.asked W.calls W.seen W.state connection.old)
+        (spot_of S.left K.held C.given P.asked W.calls W.seen W.state connection.new) result }
+    ensures stays { Stays connection.old connection.new }
+    ensures blames { Blames (counts_of S.faults K.faults connection.old) (counts_of S.faults K.faults connection.new) result }
 {
-    match open_connection(alloc, pull, sink, setup) {
-        Ok(opened) => serve_messages(pull, sink, opened),
+    match open_connection(alloc, connection) {
+        Ok(opened) => serve_messages(connection, opened),
         Err(end) => end,
     }
 }

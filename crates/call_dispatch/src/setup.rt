@@ -1,11 +1,24 @@
 //! What a connection is told beforehand.
 use mod_utf::list::Units;
+use object_ids::UidDraw;
 
-/// What a connection is told beforehand.
+/// What a connection is told beforehand. Serving it draws identifiers, and changes nothing else of it.
 #[derive(Drop)]
 pub struct Setup {
+    /// The number of the connection.
+    pub by: u32,
     /// The client's host, as the server sees it.
     pub peer_host: Units,
     /// The client's port, as the server sees it.
     pub peer_port: i32,
+    /// The server's own host.
+    pub host: Units,
+    /// The server's own port.
+    pub port: i32,
+    /// Whether clients may bind names.
+    pub binding: bool,
+    /// Where identifiers come from.
+    pub draw: UidDraw,
+    /// What stands for the address of a client that names no virtual machine.
+    pub mark: [u8; 8],
 }

@@ -1,22 +1,31 @@
-use Rattle.std.proofs.Common.{◌∷◌, [], ◌++◌, ◌∙◌, arith, length-append}
+use Rattle.std.proofs.Common.{◌∷◌, [], ◌++◌, ap, Ok, Err, arith, length-append}
+use Rattle.call_dispatch.specs.Terms.{terms_of}
+use Rattle.call_dispatch.specs.Spot.{spot_of}
+use Rattle.call_dispatch.proofs.Steps.{goes_on_more}
 use Rattle.call_dispatch.proofs.MessageSteps.{stream_at_code}
+use Rattle.call_dispatch.proofs.Staying.{stays_on, grew_on, steps_on}
 use Rattle.call_dispatch.proofs.messages.serve_many.Goals as goal
 
 pub returns-in-Err-clause-goes_on : goal.returns-in-Err-clause-goes_on
-returns-in-Err-clause-goes_on g c setup start opening is stands =
-    let (exchanges, count, now) = c.loop-after.invariant.0 setup start opening is stands in
-    c.in-Err.ensures.steps setup start opening exchanges count (stream_at_code opening exchanges is) now
+returns-in-Err-clause-goes_on g c start opening is stands =
+    let (exchanges, count, goes, now) = c.loop-after.invariant.0 start opening is stands in
+    let steps = steps_on _ _ _ _ _
+    (spot_of g.S.Source.left g.K.Sink.held g.C.Clock.given g.P.Port.asked g.W.Worker.calls g.W.Worker.seen g.W.Worker.state c.serve_message.new.connection)
+    _ _ _ c.serve_message.new.connection.pull.at (Err c.in-Err.end) (ap terms_of c.loop-after.invariant.4.setup) c.in-Err.ensures.steps in
+    steps start opening exchanges count (stream_at_code opening exchanges is goes) now
 
 pub loop-after-preserved : goal.loop-after-preserved
 loop-after-preserved g c = (
-  (λ setup start opening is stands.
-      let (exchanges, count, now) = c.loop-after.invariant.0 setup start opening is stands in
-      let (e, after) = c.in-Ok.ensures.steps setup start opening exchanges count (stream_at_code opening exchanges is) now in
-      (exchanges ++ e ∷ [], omega (arith, length-append exchanges (e ∷ []), count), after)),
+  (λ start opening is stands.
+      let (exchanges, count, goes, now) = c.loop-after.invariant.0 start opening is stands in
+      let steps = steps_on _ _ _ _ _
+      (spot_of g.S.Source.left g.K.Sink.held g.C.Clock.given g.P.Port.asked g.W.Worker.calls g.W.Worker.seen g.W.Worker.state c.serve_message.new.connection)
+      _ _ _ c.serve_message.new.connection.pull.at (Ok c.in-Ok.after) (ap terms_of c.loop-after.invariant.4.setup) c.in-Ok.ensures.steps in
+      let (e, leaves, after) = steps start opening exchanges count (stream_at_code opening exchanges is goes) now in
+      (exchanges ++ e ∷ [], omega (arith, length-append exchanges (e ∷ []), count), goes_on_more exchanges e leaves, after)),
   omega (arith, c.in-Ok.ensures.going),
   omega (arith, c.in-Ok.ensures.most, c.loop-after.invariant.2),
   omega (arith, c.in-Ok.ensures.most, c.loop-after.invariant.3),
-  c.in-Ok.ensures.lent ∙ c.loop-after.invariant.4,
-  omega (arith, c.loop-after.invariant.5, c.in-Ok.ensures.source_faults),
-  omega (arith, c.loop-after.invariant.6, c.in-Ok.ensures.sink_faults),
+  stays_on _ _ _ c.loop-after.invariant.4 c.in-Ok.ensures.stays,
+  grew_on _ _ _ c.loop-after.invariant.5 c.in-Ok.ensures.blames,
 )

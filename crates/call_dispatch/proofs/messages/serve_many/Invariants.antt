@@ -1,22 +1,26 @@
 use Rattle.std.proofs.Common.{◌≡◌, ◌+◌, ◌*◌, ◌-◌, ◌^◌, ◌≤◌, List, [], length}
 use Rattle.jrmp_frames.specs.declared.header.Protocol.TheVariants.{Stream}
-use Rattle.call_dispatch.specs.declared.setup.Setup.{Setup}
-use Rattle.call_dispatch.specs.Dialogue.{Opening, protocol_of, Exchange, opened}
-use Rattle.call_dispatch.specs.Progress.{Halves, halves, Stands}
+use Rattle.call_dispatch.specs.Terms.{terms_of}
+use Rattle.call_dispatch.specs.Spot.{Spot, spot_of, Stays}
+use Rattle.call_dispatch.specs.Faults.{counts_of, Grew}
+use Rattle.call_dispatch.specs.Rows.{Exchange, GoOn}
+use Rattle.call_dispatch.specs.Dialogue.{Opening, protocol_of, opened}
+use Rattle.call_dispatch.specs.Progress.{Stands}
 use Rattle.call_dispatch.proofs.messages.serve_many.Given as goal
 
--- So many exchanges stand; each took and wrote at most so much.
+-- So many exchanges stand, and the connection goes on; each took and wrote at most so much.
 abbrev pub invariant-loop-after : goal.invariant-loop-after
-invariant-loop-after g l = ((setup : Setup) (start : Halves) (opening : Opening) → protocol_of opening ≡ Stream
-    → Stands setup start (halves g.S.Source.left g.K.Sink.held l.initial.pull.source.now l.initial.sink) l.initial.pull.at l.before (opened opening [])
-    → (exchanges : List Exchange) × (length exchanges ≡ l.served)
-    × Stands setup start (halves g.S.Source.left g.K.Sink.held l.pull.source.now l.sink) l.pull.at l.sent (opened opening exchanges))
+invariant-loop-after g l = ((start : Spot) (opening : Opening) → protocol_of opening ≡ Stream
+    → Stands g.W.Worker.may g.W.Worker.moves (terms_of l.initial.connection.setup.now) start
+    (spot_of g.S.Source.left g.K.Sink.held g.C.Clock.given g.P.Port.asked g.W.Worker.calls g.W.Worker.seen g.W.Worker.state l.initial.connection) l.initial.connection.pull.at l.before (opened opening [])
+    → (exchanges : List Exchange) × (length exchanges ≡ l.served) × GoOn exchanges
+    × Stands g.W.Worker.may g.W.Worker.moves (terms_of l.initial.connection.setup.now) start
+    (spot_of g.S.Source.left g.K.Sink.held g.C.Clock.given g.P.Port.asked g.W.Worker.calls g.W.Worker.seen g.W.Worker.state l.connection) l.connection.pull.at l.sent (opened opening exchanges))
     × (l.served ≤ 2 ^ 28)
-    × (l.pull.at ≤ l.initial.pull.at + 2 ^ 24 * l.served)
+    × (l.connection.pull.at ≤ l.initial.connection.pull.at + 2 ^ 24 * l.served)
     × (l.sent ≤ l.before + 2 ^ 30 * l.served)
-    × (l.pull.source.ghost_name ≡ l.initial.pull.source.ghost_name)
-    × (g.S.Source.faults l.initial.pull.source.now ≤ g.S.Source.faults l.pull.source.now)
-    × (g.K.Sink.faults l.initial.sink ≤ g.K.Sink.faults l.sink)
+    × Stays l.initial.connection l.connection
+    × Grew (counts_of g.S.Source.faults g.K.Sink.faults l.initial.connection) (counts_of g.S.Source.faults g.K.Sink.faults l.connection)
 
 abbrev pub decreases-loop-after : goal.decreases-loop-after
 decreases-loop-after g l = 2 ^ 28 - l.served

@@ -1,46 +1,46 @@
 use Rattle.std.proofs.Common.{◌+◌, ◌∙◌, sym, ap, refl, arith, [], inl, inr}
-use Rattle.call_dispatch.specs.Dialogue.{opened, ping}
+use Rattle.call_dispatch.specs.Dialogue.{opened}
 use Rattle.call_dispatch.specs.declared.end.ConnEnd.TheVariants as ends
-use Rattle.call_dispatch.proofs.Steps.{talks_after}
-use Rattle.call_dispatch.proofs.MessageSteps.{code_ends, code_in_limit, answered_steps}
+use Rattle.call_dispatch.proofs.Steps.{talks_took}
+use Rattle.call_dispatch.proofs.MessageSteps.{code_ends, code_in_limit, ping_steps}
 use Rattle.call_dispatch.proofs.messages.serve_message.Goals as goal
 
 pub returns-in-Ok-None-clause-steps : goal.returns-in-Ok-None-clause-steps
-returns-in-Ok-None-clause-steps g c setup start opening exchanges count code stands =
+returns-in-Ok-None-clause-steps g c start opening exchanges count code stands =
     let gives = rw c.in-Ok-None.field-0-is at c.in-Ok-None.ensures.gives in
-    talks_after setup start _ _ _ _ (opened opening exchanges) [] ends.Ended stands (ap g.S.Source.left (sym c.mark.ensures.source) ∙ gives.0.left) refl
-    (inl (code, gives.1), refl, refl)
+    talks_took _ _ _ start _ _ _ _ (opened opening exchanges) [] ends.Ended stands (ap g.S.Source.left (sym c.mark.ensures.source) ∙ gives.0.left) refl refl refl
+    (inl (code, gives.1), refl)
 
 pub end_of-requires : goal.end_of-requires
 end_of-requires g c = code_in_limit _ _ c.in-Err.fault (omega (arith, c.mark.ensures.at, c.mark.ensures.stop, c.requires.at)) c.in-Err.ensures.gives
 
 pub returns-in-Err-clause-steps : goal.returns-in-Err-clause-steps
-returns-in-Err-clause-steps g c setup start opening exchanges count code stands =
+returns-in-Err-clause-steps g c start opening exchanges count code stands =
     let moved = rw (← c.mark.ensures.source, ← c.mark.ensures.at) at stands in
-    rw c.end_of.ensures (code_ends setup start _ _ _ _ (opened opening exchanges) c.in-Err.fault moved code
+    rw c.end_of.ensures (code_ends _ _ _ start _ _ _ _ _ _ (opened opening exchanges) c.in-Err.fault moved code
     (omega (arith, c.mark.ensures.at, c.mark.ensures.stop, c.requires.at)) c.in-Err.ensures.gives)
 
 pub returns-then-served-eq-MESSAGES-clause-steps : goal.returns-then-served-eq-MESSAGES-clause-steps
-returns-then-served-eq-MESSAGES-clause-steps g c setup start opening exchanges count code stands =
+returns-then-served-eq-MESSAGES-clause-steps g c start opening exchanges count code stands =
     let gives = rw c.in-Ok-Some.field-0-is at c.in-Ok-Some.ensures.gives in
-    talks_after setup start _ _ _ _ (opened opening exchanges) _ ends.MessageLimit stands (ap g.S.Source.left (sym c.mark.ensures.source) ∙ gives.left) refl
-    (code, count ∙ c.if-served-eq-MESSAGES.true, (_, (c.in-Ok-Some.code, refl), refl), refl)
+    talks_took _ _ _ start _ _ _ _ (opened opening exchanges) _ ends.MessageLimit stands (ap g.S.Source.left (sym c.mark.ensures.source) ∙ gives.left) refl refl refl
+    (code, count ∙ c.if-served-eq-MESSAGES.true, (_, (c.in-Ok-Some.code, refl), refl))
 
 pub returns-in-Ping-clause-steps : goal.returns-in-Ping-clause-steps
-returns-in-Ping-clause-steps g c setup start opening exchanges count code stands =
+returns-in-Ping-clause-steps g c start opening exchanges count code stands =
     let gives = rw c.in-Ping.is at (rw c.in-Ok-Some.field-0-is at c.in-Ok-Some.ensures.gives) in
-    answered_steps setup start _ _ _ _ _ opening exchanges ping c.write_answer.result stands code
-    (omega (arith, count, c.requires.served, c.if-served-eq-MESSAGES.false)) (ap g.S.Source.left (sym c.mark.ensures.source) ∙ gives.left)
+    ping_steps _ _ _ start _ _ _ _ _ opening exchanges c.write_answer.result stands code
+    (omega (arith, count, c.requires.served, c.if-served-eq-MESSAGES.false)) (ap g.S.Source.left (sym c.mark.ensures.source) ∙ gives.left) refl refl
     (gives.at ∙ ap (λ n. n + 1) c.mark.ensures.at) c.write_answer.ensures.writes
 
 pub returns-in-Call-clause-steps : goal.returns-in-Call-clause-steps
-returns-in-Call-clause-steps g c setup start opening exchanges count code stands =
+returns-in-Call-clause-steps g c start opening exchanges count code stands =
     let gives = rw c.in-Call.is at (rw c.in-Ok-Some.field-0-is at c.in-Ok-Some.ensures.gives) in
-    talks_after setup start _ _ _ _ (opened opening exchanges) _ (ends.NotBuilt _ _) stands (ap g.S.Source.left (sym c.mark.ensures.source) ∙ gives.left) refl
-    (code, omega (arith, count, c.requires.served, c.if-served-eq-MESSAGES.false), inl refl, refl, c.mark.ensures.at ∙ stands.position, refl)
+    talks_took _ _ _ start _ _ _ _ (opened opening exchanges) _ (ends.NotBuilt _ _) stands (ap g.S.Source.left (sym c.mark.ensures.source) ∙ gives.left) refl refl refl
+    (code, omega (arith, count, c.requires.served, c.if-served-eq-MESSAGES.false), inl refl, c.mark.ensures.at ∙ stands.position, refl)
 
 pub returns-in-DgcAck-clause-steps : goal.returns-in-DgcAck-clause-steps
-returns-in-DgcAck-clause-steps g c setup start opening exchanges count code stands =
+returns-in-DgcAck-clause-steps g c start opening exchanges count code stands =
     let gives = rw c.in-DgcAck.is at (rw c.in-Ok-Some.field-0-is at c.in-Ok-Some.ensures.gives) in
-    talks_after setup start _ _ _ _ (opened opening exchanges) _ (ends.NotBuilt _ _) stands (ap g.S.Source.left (sym c.mark.ensures.source) ∙ gives.left) refl
-    (code, omega (arith, count, c.requires.served, c.if-served-eq-MESSAGES.false), inr refl, refl, c.mark.ensures.at ∙ stands.position, refl)
+    talks_took _ _ _ start _ _ _ _ (opened opening exchanges) _ (ends.NotBuilt _ _) stands (ap g.S.Source.left (sym c.mark.ensures.source) ∙ gives.left) refl refl refl
+    (code, omega (arith, count, c.requires.served, c.if-served-eq-MESSAGES.false), inr refl, c.mark.ensures.at ∙ stands.position, refl)

@@ -6,34 +6,34 @@ use Rattle.call_dispatch.proofs.OpeningSteps.{memory_ends, ack_short, endpoint_s
 use Rattle.call_dispatch.proofs.opening.open_stream.Goals as goal
 
 pub returns-in_default-clause-opens : goal.returns-in_default-clause-opens
-returns-in_default-clause-opens g c start taken held = memory_ends c.args.setup.now start _ taken held
+returns-in_default-clause-opens g c start goes = memory_ends _ _ _ start _ goes
 
 pub returns-in_err-sent-clause-opens : goal.returns-in_err-sent-clause-opens
-returns-in_err-sent-clause-opens g c start taken held =
-    let bytes : c.as_slice.result.now ≡ protocol_ack c.args.setup.now.peer_host c.args.setup.now.peer_port = c.as_slice.ensures ∙ c.in-Ok.ensures in
+returns-in_err-sent-clause-opens g c start goes =
+    let bytes : c.as_slice.result.now ≡ protocol_ack c.args.connection.now.setup.now.peer_host c.args.connection.now.setup.now.peer_port = c.as_slice.ensures ∙ c.in-Ok.ensures in
     let writes = rw bytes at c.in_err-sent.ensures.writes in
     let p = err_from_is_err_and c.from_residual.result c.from_residual.ensures.1 in
-    rw (p.1, p.2) (greeting_cut c.args.setup.now start _ _ _ taken held refl writes)
+    rw (p.1, p.2) (greeting_cut _ _ _ start _ _ _ goes refl refl refl writes)
 
 pub returns-in-Ok-skip_endpoint-clause-opens : goal.returns-in-Ok-skip_endpoint-clause-opens
-returns-in-Ok-skip_endpoint-clause-opens g c start taken held =
-    let bytes : c.as_slice.result.now ≡ protocol_ack c.args.setup.now.peer_host c.args.setup.now.peer_port = c.as_slice.ensures ∙ c.in-Ok.ensures in
+returns-in-Ok-skip_endpoint-clause-opens g c start goes =
+    let bytes : c.as_slice.result.now ≡ protocol_ack c.args.connection.now.setup.now.peer_host c.args.connection.now.setup.now.peer_port = c.as_slice.ensures ∙ c.in-Ok.ensures in
     let writes = rw bytes at c.in_ok-sent.ensures.writes in
-    let greets = stands_greeted c.args.setup.now start _ _ _ _ taken held c.requires.at refl writes in
+    let greets = stands_greeted _ _ _ start _ _ _ _ goes c.requires.at refl refl refl writes in
     let (endpoint, is, rest) = c.in-Ok-skip_endpoint.ensures.gives in (
       stream endpoint,
       refl,
       omega (arith, rest.at, c.requires.at, endpoint_short endpoint is),
-      omega (arith, writes.1, ack_short c.args.setup.now.peer_host c.args.setup.now.peer_port, c.requires.host),
-      stands_opened c.args.setup.now start _ _ _ _ endpoint greets rest is,
+      omega (arith, writes.1, ack_short c.args.connection.now.setup.now.peer_host c.args.connection.now.setup.now.peer_port, c.requires.host),
+      stands_opened _ _ _ start _ _ _ _ _ _ endpoint greets rest is,
     )
 
 pub end_of-requires : goal.end_of-requires
 end_of-requires g c = endpoint_in_limit _ _ c.in-Err.fault (omega (arith, c.requires.at, c.requires.stop)) c.in-Err.ensures.gives
 
 pub returns-clause-opens : goal.returns-clause-opens
-returns-clause-opens g c start taken held =
-    let bytes : c.as_slice.result.now ≡ protocol_ack c.args.setup.now.peer_host c.args.setup.now.peer_port = c.as_slice.ensures ∙ c.in-Ok.ensures in
+returns-clause-opens g c start goes =
+    let bytes : c.as_slice.result.now ≡ protocol_ack c.args.connection.now.setup.now.peer_host c.args.connection.now.setup.now.peer_port = c.as_slice.ensures ∙ c.in-Ok.ensures in
     let writes = rw bytes at c.in_ok-sent.ensures.writes in
-    let greets = stands_greeted c.args.setup.now start _ _ _ _ taken held c.requires.at refl writes in
-    rw c.end_of.ensures (endpoint_ends c.args.setup.now start _ _ _ _ c.in-Err.fault greets (omega (arith, c.requires.at, c.requires.stop)) c.in-Err.ensures.gives)
+    let greets = stands_greeted _ _ _ start _ _ _ _ goes c.requires.at refl refl refl writes in
+    rw c.end_of.ensures (endpoint_ends _ _ _ start _ _ _ _ _ _ c.in-Err.fault greets (omega (arith, c.requires.at, c.requires.stop)) c.in-Err.ensures.gives)

@@ -1,20 +1,10 @@
 //! The program `rmi`.
 #![tactic(auto)]
 
-mod end;
-mod host;
-mod journal_input;
-mod replay;
-mod run;
-mod stream_input;
-mod words;
-
-use host::Host;
-use run::run;
+use rmi_cli::{Host, Words, run};
 use std::process::ExitCode;
 use std::{env, io};
 use wire_io::edge::{StdSink, StdSource};
-use words::Words;
 
 fn main(rt: HostRuntime) -> io::Result<ExitCode> {
     let alloc = rt.alloc();
@@ -26,12 +16,3 @@ fn main(rt: HostRuntime) -> io::Result<ExitCode> {
     };
     Ok(ExitCode::from(run(alloc, &words, &mut host)))
 }
-
-#[cfg(test)]
-mod end_tests;
-#[cfg(test)]
-mod replay_tests;
-#[cfg(test)]
-mod show_tests;
-#[cfg(test)]
-mod tests;

@@ -1,0 +1,40 @@
+-- What steps leave as it was, one after another.
+use Rattle.std.proofs.Common.{◌≡◌, ℕ, Result, subst, ◌∙◌, arith}
+use Rattle.call_dispatch.specs.declared.connection.Connection.{Connection}
+use Rattle.call_dispatch.specs.declared.outcome.Invocation.{Invocation}
+use Rattle.call_dispatch.specs.declared.outcome.Outcome.{Outcome}
+use Rattle.call_dispatch.specs.declared.end.ConnEnd.{ConnEnd}
+use Rattle.call_dispatch.specs.Terms.{Terms}
+use Rattle.call_dispatch.specs.Acts.{Call, States}
+use Rattle.call_dispatch.specs.Spot.{Spot, Stays}
+use Rattle.call_dispatch.specs.Faults.{Counts, Grew}
+use Rattle.jrmp_frames.specs.declared.header.Protocol.{Protocol}
+use Rattle.call_dispatch.specs.Progress.{GoesOn, Steps}
+
+pub stays_on : {S K C P W : Type 0} (a b c : Connection S K C P W) → Stays a b → Stays b c → Stays a c
+stays_on a b c first then = record {
+  source_lent = then.source_lent ∙ first.source_lent;
+  sink_lent = then.sink_lent ∙ first.sink_lent;
+  clock_lent = then.clock_lent ∙ first.clock_lent;
+  port_lent = then.port_lent ∙ first.port_lent;
+  worker_lent = then.worker_lent ∙ first.worker_lent;
+  setup_lent = then.setup_lent ∙ first.setup_lent;
+  clock = then.clock ∙ first.clock;
+  port = then.port ∙ first.port;
+  worker = then.worker ∙ first.worker;
+  setup = then.setup ∙ first.setup;
+}
+
+pub grew_on : (a b c : Counts) → Grew a b → Grew b c → Grew a c
+grew_on a b c first then = record { source = omega (arith, first.source, then.source); sink = omega (arith, first.sink, then.sink) }
+
+-- The terms of a step are those of its connection's beginning.
+pub steps_on : (may : Invocation → Outcome → Type 0) (moves : States → Call → States → Type 0) (terms first : Terms) (before now : Spot) (at sent served at2 : ℕ) (result : Result ℕ ConnEnd)
+    → terms ≡ first → Steps may moves terms before now at sent served at2 result → Steps may moves first before now at sent served at2 result
+steps_on may moves terms first before now at sent served at2 result same steps =
+    let P : Terms → Type 0 = λ t. Steps may moves t before now at sent served at2 result in subst P same steps
+
+pub goes_on_terms : (may : Invocation → Outcome → Type 0) (moves : States → Call → States → Type 0) (terms first : Terms) (protocol : Protocol) (before now : Spot) (at sent : ℕ) (end : ConnEnd)
+    → terms ≡ first → GoesOn may moves terms protocol before now at sent end → GoesOn may moves first protocol before now at sent end
+goes_on_terms may moves terms first protocol before now at sent end same goes =
+    let P : Terms → Type 0 = λ t. GoesOn may moves t protocol before now at sent end in subst P same goes

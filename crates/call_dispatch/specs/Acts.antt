@@ -1,0 +1,80 @@
+-- What a connection does beside taking and writing bytes: turns of the space and calls of the worker, in their order.
+use Rattle.std.specs.Prelude.{◌≡◌, ℕ, ◌+◌, ℤ, List, [], ◌∷◌, ◌++◌, length, Option, None, Some}
+use Rattle.std.specs.List.{flat_map}
+use Rattle.wire_io.specs.Wire.{Gave}
+use Rattle.object_ids.specs.declared.ids.ObjId.{ObjId}
+use Rattle.space.specs.declared.asked.Asked.{Asked}
+use Rattle.call_dispatch.specs.declared.outcome.Invocation.{Invocation}
+use Rattle.call_dispatch.specs.declared.outcome.Outcome.{Outcome}
+
+-- a call of a worker: an invocation with its outcome, or an object of which it was told that nobody refers to it
+pub data Call : Type 0 where
+  invokes : Invocation → Outcome → Call
+  unreferenced : ObjId → Call
+
+-- a turn with its entry; a turn for which there was no memory, at its moment; a call of the worker
+pub data Act : Type 0 where
+  asks : Asked → Act
+  lost : ℕ → Act
+  called : Call → Act
+
+abbrev pub entries : Act → List Asked
+entries (asks entry) = entry ∷ []
+entries _ = []
+
+abbrev pub moments : Act → List ℕ
+moments (asks entry) = entry.moment ∷ []
+moments (lost moment) = moment ∷ []
+moments (called call) = []
+
+abbrev pub calls : Act → List Call
+calls (called call) = call ∷ []
+calls _ = []
+
+abbrev pub invocations : Call → List Invocation
+invocations (invokes call outcome) = call ∷ []
+invocations (unreferenced object) = []
+
+-- what a worker keeps: numbers of objects
+abbrev pub States : Type 0
+States = List (ObjId × ℤ)
+
+-- What a worker tells grows by these calls, or it tells nothing more.
+abbrev pub Tells : Option (List Call) → List Call → Option (List Call) → Type 0
+Tells before more None = Unit {0}
+Tells None more (Some after) = ⊥
+Tells (Some before) more (Some after) = after ≡ before ++ more
+
+-- These calls lead from a state to a state, one after the other.
+abbrev pub Moves : (States → Call → States → Type 0) → States → List Call → States → Type 0
+Moves moves before [] after = after ≡ before
+Moves moves before (call ∷ more) after = (mid : States) × moves before call mid × Moves moves mid more after
+
+-- The same where the states are told.
+abbrev pub Leads : (States → Call → States → Type 0) → Option States → List Call → Option States → Type 0
+Leads moves before more None = Unit {0}
+Leads moves None more (Some after) = ⊥
+Leads moves (Some before) more (Some after) = Moves moves before more after
+
+-- Each invocation has an outcome that it may have.
+abbrev pub MayAll : (Invocation → Outcome → Type 0) → List Call → Type 0
+MayAll may [] = Unit {0}
+MayAll may (invokes call outcome ∷ more) = may call outcome × MayAll may more
+MayAll may (unreferenced object ∷ more) = MayAll may more
+
+-- what the port, the clock and the worker of a connection show
+pub record Side : Type 0 where
+  pub asked : List Asked
+  pub given : Option (List ℕ)
+  pub invoked : ℕ
+  pub seen : Option (List Call)
+  pub state : Option States
+
+-- These acts lead from what was shown to what is shown.
+pub record Led (may : Invocation → Outcome → Type 0) (moves : States → Call → States → Type 0) (before after : Side) (acts : List Act) : Type 0 where
+  pub asked : after.asked ≡ before.asked ++ flat_map entries acts
+  pub given : Gave before.given after.given (flat_map moments acts)
+  pub invoked : after.invoked ≡ before.invoked + length (flat_map invocations (flat_map calls acts))
+  pub may_all : MayAll may (flat_map calls acts)
+  pub seen : Tells before.seen (flat_map calls acts) after.seen
+  pub state : Leads moves before.state (flat_map calls acts) after.state

@@ -1,0 +1,69 @@
+-- Where a connection stands, and what leads from there on.
+use Rattle.std.specs.Prelude.{◌≡◌, ℕ, ◌+◌, List, [], ◌++◌, Option}
+use Rattle.wire_io.specs.Wire.{Wires, with_front, with_end}
+use Rattle.space.specs.declared.asked.Asked.{Asked}
+use Rattle.call_dispatch.specs.declared.setup.Setup.{Setup}
+use Rattle.call_dispatch.specs.declared.connection.Connection.{Connection}
+use Rattle.call_dispatch.specs.declared.outcome.Invocation.{Invocation}
+use Rattle.call_dispatch.specs.declared.outcome.Outcome.{Outcome}
+use Rattle.call_dispatch.specs.Acts.{Act, Call, States, Side, Led}
+
+-- the place of a connection: its wires, what its port, clock and worker show, and how many identifiers were drawn
+pub record Spot : Type 0 where
+  pub wires : Wires
+  pub side : Side
+  pub drawn : ℕ
+
+-- the place of what a connection is served with, by what each shows
+abbrev pub spot : {S K C P W : Type 0} → (S → Option (List ℕ)) → (K → Option (List ℕ)) → (C → Option (List ℕ)) → (P → List Asked)
+    → (W → ℕ) → (W → Option (List Call)) → (W → Option States) → S → K → C → P → W → Setup → Spot
+spot left held given asked invoked seen state source sink clock port worker setup = record {
+  wires = record { left = left source; held = held sink };
+  side = record { asked = asked port; given = given clock; invoked = invoked worker; seen = seen worker; state = state worker };
+  drawn = setup.draw.drawn;
+}
+
+-- the place of a connection
+abbrev pub spot_of : {S K C P W : Type 0} → (S → Option (List ℕ)) → (K → Option (List ℕ)) → (C → Option (List ℕ)) → (P → List Asked)
+    → (W → ℕ) → (W → Option (List Call)) → (W → Option States) → Connection S K C P W → Spot
+spot_of left held given asked invoked seen state c =
+    spot left held given asked invoked seen state c.pull.source.now c.sink.now c.clock.now c.port.now c.worker.now c.setup.now
+
+-- what a connection took, did, drew and wrote
+pub record Course : Type 0 where
+  pub taken : List ℕ
+  pub acts : List Act
+  pub draws : ℕ
+  pub written : List ℕ
+
+-- these bytes were taken, and those written; nothing else was done
+abbrev pub exchanged : List ℕ → List ℕ → Course
+exchanged taken written = record { taken = taken; acts = []; draws = 0; written = written }
+
+-- these bytes were taken
+abbrev pub took : List ℕ → Course
+took taken = exchanged taken []
+
+-- one course, and then another
+abbrev pub followed_by : Course → Course → Course
+followed_by a b = record { taken = a.taken ++ b.taken; acts = a.acts ++ b.acts; draws = a.draws + b.draws; written = a.written ++ b.written }
+
+-- This course leads from a place to a place.
+pub record Goes (may : Invocation → Outcome → Type 0) (moves : States → Call → States → Type 0) (before after : Spot) (c : Course) : Type 0 where
+  pub left : before.wires.left ≡ with_front c.taken after.wires.left
+  pub held : after.wires.held ≡ with_end before.wires.held c.written
+  pub led : Led may moves before.side after.side c.acts
+  pub drawn : after.drawn ≡ before.drawn + c.draws
+
+-- A step borrows the same things before and after, and leaves the clock, the port, the worker and the setup as they were.
+pub record Stays {S K C P W : Type 0} (old new : Connection S K C P W) : Type 0 where
+  pub source_lent : new.pull.source.ghost_name ≡ old.pull.source.ghost_name
+  pub sink_lent : new.sink.ghost_name ≡ old.sink.ghost_name
+  pub clock_lent : new.clock.ghost_name ≡ old.clock.ghost_name
+  pub port_lent : new.port.ghost_name ≡ old.port.ghost_name
+  pub worker_lent : new.worker.ghost_name ≡ old.worker.ghost_name
+  pub setup_lent : new.setup.ghost_name ≡ old.setup.ghost_name
+  pub clock : new.clock.now ≡ old.clock.now
+  pub port : new.port.now ≡ old.port.now
+  pub worker : new.worker.now ≡ old.worker.now
+  pub setup : new.setup.now ≡ old.setup.now

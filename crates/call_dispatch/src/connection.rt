@@ -1,0 +1,20 @@
+//! What a connection is served with.
+use crate::setup::Setup;
+use wire_io::Pull;
+
+/// What a connection is served with: all of it is lent, and it owns no memory.
+#[derive(Drop)]
+pub struct Connection<'s, 'k, 'c, 'p, 'w, 'u, S, K, C, P, W> {
+    /// Where the client's bytes come from.
+    pub pull: Pull<'s, S>,
+    /// Where the answers go.
+    pub sink: &'k mut K,
+    /// What gives the moments of turns.
+    pub clock: &'c mut C,
+    /// Where turns are made.
+    pub port: &'p mut P,
+    /// Who does what calls ask for.
+    pub worker: &'w mut W,
+    /// What the connection is told beforehand, and how many identifiers were drawn.
+    pub setup: &'u mut Setup,
+}

@@ -1,0 +1,13 @@
+//! Laws of dialogues.
+ghost use Rattle.call_dispatch.specs.Laws.{NextIsOne, OneDialogue};
+
+/// Two exchanges that may come at one place, and begin one input and one list of the outside's answers, are one.
+#[tactic(auto, using(crate::proofs::OneReading::next_is_one))]
+pub fn next_is_one()
+    ensures { NextIsOne }
+{}
+
+/// An input and the answers of the outside have one settled dialogue.
+pub fn one_dialogue()
+    ensures { OneDialogue }
+{}

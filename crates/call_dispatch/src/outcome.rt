@@ -1,0 +1,40 @@
+//! What a worker is asked to do, and how that comes out.
+use jrmp_frames::Arguments;
+use mod_utf::list::{Sequence, Units};
+use object_ids::ObjId;
+use ser_values::{Graph, Value};
+
+/// A call of a method, as a worker gets it.
+#[derive(Debug, Drop)]
+pub struct Invocation {
+    /// The object whose method is called.
+    pub object: ObjId,
+    /// The object's kind, a place in the list of kinds.
+    pub kind: u32,
+    /// The method, a place in the list of the kind's methods.
+    pub method: u32,
+    /// What it is called with.
+    pub arguments: Arguments,
+}
+
+/// How an invocation came out.
+#[derive(Debug, Drop)]
+pub enum Outcome {
+    /// The method has no result.
+    Void,
+    /// A number, a character or a truth value.
+    Prim(Value),
+    /// A reference, as a graph whose one item it is.
+    Tree(Graph),
+    /// A new object of this kind.
+    NewRemote(u32),
+    /// An object that is exported, and its kind.
+    OldRemote(ObjId, u32),
+    /// An exception with this text.
+    Fault(Units),
+    /// There was no memory.
+    OutOfMemory,
+}
+
+/// A list of outcomes.
+pub type OutcomeList = Sequence<Outcome>;

@@ -1,0 +1,27 @@
+//! All that the program `rmi` does, over any input and output.
+#![tactic(auto)]
+
+mod end;
+mod host;
+mod journal_input;
+mod replay;
+mod run;
+mod stream_input;
+mod words;
+
+pub use end::RunEnd;
+pub use host::Host;
+pub use journal_input::JOURNAL_BYTES;
+pub use replay::{ReplayFault, replay};
+pub use run::{run, setup_of};
+pub use stream_input::STREAM_BYTES;
+pub use words::{Command, Words};
+
+#[cfg(test)]
+mod end_tests;
+#[cfg(test)]
+mod replay_tests;
+#[cfg(test)]
+mod show_tests;
+#[cfg(test)]
+mod tests;
