@@ -20,5 +20,3 @@ pub use known_class::{ClassParts, KnownClass, PartField, PartFields, known};
 pub use slot::{Item, Items, Slot, SlotList};
 pub use type_text::element_code;
 
-#[cfg(test)]
-mod tests;

@@ -6,5 +6,3 @@ mod words;
 
 pub use lines::graph_text;
 
-#[cfg(test)]
-mod tests;

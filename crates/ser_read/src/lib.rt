@@ -21,5 +21,3 @@ pub use reader::Reader;
 pub use serving::{Want, read_wants};
 pub use whole::read_to_end;
 
-#[cfg(test)]
-mod tests;

@@ -26,5 +26,3 @@ pub use graph::{Graph, same_graph};
 pub use node::{Node, NodeList, Place};
 pub use value::{Part, PartList, Value, ValueList, Values};
 
-#[cfg(test)]
-mod tests;

@@ -7,5 +7,3 @@ mod writing;
 
 pub use writing::{write_items_onto, write_stream};
 
-#[cfg(test)]
-mod tests;

@@ -4,6 +4,14 @@
 #![tactic(auto)]
 
 #[cfg(test)]
+mod class_tests;
+#[cfg(test)]
+mod graph_tests;
+#[cfg(test)]
+mod read_tests;
+#[cfg(test)]
+mod script;
+#[cfg(test)]
 mod text;
 #[cfg(test)]
 mod utf_tests;

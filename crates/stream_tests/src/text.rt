@@ -1,5 +1,6 @@
 //! What the tests' lines are read with.
-use mod_utf::{ByteList, Units};
+use class_desc::Slot;
+use mod_utf::{ByteList, Sequence, Units};
 use std::alloc::{AllocError, Global};
 use std::process::Abort;
 
@@ -8,42 +9,121 @@ pub fn must(rt: &impl Abort, holds: bool, what: &str) {
     assert!(rt; holds, "{what}");
 }
 
-/// The bytes that hex digits spell, two for each. Any other character counts for nothing.
-pub fn bytes_of(alloc: Global, text: &str) -> Result<ByteList, AllocError> {
-    let mut bytes = ByteList::new(alloc);
+/// What stands before the first mark, and what after it: all and nothing where the mark is missing.
+pub fn cut(text: &str, mark: char) -> (&str, &str) {
+    text.split_once(mark).unwrap_or((text, ""))
+}
+
+/// The value of a hex digit in capitals.
+fn digit_of(character: u8) -> Option<u8> {
+    match character {
+        b'0'..=b'9' => Some(character - b'0'),
+        b'A'..=b'F' => Some(character - b'A' + 10),
+        _ => None,
+    }
+}
+
+/// Appends the bytes that hex digits spell, two for each. Any other character counts for nothing.
+fn put_digits(bytes: &mut ByteList, digits: &str) -> Result<(), AllocError> {
     let mut half = None;
-    for character in text.as_bytes() {
-        if let Some(digit) = digit_of(*character) {
-            match half {
-                None => half = Some(digit),
-                Some(high) => {
-                    bytes.push((high << 4) | digit)?;
-                    half = None;
-                }
+    for character in digits.as_bytes() {
+        match (half, digit_of(*character)) {
+            (None, low) => half = low,
+            (Some(high), Some(low)) => {
+                bytes.push((high << 4) | low)?;
+                half = None;
             }
+            (Some(_), None) => {}
+        }
+    }
+    Ok(())
+}
+
+/// Appends a text's length in 16 bits, and its bytes.
+fn put_text(bytes: &mut ByteList, text: &[u8]) -> Result<(), AllocError> {
+    let [.., high, low] = text.len().to_be_bytes();
+    bytes.append(&[high, low])?;
+    bytes.append(text)
+}
+
+/// The bytes of a notation: hex digits, two for each; a text in quotes is its length in 16 bits and its bytes.
+pub fn bytes_of(alloc: Global, notation: &str) -> Result<ByteList, AllocError> {
+    let mut bytes = ByteList::new(alloc);
+    for (place, piece) in notation.split('\'').enumerate() {
+        if place % 2 == 1 {
+            put_text(&mut bytes, piece.as_bytes())?;
+        } else {
+            put_digits(&mut bytes, piece)?;
         }
     }
     Ok(bytes)
 }
 
-/// The units that hex digits spell, four for each.
-pub fn units_of(alloc: Global, text: &str) -> Result<Units, AllocError> {
-    let bytes = bytes_of(alloc, text)?;
+/// The units that hex digits spell, with spaces between them.
+pub fn units_of(alloc: Global, words: &str) -> Result<Units, AllocError> {
     let mut units = Units::new(alloc);
-    for pair in bytes.as_slice().chunks_exact(2) {
-        if let [high, low] = pair {
-            units.push((u16::from(*high) << 8) | u16::from(*low))?;
+    for word in words.split(' ') {
+        if !word.is_empty() {
+            let [.., high, low] = number_of(word.as_bytes()).to_be_bytes();
+            units.push(u16::from_be_bytes([high, low]))?;
         }
     }
     Ok(units)
 }
 
-/// The value of a hex digit.
-fn digit_of(character: u8) -> Option<u8> {
-    match character {
-        b'0'..=b'9' => Some(character - b'0'),
-        b'A'..=b'F' => Some(character - b'A' + 10),
-        b'a'..=b'f' => Some(character - b'a' + 10),
-        _ => None,
+/// The text of these ASCII characters.
+pub fn ascii(alloc: Global, text: &str) -> Result<Units, AllocError> {
+    Units::from_ascii(alloc, text.as_bytes())
+}
+
+/// Whether a text has these ASCII characters.
+pub fn is_text(units: &Units, text: &str) -> bool {
+    units.len() == text.len()
+        && units
+            .iter()
+            .zip(text.as_bytes())
+            .all(|(unit, byte)| *unit == u16::from(*byte))
+}
+
+/// The number that hex digits spell.
+pub fn number_of(digits: &[u8]) -> u64 {
+    let mut number: u64 = 0;
+    for character in digits {
+        if let Some(digit) = digit_of(*character) {
+            number = (number << 4) | u64::from(digit);
+        }
     }
+    number
+}
+
+/// The number that decimal digits spell, below 2^64. Any other character counts for nothing.
+pub fn decimal(digits: &str) -> u64 {
+    let mut number: u64 = 0;
+    for character in digits.as_bytes() {
+        if let Some(digit) = digit_of(*character) {
+            number = number.wrapping_mul(10).wrapping_add(u64::from(digit));
+        }
+    }
+    number
+}
+
+/// The reference that is written `#` and a node's number, or `null`.
+pub fn slot_of(word: &str) -> Slot {
+    match word.trim().split_once('#') {
+        Some((_, number)) => Slot::Node(u32::try_from(decimal(number)).unwrap_or(u32::MAX)),
+        None => Slot::Null,
+    }
+}
+
+/// The list of so many equal items.
+pub fn repeated<T: Copy + Drop>(
+    alloc: Global,
+    item: T,
+    count: u64,
+) -> Result<Sequence<T>, AllocError> {
+    let mut items = Sequence::new(alloc);
+    for _ in 0..count {
+        items.push(item)?;
+    }
+    Ok(items)
 }
