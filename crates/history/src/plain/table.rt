@@ -1,6 +1,5 @@
 //! The collector's table, and the places of a list of events.
-ghost use Rattle.std.specs.Prelude.{◌≡◌, ◌+◌, ◌<◌, ◌^◌, ◌++◌, ◌∷◌, ◌||◌, ◌&&◌, nat_le, length, map, filter, not, option_to_list, option_and_then, if◌then◌else◌, [], IfOk};
-ghost use Rattle.std.specs.List.{list_all};
+ghost use Rattle.std.specs.Prelude.{◌≡◌, ◌+◌, ◌<◌, ◌^◌, ◌++◌, ◌∷◌, ◌||◌, ◌&&◌, length, map, filter, not, option_to_list, option_and_then, if◌then◌else◌, [], IfOk};
 ghost use Rattle.history.specs.LeaseCalls as call_words;
 ghost use Rattle.history.specs.Names as name_words;
 ghost use Rattle.history.specs.Places as place_words;
@@ -13,7 +12,7 @@ use crate::places::{Exported, ExportedList, Place};
 use crate::plain::awaiting::is_awaited;
 use crate::plain::leases::is_held;
 use crate::plain::names::{is_named, name_in, stands_for};
-use crate::plain::places::{added, exported_from, has, ids, known, now};
+use crate::plain::places::{added, exported_from, has, ids, known, next, now};
 use crate::plain::running::{is_running, running};
 use mod_utf::list::Sequence;
 use object_ids::{ObjId, ObjIds};
@@ -98,8 +97,7 @@ pub fn is_pinned(alloc: Global, places: &[Place], x: &Exported) -> Result<bool, 
     ensures { IfOk result (λ pinned. pinned ≡ words.is_pinned places.now x.now) }
 {
     let named = is_named(alloc, places, x.id)?;
-    let runs = is_running(alloc, places, x.id)?;
-    Ok(x.pinned || named || runs)
+    Ok(x.pinned || named || is_running(places, x.id))
 }
 
 /// Whether an object is kept at the end of a history.
@@ -120,39 +118,19 @@ pub fn is_kept(
     Ok(pinned || waits || held)
 }
 
-/// Whether an object is kept at each prefix from its export on.
-fn is_kept_since_export(
-    alloc: Global,
-    config: &SpaceConfig,
-    places: &[Place],
-    x: &Exported,
-) -> Result<bool, AllocError>
-    ensures { IfOk result (λ kept. kept ≡ words.is_kept_since_export (words.is_kept config.now) places.now x.now) }
-{
-    match places {
-        [] => Ok(true),
-        [_, before @ ..] => {
-            let later = places.len() as u64 <= x.place;
-            let kept = is_kept(alloc, config, places, x)?;
-            let so_far = is_kept_since_export(alloc, config, before, x)?;
-            Ok((later || kept) && so_far)
-        }
-    }
-}
-
 fn kept_of(
     alloc: Global,
     config: &SpaceConfig,
     places: &[Place],
     objects: &[Exported],
 ) -> Result<Vec<Exported>, AllocError>
-    ensures { IfOk result (λ kept. kept.items ≡ filter (words.is_kept_since_export (words.is_kept config.now) places.now) objects.now) }
+    ensures { IfOk result (λ kept. kept.items ≡ filter (words.is_kept config.now places.now) objects.now) }
 {
     match objects {
         [] => Ok(Vec::new(alloc)),
         [x, rest @ ..] => {
             let mut kept = kept_of(alloc, config, places, rest)?;
-            if is_kept_since_export(alloc, config, places, x)? {
+            if is_kept(alloc, config, places, x)? {
                 kept.insert(0, *x)?;
             }
             Ok(kept)
@@ -160,7 +138,7 @@ fn kept_of(
     }
 }
 
-/// The table: the objects that were kept ever since their export.
+/// The table: those objects of the table before the newest place, and of those that this place exports, that are kept now.
 #[tactic(auto, unfolding(crate::specs::Table::table))]
 pub fn table(
     alloc: Global,
@@ -169,8 +147,14 @@ pub fn table(
 ) -> Result<Vec<Exported>, AllocError>
     ensures { IfOk result (λ objects. objects.items ≡ words.table config.now places.now) }
 {
-    let all = added(alloc, places)?;
-    kept_of(alloc, config, places, all.as_slice())
+    match places {
+        [] => Ok(Vec::new(alloc)),
+        [p, before @ ..] => {
+            let mut objects = table(alloc, config, before)?;
+            objects.extend_from_slice(p.adds.as_slice())?;
+            kept_of(alloc, config, places, objects.as_slice())
+        }
+    }
 }
 
 // ---- what an event does
@@ -223,8 +207,7 @@ pub fn exports(
 ) -> Result<Vec<Exported>, AllocError>
     ensures { IfOk result (λ objects. objects.items ≡ words.exports config.now places.now ask.now) }
 {
-    let all = added(alloc, places)?;
-    let k = all.as_slice().len() as u64;
+    let k = next(alloc, places)?;
     let place = places.len() as u64;
     match ask {
         Ask::Open { kind, pinned } => {
@@ -285,10 +268,39 @@ fn stood(places: &[Place], ask: &Ask) -> Option<ObjId>
     }
 }
 
-fn if_effective<T: Drop>(alloc: Global, effective: bool, items: Vec<T>) -> Vec<T>
-    ensures { result.items ≡ (if effective then items.items else []) }
+/// What an ask exports, and the objects to which it returns references: nothing where it is not effective.
+fn effects(
+    alloc: Global,
+    config: &SpaceConfig,
+    places: &[Place],
+    effective: bool,
+    ask: &Ask,
+) -> Result<(ExportedList, ObjIds), AllocError>
+    ensures adds { IfOk result (λ both. both.0 ≡ (if effective then words.exports config.now places.now ask.now else [])) }
+    ensures lists { IfOk result (λ both. both.1 ≡ (if effective then words.lists config.now places.now ask.now else [])) }
 {
-    if effective { items } else { Vec::new(alloc) }
+    if !effective {
+        let none = Sequence::from_vec(Vec::new(alloc));
+        return Ok((none, Sequence::from_vec(Vec::new(alloc))));
+    }
+    let adds = exports(alloc, config, places, ask)?;
+    let listed = lists(alloc, config, places, ask)?;
+    Ok((Sequence::from_vec(adds), Sequence::from_vec(listed)))
+}
+
+/// The table before an event, and a copy of the event.
+fn table_and_event(
+    alloc: Global,
+    config: &SpaceConfig,
+    places: &[Place],
+    event: &Event,
+) -> Result<(ExportedList, Event), AllocError>
+    ensures table { IfOk result (λ both. both.0 ≡ words.table config.now places.now) }
+    ensures event { IfOk result (λ both. both.1 ≡ event.now) }
+{
+    let objects = table(alloc, config, places)?;
+    let copy = event.copy(alloc)?;
+    Ok((ExportedList::from_vec(objects), copy))
 }
 
 /// The place of an event after a history.
@@ -302,17 +314,19 @@ pub fn place_of(
     ensures { IfOk result (λ p. p ≡ words.place_of config.now places.now event.now) }
 {
     let effective = is_effective(alloc, config, places, event.by, &event.ask)?;
-    let adds = exports(alloc, config, places, &event.ask)?;
-    let listed = lists(alloc, config, places, &event.ask)?;
+    let stood = stood(places, &event.ask);
+    let moment = event.moment.max(now(places));
+    let (adds, lists) = effects(alloc, config, places, effective, &event.ask)?;
+    let (before, event) = table_and_event(alloc, config, places, event)?;
     Ok(Place {
         index: places.len() as u64,
-        moment: event.moment.max(now(places)),
-        event: event.copy(alloc)?,
+        moment,
+        event,
         effective,
-        before: ExportedList::from_vec(table(alloc, config, places)?),
-        stood: stood(places, &event.ask),
-        adds: Sequence::from_vec(if_effective(alloc, effective, adds)),
-        lists: Sequence::from_vec(if_effective(alloc, effective, listed)),
+        before,
+        stood,
+        adds,
+        lists,
     })
 }
 

@@ -1,5 +1,6 @@
 //! Replies, refusals and whole runs.
-ghost use Rattle.std.specs.Prelude.{◌≡◌, ◌∷◌, nat_le, length, map, filter, if◌then◌else◌, IfOk};
+ghost use Rattle.std.specs.Prelude.{◌≡◌, ◌<◌, ◌^◌, ◌∷◌, ◌++◌, map, if◌then◌else◌, IfOk};
+ghost use Rattle.history.specs.Limits.{refusal as cause_of};
 ghost use Rattle.history.specs.Names as name_words;
 ghost use Rattle.history.specs.Places as place_words;
 ghost use Rattle.history.specs.Replies as reply_words;
@@ -11,7 +12,7 @@ use crate::limits::Limits;
 use crate::places::{Exported, Place, Withdrawal};
 use crate::plain::limits::refusal;
 use crate::plain::names::names;
-use crate::plain::places::{added, has, id_at, ids, kind_of};
+use crate::plain::places::{has, id_at, ids, kind_of, next};
 use crate::plain::table::{place_of, places, stands, table, withdrawn};
 use crate::replies::{Refused, Reply, Turn};
 use mod_utf::list::NameList;
@@ -31,8 +32,22 @@ pub fn reply(
     ensures { IfOk result (λ reply. reply ≡ reply_words.reply config.now places.now event.now) }
 {
     let p = place_of(alloc, config, places, event)?;
+    let answer = reply_at(alloc, config, places, &p, &event.ask)?;
+    Ok(answer)
+}
+
+/// What an event is replied, whose place this is.
+fn reply_at(
+    alloc: Global,
+    config: &SpaceConfig,
+    places: &[Place],
+    p: &Place,
+    ask: &Ask,
+) -> Result<Reply, AllocError>
+    ensures { IfOk result (λ reply. reply ≡ reply_words.reply_to config.now places.now p.now ask.now) }
+{
     let objects = table(alloc, config, places)?;
-    let answer = reply_to(alloc, config, places, &p, objects.as_slice(), &event.ask)?;
+    let answer = reply_to(alloc, config, places, p, objects.as_slice(), ask)?;
     Ok(answer)
 }
 
@@ -80,10 +95,9 @@ fn reply_to(
 }
 
 fn opened(alloc: Global, config: &SpaceConfig, places: &[Place]) -> Result<Reply, AllocError>
-    ensures { IfOk result (λ reply. reply ≡ Reply.Opened (place_words.id_at config.now.uid (length (place_words.added places.now)))) }
+    ensures { IfOk result (λ reply. reply ≡ Reply.Opened (place_words.id_at config.now.uid (place_words.next places.now))) }
 {
-    let all = added(alloc, places)?;
-    let new = id_at(config.uid, all.as_slice().len() as u64);
+    let new = id_at(config.uid, next(alloc, places)?);
     Ok(Reply::Opened(new))
 }
 
@@ -189,7 +203,25 @@ fn withdrawals_at(
     }
 }
 
+/// The withdrawals of a history at its newest place.
+fn withdrawals_at_end(
+    alloc: Global,
+    config: &SpaceConfig,
+    places: &[Place],
+) -> Result<Vec<Withdrawal>, AllocError>
+    ensures { IfOk result (λ all. all.items ≡ table_words.withdrawals_at_end config.now places.now) }
+{
+    match places {
+        [] => Ok(Vec::new(alloc)),
+        [p, ..] => {
+            let gone = withdrawn(alloc, config, places)?;
+            withdrawals_at(alloc, p.index, gone.as_slice())
+        }
+    }
+}
+
 /// All withdrawals of a history, in order.
+#[tactic(auto, unfolding(crate::specs::Table::withdrawals))]
 pub fn withdrawals(
     alloc: Global,
     config: &SpaceConfig,
@@ -199,10 +231,9 @@ pub fn withdrawals(
 {
     match places {
         [] => Ok(Vec::new(alloc)),
-        [p, before @ ..] => {
+        [_, before @ ..] => {
             let mut all = withdrawals(alloc, config, before)?;
-            let gone = withdrawn(alloc, config, places)?;
-            let mut last = withdrawals_at(alloc, p.index, gone.as_slice())?;
+            let mut last = withdrawals_at_end(alloc, config, places)?;
             all.append(&mut last)?;
             Ok(all)
         }
@@ -218,63 +249,74 @@ fn is_abandon(ask: &Ask) -> bool
     }
 }
 
-/// The place after the last event that is no Abandon.
-fn first_untold(places: &[Place]) -> u128
-    ensures { result ≡ reply_words.first_untold places.now }
+/// The objects that a history has still to tell as gone.
+#[tactic(auto, unfolding(crate::specs::Replies::pending))]
+fn pending(alloc: Global, config: &SpaceConfig, places: &[Place]) -> Result<Vec<ObjId>, AllocError>
+    ensures { IfOk result (λ gone. gone.items ≡ reply_words.pending config.now places.now) }
 {
     match places {
-        [] => 0,
+        [] => Ok(Vec::new(alloc)),
         [p, before @ ..] => {
             if is_abandon(&p.event.ask) {
-                first_untold(before)
+                let told = pending(alloc, config, before)?;
+                with_withdrawn(alloc, config, places, told)
             } else {
-                u128::from(p.index) + 1
+                Ok(Vec::new(alloc))
             }
         }
     }
 }
 
-fn told_from(alloc: Global, first: u128, all: &[Withdrawal]) -> Result<Vec<ObjId>, AllocError>
-    ensures { IfOk result (λ gone. gone.items ≡ map (λ w. w.object) (filter (λ w. nat_le first w.place) all.now)) }
-{
-    match all {
-        [] => Ok(Vec::new(alloc)),
-        [w, rest @ ..] => {
-            let gone = told_from(alloc, first, rest)?;
-            if first <= u128::from(w.place) {
-                before_all(w.object, gone)
-            } else {
-                Ok(gone)
-            }
-        }
-    }
-}
-
-fn before_all(object: ObjId, objects: Vec<ObjId>) -> Result<Vec<ObjId>, AllocError>
-    ensures { IfOk result (λ more. more.items ≡ object ∷ objects.items) }
+/// Objects, and those that a history withdraws at its newest place.
+fn with_withdrawn(
+    alloc: Global,
+    config: &SpaceConfig,
+    places: &[Place],
+    objects: Vec<ObjId>,
+) -> Result<Vec<ObjId>, AllocError>
+    ensures { IfOk result (λ more. more.items ≡ objects.items ++ reply_words.ids (table_words.withdrawn config.now places.now)) }
 {
     let mut more = objects;
-    more.insert(0, object)?;
+    let gone = withdrawn(alloc, config, places)?;
+    let mut gone = ids(alloc, gone.as_slice())?;
+    more.append(&mut gone)?;
     Ok(more)
 }
 
-/// The objects that a history withdrew from a place on, in order.
-fn gone_from(
+/// The places of a history with that of one more event.
+fn with_place(
     alloc: Global,
     config: &SpaceConfig,
-    first: u128,
-    places: &[Place],
-) -> Result<ObjIds, AllocError>
-    ensures { IfOk result (λ gone. gone ≡ map (λ w. w.object) (filter (λ w. nat_le first w.place) (table_words.withdrawals config.now places.now))) }
+    places: Vec<Place>,
+    event: &Event,
+) -> Result<Vec<Place>, AllocError>
+    ensures { IfOk result (λ more. more.items ≡ table_words.place_of config.now places.items event.now ∷ places.items) }
 {
-    let all = withdrawals(alloc, config, places)?;
-    Ok(ObjIds::from_vec(told_from(alloc, first, all.as_slice())?))
+    let p = place_of(alloc, config, places.as_slice(), event)?;
+    let mut more = places;
+    more.insert(0, p)?;
+    Ok(more)
+}
+
+/// The objects that an event tells as gone after a history.
+#[tactic(auto, unfolding(crate::specs::Replies::gone))]
+fn gone(
+    alloc: Global,
+    config: &SpaceConfig,
+    places: Vec<Place>,
+    event: &Event,
+) -> Result<ObjIds, AllocError>
+    ensures { IfOk result (λ objects. objects ≡ reply_words.gone config.now places.items event.now) }
+{
+    let told = pending(alloc, config, places.as_slice())?;
+    let after = with_place(alloc, config, places, event)?;
+    let all = with_withdrawn(alloc, config, after.as_slice(), told)?;
+    Ok(ObjIds::from_vec(all))
 }
 
 // ---- turns
 
 /// The turn of an event that is taken after these events.
-#[tactic(auto, unfolding(crate::specs::Replies::gone))]
 pub fn turn(
     alloc: Global,
     config: &SpaceConfig,
@@ -283,17 +325,39 @@ pub fn turn(
 ) -> Result<Turn, AllocError>
     ensures { IfOk result (λ turn. turn ≡ turn_of config.now events.now event.now) }
 {
-    let mut history = places(alloc, config, events)?;
+    let history = places(alloc, config, events)?;
     let reply = reply(alloc, config, history.as_slice(), event)?;
-    let first = first_untold(history.as_slice());
-    let p = place_of(alloc, config, history.as_slice(), event)?;
-    history.insert(0, p)?;
-    let gone = gone_from(alloc, config, first, history.as_slice())?;
+    let gone = gone(alloc, config, history, event)?;
     Ok(Turn {
         place: events.len() as u64,
         reply,
         gone,
     })
+}
+
+/// Why an event is refused after these events, if it is.
+fn refused(
+    alloc: Global,
+    limits: &Limits,
+    config: &SpaceConfig,
+    events: &[Event],
+    event: &Event,
+) -> Result<Option<Refused>, AllocError>
+    ensures { IfOk result (λ cause. cause ≡ cause_of limits.now config.now (table_words.places config.now events.now) event.now) }
+{
+    let history = places(alloc, config, events)?;
+    let cause = refusal(alloc, limits, config, history.as_slice(), event)?;
+    Ok(cause)
+}
+
+/// Events with a copy of one more.
+fn with_copy(alloc: Global, events: Vec<Event>, event: &Event) -> Result<Vec<Event>, AllocError>
+    ensures { IfOk result (λ more. more.items ≡ table_words.with_event events.items event.now) }
+{
+    let copy = event.copy(alloc)?;
+    let mut more = events;
+    more.push(copy)?;
+    Ok(more)
 }
 
 /// The answer to an event after these events, and the events that stand after it.
@@ -307,13 +371,11 @@ pub fn step(
     ensures answer { IfOk result (λ step. step.0 ≡ answer_to limits.now config.now events.items event.now) }
     ensures after { IfOk result (λ step. step.1.items ≡ history_after limits.now config.now events.items event.now) }
 {
-    let history = places(alloc, config, events.as_slice())?;
-    match refusal(alloc, limits, config, history.as_slice(), event)? {
+    match refused(alloc, limits, config, events.as_slice(), event)? {
         Some(refused) => Ok((Err(refused), events)),
         None => {
             let turn = turn(alloc, config, events.as_slice(), event)?;
-            let mut after = events;
-            after.push(event.copy(alloc)?)?;
+            let after = with_copy(alloc, events, event)?;
             Ok((Ok(turn), after))
         }
     }
