@@ -1,6 +1,6 @@
 -- Laws of awaiting references: a return begins a wait anew, an acknowledgement ends those of its return, and what is counted.
-use Rattle.std.proofs.Common.{◌≡◌, ℕ, ◌+◌, ◌<◌, ◌≤◌, inl, inr, List, [], ◌∷◌, length, refl, ap, sym, subst, ◌∙◌, arith, cond, Option, Some, None}
-use Rattle.std.specs.Prelude.{Bool, true, false, ◌&&◌, ◌||◌, not, filter, find, flat_map, nat_lt}
+use Rattle.std.proofs.Common.{true≢false, ◌≡◌, ℕ, ◌+◌, ◌<◌, ◌≤◌, inl, inr, List, [], ◌∷◌, length, refl, ap, sym, subst, ◌∙◌, arith, cond, Option, Some, None}
+use Rattle.std.specs.Prelude.{Bool, true, false, ◌&&◌, ◌||◌, not, filter, find, nat_lt}
 use Rattle.std.specs.List.{list_any}
 use Rattle.std.proofs.lemmas.Bool.{lt-ltb, le-ltb, and_parts, and_from}
 use Rattle.std.proofs.lemmas.List.Folds.{list_any-append}
@@ -11,9 +11,13 @@ use Rattle.object_ids.proofs.Exact.{same_id-equal, same_id-self, same_uid-equal,
 use Rattle.history.specs.Lists.{option_any}
 use Rattle.history.specs.declared.places.Place.{Place}
 use Rattle.history.specs.declared.places.Returned.{Returned}
-use Rattle.history.specs.Awaiting.{same_returned, returned, returns, is_ack_of, is_acknowledged, awaits, awaiting, is_awaited}
+use Rattle.history.specs.declared.asks.SpaceConfig.{SpaceConfig}
+use Rattle.history.specs.declared.asks.Event.{Event}
+use Rattle.history.specs.Awaiting.{same_returned, returned, returns, is_ack_of, until_of, awaits, references, awaiting, is_awaited}
+use Rattle.history.specs.Laws.{is_acknowledged, awaits_since_return, AwaitsSinceReturn}
+use Rattle.history.specs.Table.{places}
 use Rattle.history.proofs.ListLemmas.{IsEquality, AllOnce, AllOnce-distinct, list_any-distinct, list_any-filter, list_any-members, and_true, and_false, same_test, test-Somewhere, Somewhere, Somewhere-test}
-use Rattle.history.proofs.TableLaws.{IsNumbered}
+use Rattle.history.proofs.TableLaws.{IsNumbered, places-numbered}
 
 pub returned-equality : IsEquality same_returned
 returned-equality = record {
@@ -25,6 +29,36 @@ returned-equality = record {
     equal a b (o, u) = ap (λ x. record a { object = x }) (same_id-equal a.object b.object o) ∙ ap (λ x. record { object = b.object; uid = x }) (same_uid-equal a.uid b.uid u)
 
 -- ---- one more place
+
+no_time : (t : ℕ) → nat_lt t 0 ≡ false
+no_time t = le-ltb t 0 (omega arith)
+
+-- A place that returns the reference begins its wait anew.
+pub awaits-returned : (ack t : ℕ) (p : Place) (h : List Place) (r : Returned) → IsNumbered (p ∷ h) → returns r p ≡ true →
+    awaits ack t (p ∷ h) r ≡ nat_lt t (p.moment + ack)
+unfolding awaits until_of
+awaits-returned ack t p h r n l = rw l refl
+
+ended : (ack t : ℕ) (p : Place) (h : List Place) (r : Returned) → returns r p ≡ false → is_ack_of r.uid p.event.ask ≡ true → awaits ack t (p ∷ h) r ≡ false
+unfolding awaits until_of
+ended ack t p h r l a = rw (l, a) (no_time t)
+
+-- One that acknowledges the return ends it.
+pub awaits-acknowledged : (ack t : ℕ) (p : Place) (h : List Place) (r : Returned) → IsNumbered (p ∷ h) → returns r p ≡ false → is_ack_of r.uid p.event.ask ≡ true →
+    awaits ack t (p ∷ h) r ≡ false
+awaits-acknowledged ack t p h r n l a = ended ack t p h r l a
+
+-- Any other leaves it.
+pub awaits-passed : (ack t : ℕ) (p : Place) (h : List Place) (r : Returned) → returns r p ≡ false → is_ack_of r.uid p.event.ask ≡ false →
+    awaits ack t (p ∷ h) r ≡ awaits ack t h r
+unfolding awaits until_of
+awaits-passed ack t p h r l a = rw (l, a) refl
+
+pub awaits-none : (ack t : ℕ) (r : Returned) → awaits ack t [] r ≡ false
+unfolding awaits until_of
+awaits-none ack t r = no_time t
+
+-- ---- since the last return
 
 -- No place stands after the newest one.
 none_after : (u : Uid) (h : List Place) (p : Place) → IsNumbered h → length h ≤ p.index + 1 → is_acknowledged h u p ≡ false
@@ -39,17 +73,13 @@ found_before test (p ∷ h) q n f = go (test p) f (found_before test h q n.2)
     go true f rest = let same : p ≡ q = cc in let i : p.index ≡ q.index = ap (λ (x : Place). x.index) same in let j = n.0 in omega arith
     go false f rest = let i = rest f in omega arith
 
--- A place that returns the reference begins its wait anew.
-pub awaits-returned : (ack t : ℕ) (p : Place) (h : List Place) (r : Returned) → IsNumbered (p ∷ h) → returns r p ≡ true →
-    awaits ack t (p ∷ h) r ≡ nat_lt t (p.moment + ack)
-unfolding awaits
-awaits-returned ack t p h r n l = rw (l, none_after r.uid (p ∷ h) p n (let b = n.0 in omega arith)) (and_true (nat_lt t (p.moment + ack)))
+since-returned : (ack t : ℕ) (p : Place) (h : List Place) (r : Returned) → IsNumbered (p ∷ h) → returns r p ≡ true →
+    awaits_since_return ack t (p ∷ h) r ≡ nat_lt t (p.moment + ack)
+since-returned ack t p h r n l = rw (l, none_after r.uid (p ∷ h) p n (let b = n.0 in omega arith)) (and_true (nat_lt t (p.moment + ack)))
 
--- One that acknowledges the return ends it.
-pub awaits-acknowledged : (ack t : ℕ) (p : Place) (h : List Place) (r : Returned) → IsNumbered (p ∷ h) → returns r p ≡ false → is_ack_of r.uid p.event.ask ≡ true →
-    awaits ack t (p ∷ h) r ≡ false
-unfolding awaits
-awaits-acknowledged ack t p h r n l a = rw l (go (find (returns r) h) refl)
+since-acknowledged : (ack t : ℕ) (p : Place) (h : List Place) (r : Returned) → IsNumbered (p ∷ h) → returns r p ≡ false → is_ack_of r.uid p.event.ask ≡ true →
+    awaits_since_return ack t (p ∷ h) r ≡ false
+since-acknowledged ack t p h r n l a = rw l (go (find (returns r) h) refl)
   where
     go : (f : Option Place) → find (returns r) h ≡ f → option_any (λ q. nat_lt t (q.moment + ack) && not (is_acknowledged (p ∷ h) r.uid q)) f ≡ false
     go None e = refl
@@ -58,51 +88,51 @@ awaits-acknowledged ack t p h r n l a = rw l (go (find (returns r) h) refl)
         let j : nat_lt q.index p.index ≡ true = lt-ltb q.index p.index (let b = n.0 in omega arith) in
         rw (j, a) (and_false (nat_lt t (q.moment + ack)))
 
--- Any other leaves it.
-pub awaits-passed : (ack t : ℕ) (p : Place) (h : List Place) (r : Returned) → returns r p ≡ false → is_ack_of r.uid p.event.ask ≡ false →
-    awaits ack t (p ∷ h) r ≡ awaits ack t h r
-unfolding awaits
-awaits-passed ack t p h r l a = rw l (go (find (returns r) h))
+since-passed : (ack t : ℕ) (p : Place) (h : List Place) (r : Returned) → returns r p ≡ false → is_ack_of r.uid p.event.ask ≡ false →
+    awaits_since_return ack t (p ∷ h) r ≡ awaits_since_return ack t h r
+since-passed ack t p h r l a = rw l (go (find (returns r) h))
   where
     go : (f : Option Place) → option_any (λ q. nat_lt t (q.moment + ack) && not (is_acknowledged (p ∷ h) r.uid q)) f ≡ option_any (λ q. nat_lt t (q.moment + ack) && not (is_acknowledged h r.uid q)) f
     go None = refl
     go (Some q) = rw (a, and_false (nat_lt q.index p.index)) refl
 
-pub awaits-none : (ack t : ℕ) (r : Returned) → awaits ack t [] r ≡ false
-unfolding awaits
-awaits-none ack t r = refl
+awaits-since : (ack t : ℕ) (h : List Place) (r : Returned) → IsNumbered h → awaits ack t h r ≡ awaits_since_return ack t h r
+awaits-since ack t [] r n = awaits-none ack t r
+awaits-since ack t (p ∷ h) r n = go (awaits-since ack t h r n.2) (returns r p) refl (is_ack_of r.uid p.event.ask) refl
+  where
+    go : awaits ack t h r ≡ awaits_since_return ack t h r → (b : Bool) → returns r p ≡ b → (c : Bool) → is_ack_of r.uid p.event.ask ≡ c → awaits ack t (p ∷ h) r ≡ awaits_since_return ack t (p ∷ h) r
+    go ih true l c a = awaits-returned ack t p h r n l ∙ sym (since-returned ack t p h r n l)
+    go ih false l true a = awaits-acknowledged ack t p h r n l a ∙ sym (since-acknowledged ack t p h r n l a)
+    go ih false l false a = awaits-passed ack t p h r l a ∙ ih ∙ sym (since-passed ack t p h r l a)
+
+-- A REFERENCE AWAITS since the last place that returned it.
+pub awaits-since-return : (config : SpaceConfig) (events : List Event) → AwaitsSinceReturn config events
+awaits-since-return config events ack t r = awaits-since ack t (places config events) r (places-numbered config events)
 
 -- ---- what awaits
 
 -- A reference that awaits was returned.
-was_returned : (ack t : ℕ) (h : List Place) (r : Returned) → awaits ack t h r ≡ true → list_any (same_returned r) (flat_map returned h) ≡ true
-unfolding awaits
-was_returned ack t h r a = go (find (returns r) h) refl a
+was_returned : (ack t : ℕ) (h : List Place) (r : Returned) → awaits ack t h r ≡ true → list_any (same_returned r) (references h) ≡ true
+unfolding references
+was_returned ack t [] r a = absurd (let never = awaits-none ack t r in cc)
+was_returned ack t (p ∷ h) r a = list_any-append (same_returned r) (returned p) (references h) ∙ go (was_returned ack t h r) (returns r p) refl (is_ack_of r.uid p.event.ask) refl
   where
-    some : (g : List Place) (q : Place) → find (returns r) g ≡ Some q → list_any (same_returned r) (flat_map returned g) ≡ true
-    some [] q f = absurd (cc)
-    some (p ∷ g) q f = list_any-append (same_returned r) (returned p) (flat_map returned g) ∙ here (returns r p) refl f (some g q)
-      where
-        here : (b : Bool) → returns r p ≡ b → cond b (Some p) (find (returns r) g) ≡ Some q → (find (returns r) g ≡ Some q → list_any (same_returned r) (flat_map returned g) ≡ true) →
-            (list_any (same_returned r) (returned p) || list_any (same_returned r) (flat_map returned g)) ≡ true
-        here true e f rest = rw e refl
-        here false e f rest = rw e (rest f)
-
-    go : (f : Option Place) → find (returns r) h ≡ f → option_any (λ q. nat_lt t (q.moment + ack) && not (is_acknowledged h r.uid q)) f ≡ true → list_any (same_returned r) (flat_map returned h) ≡ true
-    go None e a = absurd (cc)
-    go (Some q) e a = some h q e
+    go : (awaits ack t h r ≡ true → list_any (same_returned r) (references h) ≡ true) → (b : Bool) → returns r p ≡ b → (c : Bool) → is_ack_of r.uid p.event.ask ≡ c → (returns r p || list_any (same_returned r) (references h)) ≡ true
+    go ih true l c d = rw l refl
+    go ih false l true d = absurd (true≢false (sym a ∙ ended ack t p h r l d))
+    go ih false l false d = rw l (ih (sym (awaits-passed ack t p h r l d) ∙ a))
 
 -- WHAT AWAITS is what is among those that await.
 pub awaiting-member : (ack t : ℕ) (h : List Place) (r : Returned) → list_any (same_returned r) (awaiting ack t h) ≡ awaits ack t h r
 unfolding awaiting
 awaiting-member ack t h r =
-    list_any-distinct same_returned (same_returned r) (λ x y e. ap (same_returned r) (returned-equality.equal x y e)) (filter (awaits ack t h) (flat_map returned h))
-    ∙ list_any-filter (same_returned r) (awaits ack t h) (flat_map returned h)
-    ∙ same_test (list_any (λ x. awaits ack t h x && same_returned r x) (flat_map returned h)) (awaits ack t h r)
-    (λ e. forth (flat_map returned h) (Somewhere-test (λ x. awaits ack t h x && same_returned r x) (flat_map returned h) e))
+    list_any-distinct same_returned (same_returned r) (λ x y e. ap (same_returned r) (returned-equality.equal x y e)) (filter (awaits ack t h) (references h))
+    ∙ list_any-filter (same_returned r) (awaits ack t h) (references h)
+    ∙ same_test (list_any (λ x. awaits ack t h x && same_returned r x) (references h)) (awaits ack t h r)
+    (λ e. forth (references h) (Somewhere-test (λ x. awaits ack t h x && same_returned r x) (references h) e))
     (λ e. test-Somewhere (λ x. same_returned r x ≡ true) (λ x. awaits ack t h x && same_returned r x)
     (λ x s. let P : Returned → Type 0 = λ z. awaits ack t h z ≡ true in and_from (awaits ack t h x) (same_returned r x) (subst P (returned-equality.equal r x s) e) s)
-    (flat_map returned h) (Somewhere-test (same_returned r) (flat_map returned h) (was_returned ack t h r e)))
+    (references h) (Somewhere-test (same_returned r) (references h) (was_returned ack t h r e)))
   where
     forth : (xs : List Returned) → Somewhere (λ x. (awaits ack t h x && same_returned r x) ≡ true) xs → awaits ack t h r ≡ true
     forth [] s = absurd s
@@ -114,7 +144,7 @@ awaiting-member ack t h r =
 
 pub awaiting-once : (ack t : ℕ) (h : List Place) → AllOnce same_returned (awaiting ack t h)
 unfolding awaiting
-awaiting-once ack t h = AllOnce-distinct same_returned returned-equality (filter (awaits ack t h) (flat_map returned h))
+awaiting-once ack t h = AllOnce-distinct same_returned returned-equality (filter (awaits ack t h) (references h))
 
 -- An object is awaited where any list with the same references has one to it.
 pub is_awaited-members : (ack t : ℕ) (h : List Place) (o : ObjId) (rs : List Returned) → ((r : Returned) → list_any (same_returned r) rs ≡ awaits ack t h r) →

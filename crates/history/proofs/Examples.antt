@@ -9,9 +9,9 @@ use Rattle.history.specs.declared.asks.Event.{Event}
 use Rattle.history.specs.declared.asks.Ask.{Ask}
 use Rattle.history.specs.declared.asks.Ask.TheVariants.{Open, Begin, Finish, Abandon, Dirty, Clean, Ack, Bind, Rebind, Unbind, Lookup, Tick}
 use Rattle.history.specs.Leases.{lease_end, tenure, counting_calls, highest_is_dirty, holds, is_remembered, calls_of, clients, clients_with_time_left, lease_rows, holders, is_held, pairs_with}
-use Rattle.history.specs.Places.{now, added}
-use Rattle.history.specs.Running.{running, connections, is_running, running_calls}
-use Rattle.history.specs.Awaiting.{awaits, awaiting, awaiting_of, is_awaited}
+use Rattle.history.specs.Places.{now, added, next}
+use Rattle.history.specs.Running.{running, running_calls, is_running}
+use Rattle.history.specs.Awaiting.{until_of, awaits, references, awaiting, awaiting_of, is_awaited}
 use Rattle.history.specs.Names.{stands_for, names, names_of, is_named}
 use Rattle.history.specs.LeaseCalls.{lease_calls}
 use Rattle.history.specs.Table.{is_pinned, is_kept, table, is_effective, exports, lists, place_of, places_back, places, withdrawn, withdrawals}
@@ -429,7 +429,7 @@ record Outlines : Type 0 where
       ∷ codes "lease -@0/0/0 until 41" ∷ [])
 
 outlines : Outlines
-unfolding lease_end tenure counting_calls highest_is_dirty holds is_remembered calls_of clients clients_with_time_left lease_rows holders is_held pairs_with now added running connections is_running running_calls awaits awaiting awaiting_of is_awaited stands_for names names_of is_named lease_calls is_pinned is_kept table is_effective exports lists place_of places_back places withdrawn withdrawals units outline digits
+unfolding lease_end tenure counting_calls highest_is_dirty holds is_remembered calls_of clients clients_with_time_left lease_rows holders is_held pairs_with now added next running running_calls is_running until_of awaits references awaiting awaiting_of is_awaited stands_for names names_of is_named lease_calls is_pinned is_kept table is_effective exports lists place_of places_back places withdrawn withdrawals units outline digits
 outlines = record {
   outline-late_dirty_takes_no_hold = refl;
   outline-dirty_at_the_end_holds_anew = refl;

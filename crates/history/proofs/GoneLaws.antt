@@ -1,32 +1,43 @@
 -- Laws of withdrawals: what is still to be told, and what a turn tells as gone.
-use Rattle.std.proofs.Common.{◌≡◌, ℕ, ◌+◌, ◌<◌, ◌≤◌, List, [], ◌∷◌, ◌++◌, length, refl, ap, ◌∙◌, arith, cond, Some, append-nil}
-use Rattle.std.specs.Prelude.{Bool, true, false, not, filter, find, flat_map, map, nat_le, reverse, if◌then◌else◌, option_map, unwrap_or}
+use Rattle.std.proofs.Common.{◌≡◌, ℕ, ◌+◌, ◌<◌, ◌≤◌, List, [], ◌∷◌, ◌++◌, length, refl, ap, sym, ◌∙◌, arith, cond, Some}
+use Rattle.std.specs.Prelude.{Bool, true, false, not, filter, find, map, nat_le, reverse, if◌then◌else◌, option_map, unwrap_or}
 use Rattle.std.proofs.lemmas.Bool.{le-leb, lt-leb}
 use Rattle.std.proofs.lemmas.List.{map-append}
-use Rattle.std.proofs.lemmas.List.Concat.{flat_map-append}
 use Rattle.std.proofs.lemmas.List.Elements.{filter-append}
-use Rattle.object_ids.specs.declared.ids.ObjId.{ObjId}
 use Rattle.history.specs.declared.asks.SpaceConfig.{SpaceConfig}
 use Rattle.history.specs.declared.asks.Event.{Event}
 use Rattle.history.specs.declared.places.Place.{Place}
 use Rattle.history.specs.declared.places.Exported.{Exported}
 use Rattle.history.specs.declared.places.Withdrawal.{Withdrawal}
-use Rattle.history.specs.Places.{prefixes}
-use Rattle.history.specs.Table.{place_of, withdrawn, withdrawals_at_end, withdrawals}
-use Rattle.history.specs.Replies.{ids, is_abandon, first_untold, gone}
-use Rattle.history.proofs.ListLemmas.{Every, Every-append, Every-weaker, reverse-cons}
-use Rattle.history.proofs.TableLaws.{IsNumbered, index-place_of, ask-place_of}
+use Rattle.history.specs.Table.{place_of, places_back, places, withdrawn, withdrawals_at_end, withdrawals}
+pub use Rattle.history.specs.Replies.{pending}
+use Rattle.history.specs.Replies.{ids, is_abandon, gone}
+use Rattle.history.specs.Laws.{first_untold, withdrawn_from, GoneSinceLast}
+use Rattle.history.proofs.ListLemmas.{Every, Every-append, Every-weaker}
+use Rattle.history.proofs.TableLaws.{IsNumbered, index-place_of, ask-place_of, places_back-numbered}
 
 -- One more place withdraws what it withdraws.
 pub withdrawals-push : (config : SpaceConfig) (p : Place) (h : List Place) → withdrawals config (p ∷ h) ≡ withdrawals config h ++ withdrawals_at_end config (p ∷ h)
 unfolding withdrawals
-withdrawals-push config p h =
-    ap (flat_map (withdrawals_at_end config)) (reverse-cons (p ∷ h) (prefixes h))
-    ∙ flat_map-append (withdrawals_at_end config) (reverse (prefixes h)) ((p ∷ h) ∷ [])
-    ∙ ap (λ l. withdrawals config h ++ l) (none (withdrawals_at_end config (p ∷ h)))
-  where
-    none : (ws : List Withdrawal) → ws ++ [] ≡ ws
-    none ws = rw append-nil refl
+withdrawals-push config p h = refl
+
+-- WHAT A TURN TELLS is what was still to be told, and what it withdraws itself.
+pub gone-push : (config : SpaceConfig) (h : List Place) (e : Event) → IsNumbered h →
+    gone config h e ≡ pending config h ++ ids (withdrawn config (place_of config h e ∷ h))
+unfolding gone
+gone-push config h e n = refl
+
+-- Afterwards that is still to be told if the event was an Abandon, and nothing if it was none.
+pub pending-push : (config : SpaceConfig) (h : List Place) (e : Event) → IsNumbered (place_of config h e ∷ h) →
+    pending config (place_of config h e ∷ h) ≡ (if is_abandon e.ask then gone config h e else [])
+unfolding pending gone
+pending-push config h e n = ap (λ a. if is_abandon a then pending config h ++ ids (withdrawn config (place_of config h e ∷ h)) else []) (ask-place_of config h e)
+
+pub pending-none : (config : SpaceConfig) → pending config [] ≡ []
+unfolding pending
+pending-none config = refl
+
+-- ---- since the last event that is no Abandon
 
 at_place : (n : ℕ) (xs : List Exported) → Every (λ (w : Withdrawal). w.place ≡ n) (map (λ x. record { object = x.id; place = n }) xs)
 at_place n [] = tt
@@ -56,10 +67,6 @@ objects-at : (n : ℕ) (xs : List Exported) → map (λ (w : Withdrawal). w.obje
 objects-at n [] = refl
 objects-at n (x ∷ xs) = ap (λ l. x.id ∷ l) (objects-at n xs)
 
--- The objects that a history withdrew since its last event that is no Abandon: they are still to be told.
-unfoldable pub pending : SpaceConfig → List Place → List ObjId
-pending config h = map (λ w. w.object) (filter (λ w. nat_le (first_untold h) w.place) (withdrawals config h))
-
 untold-within : (h : List Place) → IsNumbered h → first_untold h ≤ length h
 untold-within [] n = omega arith
 untold-within (p ∷ h) n = go (is_abandon p.event.ask) (untold-within h n.2)
@@ -68,11 +75,10 @@ untold-within (p ∷ h) n = go (is_abandon p.event.ask) (untold-within h n.2)
     go true ih = omega arith
     go false ih = let b = n.0 in omega arith
 
--- WHAT A TURN TELLS is what was still to be told, and what it withdraws itself.
-pub gone-push : (config : SpaceConfig) (h : List Place) (e : Event) → IsNumbered h →
-    gone config h e ≡ pending config h ++ ids (withdrawn config (place_of config h e ∷ h))
-unfolding gone pending
-gone-push config h e n =
+-- What the next place withdraws is told beside what was still to be told.
+told-next : (config : SpaceConfig) (h : List Place) (e : Event) → IsNumbered h →
+    withdrawn_from (first_untold h) config (place_of config h e ∷ h) ≡ withdrawn_from (first_untold h) config h ++ ids (withdrawn config (place_of config h e ∷ h))
+told-next config h e n =
     ap (λ ws. map (λ (w : Withdrawal). w.object) (filter (λ w. nat_le (first_untold h) w.place) ws)) (withdrawals-push config (place_of config h e) h)
     ∙ ap (map (λ (w : Withdrawal). w.object)) (filter-append (λ w. nat_le (first_untold h) w.place) (withdrawals config h) (withdrawals_at_end config (place_of config h e ∷ h)))
     ∙ map-append (λ (w : Withdrawal). w.object) (filter (λ w. nat_le (first_untold h) w.place) (withdrawals config h)) (filter (λ w. nat_le (first_untold h) w.place) (withdrawals_at_end config (place_of config h e ∷ h)))
@@ -83,11 +89,10 @@ gone-push config h e n =
     (withdrawals_at_end config (place_of config h e ∷ h)) (at_place (place_of config h e).index (withdrawn config (place_of config h e ∷ h)))))
     ∙ objects-at (place_of config h e).index (withdrawn config (place_of config h e ∷ h)))
 
--- Afterwards that is still to be told if the event was an Abandon, and nothing if it was none.
-pub pending-push : (config : SpaceConfig) (h : List Place) (e : Event) → IsNumbered (place_of config h e ∷ h) →
-    pending config (place_of config h e ∷ h) ≡ (if is_abandon e.ask then gone config h e else [])
-unfolding pending gone
-pending-push config h e n = go (is_abandon e.ask) (ap is_abandon (ask-place_of config h e)) refl
+told-after : (config : SpaceConfig) (h : List Place) (e : Event) → IsNumbered (place_of config h e ∷ h) →
+    withdrawn_from (first_untold (place_of config h e ∷ h)) config (place_of config h e ∷ h)
+    ≡ (if is_abandon e.ask then withdrawn_from (first_untold h) config (place_of config h e ∷ h) else [])
+told-after config h e n = go (is_abandon e.ask) (ap is_abandon (ask-place_of config h e)) refl
   where
     go : (b : Bool) → is_abandon (place_of config h e).event.ask ≡ is_abandon e.ask → is_abandon e.ask ≡ b →
         map (λ (w : Withdrawal). w.object) (filter (λ w. nat_le (first_untold (place_of config h e ∷ h)) w.place) (withdrawals config (place_of config h e ∷ h)))
@@ -99,6 +104,21 @@ pending-push config h e n = go (is_abandon e.ask) (ap is_abandon (ask-place_of c
         (λ w a. rw (p ∙ q) (lt-leb ((place_of config h e).index + 1) w.place (let i = index-place_of config h e in omega arith)))
         (withdrawals config (place_of config h e ∷ h)) (withdrawals-below config (place_of config h e ∷ h) n)))
 
-pub pending-none : (config : SpaceConfig) → pending config [] ≡ []
-unfolding pending
-pending-none config = rw withdrawals-none refl
+pending-since : (config : SpaceConfig) (es : List Event) → pending config (places_back config es) ≡ withdrawn_from (first_untold (places_back config es)) config (places_back config es)
+unfolding places_back gone
+pending-since config [] = rw withdrawals-none (pending-none config)
+pending-since config (e ∷ es) =
+    let h = places_back config es in
+    pending-push config h e (places_back-numbered config (e ∷ es))
+    ∙ ap (λ l. if is_abandon e.ask then l ++ ids (withdrawn config (place_of config h e ∷ h)) else []) (pending-since config es)
+    ∙ ap (λ l. if is_abandon e.ask then l else []) (sym (told-next config h e (places_back-numbered config es)))
+    ∙ sym (told-after config h e (places_back-numbered config (e ∷ es)))
+
+-- WHAT A TURN TELLS was withdrawn after the last event that is no Abandon.
+pub gone-since : (config : SpaceConfig) (events : List Event) (e : Event) → GoneSinceLast config events e
+unfolding places
+gone-since config events e =
+    let h = places_back config (reverse events) in
+    gone-push config h e (places_back-numbered config (reverse events))
+    ∙ ap (λ l. l ++ ids (withdrawn config (place_of config h e ∷ h))) (pending-since config (reverse events))
+    ∙ sym (told-next config h e (places_back-numbered config (reverse events)))

@@ -1,5 +1,6 @@
 pub mod AlikeCalls
 pub mod AwaitingLaws
+pub mod CollectorLaws
 pub mod Examples
 pub mod LeaseRows
 pub mod GoneLaws

@@ -14,27 +14,43 @@ use Rattle.history.specs.declared.asks.Event.{Event}
 use Rattle.history.specs.declared.asks.Ask.{Ask}
 use Rattle.history.specs.declared.asks.Ask.TheVariants.{Bind, Rebind, Unbind, Lookup}
 use Rattle.history.specs.declared.places.Place.{Place}
-use Rattle.history.specs.Names.{name_in, name_bound, object_bound, is_bind_of, is_unbind_of, changes_name, stands_for, is_unbound_after, begins_name, names}
+pub use Rattle.history.specs.Names.{unbinds, name_begun}
+use Rattle.history.specs.Names.{name_in, name_bound, object_bound, is_bind_of, is_unbind_of, changes_name, stands_for, names}
+use Rattle.history.specs.Laws.{is_unbound_after, begins_name, StandsForLast, NamesInOrder}
 use Rattle.history.proofs.ListLemmas.{Every, Every-weaker, Every-reverse, reverse-cons, filter-same, filter-filter, list_any-filter, IsEquality, AllOnce, AllOnce-filter, AllOnce-push, same_test, and_false}
 use Rattle.history.specs.Table.{place_of, places_back, places}
-use Rattle.history.proofs.TableLaws.{IsNumbered, index-place_of, adds-place, places_back-numbered}
+use Rattle.history.proofs.TableLaws.{IsNumbered, index-place_of, adds-place, places_back-numbered, places-numbered}
 
--- ---- what a name stands for
+-- ---- one more place
 
 -- After a place that changes a name it stands for what that place says, and after any other for what it stood for before.
 pub stands_for-push : (p : Place) (h : List Place) (n : List ℕ) →
     stands_for (p ∷ h) n ≡ (if changes_name n p then object_bound p.event.ask else stands_for h n)
 unfolding stands_for
-stands_for-push p h n = go (changes_name n p)
-  where
-    go : (b : Bool) → option_and_then (λ (q : Place). object_bound q.event.ask) (cond b (Some p) (find (changes_name n) h))
-        ≡ (if b then object_bound p.event.ask else option_and_then (λ (q : Place). object_bound q.event.ask) (find (changes_name n) h))
-    go true = refl
-    go false = refl
+stands_for-push p h n = refl
 
 pub stands_for-none : (n : List ℕ) → stands_for [] n ≡ None
 unfolding stands_for
 stands_for-none n = refl
+
+-- THE NAMES after one more event are those that it doesn't unbind, and the one that it begins.
+pub names-push : (p : Place) (h : List Place) → IsNumbered (p ∷ h) →
+    names (p ∷ h) ≡ filter (λ n. not (unbinds p n)) (names h) ++ name_begun p
+unfolding names
+names-push p h i = refl
+
+pub names-none : names [] ≡ []
+unfolding names
+names-none = refl
+
+-- A NAME STANDS for the object of its last change.
+pub stands-for-last : (h : List Place) → StandsForLast h
+stands-for-last [] n = stands_for-none n
+stands-for-last (p ∷ h) n = stands_for-push p h n ∙ go (stands-for-last h n) (changes_name n p)
+  where
+    go : stands_for h n ≡ option_and_then (λ (q : Place). object_bound q.event.ask) (find (changes_name n) h) → (b : Bool) → (if b then object_bound p.event.ask else stands_for h n) ≡ option_and_then (λ (q : Place). object_bound q.event.ask) (cond b (Some p) (find (changes_name n) h))
+    go ih true = refl
+    go ih false = ih
 
 -- ---- the order of names
 
@@ -48,10 +64,6 @@ places-below (p ∷ h) n =
 none_after : (n : List ℕ) (h : List Place) (p : Place) → IsNumbered h → length h ≤ p.index + 1 → is_unbound_after h n p ≡ false
 none_after n [] p i a = refl
 none_after n (q ∷ h) p i a = rw (le-ltb p.index q.index (let b = i.0 in omega arith)) (none_after n h p i.2 (omega arith))
-
--- The name is one that the newest place unbinds.
-abbrev pub unbinds : Place → List ℕ → Bool
-unbinds p n = p.effective && is_unbind_of n p.event.ask
 
 begins-before : (p : Place) (h : List Place) (q : Place) → q.index < p.index →
     begins_name (p ∷ h) q ≡ (option_any (λ n. not (unbinds p n)) (name_bound q.event.ask) && begins_name h q)
@@ -84,10 +96,6 @@ filter_map-filter {X} {Y} f test (x ∷ xs) = go (f x) refl (filter_map-filter f
         kept true = rw e (ap (λ l. y ∷ l) ih)
         kept false = ih
 
--- The name that a place begins.
-abbrev pub name_begun : Place → List (List ℕ)
-name_begun p = if p.effective && is_none p.stood then option_to_list (name_bound p.event.ask) else []
-
 begins-here : (p : Place) (h : List Place) → IsNumbered (p ∷ h) →
     filter_map (λ (q : Place). name_bound q.event.ask) (filter (begins_name (p ∷ h)) (p ∷ [])) ≡ name_begun p
 begins-here p h i = go (p.effective && is_none p.stood) (name_bound p.event.ask) refl
@@ -99,11 +107,13 @@ begins-here p h i = go (p.effective && is_none p.stood) (name_bound p.event.ask)
     go true (Some n) e = rw (none_after n (p ∷ h) p i (let b = i.0 in omega arith), e) refl
     go false (Some n) e = refl
 
--- THE NAMES after one more event are those that it doesn't unbind, and the one that it begins.
-pub names-push : (p : Place) (h : List Place) → IsNumbered (p ∷ h) →
-    names (p ∷ h) ≡ filter (λ n. not (unbinds p n)) (names h) ++ name_begun p
-unfolding names
-names-push p h i =
+-- The names in the order of the places that begin them.
+abbrev begun_in_order : List Place → List (List ℕ)
+begun_in_order h = filter_map (λ (p : Place). name_bound p.event.ask) (filter (begins_name h) (reverse h))
+
+in_order-push : (p : Place) (h : List Place) → IsNumbered (p ∷ h) →
+    begun_in_order (p ∷ h) ≡ filter (λ n. not (unbinds p n)) (begun_in_order h) ++ name_begun p
+in_order-push p h i =
     ap (λ l. filter_map (λ (q : Place). name_bound q.event.ask) (filter (begins_name (p ∷ h)) l)) (reverse-cons p h)
     ∙ ap (filter_map (λ (q : Place). name_bound q.event.ask)) (filter-append (begins_name (p ∷ h)) (reverse h) (p ∷ []))
     ∙ filter_map-append (λ (q : Place). name_bound q.event.ask) (filter (begins_name (p ∷ h)) (reverse h)) (filter (begins_name (p ∷ h)) (p ∷ []))
@@ -116,9 +126,13 @@ names-push p h i =
     ∙ filter_map-filter (λ (q : Place). name_bound q.event.ask) (λ n. not (unbinds p n)) (filter (begins_name h) (reverse h)))
     ∙ ap (λ l. filter (λ n. not (unbinds p n)) (filter_map (λ (q : Place). name_bound q.event.ask) (filter (begins_name h) (reverse h))) ++ l) (begins-here p h i)
 
-pub names-none : names [] ≡ []
-unfolding names
-names-none = refl
+names-begun : (h : List Place) → IsNumbered h → names h ≡ begun_in_order h
+names-begun [] i = names-none
+names-begun (p ∷ h) i = names-push p h i ∙ ap (λ l. filter (λ n. not (unbinds p n)) l ++ name_begun p) (names-begun h i.2) ∙ sym (in_order-push p h i)
+
+-- THE NAMES stand in the order of the places that begin them.
+pub names-in-order : (config : SpaceConfig) (events : List Event) → NamesInOrder config events
+names-in-order config events = names-begun (places config events) (places-numbered config events)
 
 -- ---- the names that stand for something
 

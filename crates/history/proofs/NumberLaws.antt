@@ -1,5 +1,5 @@
 -- The numbers of the objects that a space exports rise, and none is given twice.
-use Rattle.std.proofs.Common.{◌≡◌, ℕ, suc, ◌+◌, ◌<◌, ◌≤◌, List, [], ◌∷◌, ◌++◌, length, refl, ap, sym, subst, arith, cond}
+use Rattle.std.proofs.Common.{◌≡◌, ℕ, suc, ◌+◌, ◌<◌, ◌≤◌, List, [], ◌∷◌, ◌++◌, length, refl, ap, sym, subst, ◌∙◌, arith, cond, length-append}
 use Rattle.std.specs.Prelude.{pos, Bool, true, false, ◌||◌, filter, if◌then◌else◌, reverse}
 use Rattle.std.specs.Ordering.{int_eq}
 use Rattle.std.proofs.lemmas.Bool.Decides.{Decides-int_eq}
@@ -13,9 +13,12 @@ use Rattle.history.specs.declared.asks.Ask.{Ask}
 use Rattle.history.specs.declared.asks.Ask.TheVariants.{Open, Finish}
 use Rattle.history.specs.declared.places.Place.{Place}
 use Rattle.history.specs.declared.places.Exported.{Exported}
-use Rattle.history.specs.Places.{has, kind_of, added, id_at, exported_from}
-use Rattle.history.specs.Table.{is_kept, is_kept_since_export, table, exports, place_of, places_back, places}
+use Rattle.history.specs.Places.{has, kind_of, added, next, id_at, exported_from}
+use Rattle.history.specs.Table.{is_kept, table, exports, place_of, places_back, places}
+use Rattle.history.specs.Laws.{is_kept_since_export, NextIsCounted}
+use Rattle.std.proofs.lemmas.List.Folds.{list_any-append}
 use Rattle.history.proofs.ListLemmas.{Every, Every-weaker, or_true}
+use Rattle.history.proofs.TableLaws.{table-is-kept}
 
 -- The objects of a list are a space's k-th and those that follow.
 abbrev pub NumberedFrom : Uid → ℕ → List Exported → Type 0
@@ -37,20 +40,29 @@ pub length-exported_from : (space : Uid) (k place : ℕ) (pinned : Bool) (kinds 
 length-exported_from space k place pinned [] = refl
 length-exported_from space k place pinned (kind ∷ kinds) = ap suc (length-exported_from space (k + 1) place pinned kinds)
 
-exports-numbered : (config : SpaceConfig) (h : List Place) (a : Ask) → NumberedFrom config.uid (length (added h)) (exports config h a)
+-- THE NEXT OBJECT has the number of those that were exported before it.
+pub next-added : (h : List Place) → NextIsCounted h
+unfolding next added
+next-added [] = refl
+next-added (p ∷ h) = ap (λ n. n + length p.adds) (next-added h) ∙ sym (length-append (added h) p.adds)
+
+exports-numbered : (config : SpaceConfig) (h : List Place) (a : Ask) → NumberedFrom config.uid (next h) (exports config h a)
 unfolding exports
-exports-numbered config h (Open kind pinned) = exported_from-numbered config.uid (length (added h)) (length h) pinned (kind ∷ [])
-exports-numbered config h (Finish object made listed uid) = exported_from-numbered config.uid (length (added h)) (length h) false made
+exports-numbered config h (Open kind pinned) = exported_from-numbered config.uid (next h) (length h) pinned (kind ∷ [])
+exports-numbered config h (Finish object made listed uid) = exported_from-numbered config.uid (next h) (length h) false made
 exports-numbered config h _ = tt
 
 -- What an event exports goes on where the history ended.
-pub adds-numbered : (config : SpaceConfig) (h : List Place) (e : Event) → NumberedFrom config.uid (length (added h)) (place_of config h e).adds
+pub adds-next : (config : SpaceConfig) (h : List Place) (e : Event) → NumberedFrom config.uid (next h) (place_of config h e).adds
 unfolding place_of
-adds-numbered config h e = go (place_of config h e).effective (exports-numbered config h e.ask)
+adds-next config h e = go (place_of config h e).effective (exports-numbered config h e.ask)
   where
-    go : (b : Bool) → NumberedFrom config.uid (length (added h)) (exports config h e.ask) → NumberedFrom config.uid (length (added h)) (if b then exports config h e.ask else [])
+    go : (b : Bool) → NumberedFrom config.uid (next h) (exports config h e.ask) → NumberedFrom config.uid (next h) (if b then exports config h e.ask else [])
     go true n = n
     go false n = tt
+
+pub adds-numbered : (config : SpaceConfig) (h : List Place) (e : Event) → NumberedFrom config.uid (length (added h)) (place_of config h e).adds
+adds-numbered config h e = let P : ℕ → Type 0 = λ n. NumberedFrom config.uid n (place_of config h e).adds in subst P (next-added h) (adds-next config h e)
 
 -- ALL OBJECTS that a history exported have the numbers from 16 on, in order.
 pub added_back-numbered : (config : SpaceConfig) (es : List Event) → NumberedFrom config.uid 0 (added (places_back config es))
@@ -131,9 +143,26 @@ AllApart-filter test (x ∷ xs) a = go (test x) (AllApart-filter test xs a.1)
 
 -- NO OBJECT of the table stands there twice.
 pub table-apart : (config : SpaceConfig) (h : List Event) → AllApart (table config (places config h))
-unfolding table
 table-apart config h =
-    AllApart-filter (is_kept_since_export (is_kept config) (places config h)) (added (places config h)) (NumberedFrom-apart config.uid 0 (added (places config h)) (added-numbered config h))
+    let P : List Exported → Type 0 = λ l. AllApart l in
+    subst P (sym (table-is-kept config h))
+    (AllApart-filter (is_kept_since_export (is_kept config) (places config h)) (added (places config h)) (NumberedFrom-apart config.uid 0 (added (places config h)) (added-numbered config h)))
+
+-- WHAT IS IN THE TABLE was exported.
+pub table-exported : (config : SpaceConfig) (h : List Place) (o : ObjId) → has (table config h) o ≡ true → has (added h) o ≡ true
+unfolding table added
+table-exported config [] o t = t
+table-exported config (p ∷ h) o t =
+    list_any-append (λ (x : Exported). same_id x.id o) (added h) p.adds ∙ go (table-exported config h o) (has (table config h ++ p.adds) o) refl
+  where
+    wider : (a b c : Bool) → (a || c) ≡ true → (a ≡ true → b ≡ true) → (b || c) ≡ true
+    wider true b c e f = ap (λ v. v || c) (f refl)
+    wider false true c e f = refl
+    wider false false c e f = e
+
+    go : (has (table config h) o ≡ true → has (added h) o ≡ true) → (b : Bool) → has (table config h ++ p.adds) o ≡ b → (has (added h) o || has p.adds o) ≡ true
+    go ih true e = wider (has (table config h) o) (has (added h) o) (has p.adds o) (sym (list_any-append (λ (x : Exported). same_id x.id o) (table config h) p.adds) ∙ e) ih
+    go ih false e = absurd (let never = has-filter (is_kept config (p ∷ h)) (table config h ++ p.adds) o e in cc)
 
 -- Each object of a list is among its objects, and has its kind there.
 pub has-self : (xs : List Exported) → Every (λ (x : Exported). has xs x.id ≡ true) xs

@@ -1,7 +1,8 @@
 -- Laws of running calls: what one more event does, and that all connections' calls are counted by one difference.
-use Rattle.std.proofs.Common.{◌≡◌, ℕ, ◌+◌, ◌<◌, ◌≤◌, List, [], ◌∷◌, length, refl, ap, sym, subst, ◌∙◌, arith}
-use Rattle.std.specs.Prelude.{Bool, true, false, ◌&&◌, ◌==◌, filter, sum_by, map, nat_lt, reverse, pos}
-use Rattle.std.proofs.lemmas.Bool.{ltb-true, and_parts, and_from}
+use Rattle.std.proofs.Common.{true≢false, ◌≡◌, ℕ, ◌+◌, ◌-◌, ◌<◌, ◌≤◌, inl, inr, List, [], ◌∷◌, length, refl, ap, sym, subst, ◌∙◌, arith}
+use Rattle.std.specs.Prelude.{Bool, true, false, ◌&&◌, ◌==◌, ◌↔◌, filter, sum_by, map, nat_lt, reverse, pos, if◌then◌else◌}
+use Rattle.std.specs.List.{list_any}
+use Rattle.std.proofs.lemmas.Bool.{ltb-true, lt-ltb, and_parts, and_from, or_cases, or_left, or_right, or_parts}
 use Rattle.std.proofs.lemmas.Bool.Decides.{Decides-eqb}
 use Rattle.object_ids.specs.declared.ids.ObjId.{ObjId}
 use Rattle.object_ids.specs.Same.{same_id}
@@ -12,11 +13,13 @@ use Rattle.history.specs.declared.asks.Event.{Event}
 use Rattle.history.specs.declared.asks.Ask.{Ask}
 use Rattle.history.specs.declared.asks.Ask.TheVariants.{Begin, Finish, Abandon}
 use Rattle.history.specs.declared.places.Place.{Place}
-use Rattle.history.specs.Running.{is_begin_of, is_end_of, begins_call, ends_call, running, connections, is_running, running_calls}
+pub use Rattle.history.specs.Running.{begins_any, ends_any}
+use Rattle.history.specs.Running.{is_begin_of, is_end_of, begins_call, ends_call, running, is_running, running_calls}
+use Rattle.history.specs.Laws.{RunningIsCounted, SomeConnectionRuns, RunningIsSome}
 use Rattle.history.specs.Limits.{is_begin, is_end, starts, ends, reserved}
 use Rattle.history.specs.Table.{is_effective, place_of, places_back, places}
-use Rattle.history.proofs.ListLemmas.{Every-always, IsEquality, filter-same}
-use Rattle.history.proofs.Partitions.{one_if, length-filter-cons, sum_by-minus, sum_by-same, sum_by-parts, list_any-sum_by}
+use Rattle.history.proofs.ListLemmas.{Every-always, IsEquality, filter-same, list_any-distinct}
+use Rattle.history.proofs.Partitions.{one_if, length-filter-cons, sum_by-plus, sum_by-minus, sum_by-same, sum_by-parts, list_any-sum_by}
 
 -- ---- a call ends only where it runs
 
@@ -44,58 +47,74 @@ end_runs config h e by o t = go e.ask t
     go (Abandon x) t = here x t
     go _ t = never _ t
 
-less_running : (h : List Place) (by : ℕ) (o : ObjId) → 0 < running h by o → length (filter (ends_call by o) h) < length (filter (begins_call by o) h)
-unfolding running
-less_running h by o r = omega arith
+-- No ask begins and ends a call.
+not_both : (o : ObjId) (a : Ask) → is_begin_of o a ≡ true → is_end_of o a ≡ true → ⊥
+not_both o (Begin x) b c = true≢false (sym c)
+not_both o (Finish x made listed uid) b c = true≢false (sym b)
+not_both o (Abandon x) b c = true≢false (sym b)
+not_both o _ b c = true≢false (sym b)
 
--- Never more ends than begins.
-pub balanced : (config : SpaceConfig) (es : List Event) (by : ℕ) (o : ObjId) →
-    length (filter (ends_call by o) (places_back config es)) ≤ length (filter (begins_call by o) (places_back config es))
-unfolding places_back one_if
-balanced config [] by o = omega arith
-balanced config (e ∷ es) by o =
-    go (ends_call by o (place_of config (places_back config es) e)) refl (balanced config es by o)
-    (length-filter-cons (ends_call by o) (place_of config (places_back config es) e) (places_back config es))
-    (length-filter-cons (begins_call by o) (place_of config (places_back config es) e) (places_back config es))
-  where
-    less : ends_call by o (place_of config (places_back config es) e) ≡ true →
-        length (filter (ends_call by o) (places_back config es)) < length (filter (begins_call by o) (places_back config es))
-    less t = less_running (places_back config es) by o (end_runs config (places_back config es) e by o t)
+-- A count after a place that begins or ends a call.
+abbrev counted : Bool → Bool → ℕ → ℕ
+counted begins ends n = if begins then n + 1 else if ends then n - 1 else n
 
-    go : (b : Bool) → ends_call by o (place_of config (places_back config es) e) ≡ b →
-        length (filter (ends_call by o) (places_back config es)) ≤ length (filter (begins_call by o) (places_back config es)) →
-        length (filter (ends_call by o) (places_back config (e ∷ es))) ≡ one_if (ends_call by o (place_of config (places_back config es) e)) + length (filter (ends_call by o) (places_back config es)) →
-        length (filter (begins_call by o) (places_back config (e ∷ es))) ≡ one_if (begins_call by o (place_of config (places_back config es) e)) + length (filter (begins_call by o) (places_back config es)) →
-        length (filter (ends_call by o) (places_back config (e ∷ es))) ≤ length (filter (begins_call by o) (places_back config (e ∷ es)))
-    go true t ih a b = let l = less t in let one : one_if (ends_call by o (place_of config (places_back config es) e)) ≡ 1 = ap one_if t in omega arith
-    go false t ih a b = let none : one_if (ends_call by o (place_of config (places_back config es) e)) ≡ 0 = ap one_if t in omega arith
+count-step : (n : ℕ) (b e : Bool) → (b ≡ true → e ≡ true → ⊥) → (e ≡ true → 0 < n) → counted b e n + one_if e ≡ n + one_if b
+unfolding one_if
+count-step n true true f g = absurd (f refl refl)
+count-step n true false f g = omega arith
+count-step n false true f g = let l = g refl in omega arith
+count-step n false false f g = omega arith
+
+-- ---- the calls of one connection
 
 -- ONE MORE EVENT: a call that begins adds one, a call that ends takes one away.
-running_back : (config : SpaceConfig) (e : Event) (es : List Event) (by : ℕ) (o : ObjId) →
-    running (places_back config (e ∷ es)) by o + one_if (ends_call by o (place_of config (places_back config es) e))
-    ≡ running (places_back config es) by o + one_if (begins_call by o (place_of config (places_back config es) e))
-unfolding running places_back
-running_back config e es by o =
-    let before = balanced config es by o in let after = balanced config (e ∷ es) by o in
-    let a = length-filter-cons (ends_call by o) (place_of config (places_back config es) e) (places_back config es) in
-    let b = length-filter-cons (begins_call by o) (place_of config (places_back config es) e) (places_back config es) in omega arith
+running_place : (config : SpaceConfig) (h : List Place) (e : Event) (by : ℕ) (o : ObjId) →
+    running (place_of config h e ∷ h) by o + one_if (ends_call by o (place_of config h e)) ≡ running h by o + one_if (begins_call by o (place_of config h e))
+unfolding running
+running_place config h e by o =
+    let p = place_of config h e in
+    count-step (running h by o) (begins_call by o p) (ends_call by o p)
+    (λ b c. not_both o p.event.ask (and_parts (p.effective && p.event.by == by) (is_begin_of o p.event.ask) b).1 (and_parts (p.effective && p.event.by == by) (is_end_of o p.event.ask) c).1)
+    (end_runs config h e by o)
 
 pub running-push : (config : SpaceConfig) (h : List Event) (e : Event) (by : ℕ) (o : ObjId) →
     running (place_of config (places config h) e ∷ places config h) by o + one_if (ends_call by o (place_of config (places config h) e))
     ≡ running (places config h) by o + one_if (begins_call by o (place_of config (places config h) e))
-unfolding places places_back
-running-push config h e by o = running_back config e (reverse h) by o
+running-push config h e by o = running_place config (places config h) e by o
+
+running_none : (by : ℕ) (o : ObjId) → running [] by o ≡ 0
+unfolding running
+running_none by o = refl
+
+-- A connection's calls are its begins less its ends.
+running_back : (config : SpaceConfig) (es : List Event) (by : ℕ) (o : ObjId) →
+    running (places_back config es) by o + length (filter (ends_call by o) (places_back config es)) ≡ length (filter (begins_call by o) (places_back config es))
+unfolding places_back
+running_back config [] by o = let none = running_none by o in omega arith
+running_back config (e ∷ es) by o =
+    let h = places_back config es in
+    let before = running_back config es by o in
+    let here = running_place config h e by o in
+    let a = length-filter-cons (ends_call by o) (place_of config h e) h in
+    let b = length-filter-cons (begins_call by o) (place_of config h e) h in omega arith
+
+pub running-counted : (config : SpaceConfig) (events : List Event) → RunningIsCounted config events
+unfolding places
+running-counted config events by o = running_back config (reverse events) by o
+
+-- Never more ends than begins.
+pub balanced : (config : SpaceConfig) (es : List Event) (by : ℕ) (o : ObjId) →
+    length (filter (ends_call by o) (places_back config es)) ≤ length (filter (begins_call by o) (places_back config es))
+balanced config es by o = let all = running_back config es by o in omega arith
 
 -- ---- all connections
 
-abbrev pub begins_any : ObjId → Place → Bool
-begins_any o p = p.effective && is_begin_of o p.event.ask
-
-abbrev pub ends_any : ObjId → Place → Bool
-ends_any o p = p.effective && is_end_of o p.event.ask
-
 eqb-equality : IsEquality (λ a b. a == b)
 eqb-equality = record { self = λ k. (Decides-eqb k k).1 refl; equal = λ j k h. (Decides-eqb j k).0 h }
+
+-- The connections that asked, each once.
+connections : List Place → List ℕ
+connections h = distinct (λ a b. a == b) (map (λ p. p.event.by) h)
 
 turned : (a b c : Bool) → (a && b && c) ≡ (b && (a && c))
 turned true true c = refl
@@ -117,14 +136,65 @@ ended_by h o =
     (λ by. ap length (filter-same (ends_call by o) (λ p. p.event.by == by && ends_any o p) h (Every-always (λ p. ends_call by o p ≡ (p.event.by == by && ends_any o p)) (λ p. turned p.effective (p.event.by == by) (is_end_of o p.event.ask)) h))) (connections h)
     ∙ sum_by-parts (λ a b. a == b) eqb-equality (λ p. p.event.by) (ends_any o) h
 
+-- The calls of each are the begins of all less the ends of all.
+each_running : (config : SpaceConfig) (es : List Event) (o : ObjId) →
+    sum_by (λ by. running (places_back config es) by o) (connections (places_back config es)) + length (filter (ends_any o) (places_back config es))
+    ≡ length (filter (begins_any o) (places_back config es))
+each_running config es o =
+    let h = places_back config es in
+    let differ = sum_by-plus (λ by. running h by o) (λ by. length (filter (ends_call by o) h)) (connections h) in
+    let begins = sum_by-same (λ by. running h by o + length (filter (ends_call by o) h)) (λ by. length (filter (begins_call by o) h)) (λ by. running_back config es by o) (connections h) in
+    let one = begun_by h o in let other = ended_by h o in omega arith
+
+-- A call ends only where one runs.
+end_any_runs : (config : SpaceConfig) (es : List Event) (e : Event) (o : ObjId) → ends_any o (place_of config (places_back config es) e) ≡ true →
+    length (filter (ends_any o) (places_back config es)) < length (filter (begins_any o) (places_back config es))
+unfolding one_if places_back
+end_any_runs config es e o t =
+    let h = places_back config es in
+    let p = place_of config h e in
+    let all : length (filter (ends_any o) (p ∷ h)) ≤ length (filter (begins_any o) (p ∷ h)) = never_more in
+    let a = length-filter-cons (ends_any o) p h in
+    let b = length-filter-cons (begins_any o) p h in
+    let one : one_if (ends_any o p) ≡ 1 = ap one_if t in
+    let none : one_if (begins_any o p) ≡ 0 = ap one_if (begins_none (begins_any o p) refl) in omega arith
+  where
+    never_more : length (filter (ends_any o) (places_back config (e ∷ es))) ≤ length (filter (begins_any o) (places_back config (e ∷ es)))
+    never_more = let each = each_running config (e ∷ es) o in omega arith
+
+    begins_none : (b : Bool) → begins_any o (place_of config (places_back config es) e) ≡ b → b ≡ false
+    begins_none false h = refl
+    begins_none true h =
+        let p = place_of config (places_back config es) e in
+        absurd (not_both o p.event.ask (and_parts p.effective (is_begin_of o p.event.ask) h).1 (and_parts p.effective (is_end_of o p.event.ask) t).1)
+
+running_calls_place : (config : SpaceConfig) (es : List Event) (e : Event) (o : ObjId) →
+    running_calls (places_back config es) o + length (filter (ends_any o) (places_back config es)) ≡ length (filter (begins_any o) (places_back config es)) →
+    running_calls (place_of config (places_back config es) e ∷ places_back config es) o + one_if (ends_any o (place_of config (places_back config es) e))
+    ≡ running_calls (places_back config es) o + one_if (begins_any o (place_of config (places_back config es) e))
+unfolding running_calls
+running_calls_place config es e o before =
+    let h = places_back config es in
+    let p = place_of config h e in
+    count-step (running_calls h o) (begins_any o p) (ends_any o p)
+    (λ b c. not_both o p.event.ask (and_parts p.effective (is_begin_of o p.event.ask) b).1 (and_parts p.effective (is_end_of o p.event.ask) c).1)
+    (λ t. let less = end_any_runs config es e o t in omega (arith, less, before))
+
+running_calls_none : (o : ObjId) → running_calls [] o ≡ 0
+unfolding running_calls
+running_calls_none o = refl
+
 -- All connections' calls are the begins of all less the ends of all.
 running_calls_back : (config : SpaceConfig) (es : List Event) (o : ObjId) →
     running_calls (places_back config es) o + length (filter (ends_any o) (places_back config es)) ≡ length (filter (begins_any o) (places_back config es))
-unfolding running_calls running
-running_calls_back config es o =
-    ap (λ n. running_calls (places_back config es) o + n) (sym (ended_by (places_back config es) o))
-    ∙ sum_by-minus (λ by. length (filter (begins_call by o) (places_back config es))) (λ by. length (filter (ends_call by o) (places_back config es))) (λ by. balanced config es by o) (connections (places_back config es))
-    ∙ begun_by (places_back config es) o
+unfolding places_back
+running_calls_back config [] o = let none = running_calls_none o in omega arith
+running_calls_back config (e ∷ es) o =
+    let h = places_back config es in
+    let before = running_calls_back config es o in
+    let here = running_calls_place config es e o before in
+    let a = length-filter-cons (ends_any o) (place_of config h e) h in
+    let b = length-filter-cons (begins_any o) (place_of config h e) h in omega arith
 
 pub running_calls-difference : (config : SpaceConfig) (h : List Event) (o : ObjId) →
     running_calls (places config h) o + length (filter (ends_any o) (places config h)) ≡ length (filter (begins_any o) (places config h))
@@ -134,16 +204,76 @@ running_calls-difference config h o = running_calls_back config (reverse h) o
 pub running_calls-push : (config : SpaceConfig) (h : List Event) (e : Event) (o : ObjId) →
     running_calls (place_of config (places config h) e ∷ places config h) o + one_if (ends_any o (place_of config (places config h) e))
     ≡ running_calls (places config h) o + one_if (begins_any o (place_of config (places config h) e))
-unfolding places places_back
-running_calls-push config h e o =
-    let before = running_calls_back config (reverse h) o in let after = running_calls_back config (e ∷ reverse h) o in
-    let a = length-filter-cons (ends_any o) (place_of config (places_back config (reverse h)) e) (places_back config (reverse h)) in
-    let b = length-filter-cons (begins_any o) (place_of config (places_back config (reverse h)) e) (places_back config (reverse h)) in omega arith
+unfolding places
+running_calls-push config h e o = running_calls_place config (reverse h) e o (running_calls_back config (reverse h) o)
 
 -- Some connection runs a call exactly where their number is not 0.
 pub is_running-calls : (h : List Place) (o : ObjId) → is_running h o ≡ nat_lt 0 (running_calls h o)
-unfolding is_running running_calls
-is_running-calls h o = list_any-sum_by (λ by. running h by o) (connections h)
+unfolding is_running
+is_running-calls h o = refl
+
+-- A connection that never asked runs none.
+never_asked : (h : List Place) (by : ℕ) (o : ObjId) → list_any (λ c. by == c) (map (λ (p : Place). p.event.by) h) ≡ false → running h by o ≡ 0
+unfolding running
+never_asked [] by o a = refl
+never_asked (p ∷ h) by o a =
+    let two = or_parts (by == p.event.by) (list_any (λ c. by == c) (map (λ (q : Place). q.event.by) h)) a in
+    go (p.event.by == by) (apart (p.event.by == by) refl two.0) (never_asked h by o two.1)
+  where
+    apart : (b : Bool) → (p.event.by == by) ≡ b → (by == p.event.by) ≡ false → b ≡ false
+    apart false q n = refl
+    apart true q n = let same : p.event.by ≡ by = (Decides-eqb p.event.by by).0 q in absurd (true≢false (sym ((Decides-eqb by p.event.by).1 (sym same)) ∙ n))
+
+    none : (x y : Bool) → (x && false && y) ≡ false
+    none true y = refl
+    none false y = refl
+
+    go : (b : Bool) → b ≡ false → running h by o ≡ 0 →
+        counted (p.effective && b && is_begin_of o p.event.ask) (p.effective && b && is_end_of o p.event.ask) (running h by o) ≡ 0
+    go true q r = absurd (true≢false q)
+    go false q r = rw (none p.effective (is_begin_of o p.event.ask), none p.effective (is_end_of o p.event.ask)) r
+
+some_runs : (xs : List ℕ) (f : ℕ → ℕ) → list_any (λ c. nat_lt 0 (f c)) xs ≡ true → (c : ℕ) × 0 < f c
+some_runs [] f h = absurd (true≢false (sym h))
+some_runs (c ∷ xs) f h = elim (or_cases (nat_lt 0 (f c)) (list_any (λ x. nat_lt 0 (f x)) xs) h) [
+  | inl here ↦ (c, ltb-true 0 (f c) here)
+  | inr there ↦ some_runs xs f there
+]
+
+runs_some : (xs : List ℕ) (f : ℕ → ℕ) (by : ℕ) → list_any (λ c. by == c) xs ≡ true → 0 < f by → list_any (λ c. nat_lt 0 (f c)) xs ≡ true
+runs_some [] f by h r = absurd (true≢false (sym h))
+runs_some (c ∷ xs) f by h r = elim (or_cases (by == c) (list_any (λ x. by == x) xs) h) [
+  | inl here ↦ or_left (nat_lt 0 (f c)) (list_any (λ x. nat_lt 0 (f x)) xs) (let P : ℕ → Type 0 = λ n. nat_lt 0 (f n) ≡ true in subst P ((Decides-eqb by c).0 here) (lt-ltb 0 (f by) r))
+  | inr there ↦ or_right (nat_lt 0 (f c)) (list_any (λ x. nat_lt 0 (f x)) xs) (runs_some xs f by there r)
+]
+
+-- The calls of all connections are the sum of the calls of each.
+calls-sum : (config : SpaceConfig) (es : List Event) (o : ObjId) →
+    running_calls (places_back config es) o ≡ sum_by (λ by. running (places_back config es) by o) (connections (places_back config es))
+calls-sum config es o = let one = running_calls_back config es o in let other = each_running config es o in omega arith
+
+connections-any : (h : List Place) (o : ObjId) → list_any (λ by. nat_lt 0 (running h by o)) (connections h) ≡ list_any (λ by. nat_lt 0 (running h by o)) (map (λ (p : Place). p.event.by) h)
+unfolding connections
+connections-any h o =
+    list_any-distinct (λ a b. a == b) (λ by. nat_lt 0 (running h by o)) (λ x y e. ap (λ n. nat_lt 0 (running h n o)) ((Decides-eqb x y).0 e)) (map (λ (p : Place). p.event.by) h)
+
+-- SOME CONNECTION runs a call exactly where the count is not 0.
+running_some : (config : SpaceConfig) (es : List Event) (o : ObjId) → (is_running (places_back config es) o ≡ true) ↔ SomeConnectionRuns (places_back config es) o
+running_some config es o = (λ r. some_runs (map (λ (p : Place). p.event.by) h) (λ c. running h c o) (sym any ∙ r), λ s. any ∙ runs_some (map (λ (p : Place). p.event.by) h) (λ c. running h c o) s.0 (asked s.0 s.1 (list_any (λ c. s.0 == c) (map (λ (p : Place). p.event.by) h)) refl) s.1)
+  where
+    h : List Place
+    h = places_back config es
+
+    any : is_running h o ≡ list_any (λ by. nat_lt 0 (running h by o)) (map (λ (p : Place). p.event.by) h)
+    any = is_running-calls h o ∙ ap (nat_lt 0) (calls-sum config es o) ∙ sym (list_any-sum_by (λ by. running h by o) (connections h)) ∙ connections-any h o
+
+    asked : (by : ℕ) → 0 < running h by o → (b : Bool) → list_any (λ c. by == c) (map (λ (p : Place). p.event.by) h) ≡ b → b ≡ true
+    asked by r true a = refl
+    asked by r false a = absurd (let none = never_asked h by o a in omega arith)
+
+pub running-some : (config : SpaceConfig) (events : List Event) → RunningIsSome config events
+unfolding places
+running-some config events o = running_some config (reverse events) o
 
 -- ---- reserved units
 

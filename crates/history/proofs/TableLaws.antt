@@ -12,9 +12,10 @@ use Rattle.history.specs.declared.asks.Ask.{Ask}
 use Rattle.history.specs.declared.asks.Ask.TheVariants.{Open, Finish}
 use Rattle.history.specs.declared.places.Place.{Place}
 use Rattle.history.specs.declared.places.Exported.{Exported}
-use Rattle.history.specs.Places.{now, added, exported_from}
+use Rattle.history.specs.Places.{now, added, next, exported_from}
 use Rattle.history.specs.Limits.{units_of, units}
-use Rattle.history.specs.Table.{is_kept, is_kept_since_export, table, exports, place_of, places_back, places, withdrawn}
+use Rattle.history.specs.Table.{is_kept, table, exports, place_of, places_back, places, withdrawn}
+use Rattle.history.specs.Laws.{is_kept_since_export, TableIsKept}
 use Rattle.history.proofs.ListLemmas.{Every, Every-append, Every-weaker, Every-if, filter-same, filter-filter, and_true}
 
 -- ---- places
@@ -30,8 +31,8 @@ exported_from-place space k place pinned (kind ∷ kinds) = (refl, exported_from
 
 exports-place : (config : SpaceConfig) (h : List Place) (a : Ask) → Every (λ (x : Exported). x.place ≡ length h) (exports config h a)
 unfolding exports
-exports-place config h (Open kind pinned) = exported_from-place config.uid (length (added h)) (length h) pinned (kind ∷ [])
-exports-place config h (Finish object made listed uid) = exported_from-place config.uid (length (added h)) (length h) false made
+exports-place config h (Open kind pinned) = exported_from-place config.uid (next h) (length h) pinned (kind ∷ [])
+exports-place config h (Finish object made listed uid) = exported_from-place config.uid (next h) (length h) false made
 exports-place config h _ = tt
 
 pub adds-place : (config : SpaceConfig) (h : List Place) (e : Event) → Every (λ (x : Exported). x.place ≡ length h) (place_of config h e).adds
@@ -129,24 +130,35 @@ survivors-push kept p h n =
 
 -- THE STEP: the table after one more event has those objects of the table before it, and of those that the event exports, that are
 -- kept now.
-pub table-push : (config : SpaceConfig) (h : List Event) (e : Event) →
-    table config (places config (h ++ e ∷ []))
-    ≡ filter (is_kept config (places config (h ++ e ∷ []))) (table config (places config h) ++ (place_of config (places config h) e).adds)
-unfolding table
-table-push config h e =
-    rw places-push (survivors-push (is_kept config) (place_of config (places config h) e) (places config h)
-    (index-place_of config (places config h) e, adds-place config (places config h) e, places-numbered config h))
-
--- The same over places.
 pub table-place : (config : SpaceConfig) (h : List Place) (e : Event) → IsNumbered h →
     table config (place_of config h e ∷ h) ≡ filter (is_kept config (place_of config h e ∷ h)) (table config h ++ (place_of config h e).adds)
 unfolding table
-table-place config h e n =
-    survivors-push (is_kept config) (place_of config h e) h (index-place_of config h e, adds-place config h e, n)
+table-place config h e n = refl
+
+-- The same over events.
+pub table-push : (config : SpaceConfig) (h : List Event) (e : Event) →
+    table config (places config (h ++ e ∷ []))
+    ≡ filter (is_kept config (places config (h ++ e ∷ []))) (table config (places config h) ++ (place_of config (places config h) e).adds)
+table-push config h e = rw places-push (table-place config (places config h) e (places-numbered config h))
 
 pub table-none : (config : SpaceConfig) → table config [] ≡ []
-unfolding table added
+unfolding table
 table-none config = refl
+
+table_back : (config : SpaceConfig) (es : List Event) →
+    table config (places_back config es) ≡ filter (is_kept_since_export (is_kept config) (places_back config es)) (added (places_back config es))
+unfolding places_back added
+table_back config [] = table-none config
+table_back config (e ∷ es) =
+    let h = places_back config es in
+    table-place config h e (places_back-numbered config es)
+    ∙ ap (λ l. filter (is_kept config (place_of config h e ∷ h)) (l ++ (place_of config h e).adds)) (table_back config es)
+    ∙ sym (survivors-push (is_kept config) (place_of config h e) h (places_back-numbered config (e ∷ es)))
+
+-- THE TABLE has what was kept at every prefix from its export on.
+pub table-is-kept : (config : SpaceConfig) (events : List Event) → TableIsKept config events
+unfolding places
+table-is-kept config events = table_back config (reverse events)
 
 -- What the event withdraws is the rest of them.
 pub withdrawn-place : (config : SpaceConfig) (h : List Place) (e : Event) →

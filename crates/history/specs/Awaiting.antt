@@ -1,12 +1,13 @@
 -- Returned references that await their acknowledgement (Java RMI Specification, chapter 10: DgcAck).
-use Rattle.std.specs.Prelude.{ℕ, ◌+◌, Bool, false, not, List, map, ◌&&◌, nat_lt, filter, find, flat_map, Option, Some, None, option_to_list}
+use Rattle.std.specs.Prelude.{ℕ, ◌+◌, Bool, false, List, [], ◌∷◌, ◌++◌, map, ◌&&◌, nat_lt, filter, flat_map, Option, Some, None, option_to_list, if◌then◌else◌}
 use Rattle.std.specs.List.{list_any}
 use Rattle.object_ids.specs.declared.ids.Uid.{Uid}
 use Rattle.object_ids.specs.declared.ids.ObjId.{ObjId}
 use Rattle.object_ids.specs.Same.{same_id, same_uid}
-use Rattle.history.specs.Lists.{distinct, option_any}
+use Rattle.history.specs.Lists.{distinct}
 use Rattle.history.specs.declared.places.Place.{Place}
 use Rattle.history.specs.declared.places.Returned.{Returned}
+use Rattle.history.specs.Places.{History}
 use Rattle.history.specs.declared.asks.Ask.{Ask}
 use Rattle.history.specs.declared.asks.Ask.TheVariants.{Finish, Ack, Lookup}
 
@@ -32,23 +33,31 @@ abbrev pub is_ack_of : Uid → Ask → Bool
 is_ack_of u (Ack uid) = same_uid uid u
 is_ack_of u _ = false
 
--- The return is acknowledged at a place after p.
-abbrev pub is_acknowledged : List Place → Uid → Place → Bool
-is_acknowledged h u p = list_any (λ q. nat_lt p.index q.index && is_ack_of u q.event.ask) h
+-- The moment until which a reference awaits its acknowledgement: 0 where it was not returned, or its return was acknowledged since.
+unfoldable pub until_of : ℕ → History → Returned → ℕ
+until_of ack [] r = 0
+until_of ack (p ∷ before) r =
+    if returns r p then p.moment + ack
+    else if is_ack_of r.uid p.event.ask then 0
+    else until_of ack before r
 
--- A returned reference awaits its acknowledgement at the moment t: since the last place that returned it the time to acknowledge
--- has not ended, and no acknowledgement has come.
-unfoldable pub awaits : ℕ → ℕ → List Place → Returned → Bool
-awaits ack t h r = option_any (λ p. nat_lt t (p.moment + ack) && not (is_acknowledged h r.uid p)) (find (returns r) h)
+-- A returned reference awaits its acknowledgement at the moment t.
+unfoldable pub awaits : ℕ → ℕ → History → Returned → Bool
+awaits ack t h r = nat_lt t (until_of ack h r)
+
+-- The references that were ever returned, those of the newest place first.
+unfoldable pub references : History → List Returned
+references [] = []
+references (p ∷ before) = returned p ++ references before
 
 -- The references that await at the moment t, each once.
-unfoldable pub awaiting : ℕ → ℕ → List Place → List Returned
-awaiting ack t h = distinct same_returned (filter (awaits ack t h) (flat_map returned h))
+unfoldable pub awaiting : ℕ → ℕ → History → List Returned
+awaiting ack t h = distinct same_returned (filter (awaits ack t h) (references h))
 
 -- Those of them that are references to an object.
-unfoldable pub awaiting_of : ℕ → ℕ → List Place → ObjId → List Returned
+unfoldable pub awaiting_of : ℕ → ℕ → History → ObjId → List Returned
 awaiting_of ack t h o = filter (λ r. same_id r.object o) (awaiting ack t h)
 
 -- Some reference to the object awaits at the moment t.
-unfoldable pub is_awaited : ℕ → ℕ → List Place → ObjId → Bool
+unfoldable pub is_awaited : ℕ → ℕ → History → ObjId → Bool
 is_awaited ack t h o = list_any (λ r. same_id r.object o) (awaiting ack t h)

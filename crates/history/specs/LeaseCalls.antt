@@ -3,10 +3,9 @@ use Rattle.std.specs.Prelude.{ℕ, Bool, List, [], ◌∷◌, ◌++◌, filter, 
 use Rattle.object_ids.specs.declared.ids.ObjId.{ObjId}
 use Rattle.history.specs.declared.calls.Call.{Call}
 use Rattle.history.specs.declared.calls.CallKind.TheVariants.{Dirty as DirtyCall, Weak, Strong}
-use Rattle.history.specs.declared.places.Place.{Place}
 use Rattle.history.specs.declared.asks.Ask.{Ask}
 use Rattle.history.specs.declared.asks.Ask.TheVariants.{Dirty, Clean}
-use Rattle.history.specs.Places.{has, added}
+use Rattle.history.specs.Places.{History, has, added}
 
 -- The lease call of an ask, with those of its objects that pass a test; none where it is no Dirty or Clean.
 abbrev pub call_with : (ObjId → Bool) → ℕ → Ask → List Call
@@ -17,6 +16,6 @@ call_with names moment (Clean client number objects strong) =
 call_with names moment _ = []
 
 -- The lease calls of a history, the newest first. A call names those of its objects that were exported before it.
-unfoldable pub lease_calls : List Place → List Call
+unfoldable pub lease_calls : History → List Call
 lease_calls [] = []
 lease_calls (p ∷ before) = call_with (has (added before)) p.moment p.event.ask ++ lease_calls before

@@ -1,4 +1,6 @@
 pub mod Awaiting
+pub mod Collector
+pub mod Laws
 pub mod LeaseCalls
 pub mod Leases
 pub mod Limits

@@ -13,7 +13,7 @@ use Rattle.history.specs.declared.places.Place.{Place}
 use Rattle.history.specs.declared.limits.Limits.{Limits}
 use Rattle.history.specs.declared.limits.TheConstants.{MAX_EXPORTS, MAX_AWAITING, MAX_CLIENTS, MAX_PAIRS, MAX_NAMES, MAX_UNITS}
 use Rattle.history.specs.Lists.{distinct}
-use Rattle.history.specs.Places.{has, now}
+use Rattle.history.specs.Places.{History, has, now}
 use Rattle.history.specs.LeaseCalls.{call_with, lease_calls}
 use Rattle.history.specs.Leases.{is_dirty, clients_with_time_left, same_pair, pairs_with, new_pairs}
 use Rattle.history.specs.Awaiting.{same_returned, returned, awaiting}
@@ -31,7 +31,7 @@ units_of (Clean client number objects strong) = 1 + length objects
 units_of _ = 1
 
 -- The units of a history.
-unfoldable pub units : List Place → ℕ
+unfoldable pub units : History → ℕ
 units h = sum_by (λ p. units_of p.event.ask) h
 
 abbrev pub is_begin : Ask → Bool
@@ -51,7 +51,7 @@ abbrev pub ends : Place → Bool
 ends p = p.effective && is_end p.event.ask
 
 -- Each running call has a unit reserved, for the event that ends it.
-unfoldable pub reserved : List Place → ℕ
+unfoldable pub reserved : History → ℕ
 reserved h = length (filter starts h) - length (filter ends h)
 
 -- ---- limits
@@ -70,35 +70,35 @@ limits = record {
 -- ---- entries: those of a history at an event's moment, and those that the event brings, each once
 
 -- Exported objects.
-unfoldable pub exports_with : SpaceConfig → List Place → Event → ℕ
+unfoldable pub exports_with : SpaceConfig → History → Event → ℕ
 exports_with config h e = length (table config h) + length (place_of config h e).adds
 
 -- Returned references that await their acknowledgement.
-unfoldable pub awaiting_with : SpaceConfig → List Place → Event → ℕ
+unfoldable pub awaiting_with : SpaceConfig → History → Event → ℕ
 awaiting_with config h e =
     let p = place_of config h e in
     length (distinct same_returned (awaiting config.ack_ms p.moment h ++ returned p))
 
 -- The lease call of an event, with those of its objects that are in the table.
-abbrev pub lease_call : SpaceConfig → List Place → Event → List Call
+abbrev pub lease_call : SpaceConfig → History → Event → List Call
 lease_call config h e = call_with (has (table config h)) (max e.moment (now h)) e.ask
 
 -- Clients with time left.
-unfoldable pub clients_with : SpaceConfig → List Place → Event → ℕ
+unfoldable pub clients_with : SpaceConfig → History → Event → ℕ
 clients_with config h e =
     length (distinct same_client (
     clients_with_time_left config.lease_ms (max e.moment (now h)) (lease_calls h)
     ++ map (λ x. x.client) (filter is_dirty (lease_call config h e))))
 
 -- Remembered pairs of a client and an object of the table.
-unfoldable pub pairs_with_event : SpaceConfig → List Place → Event → ℕ
+unfoldable pub pairs_with_event : SpaceConfig → History → Event → ℕ
 pairs_with_event config h e =
     length (distinct same_pair (
     pairs_with config.lease_ms (max e.moment (now h)) (lease_calls h) (ids (table config h))
     ++ flat_map (new_pairs config.lease_ms (lease_calls h)) (lease_call config h e)))
 
 -- Names that stand for something.
-unfoldable pub names_with : SpaceConfig → List Place → Event → ℕ
+unfoldable pub names_with : SpaceConfig → History → Event → ℕ
 names_with config h e =
     length (distinct same_bytes (
     names h ++ (if (place_of config h e).effective then option_to_list (name_bound e.ask) else [])))
@@ -107,13 +107,13 @@ names_with config h e =
 
 -- The history is full: its units, those reserved, the event's, and one for a call that starts, less one for a call that ends, pass
 -- the limit.
-unfoldable pub is_full : ℕ → SpaceConfig → List Place → Event → Bool
+unfoldable pub is_full : ℕ → SpaceConfig → History → Event → Bool
 is_full limit config h e =
     let p = place_of config h e in
     nat_lt (limit + (if ends p then 1 else 0)) (units h + reserved h + units_of e.ask + (if starts p then 1 else 0))
 
 -- The first cause for which an event is refused after a history.
-unfoldable pub refusal : Limits → SpaceConfig → List Place → Event → Option Refused
+unfoldable pub refusal : Limits → SpaceConfig → History → Event → Option Refused
 refusal within config h e =
     if is_full within.units config h e then Some HistoryFull
     else if nat_lt within.exports (exports_with config h e) then Some (Full Exports)

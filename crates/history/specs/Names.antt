@@ -1,10 +1,11 @@
 -- The names of the registry (Java RMI Specification, chapter 6).
-use Rattle.std.specs.Prelude.{ℕ, Bool, false, not, List, reverse, ◌&&◌, nat_lt, filter, find, filter_map, Option, Some, None, option_and_then, is_none, ◌||◌}
+use Rattle.std.specs.Prelude.{ℕ, Bool, false, not, List, [], ◌∷◌, ◌++◌, ◌&&◌, filter, Option, Some, None, option_to_list, is_none, ◌||◌, if◌then◌else◌}
 use Rattle.std.specs.List.{list_any}
 use Rattle.object_ids.specs.declared.ids.ObjId.{ObjId}
 use Rattle.object_ids.specs.Same.{same_id, same_bytes}
 use Rattle.history.specs.Lists.{option_any}
 use Rattle.history.specs.declared.places.Place.{Place}
+use Rattle.history.specs.Places.{History}
 use Rattle.history.specs.declared.asks.Ask.{Ask}
 use Rattle.history.specs.declared.asks.Ask.TheVariants.{Bind, Rebind, Unbind, Lookup}
 
@@ -44,30 +45,31 @@ abbrev pub changes_name : List ℕ → Place → Bool
 changes_name n p = p.effective && (is_bind_of n p.event.ask || is_unbind_of n p.event.ask)
 
 -- What a name stands for: the object of the last effective Bind, Rebind or Unbind of it, or nothing if that is an Unbind.
-unfoldable pub stands_for : List Place → List ℕ → Option ObjId
-stands_for h n = option_and_then (λ p. object_bound p.event.ask) (find (changes_name n) h)
+unfoldable pub stands_for : History → List ℕ → Option ObjId
+stands_for [] n = None
+stands_for (p ∷ before) n = if changes_name n p then object_bound p.event.ask else stands_for before n
 
--- An effective Unbind of the name stands at a place after p.
-abbrev pub is_unbound_after : List Place → List ℕ → Place → Bool
-is_unbound_after h n p = list_any (λ q. nat_lt p.index q.index && q.effective && is_unbind_of n q.event.ask) h
+-- The place unbinds the name.
+abbrev pub unbinds : Place → List ℕ → Bool
+unbinds p n = p.effective && is_unbind_of n p.event.ask
 
--- The place p begins a name: it is an effective Bind or Rebind of a name that stands for nothing, and no effective Unbind of the
--- name comes after it.
-abbrev pub begins_name : List Place → Place → Bool
-begins_name h p = p.effective && is_none p.stood && option_any (λ n. not (is_unbound_after h n p)) (name_bound p.event.ask)
+-- The name that a place begins, where there is one: that of an effective Bind or Rebind which stood for nothing before.
+abbrev pub name_begun : Place → List (List ℕ)
+name_begun p = if p.effective && is_none p.stood then option_to_list (name_bound p.event.ask) else []
 
 -- The names that stand for something, in the order of the places that begin them.
-unfoldable pub names : List Place → List (List ℕ)
-names h = filter_map (λ p. name_bound p.event.ask) (filter (begins_name h) (reverse h))
+unfoldable pub names : History → List (List ℕ)
+names [] = []
+names (p ∷ before) = filter (λ n. not (unbinds p n)) (names before) ++ name_begun p
 
 -- The name stands for this object.
-abbrev pub is_name_of : List Place → ObjId → List ℕ → Bool
+abbrev pub is_name_of : History → ObjId → List ℕ → Bool
 is_name_of h o n = option_any (λ x. same_id x o) (stands_for h n)
 
 -- The names that stand for an object.
-unfoldable pub names_of : List Place → ObjId → List (List ℕ)
+unfoldable pub names_of : History → ObjId → List (List ℕ)
 names_of h o = filter (is_name_of h o) (names h)
 
 -- Some name stands for the object.
-unfoldable pub is_named : List Place → ObjId → Bool
+unfoldable pub is_named : History → ObjId → Bool
 is_named h o = list_any (is_name_of h o) (names h)

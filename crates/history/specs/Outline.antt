@@ -4,10 +4,9 @@ use Rattle.object_ids.specs.declared.ids.ObjId.{ObjId}
 use Rattle.history.specs.declared.asks.SpaceConfig.{SpaceConfig}
 use Rattle.history.specs.declared.asks.Event.{Event}
 use Rattle.history.specs.declared.calls.LeaseRow.{LeaseRow}
-use Rattle.history.specs.declared.places.Place.{Place}
 use Rattle.history.specs.declared.places.Withdrawal.{Withdrawal}
 use Rattle.history.specs.declared.places.Exported.{Exported}
-use Rattle.history.specs.Places.{now}
+use Rattle.history.specs.Places.{History, now}
 use Rattle.history.specs.Running.{running_calls}
 use Rattle.history.specs.LeaseCalls.{lease_calls}
 use Rattle.history.specs.Leases.{clients_with_time_left, lease_rows, holders, pairs_with}
@@ -31,7 +30,7 @@ pub record ObjectRow : Type 0 where
   pub held : ℕ
   pub names : ℕ
 
-abbrev pub object_row : SpaceConfig → List Place → Exported → ObjectRow
+abbrev pub object_row : SpaceConfig → History → Exported → ObjectRow
 object_row config h x = record {
   object = x.id;
   kind = x.kind;
@@ -43,12 +42,12 @@ object_row config h x = record {
 }
 
 -- A row for each object of the table, by rising number.
-abbrev pub object_rows : SpaceConfig → List Place → List ObjectRow
+abbrev pub object_rows : SpaceConfig → History → List ObjectRow
 object_rows config h = map (object_row config h) (table config h)
 
 -- ---- lines
 
-abbrev pub events_line : List Place → List ℕ
+abbrev pub events_line : History → List ℕ
 events_line h = line (codes "events" ∷ decimal (length h) ∷ codes "units" ∷ decimal (units h) ∷ codes "now" ∷ decimal (now h) ∷ [])
 
 abbrev pub object_line : SpaceConfig → ObjectRow → List ℕ
@@ -61,7 +60,7 @@ object_line config row = line (
 abbrev pub lease_line : LeaseRow → List ℕ
 lease_line row = line (codes "lease" ∷ client_text row.client ∷ codes "until" ∷ decimal row.until ∷ [])
 
-abbrev pub name_line : SpaceConfig → List Place → List ℕ → List ℕ
+abbrev pub name_line : SpaceConfig → History → List ℕ → List ℕ
 name_line config h n =
     line (codes "name" ∷ name_text n ∷ option_to_list (option_map (object_text config.uid) (stands_for h n)))
 

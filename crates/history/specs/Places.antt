@@ -1,12 +1,17 @@
 -- The places of a history. A history is written as a list of its places with the newest first, so that what follows a `∷` is the
--- history before that place. What a place says of its event is decided by the history before it.
-use Rattle.std.specs.Prelude.{ℕ, ◌+◌, max, Bool, List, [], ◌∷◌, ◌++◌, find, pos, option_map, unwrap_or}
+-- history before that place. What a place says of its event is decided by the history before it. Each definition over a history says
+-- what it is of the empty one, and what the newest place makes of it.
+use Rattle.std.specs.Prelude.{ℕ, ◌+◌, max, Bool, List, [], ◌∷◌, ◌++◌, length, find, pos, option_map, unwrap_or}
 use Rattle.std.specs.List.{list_any}
 use Rattle.object_ids.specs.declared.ids.Uid.{Uid}
 use Rattle.object_ids.specs.declared.ids.ObjId.{ObjId}
 use Rattle.object_ids.specs.Same.{same_id}
 use Rattle.history.specs.declared.places.Place.{Place}
 use Rattle.history.specs.declared.places.Exported.{Exported}
+
+-- A history.
+abbrev pub History : Type 0
+History = List Place
 
 -- The object is among these.
 abbrev pub has : List Exported → ObjId → Bool
@@ -17,14 +22,19 @@ abbrev pub kind_of : List Exported → ObjId → ℕ
 kind_of objects o = unwrap_or (option_map (λ x. x.kind) (find (λ x. same_id x.id o) objects)) 0
 
 -- The greatest moment of a history, 0 if it is empty.
-unfoldable pub now : List Place → ℕ
+unfoldable pub now : History → ℕ
 now [] = 0
 now (p ∷ before) = max p.event.moment (now before)
 
 -- All objects that were ever exported, in order.
-unfoldable pub added : List Place → List Exported
+unfoldable pub added : History → List Exported
 added [] = []
 added (p ∷ before) = added before ++ p.adds
+
+-- How many they are: the next object to be exported is the space's `next`-th.
+unfoldable pub next : History → ℕ
+next [] = 0
+next (p ∷ before) = next before + length p.adds
 
 -- The identifier of the k-th object, from 0, that a space exports. The numbers from 0 to 15 are known to all.
 abbrev pub id_at : Uid → ℕ → ObjId
@@ -35,8 +45,3 @@ abbrev pub exported_from : Uid → ℕ → ℕ → Bool → List ℕ → List Ex
 exported_from space k place pinned [] = []
 exported_from space k place pinned (kind ∷ kinds) =
     record { id = id_at space k; kind = kind; pinned = pinned; place = place } ∷ exported_from space (k + 1) place pinned kinds
-
--- The prefixes of a history that are not empty, the whole history first.
-abbrev pub prefixes : List Place → List (List Place)
-prefixes [] = []
-prefixes (p ∷ before) = (p ∷ before) ∷ prefixes before

@@ -1,5 +1,5 @@
 -- What an event is answered.
-use Rattle.std.specs.Prelude.{ℕ, ◌+◌, Bool, true, false, not, List, ◌∷◌, length, nat_le, filter, find, Option, Some, None, option_map, unwrap_or, map, if◌then◌else◌}
+use Rattle.std.specs.Prelude.{Bool, true, false, List, [], ◌∷◌, ◌++◌, Option, Some, None, map, if◌then◌else◌}
 use Rattle.object_ids.specs.declared.ids.ObjId.{ObjId}
 use Rattle.history.specs.declared.asks.SpaceConfig.{SpaceConfig}
 use Rattle.history.specs.declared.asks.Event.{Event}
@@ -9,9 +9,9 @@ use Rattle.history.specs.declared.replies.Reply.{Reply}
 use Rattle.history.specs.declared.replies.Reply.TheVariants.{Opened, Started, NoObject, Finished, NotRunning, Granted, Done, Bound, AlreadyBound, Unbound, NotBound, Found, Names}
 use Rattle.history.specs.declared.places.Place.{Place}
 use Rattle.history.specs.declared.places.Exported.{Exported}
-use Rattle.history.specs.Places.{has, kind_of, added, id_at}
+use Rattle.history.specs.Places.{History, has, kind_of, next, id_at}
 use Rattle.history.specs.Names.{names, stands_for}
-use Rattle.history.specs.Table.{table, place_of, withdrawals}
+use Rattle.history.specs.Table.{table, place_of, withdrawn}
 
 -- The identifiers of some objects.
 abbrev pub ids : List Exported → List ObjId
@@ -23,8 +23,8 @@ reply_found objects None = NotBound
 reply_found objects (Some object) = Found object (kind_of objects object)
 
 -- The reply to an event after a history. An effective one is answered by what it did.
-abbrev pub reply_to : SpaceConfig → List Place → Place → Ask → Reply
-reply_to config h p (Open kind pinned) = Opened (id_at config.uid (length (added h)))
+abbrev pub reply_to : SpaceConfig → History → Place → Ask → Reply
+reply_to config h p (Open kind pinned) = Opened (id_at config.uid (next h))
 reply_to config h p (Begin object) = if p.effective then Started (kind_of (table config h) object) else NoObject
 reply_to config h p (Finish object made listed uid) = if p.effective then Finished (ids p.adds) else NotRunning
 reply_to config h p (Abandon object) = if p.effective then Done else NotRunning
@@ -38,17 +38,18 @@ reply_to config h p (Lookup name uid) = reply_found (table config h) (stands_for
 reply_to config h p ListNames = Names (names h)
 reply_to config h p Tick = Done
 
-unfoldable pub reply : SpaceConfig → List Place → Event → Reply
+unfoldable pub reply : SpaceConfig → History → Event → Reply
 reply config h e = reply_to config h (place_of config h e) e.ask
 
 abbrev pub is_abandon : Ask → Bool
 is_abandon (Abandon object) = true
 is_abandon _ = false
 
--- The place after the last event that is no Abandon. Withdrawals from there on are still to be told.
-abbrev pub first_untold : List Place → ℕ
-first_untold h = unwrap_or (option_map (λ p. p.index + 1) (find (λ p. not (is_abandon p.event.ask)) h)) 0
+-- The objects that a history has still to tell as gone: those withdrawn since its last event that is no Abandon, in order.
+unfoldable pub pending : SpaceConfig → History → List ObjId
+pending config [] = []
+pending config (p ∷ before) = if is_abandon p.event.ask then pending config before ++ ids (withdrawn config (p ∷ before)) else []
 
--- The objects withdrawn since the last event of a history that is no Abandon, the next event included, in order.
-unfoldable pub gone : SpaceConfig → List Place → Event → List ObjId
-gone config h e = map (λ w. w.object) (filter (λ w. nat_le (first_untold h) w.place) (withdrawals config (place_of config h e ∷ h)))
+-- The objects that the next event tells as gone: those still to be told, and those that it withdraws.
+unfoldable pub gone : SpaceConfig → History → Event → List ObjId
+gone config h e = pending config h ++ ids (withdrawn config (place_of config h e ∷ h))

@@ -1,10 +1,9 @@
 -- The calls that connections run.
-use Rattle.std.specs.Prelude.{ℕ, ◌-◌, Bool, false, List, length, map, ◌==◌, ◌&&◌, nat_lt, filter, sum_by}
-use Rattle.std.specs.List.{list_any}
+use Rattle.std.specs.Prelude.{ℕ, ◌+◌, ◌-◌, Bool, false, [], ◌∷◌, ◌==◌, ◌&&◌, nat_lt, if◌then◌else◌}
 use Rattle.object_ids.specs.declared.ids.ObjId.{ObjId}
 use Rattle.object_ids.specs.Same.{same_id}
-use Rattle.history.specs.Lists.{distinct}
 use Rattle.history.specs.declared.places.Place.{Place}
+use Rattle.history.specs.Places.{History}
 use Rattle.history.specs.declared.asks.Ask.{Ask}
 use Rattle.history.specs.declared.asks.Ask.TheVariants.{Begin, Finish, Abandon}
 
@@ -27,18 +26,30 @@ begins_call by o p = p.effective && p.event.by == by && is_begin_of o p.event.as
 abbrev pub ends_call : ℕ → ObjId → Place → Bool
 ends_call by o p = p.effective && p.event.by == by && is_end_of o p.event.ask
 
--- How many calls of the object the connection runs: its effective Begins less its effective Finishes and Abandons.
-unfoldable pub running : List Place → ℕ → ObjId → ℕ
-running h by o = length (filter (begins_call by o) h) - length (filter (ends_call by o) h)
+-- How many calls of the object the connection runs: an effective Begin adds one, an effective Finish or Abandon ends one.
+unfoldable pub running : History → ℕ → ObjId → ℕ
+running [] by o = 0
+running (p ∷ before) by o =
+    if begins_call by o p then running before by o + 1
+    else if ends_call by o p then running before by o - 1
+    else running before by o
 
--- The connections that asked, each once.
-unfoldable pub connections : List Place → List ℕ
-connections h = distinct (λ a b. a == b) (map (λ p. p.event.by) h)
+-- The place begins a call of the object for some connection.
+abbrev pub begins_any : ObjId → Place → Bool
+begins_any o p = p.effective && is_begin_of o p.event.ask
 
--- Some connection runs a call of the object.
-unfoldable pub is_running : List Place → ObjId → Bool
-is_running h o = list_any (λ by. nat_lt 0 (running h by o)) (connections h)
+-- The place ends one.
+abbrev pub ends_any : ObjId → Place → Bool
+ends_any o p = p.effective && is_end_of o p.event.ask
 
 -- How many calls of the object all connections run.
-unfoldable pub running_calls : List Place → ObjId → ℕ
-running_calls h o = sum_by (λ by. running h by o) (connections h)
+unfoldable pub running_calls : History → ObjId → ℕ
+running_calls [] o = 0
+running_calls (p ∷ before) o =
+    if begins_any o p then running_calls before o + 1
+    else if ends_any o p then running_calls before o - 1
+    else running_calls before o
+
+-- Some connection runs a call of the object.
+unfoldable pub is_running : History → ObjId → Bool
+is_running h o = nat_lt 0 (running_calls h o)

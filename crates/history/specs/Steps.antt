@@ -1,5 +1,5 @@
 -- Turns: one step of a history, and lists of steps. A history is here the list of its events, the oldest first.
-use Rattle.std.specs.Prelude.{◌≡◌, List, [], ◌∷◌, ◌++◌, length, Option, Some, None, Result, Ok, Err, ◌⊎◌}
+use Rattle.std.specs.Prelude.{◌≡◌, List, [], ◌∷◌, length, Option, Some, None, Result, Ok, Err, ◌⊎◌}
 use Rattle.history.specs.declared.asks.SpaceConfig.{SpaceConfig}
 use Rattle.history.specs.declared.asks.Event.{Event}
 use Rattle.history.specs.declared.replies.Turn.{Turn}
@@ -8,7 +8,7 @@ use Rattle.history.specs.declared.replies.Refused.TheVariants.{OutOfMemory}
 use Rattle.history.specs.declared.limits.Limits.{Limits}
 use Rattle.history.specs.Limits.{limits, refusal}
 use Rattle.history.specs.Replies.{reply, gone}
-use Rattle.history.specs.Table.{places}
+use Rattle.history.specs.Table.{places, with_event}
 
 -- The turn of an event that is taken after a history.
 abbrev pub turn_of : SpaceConfig → List Event → Event → Turn
@@ -24,7 +24,7 @@ answer_to within config h e = answer_with config h e (refusal within config (pla
 
 -- The history after it.
 abbrev pub history_with : List Event → Event → Option Refused → List Event
-history_with h e None = h ++ e ∷ []
+history_with h e None = with_event h e
 history_with h e (Some refused) = h
 
 abbrev pub history_after : Limits → SpaceConfig → List Event → Event → List Event

@@ -1,6 +1,5 @@
 -- The collector's table (Java RMI Specification, chapter 9), and the places of a list of events, which are defined together with it.
-use Rattle.std.specs.Prelude.{ℕ, max, Bool, true, false, not, List, [], ◌∷◌, ◌++◌, length, reverse, ◌&&◌, ◌||◌, nat_lt, nat_le, filter, flat_map, is_some, is_none, map, if◌then◌else◌, option_and_then, option_to_list}
-use Rattle.std.specs.List.{list_all}
+use Rattle.std.specs.Prelude.{ℕ, max, Bool, true, false, not, List, [], ◌∷◌, ◌++◌, length, reverse, ◌&&◌, ◌||◌, nat_lt, filter, is_some, is_none, map, if◌then◌else◌, option_and_then, option_to_list}
 use Rattle.object_ids.specs.declared.ids.ObjId.{ObjId}
 use Rattle.history.specs.declared.asks.SpaceConfig.{SpaceConfig}
 use Rattle.history.specs.declared.asks.Event.{Event}
@@ -9,7 +8,7 @@ use Rattle.history.specs.declared.asks.Ask.TheVariants.{Open, Begin, Finish, Aba
 use Rattle.history.specs.declared.places.Place.{Place}
 use Rattle.history.specs.declared.places.Exported.{Exported}
 use Rattle.history.specs.declared.places.Withdrawal.{Withdrawal}
-use Rattle.history.specs.Places.{has, now, added, exported_from, prefixes}
+use Rattle.history.specs.Places.{History, has, now, next, exported_from}
 use Rattle.history.specs.Running.{running, is_running}
 use Rattle.history.specs.Leases.{is_held}
 use Rattle.history.specs.LeaseCalls.{lease_calls}
@@ -17,23 +16,20 @@ use Rattle.history.specs.Awaiting.{is_awaited}
 use Rattle.history.specs.Names.{stands_for, is_named, name_in}
 
 -- An object is pinned: it was opened so, a name stands for it, or some connection runs a call of it.
-unfoldable pub is_pinned : List Place → Exported → Bool
+unfoldable pub is_pinned : History → Exported → Bool
 is_pinned h x = x.pinned || is_named h x.id || is_running h x.id
 
 -- An object is kept at the end of a history: it is pinned, a reference to it awaits, or some client holds it.
-unfoldable pub is_kept : SpaceConfig → List Place → Exported → Bool
+unfoldable pub is_kept : SpaceConfig → History → Exported → Bool
 is_kept config h x = is_pinned h x || is_awaited config.ack_ms (now h) h x.id || is_held config.lease_ms (now h) (lease_calls h) x.id
 
--- An object is kept at every prefix of a history from the one that ends with its export on.
-abbrev pub is_kept_since_export : (List Place → Exported → Bool) → List Place → Exported → Bool
-is_kept_since_export kept h x = list_all (λ g. nat_le (length g) x.place || kept g x) (prefixes h)
-
--- The table: the objects that were kept ever since their export.
-unfoldable pub table : SpaceConfig → List Place → List Exported
-table config h = filter (is_kept_since_export (is_kept config) h) (added h)
+-- The table: those objects of the table before the newest place, and of those that this place exports, that are kept now.
+unfoldable pub table : SpaceConfig → History → List Exported
+table config [] = []
+table config (p ∷ before) = filter (is_kept config (p ∷ before)) (table config before ++ p.adds)
 
 -- Whether an ask of a connection is effective after a history.
-unfoldable pub is_effective : SpaceConfig → List Place → ℕ → Ask → Bool
+unfoldable pub is_effective : SpaceConfig → History → ℕ → Ask → Bool
 is_effective config h by (Begin object) = has (table config h) object
 is_effective config h by (Finish object made listed uid) = nat_lt 0 (running h by object)
 is_effective config h by (Abandon object) = nat_lt 0 (running h by object)
@@ -44,21 +40,21 @@ is_effective config h by (Lookup name uid) = is_some (stands_for h name)
 is_effective config h by _ = true
 
 -- The objects that an effective ask exports after a history: an Open one, a Finish one for each entry of `made`.
-unfoldable pub exports : SpaceConfig → List Place → Ask → List Exported
-exports config h (Open kind pinned) = exported_from config.uid (length (added h)) (length h) pinned (kind ∷ [])
-exports config h (Finish object made listed uid) = exported_from config.uid (length (added h)) (length h) false made
+unfoldable pub exports : SpaceConfig → History → Ask → List Exported
+exports config h (Open kind pinned) = exported_from config.uid (next h) (length h) pinned (kind ∷ [])
+exports config h (Finish object made listed uid) = exported_from config.uid (next h) (length h) false made
 exports config h _ = []
 
 -- The objects to which an effective ask returns references: a Finish to its new ones and to those of `listed` that are in the
 -- table, a Lookup to the one for which the name stands.
-unfoldable pub lists : SpaceConfig → List Place → Ask → List ObjId
+unfoldable pub lists : SpaceConfig → History → Ask → List ObjId
 lists config h (Finish object made listed uid) =
     map (λ x. x.id) (exports config h (Finish object made listed uid)) ++ filter (has (table config h)) listed
 lists config h (Lookup name uid) = option_to_list (stands_for h name)
 lists config h _ = []
 
 -- The place of an event after a history.
-unfoldable pub place_of : SpaceConfig → List Place → Event → Place
+unfoldable pub place_of : SpaceConfig → History → Event → Place
 place_of config h e = let effective = is_effective config h e.by e.ask in record {
   index = length h;
   moment = max e.moment (now h);
@@ -71,26 +67,31 @@ place_of config h e = let effective = is_effective config h e.by e.ask in record
 }
 
 -- The places of a history whose events are given newest first.
-unfoldable pub places_back : SpaceConfig → List Event → List Place
+unfoldable pub places_back : SpaceConfig → List Event → History
 places_back config [] = []
 places_back config (e ∷ before) = place_of config (places_back config before) e ∷ places_back config before
 
+-- One more event at the end of these, which are given oldest first.
+abbrev pub with_event : List Event → Event → List Event
+with_event events e = events ++ e ∷ []
+
 -- The places of a history, the newest first. Its events are given oldest first.
-unfoldable pub places : SpaceConfig → List Event → List Place
+unfoldable pub places : SpaceConfig → List Event → History
 places config events = places_back config (reverse events)
 
 -- ---- withdrawals
 
 -- The objects that a history withdraws at its newest place: those that were in the table before it or were exported there, and
 -- are not kept.
-unfoldable pub withdrawn : SpaceConfig → List Place → List Exported
+unfoldable pub withdrawn : SpaceConfig → History → List Exported
 withdrawn config [] = []
 withdrawn config (p ∷ before) = filter (λ x. not (is_kept config (p ∷ before) x)) (p.before ++ p.adds)
 
-abbrev pub withdrawals_at_end : SpaceConfig → List Place → List Withdrawal
+abbrev pub withdrawals_at_end : SpaceConfig → History → List Withdrawal
 withdrawals_at_end config [] = []
 withdrawals_at_end config (p ∷ before) = map (λ x. record { object = x.id; place = p.index }) (withdrawn config (p ∷ before))
 
 -- All withdrawals of a history, in order.
-unfoldable pub withdrawals : SpaceConfig → List Place → List Withdrawal
-withdrawals config h = flat_map (withdrawals_at_end config) (reverse (prefixes h))
+unfoldable pub withdrawals : SpaceConfig → History → List Withdrawal
+withdrawals config [] = []
+withdrawals config (p ∷ before) = withdrawals config before ++ withdrawals_at_end config (p ∷ before)

@@ -4,6 +4,7 @@
 
 pub mod asks;
 pub mod calls;
+pub mod laws;
 pub mod limits;
 pub mod names;
 pub mod places;

@@ -1,7 +1,7 @@
 //! Returned references that await their acknowledgement.
-ghost use Rattle.std.specs.Prelude.{◌≡◌, ◌+◌, ◌&&◌, nat_lt, not, filter, find, flat_map, map, IfOk};
+ghost use Rattle.std.specs.Prelude.{◌≡◌, filter, map, IfOk};
 ghost use Rattle.std.specs.List.{list_any};
-ghost use Rattle.history.specs.Lists.{distinct, option_any};
+ghost use Rattle.history.specs.Lists.{distinct};
 ghost use Rattle.history.specs.Awaiting as words;
 
 use crate::asks::Ask;
@@ -67,39 +67,20 @@ fn is_ack_of(uid: Uid, ask: &Ask) -> bool
     }
 }
 
-fn is_acknowledged(places: &[Place], uid: Uid, p: &Place) -> bool
-    ensures { result ≡ words.is_acknowledged places.now uid p.now }
-{
-    places
-        .iter()
-        .any(|q| p.index < q.index && is_ack_of(uid, &q.event.ask))
-}
-
-/// Whether the time to acknowledge lasts at a moment.
-fn lasts(ack: u64, at: u64, p: &Place) -> bool
-    ensures { result ≡ nat_lt at (p.now.moment + ack) }
-{
-    u128::from(at) < u128::from(p.moment) + u128::from(ack)
-}
-
-/// Whether a reference awaits since the last of these places that returns it.
-fn awaits_since(
-    alloc: Global,
-    ack: u64,
-    at: u64,
-    all: &[Place],
-    r: &Returned,
-    places: &[Place],
-) -> Result<bool, AllocError>
-    ensures { IfOk result (λ waits. waits ≡ option_any (λ p. nat_lt at (p.moment + ack) && not (words.is_acknowledged all.now r.now.uid p)) (find (words.returns r.now) places.now)) }
+/// The moment until which a reference awaits its acknowledgement.
+#[tactic(auto, unfolding(crate::specs::Awaiting::until_of))]
+fn until_of(alloc: Global, ack: u64, places: &[Place], r: &Returned) -> Result<u128, AllocError>
+    ensures { IfOk result (λ until. until ≡ words.until_of ack places.now r.now) }
 {
     match places {
-        [] => Ok(false),
+        [] => Ok(0),
         [p, before @ ..] => {
             if returns(alloc, r, p)? {
-                Ok(lasts(ack, at, p) && !is_acknowledged(all, r.uid, p))
+                Ok(u128::from(p.moment) + u128::from(ack))
+            } else if is_ack_of(r.uid, &p.event.ask) {
+                Ok(0)
             } else {
-                awaits_since(alloc, ack, at, all, r, before)
+                until_of(alloc, ack, before, r)
             }
         }
     }
@@ -116,11 +97,14 @@ pub fn awaits(
 ) -> Result<bool, AllocError>
     ensures { IfOk result (λ waits. waits ≡ words.awaits ack at places.now r.now) }
 {
-    awaits_since(alloc, ack, at, places, r, places)
+    let until = until_of(alloc, ack, places, r)?;
+    Ok(u128::from(at) < until)
 }
 
+/// The references that were ever returned.
+#[tactic(auto, unfolding(crate::specs::Awaiting::references))]
 fn all_returned(alloc: Global, places: &[Place]) -> Result<Vec<Returned>, AllocError>
-    ensures { IfOk result (λ all. all.items ≡ flat_map words.returned places.now) }
+    ensures { IfOk result (λ all. all.items ≡ words.references places.now) }
 {
     match places {
         [] => Ok(Vec::new(alloc)),

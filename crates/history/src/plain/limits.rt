@@ -6,18 +6,20 @@ ghost use Rattle.history.specs.LeaseCalls.{lease_calls as calls_in};
 ghost use Rattle.history.specs.Leases as lease_words;
 ghost use Rattle.history.specs.Limits as words;
 ghost use Rattle.history.specs.Lists.{distinct};
+ghost use Rattle.history.specs.Awaiting.{returned as returned_at};
 ghost use Rattle.history.specs.Names as name_words;
+ghost use Rattle.history.specs.Table.{place_of as place_at};
 
 use crate::asks::{Ask, Event, SpaceConfig};
 use crate::calls::{Call, CallKind, Pair};
 use crate::limits::Limits;
-use crate::places::Place;
+use crate::places::{Place, Returned};
 use crate::plain::awaiting::{awaiting, each_once, returned};
 use crate::plain::leases::{clients_with_time_left, new_pairs, pairs_with};
 use crate::plain::names::{name_bound, names};
 use crate::plain::places::{ids, now};
 use crate::plain::same::{equal_clients, equal_ids, equal_units};
-use crate::plain::table::{call_with, lease_calls, place_of, table};
+use crate::plain::table::{call_with, is_effective, lease_calls, place_of, table};
 use crate::replies::Refused;
 use mod_utf::list::Units;
 use object_ids::{FullKind, Vmid};
@@ -156,7 +158,7 @@ fn is_past(limit: u64, back: bool, used: u128, more: bool) -> bool
 }
 
 /// Whether the history is full for an event.
-#[tactic(auto, unfolding(crate::specs::Limits::is_full))]
+#[tactic(auto, unfolding(crate::specs::Limits::is_full, crate::specs::Table::place_of))]
 fn is_full(
     alloc: Global,
     limit: u64,
@@ -166,12 +168,28 @@ fn is_full(
 ) -> Result<bool, AllocError>
     ensures { IfOk result (λ full. full ≡ words.is_full limit config.now places.now event.now) }
 {
-    let p = place_of(alloc, config, places, event)?;
+    let effective = is_effective(alloc, config, places, event.by, &event.ask)?;
     let used = units(places) + reserved(places) as u128 + u128::from(units_of(&event.ask));
-    Ok(is_past(limit, ends(&p), used, starts(&p)))
+    let starts = effective && is_begin(&event.ask);
+    let ends = effective && is_end(&event.ask);
+    Ok(is_past(limit, ends, used, starts))
 }
 
 // ---- entries
+
+/// How many objects an event exports.
+fn exported_by(
+    alloc: Global,
+    config: &SpaceConfig,
+    places: &[Place],
+    event: &Event,
+) -> Result<usize, AllocError>
+    ensures value { IfOk result (λ count. count ≡ length (place_at config.now places.now event.now).adds) }
+    ensures bound { IfOk result (λ count. count < 2 ^ 61) }
+{
+    let p = place_of(alloc, config, places, event)?;
+    Ok(p.adds.as_slice().len())
+}
 
 /// How many exported objects there are with those that an event adds.
 #[tactic(auto, unfolding(crate::specs::Limits::exports_with))]
@@ -183,9 +201,24 @@ fn exports_with(
 ) -> Result<usize, AllocError>
     ensures { IfOk result (λ count. count ≡ words.exports_with config.now places.now event.now) }
 {
+    let more = exported_by(alloc, config, places, event)?;
     let objects = table(alloc, config, places)?;
+    Ok(objects.as_slice().len() + more)
+}
+
+/// The moment of an event's place, and the references that it returns.
+fn moment_and_returned(
+    alloc: Global,
+    config: &SpaceConfig,
+    places: &[Place],
+    event: &Event,
+) -> Result<(u64, Vec<Returned>), AllocError>
+    ensures moment { IfOk result (λ both. both.0 ≡ (place_at config.now places.now event.now).moment) }
+    ensures returned { IfOk result (λ both. both.1.items ≡ returned_at (place_at config.now places.now event.now)) }
+{
     let p = place_of(alloc, config, places, event)?;
-    Ok(objects.as_slice().len() + p.adds.as_slice().len())
+    let new = returned(alloc, &p)?;
+    Ok((p.moment, new))
 }
 
 /// How many references await with those that an event returns.
@@ -198,9 +231,8 @@ fn awaiting_with(
 ) -> Result<usize, AllocError>
     ensures { IfOk result (λ count. count ≡ words.awaiting_with config.now places.now event.now) }
 {
-    let p = place_of(alloc, config, places, event)?;
-    let mut all = awaiting(alloc, config.ack_ms, p.moment, places)?;
-    let mut new = returned(alloc, &p)?;
+    let (moment, mut new) = moment_and_returned(alloc, config, places, event)?;
+    let mut all = awaiting(alloc, config.ack_ms, moment, places)?;
     all.append(&mut new)?;
     let once = each_once(alloc, all.as_slice())?;
     Ok(once.as_slice().len())
@@ -398,7 +430,7 @@ fn with_bound(
 }
 
 /// How many names stand for something with the one that an event binds.
-#[tactic(auto, unfolding(crate::specs::Limits::names_with))]
+#[tactic(auto, unfolding(crate::specs::Limits::names_with, crate::specs::Table::place_of))]
 fn names_with(
     alloc: Global,
     config: &SpaceConfig,
@@ -407,9 +439,9 @@ fn names_with(
 ) -> Result<usize, AllocError>
     ensures { IfOk result (λ count. count ≡ words.names_with config.now places.now event.now) }
 {
-    let p = place_of(alloc, config, places, event)?;
+    let effective = is_effective(alloc, config, places, event.by, &event.ask)?;
     let bound = names(alloc, places)?;
-    let all = with_bound(alloc, p.effective, bound, &event.ask)?;
+    let all = with_bound(alloc, effective, bound, &event.ask)?;
     Ok(distinct_names(all.as_slice()))
 }
 

@@ -1,7 +1,6 @@
 //! The names of the registry.
-ghost use Rattle.std.specs.Prelude.{◌≡◌, ◌++◌, filter, filter_map, reverse, option_copied, option_to_list, not, IfOk};
+ghost use Rattle.std.specs.Prelude.{◌≡◌, ◌∷◌, ◌++◌, filter, option_copied, not, IfOk};
 ghost use Rattle.object_ids.specs.Same.{same_bytes};
-ghost use Rattle.history.specs.Lists.{option_any};
 ghost use Rattle.history.specs.Names as words;
 
 use crate::asks::Ask;
@@ -94,54 +93,48 @@ pub fn stands_for(places: &[Place], units: &[u16]) -> Option<ObjId>
     }
 }
 
-fn is_unbound_after(places: &[Place], units: &[u16], p: &Place) -> bool
-    ensures { result ≡ words.is_unbound_after places.now units.now p.now }
+fn unbinds(p: &Place, units: &[u16]) -> bool
+    ensures { result ≡ words.unbinds p.now units.now }
 {
-    places.iter().any(|q| p.index < q.index && q.effective && is_unbind_of(units, &q.event.ask))
+    p.effective && is_unbind_of(units, &p.event.ask)
 }
 
-fn is_bound_for_good(places: &[Place], p: &Place) -> bool
-    ensures { result ≡ option_any (λ n. not (words.is_unbound_after places.now n p.now)) (words.name_bound p.now.event.ask) }
-{
-    match name_bound(&p.event.ask) {
-        Some(name) => !is_unbound_after(places, name.units().as_slice(), p),
-        None => false,
-    }
-}
-
-fn begins_name(places: &[Place], p: &Place) -> bool
-    ensures { result ≡ words.begins_name places.now p.now }
-{
-    p.effective && p.stood.is_none() && is_bound_for_good(places, p)
-}
-
-/// Names, and the one that a place binds.
-fn with_name(alloc: Global, names: Vec<Units>, p: &Place) -> Result<Vec<Units>, AllocError>
-    ensures { IfOk result (λ more. more.items ≡ names.items ++ option_to_list (words.name_bound p.now.event.ask)) }
+fn before_all(alloc: Global, name: &Units, names: Vec<Units>) -> Result<Vec<Units>, AllocError>
+    ensures { IfOk result (λ more. more.items ≡ name.now ∷ names.items) }
 {
     let mut more = names;
-    if let Some(name) = name_bound(&p.event.ask) {
-        more.push(name.units().copy(alloc)?)?;
-    }
+    more.insert(0, name.copy(alloc)?)?;
     Ok(more)
 }
 
-/// The names that some of a history's places begin, the newest of them first.
-#[tactic(auto, using(crate::proofs::PlainLaws::names_steps))]
-fn names_begun(alloc: Global, all: &[Place], places: &[Place]) -> Result<Vec<Units>, AllocError>
-    ensures { IfOk result (λ names. names.items ≡ filter_map (λ p. words.name_bound p.event.ask) (filter (words.begins_name all.now) (reverse places.now))) }
+/// The names among these that a place doesn't unbind.
+fn still_bound(alloc: Global, p: &Place, names: &[Units]) -> Result<Vec<Units>, AllocError>
+    ensures { IfOk result (λ left. left.items ≡ filter (λ n. not (words.unbinds p.now n)) names.now) }
 {
-    match places {
+    match names {
         [] => Ok(Vec::new(alloc)),
-        [p, before @ ..] => {
-            let names = names_begun(alloc, all, before)?;
-            if begins_name(all, p) {
-                let more = with_name(alloc, names, p)?;
-                return Ok(more);
+        [name, rest @ ..] => {
+            let left = still_bound(alloc, p, rest)?;
+            if unbinds(p, name.as_slice()) {
+                Ok(left)
+            } else {
+                before_all(alloc, name, left)
             }
-            Ok(names)
         }
     }
+}
+
+/// Names, and the one that a place begins.
+fn with_begun(alloc: Global, names: Vec<Units>, p: &Place) -> Result<Vec<Units>, AllocError>
+    ensures { IfOk result (λ more. more.items ≡ names.items ++ words.name_begun p.now) }
+{
+    let mut more = names;
+    if p.effective && p.stood.is_none() {
+        if let Some(name) = name_bound(&p.event.ask) {
+            more.push(name.units().copy(alloc)?)?;
+        }
+    }
+    Ok(more)
 }
 
 /// The names that stand for something, in the order of the places that begin them.
@@ -149,7 +142,14 @@ fn names_begun(alloc: Global, all: &[Place], places: &[Place]) -> Result<Vec<Uni
 pub fn names(alloc: Global, places: &[Place]) -> Result<Vec<Units>, AllocError>
     ensures { IfOk result (λ names. names.items ≡ words.names places.now) }
 {
-    names_begun(alloc, places, places)
+    match places {
+        [] => Ok(Vec::new(alloc)),
+        [p, before @ ..] => {
+            let bound = names(alloc, before)?;
+            let left = still_bound(alloc, p, bound.as_slice())?;
+            with_begun(alloc, left, p)
+        }
+    }
 }
 
 fn is_name_of(places: &[Place], object: ObjId, units: &Units) -> bool

@@ -57,6 +57,16 @@ pub fn added(alloc: Global, places: &[Place]) -> Result<Vec<Exported>, AllocErro
     }
 }
 
+/// How many objects were ever exported. It is refused only for want of memory.
+#[tactic(auto, using(crate::proofs::PlainLaws::next_steps))]
+pub fn next(alloc: Global, places: &[Place]) -> Result<u64, AllocError>
+    ensures value { IfOk result (λ k. k ≡ words.next places.now) }
+    ensures bound { IfOk result (λ k. k < 2 ^ 61) }
+{
+    let all = added(alloc, places)?;
+    Ok(all.as_slice().len() as u64)
+}
+
 /// The identifier of the k-th object, from 0, that a space exports.
 pub fn id_at(space: Uid, k: u64) -> ObjId
     requires { k < 2 ^ 62 }

@@ -1,14 +1,11 @@
 //! The calls that connections run.
-ghost use Rattle.std.specs.Prelude.{◌≡◌, ◌==◌, nat_lt, filter, length, map, IfOk};
-ghost use Rattle.std.specs.List.{list_any};
-ghost use Rattle.history.specs.Lists.{distinct};
+ghost use Rattle.std.specs.Prelude.{◌≡◌, ◌≤◌, ◌<◌, ◌+◌, ◌-◌, ◌^◌, length, if◌then◌else◌};
 ghost use Rattle.history.specs.Running as words;
 
 use crate::asks::Ask;
 use crate::places::Place;
 use crate::plain::same::equal_ids;
 use object_ids::ObjId;
-use std::alloc::{AllocError, Global};
 
 fn is_begin_of(object: ObjId, ask: &Ask) -> bool
     ensures { result ≡ words.is_begin_of object ask.now }
@@ -46,84 +43,57 @@ fn ends_call(by: u32, object: ObjId, p: &Place) -> bool
     p.effective && p.event.by == by && is_end_of(object, &p.event.ask)
 }
 
-fn begun(places: &[Place], by: u32, object: ObjId) -> usize
-    ensures { result ≡ length (filter (words.begins_call by object) places.now) }
-{
-    places.iter().filter(|p| begins_call(by, object, p)).count()
-}
-
-fn ended(places: &[Place], by: u32, object: ObjId) -> usize
-    ensures { result ≡ length (filter (words.ends_call by object) places.now) }
-{
-    places.iter().filter(|p| ends_call(by, object, p)).count()
-}
-
 /// How many calls of an object a connection runs.
 #[tactic(auto, unfolding(crate::specs::Running::running))]
 pub fn running(places: &[Place], by: u32, object: ObjId) -> usize
-    ensures { result ≡ words.running places.now by object }
-{
-    begun(places, by, object).saturating_sub(ended(places, by, object))
-}
-
-/// The connections that asked, once for each event.
-fn askers(alloc: Global, places: &[Place]) -> Result<Vec<u32>, AllocError>
-    ensures { IfOk result (λ all. all.items ≡ map (λ p. p.event.by) places.now) }
+    ensures value { result ≡ words.running places.now by object }
+    ensures bound { result ≤ length places.now }
 {
     match places {
-        [] => Ok(Vec::new(alloc)),
+        [] => 0,
         [p, before @ ..] => {
-            let mut all = askers(alloc, before)?;
-            all.insert(0, p.event.by)?;
-            Ok(all)
+            let runs = running(before, by, object);
+            counted(begins_call(by, object, p), ends_call(by, object, p), runs)
         }
     }
 }
 
-fn is_among(x: u32, numbers: &[u32]) -> bool
-    ensures { result ≡ list_any (λ b. x == b) numbers.now }
+/// A count after a place that begins or ends a call.
+fn counted(begins: bool, ends: bool, runs: usize) -> usize
+    requires { runs + 1 < 2 ^ 64 }
+    ensures value { result ≡ (if begins then runs + 1 else if ends then runs - 1 else runs) }
+    ensures bound { result ≤ runs + 1 }
 {
-    numbers.iter().any(|y| x == *y)
-}
-
-/// Each of some numbers once.
-fn each_once(alloc: Global, numbers: &[u32]) -> Result<Vec<u32>, AllocError>
-    ensures { IfOk result (λ once. once.items ≡ distinct (λ a b. a == b) numbers.now) }
-{
-    match numbers {
-        [] => Ok(Vec::new(alloc)),
-        [x, rest @ ..] => {
-            let mut once = each_once(alloc, rest)?;
-            if !is_among(*x, rest) {
-                once.insert(0, *x)?;
-            }
-            Ok(once)
-        }
+    if begins {
+        runs + 1
+    } else if ends {
+        runs.saturating_sub(1)
+    } else {
+        runs
     }
 }
 
-/// The connections that asked, each once.
-#[tactic(auto, unfolding(crate::specs::Running::connections))]
-pub fn connections(alloc: Global, places: &[Place]) -> Result<Vec<u32>, AllocError>
-    ensures { IfOk result (λ all. all.items ≡ words.connections places.now) }
+/// How many calls of an object all connections run.
+#[tactic(auto, unfolding(crate::specs::Running::running_calls))]
+pub fn running_calls(places: &[Place], object: ObjId) -> usize
+    ensures value { result ≡ words.running_calls places.now object }
+    ensures bound { result ≤ length places.now }
 {
-    let all = askers(alloc, places)?;
-    each_once(alloc, all.as_slice())
-}
-
-fn some_run(places: &[Place], object: ObjId, connections: &[u32]) -> bool
-    ensures { result ≡ list_any (λ by. nat_lt 0 (words.running places.now by object)) connections.now }
-{
-    connections
-        .iter()
-        .any(|by| 0 < running(places, *by, object))
+    match places {
+        [] => 0,
+        [p, before @ ..] => {
+            let runs = running_calls(before, object);
+            let begins = p.effective && is_begin_of(object, &p.event.ask);
+            let ends = p.effective && is_end_of(object, &p.event.ask);
+            counted(begins, ends, runs)
+        }
+    }
 }
 
 /// Whether some connection runs a call of an object.
 #[tactic(auto, unfolding(crate::specs::Running::is_running))]
-pub fn is_running(alloc: Global, places: &[Place], object: ObjId) -> Result<bool, AllocError>
-    ensures { IfOk result (λ runs. runs ≡ words.is_running places.now object) }
+pub fn is_running(places: &[Place], object: ObjId) -> bool
+    ensures { result ≡ words.is_running places.now object }
 {
-    let all = connections(alloc, places)?;
-    Ok(some_run(places, object, all.as_slice()))
+    0 < running_calls(places, object)
 }

@@ -1,6 +1,5 @@
 //! The collector's table, and the places of a list of events.
-ghost use Rattle.std.specs.Prelude.{◌≡◌, ◌+◌, ◌<◌, ◌^◌, ◌++◌, ◌∷◌, ◌||◌, ◌&&◌, nat_le, length, map, filter, not, option_to_list, option_and_then, if◌then◌else◌, [], IfOk};
-ghost use Rattle.std.specs.List.{list_all};
+ghost use Rattle.std.specs.Prelude.{◌≡◌, ◌+◌, ◌<◌, ◌^◌, ◌++◌, ◌∷◌, ◌||◌, ◌&&◌, length, map, filter, not, option_to_list, option_and_then, if◌then◌else◌, [], IfOk};
 ghost use Rattle.history.specs.LeaseCalls as call_words;
 ghost use Rattle.history.specs.Names as name_words;
 ghost use Rattle.history.specs.Places as place_words;
@@ -13,7 +12,7 @@ use crate::places::{Exported, ExportedList, Place};
 use crate::plain::awaiting::is_awaited;
 use crate::plain::leases::is_held;
 use crate::plain::names::{is_named, name_in, stands_for};
-use crate::plain::places::{added, exported_from, has, ids, known, now};
+use crate::plain::places::{added, exported_from, has, ids, known, next, now};
 use crate::plain::running::{is_running, running};
 use mod_utf::list::Sequence;
 use object_ids::{ObjId, ObjIds};
@@ -98,8 +97,7 @@ pub fn is_pinned(alloc: Global, places: &[Place], x: &Exported) -> Result<bool, 
     ensures { IfOk result (λ pinned. pinned ≡ words.is_pinned places.now x.now) }
 {
     let named = is_named(alloc, places, x.id)?;
-    let runs = is_running(alloc, places, x.id)?;
-    Ok(x.pinned || named || runs)
+    Ok(x.pinned || named || is_running(places, x.id))
 }
 
 /// Whether an object is kept at the end of a history.
@@ -120,39 +118,19 @@ pub fn is_kept(
     Ok(pinned || waits || held)
 }
 
-/// Whether an object is kept at each prefix from its export on.
-fn is_kept_since_export(
-    alloc: Global,
-    config: &SpaceConfig,
-    places: &[Place],
-    x: &Exported,
-) -> Result<bool, AllocError>
-    ensures { IfOk result (λ kept. kept ≡ words.is_kept_since_export (words.is_kept config.now) places.now x.now) }
-{
-    match places {
-        [] => Ok(true),
-        [_, before @ ..] => {
-            let later = places.len() as u64 <= x.place;
-            let kept = is_kept(alloc, config, places, x)?;
-            let so_far = is_kept_since_export(alloc, config, before, x)?;
-            Ok((later || kept) && so_far)
-        }
-    }
-}
-
 fn kept_of(
     alloc: Global,
     config: &SpaceConfig,
     places: &[Place],
     objects: &[Exported],
 ) -> Result<Vec<Exported>, AllocError>
-    ensures { IfOk result (λ kept. kept.items ≡ filter (words.is_kept_since_export (words.is_kept config.now) places.now) objects.now) }
+    ensures { IfOk result (λ kept. kept.items ≡ filter (words.is_kept config.now places.now) objects.now) }
 {
     match objects {
         [] => Ok(Vec::new(alloc)),
         [x, rest @ ..] => {
             let mut kept = kept_of(alloc, config, places, rest)?;
-            if is_kept_since_export(alloc, config, places, x)? {
+            if is_kept(alloc, config, places, x)? {
                 kept.insert(0, *x)?;
             }
             Ok(kept)
@@ -160,7 +138,7 @@ fn kept_of(
     }
 }
 
-/// The table: the objects that were kept ever since their export.
+/// The table: those objects of the table before the newest place, and of those that this place exports, that are kept now.
 #[tactic(auto, unfolding(crate::specs::Table::table))]
 pub fn table(
     alloc: Global,
@@ -169,8 +147,14 @@ pub fn table(
 ) -> Result<Vec<Exported>, AllocError>
     ensures { IfOk result (λ objects. objects.items ≡ words.table config.now places.now) }
 {
-    let all = added(alloc, places)?;
-    kept_of(alloc, config, places, all.as_slice())
+    match places {
+        [] => Ok(Vec::new(alloc)),
+        [p, before @ ..] => {
+            let mut objects = table(alloc, config, before)?;
+            objects.extend_from_slice(p.adds.as_slice())?;
+            kept_of(alloc, config, places, objects.as_slice())
+        }
+    }
 }
 
 // ---- what an event does
@@ -223,8 +207,7 @@ pub fn exports(
 ) -> Result<Vec<Exported>, AllocError>
     ensures { IfOk result (λ objects. objects.items ≡ words.exports config.now places.now ask.now) }
 {
-    let all = added(alloc, places)?;
-    let k = all.as_slice().len() as u64;
+    let k = next(alloc, places)?;
     let place = places.len() as u64;
     match ask {
         Ask::Open { kind, pinned } => {

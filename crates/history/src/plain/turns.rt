@@ -1,5 +1,5 @@
 //! Replies, refusals and whole runs.
-ghost use Rattle.std.specs.Prelude.{◌≡◌, ◌∷◌, nat_le, length, map, filter, if◌then◌else◌, IfOk};
+ghost use Rattle.std.specs.Prelude.{◌≡◌, ◌<◌, ◌^◌, ◌++◌, map, if◌then◌else◌, IfOk};
 ghost use Rattle.history.specs.Names as name_words;
 ghost use Rattle.history.specs.Places as place_words;
 ghost use Rattle.history.specs.Replies as reply_words;
@@ -11,7 +11,7 @@ use crate::limits::Limits;
 use crate::places::{Exported, Place, Withdrawal};
 use crate::plain::limits::refusal;
 use crate::plain::names::names;
-use crate::plain::places::{added, has, id_at, ids, kind_of};
+use crate::plain::places::{has, id_at, ids, kind_of, next};
 use crate::plain::table::{place_of, places, stands, table, withdrawn};
 use crate::replies::{Refused, Reply, Turn};
 use mod_utf::list::NameList;
@@ -80,10 +80,9 @@ fn reply_to(
 }
 
 fn opened(alloc: Global, config: &SpaceConfig, places: &[Place]) -> Result<Reply, AllocError>
-    ensures { IfOk result (λ reply. reply ≡ Reply.Opened (place_words.id_at config.now.uid (length (place_words.added places.now)))) }
+    ensures { IfOk result (λ reply. reply ≡ Reply.Opened (place_words.id_at config.now.uid (place_words.next places.now))) }
 {
-    let all = added(alloc, places)?;
-    let new = id_at(config.uid, all.as_slice().len() as u64);
+    let new = id_at(config.uid, next(alloc, places)?);
     Ok(Reply::Opened(new))
 }
 
@@ -189,7 +188,25 @@ fn withdrawals_at(
     }
 }
 
+/// The withdrawals of a history at its newest place.
+fn withdrawals_at_end(
+    alloc: Global,
+    config: &SpaceConfig,
+    places: &[Place],
+) -> Result<Vec<Withdrawal>, AllocError>
+    ensures { IfOk result (λ all. all.items ≡ table_words.withdrawals_at_end config.now places.now) }
+{
+    match places {
+        [] => Ok(Vec::new(alloc)),
+        [p, ..] => {
+            let gone = withdrawn(alloc, config, places)?;
+            withdrawals_at(alloc, p.index, gone.as_slice())
+        }
+    }
+}
+
 /// All withdrawals of a history, in order.
+#[tactic(auto, unfolding(crate::specs::Table::withdrawals))]
 pub fn withdrawals(
     alloc: Global,
     config: &SpaceConfig,
@@ -199,10 +216,9 @@ pub fn withdrawals(
 {
     match places {
         [] => Ok(Vec::new(alloc)),
-        [p, before @ ..] => {
+        [_, before @ ..] => {
             let mut all = withdrawals(alloc, config, before)?;
-            let gone = withdrawn(alloc, config, places)?;
-            let mut last = withdrawals_at(alloc, p.index, gone.as_slice())?;
+            let mut last = withdrawals_at_end(alloc, config, places)?;
             all.append(&mut last)?;
             Ok(all)
         }
@@ -218,57 +234,38 @@ fn is_abandon(ask: &Ask) -> bool
     }
 }
 
-/// The place after the last event that is no Abandon.
-fn first_untold(places: &[Place]) -> u128
-    ensures { result ≡ reply_words.first_untold places.now }
+/// The objects that a history has still to tell as gone.
+#[tactic(auto, unfolding(crate::specs::Replies::pending))]
+fn pending(alloc: Global, config: &SpaceConfig, places: &[Place]) -> Result<Vec<ObjId>, AllocError>
+    ensures { IfOk result (λ gone. gone.items ≡ reply_words.pending config.now places.now) }
 {
     match places {
-        [] => 0,
+        [] => Ok(Vec::new(alloc)),
         [p, before @ ..] => {
             if is_abandon(&p.event.ask) {
-                first_untold(before)
+                let told = pending(alloc, config, before)?;
+                with_withdrawn(alloc, config, places, told)
             } else {
-                u128::from(p.index) + 1
+                Ok(Vec::new(alloc))
             }
         }
     }
 }
 
-fn told_from(alloc: Global, first: u128, all: &[Withdrawal]) -> Result<Vec<ObjId>, AllocError>
-    ensures { IfOk result (λ gone. gone.items ≡ map (λ w. w.object) (filter (λ w. nat_le first w.place) all.now)) }
-{
-    match all {
-        [] => Ok(Vec::new(alloc)),
-        [w, rest @ ..] => {
-            let gone = told_from(alloc, first, rest)?;
-            if first <= u128::from(w.place) {
-                before_all(w.object, gone)
-            } else {
-                Ok(gone)
-            }
-        }
-    }
-}
-
-fn before_all(object: ObjId, objects: Vec<ObjId>) -> Result<Vec<ObjId>, AllocError>
-    ensures { IfOk result (λ more. more.items ≡ object ∷ objects.items) }
-{
-    let mut more = objects;
-    more.insert(0, object)?;
-    Ok(more)
-}
-
-/// The objects that a history withdrew from a place on, in order.
-fn gone_from(
+/// Objects, and those that a history withdraws at its newest place.
+fn with_withdrawn(
     alloc: Global,
     config: &SpaceConfig,
-    first: u128,
     places: &[Place],
-) -> Result<ObjIds, AllocError>
-    ensures { IfOk result (λ gone. gone ≡ map (λ w. w.object) (filter (λ w. nat_le first w.place) (table_words.withdrawals config.now places.now))) }
+    objects: Vec<ObjId>,
+) -> Result<Vec<ObjId>, AllocError>
+    ensures { IfOk result (λ more. more.items ≡ objects.items ++ reply_words.ids (table_words.withdrawn config.now places.now)) }
 {
-    let all = withdrawals(alloc, config, places)?;
-    Ok(ObjIds::from_vec(told_from(alloc, first, all.as_slice())?))
+    let mut more = objects;
+    let gone = withdrawn(alloc, config, places)?;
+    let mut gone = ids(alloc, gone.as_slice())?;
+    more.append(&mut gone)?;
+    Ok(more)
 }
 
 // ---- turns
@@ -285,14 +282,14 @@ pub fn turn(
 {
     let mut history = places(alloc, config, events)?;
     let reply = reply(alloc, config, history.as_slice(), event)?;
-    let first = first_untold(history.as_slice());
+    let told = pending(alloc, config, history.as_slice())?;
     let p = place_of(alloc, config, history.as_slice(), event)?;
     history.insert(0, p)?;
-    let gone = gone_from(alloc, config, first, history.as_slice())?;
+    let gone = with_withdrawn(alloc, config, history.as_slice(), told)?;
     Ok(Turn {
         place: events.len() as u64,
         reply,
-        gone,
+        gone: ObjIds::from_vec(gone),
     })
 }
 

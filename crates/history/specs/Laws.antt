@@ -1,0 +1,109 @@
+-- What the definitions of a history, which go by its newest place, say of the whole history.
+use Rattle.std.specs.Prelude.{◌≡◌, ℕ, ◌+◌, ◌<◌, ◌↔◌, Bool, true, not, List, [], ◌∷◌, length, reverse, ◌&&◌, ◌||◌, nat_lt, nat_le, filter, find, filter_map, map, is_none, Option, option_and_then, option_map, unwrap_or}
+use Rattle.std.specs.List.{list_all, list_any}
+use Rattle.object_ids.specs.declared.ids.Uid.{Uid}
+use Rattle.object_ids.specs.declared.ids.ObjId.{ObjId}
+use Rattle.history.specs.declared.asks.SpaceConfig.{SpaceConfig}
+use Rattle.history.specs.declared.asks.Event.{Event}
+use Rattle.history.specs.declared.places.Place.{Place}
+use Rattle.history.specs.declared.places.Exported.{Exported}
+use Rattle.history.specs.declared.places.Returned.{Returned}
+use Rattle.history.specs.Lists.{option_any}
+use Rattle.history.specs.Places.{History, added, next}
+use Rattle.history.specs.Running.{begins_call, ends_call, begins_any, ends_any, running, running_calls, is_running}
+use Rattle.history.specs.Awaiting.{returns, is_ack_of, awaits}
+use Rattle.history.specs.Names.{name_bound, object_bound, is_unbind_of, changes_name, stands_for, names}
+use Rattle.history.specs.Table.{is_kept, table, place_of, places, withdrawals}
+use Rattle.history.specs.Replies.{is_abandon, gone}
+
+-- ---- the table: what was kept ever since its export
+
+-- The prefixes of a history that are not empty, the whole history first.
+abbrev pub prefixes : History → List History
+prefixes [] = []
+prefixes (p ∷ before) = (p ∷ before) ∷ prefixes before
+
+-- An object is kept at every prefix of a history from the one that ends with its export on.
+abbrev pub is_kept_since_export : (History → Exported → Bool) → History → Exported → Bool
+is_kept_since_export kept h x = list_all (λ g. nat_le (length g) x.place || kept g x) (prefixes h)
+
+-- The table has those of all objects ever exported that are kept at every prefix from their export on.
+abbrev pub TableIsKept : SpaceConfig → List Event → Type 0
+TableIsKept config events =
+    table config (places config events) ≡ filter (is_kept_since_export (is_kept config) (places config events)) (added (places config events))
+
+-- The next object is the k-th, from 0, where k objects were exported before it.
+abbrev pub NextIsCounted : History → Type 0
+NextIsCounted h = next h ≡ length (added h)
+
+-- ---- what awaits: since the last return
+
+-- The return is acknowledged at a place after p.
+abbrev pub is_acknowledged : History → Uid → Place → Bool
+is_acknowledged h u p = list_any (λ q. nat_lt p.index q.index && is_ack_of u q.event.ask) h
+
+-- Since the last place that returned the reference the time to acknowledge has not ended at the moment t, and no acknowledgement has
+-- come.
+abbrev pub awaits_since_return : ℕ → ℕ → History → Returned → Bool
+awaits_since_return ack t h r = option_any (λ p. nat_lt t (p.moment + ack) && not (is_acknowledged h r.uid p)) (find (returns r) h)
+
+abbrev pub AwaitsSinceReturn : SpaceConfig → List Event → Type 0
+AwaitsSinceReturn config events =
+    (ack t : ℕ) (r : Returned) → awaits ack t (places config events) r ≡ awaits_since_return ack t (places config events) r
+
+-- ---- names: by their last changes
+
+-- The last effective Bind, Rebind or Unbind of the name.
+abbrev pub last_change : History → List ℕ → Option Place
+last_change h n = find (changes_name n) h
+
+-- A name stands for the object of that one, or for nothing if that is an Unbind.
+abbrev pub StandsForLast : History → Type 0
+StandsForLast h = (n : List ℕ) → stands_for h n ≡ option_and_then (λ p. object_bound p.event.ask) (last_change h n)
+
+-- An effective Unbind of the name stands at a place after p.
+abbrev pub is_unbound_after : History → List ℕ → Place → Bool
+is_unbound_after h n p = list_any (λ q. nat_lt p.index q.index && q.effective && is_unbind_of n q.event.ask) h
+
+-- The place p begins a name: it is an effective Bind or Rebind of a name that stands for nothing, and no effective Unbind of the
+-- name comes after it.
+abbrev pub begins_name : History → Place → Bool
+begins_name h p = p.effective && is_none p.stood && option_any (λ n. not (is_unbound_after h n p)) (name_bound p.event.ask)
+
+-- The names stand in the order of the places that begin them.
+abbrev pub NamesInOrder : SpaceConfig → List Event → Type 0
+NamesInOrder config events =
+    names (places config events) ≡ filter_map (λ p. name_bound p.event.ask) (filter (begins_name (places config events)) (reverse (places config events)))
+
+-- ---- running calls: effective begins less effective ends
+
+abbrev pub RunningIsCounted : SpaceConfig → List Event → Type 0
+RunningIsCounted config events =
+    (by : ℕ) (o : ObjId) →
+    running (places config events) by o + length (filter (ends_call by o) (places config events)) ≡ length (filter (begins_call by o) (places config events))
+
+abbrev pub AllRunningIsCounted : SpaceConfig → List Event → Type 0
+AllRunningIsCounted config events =
+    (o : ObjId) →
+    running_calls (places config events) o + length (filter (ends_any o) (places config events)) ≡ length (filter (begins_any o) (places config events))
+
+-- A connection runs a call of the object.
+abbrev pub SomeConnectionRuns : History → ObjId → Type 0
+SomeConnectionRuns h o = (c : ℕ) × 0 < running h c o
+
+abbrev pub RunningIsSome : SpaceConfig → List Event → Type 0
+RunningIsSome config events = (o : ObjId) → (is_running (places config events) o ≡ true) ↔ SomeConnectionRuns (places config events) o
+
+-- ---- what a turn tells as gone: what was withdrawn after the last event that is no Abandon
+
+-- The place after the last event that is no Abandon.
+abbrev pub first_untold : History → ℕ
+first_untold h = unwrap_or (option_map (λ p. p.index + 1) (find (λ p. not (is_abandon p.event.ask)) h)) 0
+
+-- The objects that a history withdrew from this place on, in order.
+abbrev pub withdrawn_from : ℕ → SpaceConfig → History → List ObjId
+withdrawn_from place config h = map (λ w. w.object) (filter (λ w. nat_le place w.place) (withdrawals config h))
+
+abbrev pub GoneSinceLast : SpaceConfig → List Event → Event → Type 0
+GoneSinceLast config events e =
+    gone config (places config events) e ≡ withdrawn_from (first_untold (places config events)) config (place_of config (places config events) e ∷ places config events)

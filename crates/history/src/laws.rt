@@ -1,0 +1,49 @@
+//! What the definitions of a history, which go by its newest place, say of whole histories.
+ghost use Rattle.std.specs.Prelude.{ℕ, List};
+ghost use Rattle.history.specs.declared.asks.Event.{Event};
+ghost use Rattle.history.specs.declared.asks.SpaceConfig.{SpaceConfig};
+ghost use Rattle.history.specs.Collector.{Collects};
+ghost use Rattle.history.specs.Laws.{TableIsKept, NextIsCounted, AwaitsSinceReturn, StandsForLast, NamesInOrder, RunningIsCounted, AllRunningIsCounted, RunningIsSome, GoneSinceLast};
+ghost use Rattle.history.specs.Places.{History};
+ghost use Rattle.history.specs.Table.{with_event};
+
+/// The table has those objects that are kept at every prefix of the history from their export on.
+pub fn the_table_is_what_was_kept_since_its_export()
+    ensures { (config : SpaceConfig) (events : List Event) → TableIsKept config events }
+{}
+
+/// Objects are numbered in the order of their export: the next one comes after all that were ever exported.
+pub fn objects_are_numbered_as_exported()
+    ensures { (h : History) → NextIsCounted h }
+{}
+
+/// A reference awaits where, since the last place that returned it, its time to acknowledge has not ended and no
+/// acknowledgement has come.
+pub fn a_reference_awaits_since_its_last_return()
+    ensures { (config : SpaceConfig) (events : List Event) → AwaitsSinceReturn config events }
+{}
+
+/// A name stands for what the last effective Bind, Rebind or Unbind of it says, and the names stand in the order of
+/// the places that begin them.
+pub fn a_name_stands_for_its_last_change()
+    ensures standing { (h : History) → StandsForLast h }
+    ensures order { (config : SpaceConfig) (events : List Event) → NamesInOrder config events }
+{}
+
+/// The running calls of a connection are its effective begins less its effective ends, and so are those of all
+/// connections; some call of an object runs where some connection runs one.
+pub fn running_calls_are_begins_less_ends()
+    ensures one { (config : SpaceConfig) (events : List Event) → RunningIsCounted config events }
+    ensures all { (config : SpaceConfig) (events : List Event) → AllRunningIsCounted config events }
+    ensures some { (config : SpaceConfig) (events : List Event) → RunningIsSome config events }
+{}
+
+/// What an event tells as gone was withdrawn after the last event that is no Abandon.
+pub fn what_is_gone_was_withdrawn_since_the_last_turn()
+    ensures { (config : SpaceConfig) (events : List Event) (e : Event) → GoneSinceLast config events e }
+{}
+
+/// One event: the table keeps those of its objects, and of the exported ones, that there is a reason to keep, and the others are withdrawn.
+pub fn the_collector_keeps_what_is_needed()
+    ensures { (config : SpaceConfig) (h : List Event) (e : Event) → Collects config h e (with_event h e) }
+{}
