@@ -4,8 +4,6 @@
 
 mod exports;
 mod rows;
-#[cfg(test)]
-mod tests;
 mod waits;
 
 pub use exports::{ExportFault, Exports};

@@ -16,8 +16,6 @@ mod prepared;
 mod returns;
 mod rooms;
 mod runs;
-#[cfg(test)]
-mod tests;
 pub mod texts;
 pub mod turns;
 
