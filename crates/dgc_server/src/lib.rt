@@ -6,8 +6,6 @@ mod entry;
 mod leases;
 mod numbers;
 mod table;
-#[cfg(test)]
-mod tests;
 
 pub use history::{LeaseList, LeaseRow};
 pub use leases::{LeaseFault, Leases};

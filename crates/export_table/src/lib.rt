@@ -5,8 +5,6 @@
 mod exports;
 pub mod laws;
 mod rows;
-#[cfg(test)]
-mod tests;
 mod waits;
 
 pub use exports::{ExportFault, Exports};

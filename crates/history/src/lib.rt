@@ -10,8 +10,6 @@ pub mod names;
 pub mod places;
 pub mod plain;
 pub mod replies;
-#[cfg(test)]
-mod tests;
 
 pub use asks::{Ask, Event, EventList, SpaceConfig};
 pub use calls::{Call, CallKind, CallList, LeaseList, LeaseRow, Pair, PairList};

@@ -4,8 +4,6 @@
 pub mod bytes;
 pub mod draw;
 pub mod ids;
-#[cfg(test)]
-mod tests;
 
 pub use bytes::{objid_bytes, objid_of, uid_bytes, uid_of};
 pub use draw::UidDraw;

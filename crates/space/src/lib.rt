@@ -18,8 +18,6 @@ mod returns;
 mod rooms;
 mod runs;
 mod tables;
-#[cfg(test)]
-mod tests;
 pub mod texts;
 pub mod turns;
 
