@@ -45,3 +45,5 @@ pub mod Sound
 mod Rows
 pub mod Exact
 pub mod FrontLaws
+pub mod Bare
+pub mod ChainLaws

@@ -88,7 +88,7 @@ reordered_kept loose order h = All-map InRange (λ j. node_or_by (place_in order
 
 -- ---- where a reference is written over
 
-put_kept : {A : Type 0} (P : A → Type 0) (xs ys : List A) (k : ℕ) (x : Option A) → put xs k x ≡ Some ys → ((y : A) → x ≡ Some y → P y) → All P xs → All P ys
+pub put_kept : {A : Type 0} (P : A → Type 0) (xs ys : List A) (k : ℕ) (x : Option A) → put xs k x ≡ Some ys → ((y : A) → x ≡ Some y → P y) → All P xs → All P ys
 put_kept P xs ys k None e f h = absurd cc
 put_kept P xs ys k (Some x) e f h = subst (λ (l : List _). All P l) (some_same (slice_set xs k x) ys e) (All-set P xs k x (f x refl) h)
 

@@ -69,11 +69,7 @@ fn cut_front(alloc: Global, items: &mut Vec<Item>, n: usize)
 }
 
 /// Puts bytes before items, together with those that they begin with.
-fn join_front(
-    alloc: Global,
-    items: &mut Vec<Item>,
-    bytes: ByteList,
-) -> Result<(), AllocError>
+fn join_front(alloc: Global, items: &mut Vec<Item>, bytes: ByteList) -> Result<(), AllocError>
     ensures { OnOk result (items.new.items ≡ put_block bytes items.old.items) }
 {
     let mut bytes = bytes;

@@ -1,20 +1,23 @@
 //! Laws of streams and graphs, for those who read contracts: these functions do nothing.
+ghost use Rattle.ser_values.specs.Chain.{HavePartsByChain};
 ghost use Rattle.ser_values.specs.Laws.{HaveOneReading, AreOfGraphs, AreRead};
 
 /// Bytes are a stream of at most one graph.
 pub fn streams_have_one_reading()
     ensures { HaveOneReading }
-{
-}
+{}
 
 /// What a stream is of is a graph.
 pub fn streams_are_of_graphs()
     ensures { AreOfGraphs }
-{
-}
+{}
 
 /// Reading from left to right answers exactly the graph that bytes are a stream of.
 pub fn streams_are_read()
     ensures { AreRead }
-{
-}
+{}
+
+/// An object has a part for each description of its class's chain, unless its class is externalizable.
+pub fn objects_have_parts_by_chain()
+    ensures { HavePartsByChain }
+{}

@@ -3,6 +3,7 @@
 #![tactic(auto)]
 
 mod builder;
+mod chain;
 mod copying;
 mod equality;
 mod fault;
@@ -13,6 +14,7 @@ pub mod laws;
 pub mod limits;
 mod loose;
 mod node;
+mod note_bytes;
 mod ranges;
 mod renumber;
 mod seen;
@@ -23,6 +25,7 @@ mod walking;
 pub use builder::Builder;
 pub use fault::BuildFault;
 pub use graph::{Graph, same_graph};
-pub use node::{Node, NodeList, Place};
+pub use node::{Node, NodeList, NumberList, Place};
+pub use note_bytes::NotePlace;
 pub use value::{Part, PartList, Value, ValueList, Values};
 

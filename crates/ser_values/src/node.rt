@@ -44,6 +44,8 @@ pub enum Node {
 
 /// A list of nodes.
 pub type NodeList = Sequence<Node>;
+/// A list of nodes' numbers.
+pub type NumberList = Sequence<u32>;
 
 /// Where in a stream a reference stands.
 #[derive(Clone, Copy, Debug, PartialEq, Eq)]
