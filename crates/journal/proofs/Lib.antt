@@ -14,3 +14,4 @@ pub mod Refusing
 pub mod Unique
 pub mod Laws
 pub mod Written
+pub mod Ended

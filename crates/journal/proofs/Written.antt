@@ -14,7 +14,8 @@ use Rattle.history.specs.Texts.{object_text}
 use Rattle.journal.specs.Grammar.{SpellsNumber, SpellsObject, SpellsKinds, SpellsObjects, SpellsAsk, SpellsEvent, SpellsConfig}
 use Rattle.journal.specs.Written.{list_text, objects_text, ask_words, event_text, config_text, IsObject, AreObjects, AskFits, EventFits, ConfigFits}
 use Rattle.journal.proofs.Joined.{object_text_spells}
-use Rattle.journal.proofs.Laws.{event_once, config_once}
+use Rattle.journal.specs.Putting.{AppendsFront}
+use Rattle.journal.proofs.Fronts.{front_first, front_at, front_last, then_more}
 
 -- ---- lists
 
@@ -63,9 +64,6 @@ unfolding event_text
 event_spelled space event fits =
     (decimal event.by ∷ decimal event.moment ∷ ask_words space event.ask, ((fits.by, refl), ((fits.moment, refl), ask_spelled space event.ask fits.ask)), refl)
 
-pub event_alone : (space : Uid) (event : Event) → EventFits event → (other : Event) → SpellsEvent space other (event_text space event) → other ≡ event
-event_alone space event fits other spells = event_once space other event (event_text space event) spells (event_spelled space event fits)
-
 -- The line of an event, number by number.
 pub event_text-is : (space : Uid) (event : Event) → event_text space event ≡ decimal event.by ++ 32 ∷ (decimal event.moment ++ 32 ∷ join_with_byte 32 (ask_words space event.ask))
 unfolding event_text
@@ -88,6 +86,31 @@ event_written space event out one two three is_one is_two is_three =
         append_assoc (o ++ (a ++ 32 ∷ [])) (b ++ 32 ∷ []) c ∙ append_assoc o (a ++ 32 ∷ []) ((b ++ 32 ∷ []) ++ c)
         ∙ ap (λ (t : List ℕ). o ++ t) (append_assoc a (32 ∷ []) ((b ++ 32 ∷ []) ++ c)) ∙ ap (λ (t : List ℕ). o ++ (a ++ 32 ∷ t)) (append_assoc b (32 ∷ []) c)
 
+-- What stands of a line where its first number, its second, or what is asked was refused.
+pub event_first : (space : Uid) (event : Event) (out new : List ℕ) → AppendsFront out (decimal event.by ++ 32 ∷ []) new → AppendsFront out (event_text space event) new
+event_first space event out new stops =
+    let after = decimal event.moment ++ 32 ∷ join_with_byte 32 (ask_words space event.ask) in
+    front_first out (decimal event.by ++ 32 ∷ []) after new (event_text space event) (event_text-is space event ∙ sym (append_assoc (decimal event.by) (32 ∷ []) after)) stops
+
+in_three : (space : Uid) (event : Event) → event_text space event ≡ (decimal event.by ++ 32 ∷ []) ++ ((decimal event.moment ++ 32 ∷ []) ++ join_with_byte 32 (ask_words space event.ask))
+in_three space event =
+    let words = join_with_byte 32 (ask_words space event.ask) in
+    event_text-is space event ∙ sym (append_assoc (decimal event.by) (32 ∷ []) (decimal event.moment ++ 32 ∷ words))
+    ∙ ap (λ (t : List ℕ). (decimal event.by ++ 32 ∷ []) ++ t) (sym (append_assoc (decimal event.moment) (32 ∷ []) words))
+
+pub event_second : (space : Uid) (event : Event) (out one new : List ℕ) → one ≡ out ++ (decimal event.by ++ 32 ∷ []) → AppendsFront one (decimal event.moment ++ 32 ∷ []) new
+    → AppendsFront out (event_text space event) new
+event_second space event out one new is_one stops =
+    front_at out (decimal event.by ++ 32 ∷ []) (decimal event.moment ++ 32 ∷ []) (join_with_byte 32 (ask_words space event.ask)) one new (event_text space event) is_one (in_three space event) stops
+
+pub event_third : (space : Uid) (event : Event) (out one two new : List ℕ) → one ≡ out ++ (decimal event.by ++ 32 ∷ []) → two ≡ one ++ (decimal event.moment ++ 32 ∷ [])
+    → AppendsFront two (join_with_byte 32 (ask_words space event.ask)) new → AppendsFront out (event_text space event) new
+event_third space event out one two new is_one is_two stops =
+    let words = join_with_byte 32 (ask_words space event.ask) in
+    front_last out ((decimal event.by ++ 32 ∷ []) ++ (decimal event.moment ++ 32 ∷ [])) words two new (event_text space event)
+    (then_more out (decimal event.by ++ 32 ∷ []) one (decimal event.moment ++ 32 ∷ []) two is_one is_two)
+    (in_three space event ∙ sym (append_assoc (decimal event.by ++ 32 ∷ []) (decimal event.moment ++ 32 ∷ []) words)) stops
+
 pub config_spelled : (config : SpaceConfig) → FitsSigned w32 config.uid.unique → FitsSigned w64 config.uid.time → ConfigFits config → SpellsConfig config (config_text config)
 unfolding config_text
 config_spelled config unique time fits = (
@@ -95,6 +118,3 @@ config_spelled config unique time fits = (
   (fits.count, (refl, ((fits.some_lease, fits.short_lease, refl), ((fits.some_ack, fits.short_ack, refl), ((unique, refl), ((time, refl), refl)))))),
   refl,
 )
-
-pub config_alone : (config : SpaceConfig) → FitsSigned w32 config.uid.unique → FitsSigned w64 config.uid.time → ConfigFits config → (other : SpaceConfig) → SpellsConfig other (config_text config) → other ≡ config
-config_alone config unique time fits other spells = config_once other config (config_text config) spells (config_spelled config unique time fits)

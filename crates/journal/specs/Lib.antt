@@ -8,3 +8,4 @@ pub mod Keywords
 pub mod Putting
 pub mod Rows
 pub mod Written
+pub mod Laws

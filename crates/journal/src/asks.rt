@@ -1,7 +1,7 @@
 //! Asks as words.
 ghost use Rattle.std.specs.Prelude.{◌≡◌, ◌≢◌, ◌∷◌, MatchOption, codes};
 ghost use Rattle.journal.specs.Reading.{Reads};
-ghost use Rattle.journal.specs.Keywords.{keyword_text};
+ghost use Rattle.journal.specs.Keywords.{keyword_text, IsNoneOf, call_keywords, collector_keywords, registry_keywords};
 ghost use Rattle.journal.specs.Grammar.{SpellsAsk, SpellsPinned, SpellsStrong, End};
 ghost use Rattle.journal.specs.declared.asks.Keyword.{Keyword as KeywordData};
 
@@ -71,20 +71,51 @@ impl Field for Strength {
 fn keyword_of(word: &[u8]) -> Option<Keyword>
     ensures { MatchOption result ((k : KeywordData) → word.now ≢ keyword_text k) (λ k. word.now ≡ keyword_text k) }
 {
+    if let Some(keyword) = call_keyword(word) {
+        return Some(keyword);
+    }
+    if let Some(keyword) = collector_keyword(word) {
+        return Some(keyword);
+    }
+    registry_keyword(word)
+}
+
+/// The keyword of an exported object or of a call of one.
+fn call_keyword(word: &[u8]) -> Option<Keyword>
+    ensures { MatchOption result (IsNoneOf call_keywords word.now) (λ k. word.now ≡ keyword_text k) }
+{
     match word {
         b"open" => Some(Keyword::Open),
         b"begin" => Some(Keyword::Begin),
         b"finish" => Some(Keyword::Finish),
         b"abandon" => Some(Keyword::Abandon),
+        _ => None,
+    }
+}
+
+/// The keyword of a call of the collector, of an acknowledgement or of the passing of time.
+fn collector_keyword(word: &[u8]) -> Option<Keyword>
+    ensures { MatchOption result (IsNoneOf collector_keywords word.now) (λ k. word.now ≡ keyword_text k) }
+{
+    match word {
         b"dirty" => Some(Keyword::Dirty),
         b"clean" => Some(Keyword::Clean),
         b"ack" => Some(Keyword::Ack),
+        b"tick" => Some(Keyword::Tick),
+        _ => None,
+    }
+}
+
+/// The keyword of a call of the registry.
+fn registry_keyword(word: &[u8]) -> Option<Keyword>
+    ensures { MatchOption result (IsNoneOf registry_keywords word.now) (λ k. word.now ≡ keyword_text k) }
+{
+    match word {
         b"bind" => Some(Keyword::Bind),
         b"rebind" => Some(Keyword::Rebind),
         b"unbind" => Some(Keyword::Unbind),
         b"lookup" => Some(Keyword::Lookup),
         b"list" => Some(Keyword::List),
-        b"tick" => Some(Keyword::Tick),
         _ => None,
     }
 }

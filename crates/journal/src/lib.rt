@@ -16,6 +16,7 @@ pub(crate) mod parts;
 pub mod put;
 #[cfg(test)]
 mod tests;
+pub mod text_laws;
 pub(crate) mod unread;
 pub mod write;
 

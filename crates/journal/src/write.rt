@@ -1,11 +1,10 @@
-//! Writing the lines of a journal. After a refusal, which comes only for want of memory, a front of the line may stand appended.
-ghost use Rattle.std.specs.Prelude.{◌≡◌, ◌∷◌, ◌++◌, [], codes, decimal, OnOk};
+//! Writing the lines of a journal. After a refusal, which comes only for want of memory, a front of the line stands appended.
+ghost use Rattle.std.specs.Prelude.{◌≡◌, ◌∷◌, ◌++◌, [], codes, decimal, OnOk, OnErr};
 ghost use Rattle.std.specs.List.{join_with_byte};
 ghost use Rattle.std.specs.Fmt.{signed_decimal};
-ghost use Rattle.history.specs.declared.asks.Event.{Event as EventData};
-ghost use Rattle.history.specs.declared.asks.SpaceConfig.{SpaceConfig as ConfigData};
 ghost use Rattle.history.specs.Texts.{uid_text, client_text, object_text, name_text};
 ghost use Rattle.journal.specs.Grammar.{SpellsConfig, SpellsEvent};
+ghost use Rattle.journal.specs.Putting.{AppendsFront};
 ghost use Rattle.journal.specs.Written.{list_text, objects_text, pinned_text, strong_text, ask_words, config_text, event_text, ended, ConfigFits, EventFits};
 
 use crate::outline::{Word, put_line, put_words};
@@ -20,8 +19,8 @@ use std::alloc::AllocError;
 #[tactic(auto, unfolding(crate::specs::Written::config_text))]
 pub fn put_first_line(out: &mut ByteList, config: &SpaceConfig) -> Result<(), AllocError>
     ensures text { OnOk result (out.new ≡ out.old ++ ended (config_text config.now)) }
+    ensures err { OnErr result (AppendsFront out.old (ended (config_text config.now)) out.new) }
     ensures spelled { ConfigFits config.now → SpellsConfig config.now (config_text config.now) }
-    ensures alone { ConfigFits config.now → (other : ConfigData) → SpellsConfig other (config_text config.now) → other ≡ config.now }
 {
     put_line(
         out,
@@ -39,15 +38,16 @@ pub fn put_first_line(out: &mut ByteList, config: &SpaceConfig) -> Result<(), Al
 /// within their ranges, it spells this event and no other.
 pub fn put_event_line(out: &mut ByteList, space: Uid, event: &Event) -> Result<(), AllocError>
     ensures text { OnOk result (out.new ≡ out.old ++ ended (event_text space event.now)) }
+    ensures err { OnErr result (AppendsFront out.old (ended (event_text space event.now)) out.new) }
     ensures spelled { EventFits event.now → SpellsEvent space event.now (event_text space event.now) }
-    ensures alone { EventFits event.now → (other : EventData) → SpellsEvent space other (event_text space event.now) → other ≡ event.now }
 {
     put_event(out, space, event)?;
     out.push(b'\n')
 }
 
 fn put_event(out: &mut ByteList, space: Uid, event: &Event) -> Result<(), AllocError>
-    ensures { OnOk result (out.new ≡ out.old ++ event_text space event.now) }
+    ensures ok { OnOk result (out.new ≡ out.old ++ event_text space event.now) }
+    ensures err { OnErr result (AppendsFront out.old (event_text space event.now) out.new) }
 {
     put_leading(out, u64::from(event.by))?;
     put_leading(out, event.moment)?;
@@ -56,7 +56,8 @@ fn put_event(out: &mut ByteList, space: Uid, event: &Event) -> Result<(), AllocE
 
 /// Appends a number before further words.
 fn put_leading(out: &mut ByteList, n: u64) -> Result<(), AllocError>
-    ensures { OnOk result (out.new ≡ out.old ++ (decimal n ++ 32 ∷ [])) }
+    ensures ok { OnOk result (out.new ≡ out.old ++ (decimal n ++ 32 ∷ [])) }
+    ensures err { OnErr result (AppendsFront out.old (decimal n ++ 32 ∷ []) out.new) }
 {
     put_decimal(out, n)?;
     out.push(b' ')
@@ -64,7 +65,8 @@ fn put_leading(out: &mut ByteList, n: u64) -> Result<(), AllocError>
 
 /// Appends the words of an ask.
 fn put_ask(out: &mut ByteList, space: Uid, ask: &Ask) -> Result<(), AllocError>
-    ensures { OnOk result (out.new ≡ out.old ++ join_with_byte 32 (ask_words space ask.now)) }
+    ensures ok { OnOk result (out.new ≡ out.old ++ join_with_byte 32 (ask_words space ask.now)) }
+    ensures err { OnErr result (AppendsFront out.old (join_with_byte 32 (ask_words space ask.now)) out.new) }
 {
     match ask {
         Ask::Open { kind, pinned } => put_open(out, *kind, *pinned),
@@ -93,13 +95,14 @@ fn put_ask(out: &mut ByteList, space: Uid, ask: &Ask) -> Result<(), AllocError>
         Ask::Rebind { name, object } => put_binding(out, b"rebind", space, name, *object),
         Ask::Unbind { name } => put_words(out, &[Word::Text(b"unbind"), Word::Name(name)]),
         Ask::Lookup { name, uid } => put_lookup(out, name, *uid),
-        Ask::List => out.append(b"list"),
-        Ask::Tick => out.append(b"tick"),
+        Ask::List => put_words(out, &[Word::Text(b"list")]),
+        Ask::Tick => put_words(out, &[Word::Text(b"tick")]),
     }
 }
 
 fn put_open(out: &mut ByteList, kind: u32, pinned: bool) -> Result<(), AllocError>
-    ensures { OnOk result (out.new ≡ out.old ++ join_with_byte 32 (codes "open" ∷ decimal kind ∷ pinned_text pinned ∷ [])) }
+    ensures ok { OnOk result (out.new ≡ out.old ++ join_with_byte 32 (codes "open" ∷ decimal kind ∷ pinned_text pinned ∷ [])) }
+    ensures err { OnErr result (AppendsFront out.old (join_with_byte 32 (codes "open" ∷ decimal kind ∷ pinned_text pinned ∷ [])) out.new) }
 {
     let pinned: &[u8] = if pinned { b"pinned" } else { b"free" };
     put_words(
@@ -119,7 +122,8 @@ fn put_of_object(
     space: Uid,
     object: ObjId,
 ) -> Result<(), AllocError>
-    ensures { OnOk result (out.new ≡ out.old ++ join_with_byte 32 (keyword.now ∷ object_text space object ∷ [])) }
+    ensures ok { OnOk result (out.new ≡ out.old ++ join_with_byte 32 (keyword.now ∷ object_text space object ∷ [])) }
+    ensures err { OnErr result (AppendsFront out.old (join_with_byte 32 (keyword.now ∷ object_text space object ∷ [])) out.new) }
 {
     put_words(out, &[Word::Text(keyword), Word::Object { space, object }])
 }
@@ -132,8 +136,10 @@ fn put_finish<'a>(
     listed: &'a ObjIds,
     uid: Uid,
 ) -> Result<(), AllocError>
-    ensures { OnOk result (out.new ≡ out.old ++ join_with_byte 32 (
+    ensures ok { OnOk result (out.new ≡ out.old ++ join_with_byte 32 (
         codes "finish" ∷ object_text space object ∷ list_text decimal made.now ∷ objects_text space listed.now ∷ uid_text uid ∷ [])) }
+    ensures err { OnErr result (AppendsFront out.old (join_with_byte 32 (
+        codes "finish" ∷ object_text space object ∷ list_text decimal made.now ∷ objects_text space listed.now ∷ uid_text uid ∷ [])) out.new) }
 {
     put_words(
         out,
@@ -158,8 +164,10 @@ fn put_dirty<'a>(
     asked: i64,
     objects: &'a ObjIds,
 ) -> Result<(), AllocError>
-    ensures { OnOk result (out.new ≡ out.old ++ join_with_byte 32 (
+    ensures ok { OnOk result (out.new ≡ out.old ++ join_with_byte 32 (
         codes "dirty" ∷ client_text client.now ∷ signed_decimal number ∷ signed_decimal asked ∷ objects_text space objects.now ∷ [])) }
+    ensures err { OnErr result (AppendsFront out.old (join_with_byte 32 (
+        codes "dirty" ∷ client_text client.now ∷ signed_decimal number ∷ signed_decimal asked ∷ objects_text space objects.now ∷ [])) out.new) }
 {
     put_words(
         out,
@@ -181,8 +189,10 @@ fn put_clean<'a>(
     objects: &'a ObjIds,
     strong: bool,
 ) -> Result<(), AllocError>
-    ensures { OnOk result (out.new ≡ out.old ++ join_with_byte 32 (
+    ensures ok { OnOk result (out.new ≡ out.old ++ join_with_byte 32 (
         codes "clean" ∷ client_text client.now ∷ signed_decimal number ∷ strong_text strong ∷ objects_text space objects.now ∷ [])) }
+    ensures err { OnErr result (AppendsFront out.old (join_with_byte 32 (
+        codes "clean" ∷ client_text client.now ∷ signed_decimal number ∷ strong_text strong ∷ objects_text space objects.now ∷ [])) out.new) }
 {
     let strength: &[u8] = if strong { b"strong" } else { b"weak" };
     put_words(
@@ -205,7 +215,8 @@ fn put_binding<'a>(
     name: &'a Name,
     object: ObjId,
 ) -> Result<(), AllocError>
-    ensures { OnOk result (out.new ≡ out.old ++ join_with_byte 32 (keyword.now ∷ name_text name.now ∷ object_text space object ∷ [])) }
+    ensures ok { OnOk result (out.new ≡ out.old ++ join_with_byte 32 (keyword.now ∷ name_text name.now ∷ object_text space object ∷ [])) }
+    ensures err { OnErr result (AppendsFront out.old (join_with_byte 32 (keyword.now ∷ name_text name.now ∷ object_text space object ∷ [])) out.new) }
 {
     put_words(
         out,
@@ -218,7 +229,8 @@ fn put_binding<'a>(
 }
 
 fn put_lookup(out: &mut ByteList, name: &Name, uid: Uid) -> Result<(), AllocError>
-    ensures { OnOk result (out.new ≡ out.old ++ join_with_byte 32 (codes "lookup" ∷ name_text name.now ∷ uid_text uid ∷ [])) }
+    ensures ok { OnOk result (out.new ≡ out.old ++ join_with_byte 32 (codes "lookup" ∷ name_text name.now ∷ uid_text uid ∷ [])) }
+    ensures err { OnErr result (AppendsFront out.old (join_with_byte 32 (codes "lookup" ∷ name_text name.now ∷ uid_text uid ∷ [])) out.new) }
 {
     put_words(
         out,

@@ -1,5 +1,5 @@
 -- What `rmi show` takes and writes.
-use Rattle.std.specs.Prelude.{◌≡◌, ℕ, ◌<◌, ◌≤◌, ◌⊎◌, List, length, take, Option, Some, Ok}
+use Rattle.std.specs.Prelude.{◌≡◌, ℕ, ◌<◌, ◌≤◌, List, length, take, Option, Some, Ok}
 use Rattle.class_desc.specs.declared.slot.Item.{Item}
 use Rattle.wire_io.specs.Wire.{with_front, with_end, NothingLeft}
 use Rattle.ser_values.specs.declared.node.Node.{Node}
@@ -13,7 +13,7 @@ use Rattle.ser_read.specs.Here.{Fails}
 use Rattle.ser_read.specs.Whole.{stream_at, going_on}
 use Rattle.graph_text.specs.GraphText.{graph_text}
 use Rattle.call_dispatch.specs.Progress.{Halves}
-use Rattle.rmi_cli.specs.Line.{status_of_run}
+use Rattle.rmi_cli.specs.Told.{Told, Tells}
 use Rattle.rmi_cli.specs.declared.end.RunEnd.{RunEnd}
 use Rattle.rmi_cli.specs.declared.end.RunEnd.TheVariants.{Done, Usage, Answered, BadLine, Refused, TooLarge, NotShown, ReadFault, WriteFault, OutOfMemory}
 
@@ -51,6 +51,6 @@ ShowEnds old new WriteFault =
     × (sent < length (graph_text nodes items)) × (new.held ≡ with_end old.held (take sent (graph_text nodes items)))
 ShowEnds old new OutOfMemory = (new.held ≡ old.held)
 
--- The input was shown to its end, whose status is told; or there was no memory for the line that tells it.
-abbrev pub ShowsInput : Halves → Halves → ℕ → Type 0
-ShowsInput old new status = (end : RunEnd) × ShowEnds old new end × ((status ≡ status_of_run end) ⊎ (status ≡ 5))
+-- The input was shown to an end, which is told.
+abbrev pub ShowsInput : Halves → Halves → Told → Type 0
+ShowsInput old new told = (end : RunEnd) × ShowEnds old new end × Tells told end

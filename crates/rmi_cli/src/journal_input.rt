@@ -6,7 +6,7 @@ ghost use Rattle.rmi_cli.specs.Line.{status_of_run};
 ghost use Rattle.rmi_cli.specs.Replayed.{ReplayEnds};
 
 use crate::end::RunEnd;
-use crate::replay::{ReplayFault, replay};
+use crate::outlines::{ReplayFault, replay};
 use std::alloc::Global;
 use wire_io::put::put_all;
 use wire_io::sink::Sink;

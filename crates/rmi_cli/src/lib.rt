@@ -4,16 +4,16 @@
 mod end;
 mod host;
 mod journal_input;
-mod replay;
-mod run;
+mod outlines;
+mod program;
 mod stream_input;
 mod words;
 
 pub use end::RunEnd;
 pub use host::Host;
 pub use journal_input::JOURNAL_BYTES;
-pub use replay::{ReplayFault, replay};
-pub use run::{run, setup_of};
+pub use outlines::{ReplayFault, replay};
+pub use program::{run, setup_of};
 pub use stream_input::STREAM_BYTES;
 pub use words::{Command, Words};
 

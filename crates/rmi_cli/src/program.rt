@@ -6,8 +6,10 @@ ghost use Rattle.call_dispatch.specs.Progress.{Halves, halves, Talks, Settles};
 ghost use Rattle.rmi_cli.specs.Answer.{Answers, AnswersExactly, answer_setup};
 ghost use Rattle.rmi_cli.specs.Command.{AskFor};
 ghost use Rattle.rmi_cli.specs.Line.{status_of_run};
-ghost use Rattle.rmi_cli.specs.Replayed.{ReplaysInput};
+ghost use Rattle.rmi_cli.specs.Replayed.{ReplaysInput, ReplaysExactly};
 ghost use Rattle.rmi_cli.specs.Shown.{ShowsInput};
+ghost use Rattle.rmi_cli.specs.Told.{told_by, TellsExactly, Tells};
+ghost use Rattle.rmi_cli.specs.declared.end.RunEnd.{RunEnd as RunEnds};
 ghost use Rattle.rmi_cli.specs.declared.words.Command.{Command as Commands};
 
 use crate::end::RunEnd;
@@ -35,7 +37,8 @@ use wire_io::source::Source;
 /// | 5 | for want of memory |
 /// | 6 | at a limit |
 ///
-/// One line on the errors' sink tells the end. That it could not be written changes nothing.
+/// One line on the errors' sink tells the end, but that all was done, which no line tells. That it could not be written changes nothing.
+/// Where there is no memory for the line, the status is 5, and the line is that of want of memory.
 pub fn run<I: Source, O: Sink, E: Sink>(
     alloc: Global,
     words: &Words,
@@ -45,24 +48,33 @@ pub fn run<I: Source, O: Sink, E: Sink>(
     ensures usage { (result ≡ 1) ↔ ((command : Commands) → AskFor words.now command → ⊥) }
     ensures untouched { result ≡ 1 → (I.left host.new.input ≡ I.left host.old.input)
         × (O.held host.new.output ≡ O.held host.old.output) }
+    ensures usage_line { result ≡ 1 → TellsExactly (told_by E.held E.faults host.old.errors host.new.errors result) RunEnds.Usage }
 
-    // `answer` serves one connection: what was taken and written stands in a dialogue, whose end the status tells.
+    // `answer` serves one connection: what was taken and written stands in a dialogue, whose end is told.
     ensures answer { AskFor words.now Command.Answer → Answers
         (halves I.left O.held host.old.input host.old.output)
-        (halves I.left O.held host.new.input host.new.output) result }
+        (halves I.left O.held host.new.input host.new.output)
+        (told_by E.held E.faults host.old.errors host.new.errors result) }
     ensures exact { AskFor words.now Command.Answer → AnswersExactly
         (halves I.left O.held host.old.input host.old.output)
-        (halves I.left O.held host.new.input host.new.output) result }
+        (halves I.left O.held host.new.input host.new.output)
+        (told_by E.held E.faults host.old.errors host.new.errors result) }
 
     // `replay` takes the whole input as a journal, and writes the outline of the history that it spells, or says why it has none.
     ensures replay { AskFor words.now Command.Replay → ReplaysInput
         (halves I.left O.held host.old.input host.old.output)
-        (halves I.left O.held host.new.input host.new.output) result }
+        (halves I.left O.held host.new.input host.new.output)
+        (told_by E.held E.faults host.old.errors host.new.errors result) }
+    ensures replay_exact { AskFor words.now Command.Replay → ReplaysExactly
+        (halves I.left O.held host.old.input host.old.output)
+        (halves I.left O.held host.new.input host.new.output)
+        (told_by E.held E.faults host.old.errors host.new.errors result) }
 
     // `show` takes the whole input as a stream, and writes the text of its graph, or says at which fault reading it stops.
     ensures show { AskFor words.now Command.Show → ShowsInput
         (halves I.left O.held host.old.input host.old.output)
-        (halves I.left O.held host.new.input host.new.output) result }
+        (halves I.left O.held host.new.input host.new.output)
+        (told_by E.held E.faults host.old.errors host.new.errors result) }
 
     // The outside's failures.
     ensures read_fault { result ≡ 3 → Rose (I.faults host.old.input) (I.faults host.new.input) }
@@ -88,21 +100,25 @@ pub fn run<I: Source, O: Sink, E: Sink>(
     }
 }
 
-/// Writes the line that tells an end, and answers the status: the end's, or 5 where there is no memory for the line.
+/// Writes the line that tells an end, where the sink takes it, and answers the status. Where there is no memory for the line, want of
+/// memory is told.
 fn told<E: Sink>(alloc: Global, errors: &mut E, end: RunEnd) -> u8
-    ensures { (result ≡ status_of_run end) ⊎ (result ≡ 5) }
+    ensures told { Tells (told_by E.held E.faults errors.old errors.new result) end }
+    ensures status { (result ≡ status_of_run end) ⊎ (result ≡ 5) }
 {
-    if !end.is_silent() && tell(alloc, errors, end).is_err() {
-        return 5;
+    if end.is_silent() {
+        return end.status();
     }
-    end.status()
-}
-
-/// Writes the line of an end, where the sink takes it.
-fn tell<E: Sink>(alloc: Global, errors: &mut E, end: RunEnd) -> Result<(), AllocError> {
-    let line = format!(in alloc; "{end}\n")?;
-    let _ = put_all(errors, line.as_bytes());
-    Ok(())
+    match format!(in alloc; "{end}\n") {
+        Ok(line) => {
+            let _ = put_all(errors, line.as_bytes());
+            end.status()
+        }
+        Err(_) => {
+            let _ = put_all(errors, b"out of memory\n");
+            RunEnd::OutOfMemory.status()
+        }
+    }
 }
 
 /// Serves a connection with the peer of `answer`.
