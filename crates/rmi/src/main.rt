@@ -4,8 +4,9 @@
 use rmi_cli::{Host, Words, run};
 use std::io::ErrorKind;
 use std::process::ExitCode;
+use std::random::RandomSource;
 use std::{env, io};
-use wire_io::edge::{StdSink, StdSource};
+use wire_io::edge::{StdClock, StdSink, StdSource};
 use wire_io::put::put_all;
 
 /// The status where the words are no command line.
@@ -21,11 +22,20 @@ fn run_process(rt: &HostRuntime) -> io::Result<u8> {
         input: StdSource::new(alloc, rt.stdin())?,
         output: StdSink::new(rt.stdout()),
         errors: StdSink::new(rt.stderr()),
+        ticks: StdClock::new(rt),
+        seed: [word(rt)?, word(rt)?, word(rt)?, word(rt)?],
     };
     Ok(run(alloc, &words, &mut host))
 }
 
-/// The status is that of `run`. Where there is no memory for the words or for the input's buffer, it is 5, and where a word is no
+/// A word by chance.
+fn word(rt: &HostRuntime) -> io::Result<u64> {
+    let mut bytes = [0; 8];
+    rt.fill_bytes(&mut bytes)?;
+    Ok(u64::from_be_bytes(bytes))
+}
+
+/// The status is that of `run`. Where there is no memory for the words or for the input's buffer, or the system gives no words by chance, it is 5, and where a word is no
 /// UTF-8, 1; nothing is read or written then but the line that says so.
 fn main(rt: HostRuntime) -> ExitCode {
     let (line, status): (&[u8], u8) = match run_process(&rt) {

@@ -1,10 +1,10 @@
 -- The status of a connection whose dialogue is told.
-use Rattle.std.proofs.Common.{refl, sym, subst, ◌⊎◌, inl, inr}
+use Rattle.std.proofs.Common.{ℕ, List, refl, sym, subst, ◌⊎◌, inl, inr}
+use Rattle.wire_io.specs.Wire.{Wires}
 use Rattle.call_dispatch.specs.declared.end.ConnEnd.{ConnEnd}
 use Rattle.call_dispatch.specs.declared.end.ConnEnd.TheVariants.{Ended, BadHeader, UnknownProtocol, BadMessage, Truncated, NotBuilt, MessageLimit, ReadFault, WriteFault, OutOfMemory}
 use Rattle.call_dispatch.specs.End.{status_of, IsSettled}
-use Rattle.call_dispatch.specs.Progress.{Halves, Settles}
-use Rattle.rmi_cli.specs.Answer.{answer_setup, AnswersExactly, IsOutside}
+use Rattle.rmi_cli.specs.Answer.{ServesExactly, AnswersExactly, IsOutside}
 use Rattle.rmi_cli.specs.Told.{Told, TellsExactly, Tells}
 use Rattle.rmi_cli.specs.declared.end.RunEnd.TheVariants.{Answered}
 
@@ -21,12 +21,12 @@ settled_or_outside (WriteFault sent) = inr (inr (inl refl))
 settled_or_outside OutOfMemory = inr (inr (inr refl))
 
 -- A connection that went as its settled dialogue says is told so.
-pub told_settles : (old new : Halves) (told : Told) (result : ConnEnd) → Settles answer_setup old new result → Tells told (Answered result) → AnswersExactly old new told
-unfolding Settles AnswersExactly
-told_settles old new told result settles (inr memory) taken rest output end is dialogue settled = inr (inr (inr memory.1.0))
-told_settles old new told result settles (inl tells) taken rest output end is dialogue settled =
+pub told_settles : (seed : List ℕ) (old new : Wires) (told : Told) (result : ConnEnd) → ServesExactly seed old new result → Tells told (Answered result) → AnswersExactly seed old new told
+unfolding ServesExactly AnswersExactly
+told_settles seed old new told result settles (inr memory) other rest end is dialogue settled = inr (inr (inr memory.1.0))
+told_settles seed old new told result settles (inl tells) other rest end is dialogue settled =
     elim (settled_or_outside result) [
-      | inl ok ↦ let went = settles taken rest output end is dialogue settled ok in
+      | inl ok ↦ let went = settles other rest end is dialogue settled ok in
           let P : ConnEnd → Type 0 = λ x. TellsExactly told (Answered x) in inl (subst P went.0 tells, went.1, went.2)
       | inr not ↦ inr (subst IsOutside (sym tells.0) not)
     ]

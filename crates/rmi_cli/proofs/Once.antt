@@ -8,8 +8,7 @@ use Rattle.history.specs.Table.{places}
 use Rattle.journal.specs.Grammar.{SpellsConfig, SpellsEvent, SpellsFront}
 use Rattle.journal.proofs.Laws.{event_once, event_lacks, config_once, config_lacks}
 use Rattle.journal.proofs.Splitting.{line_injective}
-use Rattle.wire_io.specs.Wire.{with_front, with_end, with_end-nothing, NothingLeft}
-use Rattle.call_dispatch.specs.Progress.{Halves}
+use Rattle.wire_io.specs.Wire.{Wires, with_front, with_end, with_end-nothing, NothingLeft}
 use Rattle.rmi_cli.specs.declared.outlines.ReplayFault.{ReplayFault}
 use Rattle.rmi_cli.specs.declared.outlines.ReplayFault.TheVariants.{BadLine, Refused as RefusedTurn, OutOfMemory}
 use Rattle.rmi_cli.specs.declared.end.RunEnd.{RunEnd}
@@ -186,7 +185,7 @@ whole_is input taken (Some rest) is nothing =
     let same : input ≡ taken ++ rest = cc in
     (sym (same ∙ ap (λ r. taken ++ r) nothing ∙ append-nil taken), ap Some nothing)
 
-all_taken : (old new : Halves) (input taken : List ℕ) → old.left ≡ Some input → TakesWhole old new taken → (taken ≡ input) × (new.left ≡ Some [])
+all_taken : (old new : Wires) (input taken : List ℕ) → old.left ≡ Some input → TakesWhole old new taken → (taken ≡ input) × (new.left ≡ Some [])
 all_taken old new input taken told whole = whole_is input taken new.left (sym told ∙ whole.left) whole.nothing
 
 -- A front is no longer than the input.
@@ -195,10 +194,10 @@ front_short input front None is = absurd (cc)
 front_short input front (Some rest) is = let same : input ≡ front ++ rest = cc in omega (arith, ap length same, length-append front rest)
 
 -- The end is told as the answer's.
-abbrev Ends : Halves → Halves → Told → Result (List ℕ) ReplayFault → Type 0
+abbrev Ends : Wires → Wires → Told → Result (List ℕ) ReplayFault → Type 0
 Ends old new told answer = TellsExactly told (end_of answer) × (new.left ≡ Some []) × (new.held ≡ with_end old.held (output_of answer))
 
-at_whole : (old new : Halves) (told : Told) (input taken : List ℕ) (answer mine : Result (List ℕ) ReplayFault) → old.left ≡ Some input → TakesWhole old new taken
+at_whole : (old new : Wires) (told : Told) (input taken : List ℕ) (answer mine : Result (List ℕ) ReplayFault) → old.left ≡ Some input → TakesWhole old new taken
     → IsKnown answer → IsKnown mine → Replays input answer → Replays taken mine → TellsExactly told (end_of mine) → new.held ≡ with_end old.held (output_of mine) → Ends old new told answer
 at_whole old new told input taken answer mine left whole known known_mine replays mines tells held =
     let all = all_taken old new input taken left whole in
@@ -207,7 +206,7 @@ at_whole old new told input taken answer mine left whole known known_mine replay
     let Q : Result (List ℕ) ReplayFault → Type 0 = λ x. Ends old new told x in
     subst Q same (tells, all.1, held)
 
-within : (old new : Halves) (told : Told) (end : RunEnd) → ReplayEnds old new end → TellsExactly told end
+within : (old new : Wires) (told : Told) (end : RunEnd) → ReplayEnds old new end → TellsExactly told end
     → (input : List ℕ) (answer : Result (List ℕ) ReplayFault) → old.left ≡ Some input → length input ≤ journal_bytes → Replays input answer → IsKnown answer
     → Ends old new told answer ⊎ IsOutside told.status
 within old new told ends.Done (taken, output, whole, outlines, held) tells input answer left short replays known =
@@ -225,10 +224,10 @@ within old new told ends.ReadFault e tells input answer left short replays known
 within old new told ends.WriteFault e tells input answer left short replays known = inr (inr (inl tells.0))
 within old new told ends.OutOfMemory e tells input answer left short replays known = inr (inr (inr tells.0))
 
-no_room : (old new : Halves) (input taken : List ℕ) → old.left ≡ Some input → journal_bytes < length input → TakesWhole old new taken → ⊥
+no_room : (old new : Wires) (input taken : List ℕ) → old.left ≡ Some input → journal_bytes < length input → TakesWhole old new taken → ⊥
 no_room old new input taken left long whole = let all = all_taken old new input taken left whole in omega (arith, ap length all.0, whole.short, long)
 
-past : (old new : Halves) (told : Told) (end : RunEnd) → ReplayEnds old new end → TellsExactly told end → (input : List ℕ) → old.left ≡ Some input → journal_bytes < length input
+past : (old new : Wires) (told : Told) (end : RunEnd) → ReplayEnds old new end → TellsExactly told end → (input : List ℕ) → old.left ≡ Some input → journal_bytes < length input
     → (TellsExactly told (ends.TooLarge journal_bytes) × (new.held ≡ old.held)) ⊎ IsOutside told.status
 past old new told ends.Done (taken, output, whole, outlines, held) tells input left long = absurd (no_room old new input taken left long whole)
 past old new told ends.Usage e tells input left long = absurd e
@@ -243,7 +242,7 @@ past old new told ends.WriteFault e tells input left long = inr (inr (inl tells.
 past old new told ends.OutOfMemory e tells input left long = inr (inr (inr tells.0))
 
 -- A replay that ended so, and was told, is exact.
-pub replays_exactly : (old new : Halves) (told : Told) (end : RunEnd) → ReplayEnds old new end → Tells told end → ReplaysExactly old new told
+pub replays_exactly : (old new : Wires) (told : Told) (end : RunEnd) → ReplayEnds old new end → Tells told end → ReplaysExactly old new told
 replays_exactly old new told end e (inl tells) = record {
   within = λ input answer left short replays known. within old new told end e tells input answer left short replays (is_known answer known);
   past = past old new told end e tells;

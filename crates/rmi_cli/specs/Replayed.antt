@@ -1,7 +1,6 @@
 -- What `rmi replay` takes and writes.
 use Rattle.std.specs.Prelude.{◌≡◌, ◌≢◌, ℕ, ◌<◌, ◌≤◌, ◌⊎◌, List, [], length, take, Some, Result, Ok, Err}
-use Rattle.wire_io.specs.Wire.{with_front, with_end, NothingLeft}
-use Rattle.call_dispatch.specs.Progress.{Halves}
+use Rattle.wire_io.specs.Wire.{Wires, with_front, with_end, NothingLeft}
 use Rattle.rmi_cli.specs.Answer.{IsOutside}
 use Rattle.rmi_cli.specs.Replay.{Outlines, IsBadLine, IsRefused, Replays}
 use Rattle.rmi_cli.specs.Told.{Told, TellsExactly, Tells}
@@ -15,17 +14,17 @@ abbrev pub journal_bytes : ℕ
 journal_bytes = 268435456
 
 -- The whole input was taken, within the limit.
-pub record TakesWhole (old new : Halves) (input : List ℕ) : Type 0 where
+pub record TakesWhole (old new : Wires) (input : List ℕ) : Type 0 where
   pub left : old.left ≡ with_front input new.left
   pub nothing : NothingLeft new.left
   pub short : length input ≤ journal_bytes
 
 -- Some front of the input was taken, and nothing was written.
-abbrev pub TakesFront : Halves → Halves → Type 0
+abbrev pub TakesFront : Wires → Wires → Type 0
 TakesFront old new = (front : List ℕ) × (old.left ≡ with_front front new.left) × (new.held ≡ old.held)
 
 -- What each end says of the input, and what was written.
-abbrev pub ReplayEnds : Halves → Halves → RunEnd → Type 0
+abbrev pub ReplayEnds : Wires → Wires → RunEnd → Type 0
 ReplayEnds old new Done =
     (input : List ℕ) × (output : List ℕ) × TakesWhole old new input × Outlines input output × (new.held ≡ with_end old.held output)
 ReplayEnds old new Usage = ⊥
@@ -42,7 +41,7 @@ ReplayEnds old new WriteFault =
 ReplayEnds old new OutOfMemory = TakesFront old new
 
 -- The input was replayed to an end, which is told.
-abbrev pub ReplaysInput : Halves → Halves → Told → Type 0
+abbrev pub ReplaysInput : Wires → Wires → Told → Type 0
 ReplaysInput old new told = (end : RunEnd) × ReplayEnds old new end × Tells told end
 
 -- The end that an answer makes, and the outline that is written, if any.
@@ -58,7 +57,7 @@ output_of (Err fault) = []
 
 -- Where the input is told: if it is within the limit, and this is what a replay of it answers with ample memory, then all of it was taken,
 -- the outline was written, and the end is told; if it is past the limit, nothing was written, and that is told. Unless the outside failed.
-pub record ReplaysExactly (old new : Halves) (told : Told) : Type 0 where
+pub record ReplaysExactly (old new : Wires) (told : Told) : Type 0 where
   pub within : (input : List ℕ) (answer : Result (List ℕ) ReplayFault) → old.left ≡ Some input → length input ≤ journal_bytes → Replays input answer → answer ≢ Err faults.OutOfMemory
       → (TellsExactly told (end_of answer) × (new.left ≡ Some []) × (new.held ≡ with_end old.held (output_of answer))) ⊎ IsOutside told.status
   pub past : (input : List ℕ) → old.left ≡ Some input → journal_bytes < length input → (TellsExactly told (TooLarge journal_bytes) × (new.held ≡ old.held)) ⊎ IsOutside told.status

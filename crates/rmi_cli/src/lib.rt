@@ -1,6 +1,7 @@
 //! All that the program `rmi` does, over any input and output.
 #![tactic(auto)]
 
+mod answer_input;
 mod end;
 mod host;
 mod journal_input;
@@ -9,11 +10,12 @@ mod program;
 mod stream_input;
 mod words;
 
+pub use answer_input::setup_of;
 pub use end::RunEnd;
 pub use host::Host;
 pub use journal_input::JOURNAL_BYTES;
 pub use outlines::{ReplayFault, replay};
-pub use program::{run, setup_of};
+pub use program::run;
 pub use stream_input::STREAM_BYTES;
 pub use words::{Command, Words};
 

@@ -1,9 +1,7 @@
 //! All that the program does.
 ghost use Rattle.std.specs.Prelude.{◌≡◌, ◌↔◌, ◌⊎◌, IfOk};
-ghost use Rattle.wire_io.specs.Wire.{Rose};
-ghost use Rattle.call_dispatch.specs.End.{IsWriteFault};
-ghost use Rattle.call_dispatch.specs.Progress.{Halves, halves, Talks, Settles};
-ghost use Rattle.rmi_cli.specs.Answer.{Answers, AnswersExactly, answer_setup};
+ghost use Rattle.wire_io.specs.Wire.{Rose, wires};
+ghost use Rattle.rmi_cli.specs.Answer.{Answers, AnswersExactly};
 ghost use Rattle.rmi_cli.specs.Command.{AskFor};
 ghost use Rattle.rmi_cli.specs.Line.{status_of_run};
 ghost use Rattle.rmi_cli.specs.Replayed.{ReplaysInput, ReplaysExactly};
@@ -12,16 +10,14 @@ ghost use Rattle.rmi_cli.specs.Told.{told_by, TellsExactly, Tells};
 ghost use Rattle.rmi_cli.specs.declared.end.RunEnd.{RunEnd as RunEnds};
 ghost use Rattle.rmi_cli.specs.declared.words.Command.{Command as Commands};
 
+use crate::answer_input::answer_input;
 use crate::end::RunEnd;
 use crate::host::Host;
 use crate::journal_input::replay_input;
 use crate::stream_input::show_input;
 use crate::words::{Command, Words};
-use call_dispatch::end::ConnEnd;
-use call_dispatch::serve::serve_connection;
-use call_dispatch::setup::Setup;
-use mod_utf::list::Units;
-use std::alloc::{AllocError, Global};
+use std::alloc::Global;
+use wire_io::clock::Clock;
 use wire_io::put::put_all;
 use wire_io::sink::Sink;
 use wire_io::source::Source;
@@ -39,10 +35,10 @@ use wire_io::source::Source;
 ///
 /// One line on the errors' sink tells the end, but that all was done, which no line tells. That it could not be written changes nothing.
 /// Where there is no memory for the line, the status is 5, and the line is that of want of memory.
-pub fn run<I: Source, O: Sink, E: Sink>(
+pub fn run<I: Source, O: Sink, E: Sink, T: Clock>(
     alloc: Global,
     words: &Words,
-    host: &mut Host<I, O, E>,
+    host: &mut Host<I, O, E, T>,
 ) -> u8
     // Other words are no command line.
     ensures usage { (result ≡ 1) ↔ ((command : Commands) → AskFor words.now command → ⊥) }
@@ -50,30 +46,31 @@ pub fn run<I: Source, O: Sink, E: Sink>(
         × (O.held host.new.output ≡ O.held host.old.output) }
     ensures usage_line { result ≡ 1 → TellsExactly (told_by E.held E.faults host.old.errors host.new.errors result) RunEnds.Usage }
 
-    // `answer` serves one connection: what was taken and written stands in a dialogue, whose end is told.
-    ensures answer { AskFor words.now Command.Answer → Answers
-        (halves I.left O.held host.old.input host.old.output)
-        (halves I.left O.held host.new.input host.new.output)
+    // `answer` serves one connection over a space of its own: what was taken, done and written is a dialogue, whose end is told.
+    ensures answer { AskFor words.now Command.Answer → Answers host.old.seed
+        (wires I.left O.held host.old.input host.old.output)
+        (wires I.left O.held host.new.input host.new.output)
+        (T.given host.old.ticks) (T.given host.new.ticks)
         (told_by E.held E.faults host.old.errors host.new.errors result) }
-    ensures exact { AskFor words.now Command.Answer → AnswersExactly
-        (halves I.left O.held host.old.input host.old.output)
-        (halves I.left O.held host.new.input host.new.output)
+    ensures exact { AskFor words.now Command.Answer → AnswersExactly host.old.seed
+        (wires I.left O.held host.old.input host.old.output)
+        (wires I.left O.held host.new.input host.new.output)
         (told_by E.held E.faults host.old.errors host.new.errors result) }
 
     // `replay` takes the whole input as a journal, and writes the outline of the history that it spells, or says why it has none.
     ensures replay { AskFor words.now Command.Replay → ReplaysInput
-        (halves I.left O.held host.old.input host.old.output)
-        (halves I.left O.held host.new.input host.new.output)
+        (wires I.left O.held host.old.input host.old.output)
+        (wires I.left O.held host.new.input host.new.output)
         (told_by E.held E.faults host.old.errors host.new.errors result) }
     ensures replay_exact { AskFor words.now Command.Replay → ReplaysExactly
-        (halves I.left O.held host.old.input host.old.output)
-        (halves I.left O.held host.new.input host.new.output)
+        (wires I.left O.held host.old.input host.old.output)
+        (wires I.left O.held host.new.input host.new.output)
         (told_by E.held E.faults host.old.errors host.new.errors result) }
 
     // `show` takes the whole input as a stream, and writes the text of its graph, or says at which fault reading it stops.
     ensures show { AskFor words.now Command.Show → ShowsInput
-        (halves I.left O.held host.old.input host.old.output)
-        (halves I.left O.held host.new.input host.new.output)
+        (wires I.left O.held host.old.input host.old.output)
+        (wires I.left O.held host.new.input host.new.output)
         (told_by E.held E.faults host.old.errors host.new.errors result) }
 
     // The outside's failures.
@@ -82,7 +79,13 @@ pub fn run<I: Source, O: Sink, E: Sink>(
 {
     match words.command() {
         Some(Command::Answer) => {
-            let end = answer(alloc, &mut host.input, &mut host.output);
+            let end = answer_input(
+                alloc,
+                &mut host.input,
+                &mut host.output,
+                &mut host.ticks,
+                &host.seed,
+            );
             told(alloc, &mut host.errors, RunEnd::Answered(end))
         }
         Some(Command::Replay) => {
@@ -119,33 +122,4 @@ fn told<E: Sink>(alloc: Global, errors: &mut E, end: RunEnd) -> u8
             RunEnd::OutOfMemory.status()
         }
     }
-}
-
-/// Serves a connection with the peer of `answer`.
-fn answer<S: Source, K: Sink>(alloc: Global, source: &mut S, sink: &mut K) -> ConnEnd
-    ensures dialogue { Talks answer_setup
-        (halves S.left K.held source.old sink.old) (halves S.left K.held source.new sink.new) result }
-    ensures settles { Settles answer_setup
-        (halves S.left K.held source.old sink.old) (halves S.left K.held source.new sink.new) result }
-    ensures read_fault { result ≡ ConnEnd.ReadFault → Rose (S.faults source.old) (S.faults source.new) }
-    ensures write_fault { IsWriteFault result → Rose (K.faults sink.old) (K.faults sink.new) }
-{
-    match setup_of(alloc) {
-        Ok(setup) => serve_connection(alloc, source, sink, &setup),
-        Err(_) => ConnEnd::OutOfMemory,
-    }
-}
-
-/// The peer of `answer`: 127.0.0.1, port 1234.
-pub fn setup_of(alloc: Global) -> Result<Setup, AllocError>
-    ensures { IfOk result (λ setup. setup ≡ answer_setup) }
-{
-    let mut peer_host = Units::new(alloc);
-    for byte in b"127.0.0.1" {
-        peer_host.push(*byte as u16)?;
-    }
-    Ok(Setup {
-        peer_host,
-        peer_port: 1234,
-    })
 }

@@ -4,7 +4,7 @@ use Rattle.rmi_cli.specs.declared.words.Command.TheVariants.{Answer, Replay, Sho
 use Rattle.rmi_cli.proofs.program.run.Goals as goal
 
 pub returns-in-Some-Answer-clause-exact : goal.returns-in-Some-Answer-clause-exact
-returns-in-Some-Answer-clause-exact g c is = told_settles _ _ _ _ c.answer-end.ensures.settles c.told.ensures.told
+returns-in-Some-Answer-clause-exact g c is = told_settles _ _ _ _ _ c.answer_input-end.ensures.exact c.told.ensures.told
 
 pub returns-in-Some-Replay-clause-replay_exact : goal.returns-in-Some-Replay-clause-replay_exact
 returns-in-Some-Replay-clause-replay_exact g c is = replays_exactly _ _ _ _ c.replay_input-end.ensures.ends c.told-in-Some-Replay.ensures.told
