@@ -4,4 +4,5 @@ pub mod Steps
 pub mod OpeningSteps
 pub mod MessageSteps
 pub mod Quiet
+pub mod OpeningReading
 pub mod OneReading

@@ -1,21 +1,17 @@
 -- The messages that are served do nothing beside taking and writing bytes.
-use Rattle.std.proofs.Common.{◌≡◌, ℕ, ◌+◌, inl, inr, List, [], ◌∷◌, ◌++◌, Option, refl, ap, ◌∙◌, arith}
+use Rattle.std.proofs.Common.{◌≡◌, ℕ, List, [], ◌∷◌, ◌++◌, Option, refl, ap, ◌∙◌}
 use Rattle.std.specs.List.{flat_map}
 use Rattle.call_dispatch.specs.declared.end.ConnEnd.{ConnEnd}
 use Rattle.call_dispatch.specs.declared.end.ConnEnd.TheVariants.{Ended, BadHeader, UnknownProtocol, BadMessage, Truncated, NotBuilt, MessageLimit, ReadFault, WriteFault, OutOfMemory}
 use Rattle.call_dispatch.specs.End.{IsSettled}
 use Rattle.call_dispatch.specs.Terms.{Terms}
 use Rattle.call_dispatch.specs.Spot.{Course}
-use Rattle.call_dispatch.specs.Rows.{Exchange, ping, acts_by, draws_in}
+use Rattle.call_dispatch.specs.Rows.{Exchange, ping, acts_by}
 use Rattle.call_dispatch.specs.Dialogue.{Whole, exchanges_in, Ends, Dialogue}
 
-pub quiet_acts : (exchanges : List Exchange) → flat_map acts_by exchanges ≡ []
+quiet_acts : (exchanges : List Exchange) → flat_map acts_by exchanges ≡ []
 quiet_acts [] = refl
 quiet_acts (ping ∷ exchanges) = quiet_acts exchanges
-
-pub quiet_draws : (exchanges : List Exchange) → draws_in exchanges ≡ 0
-quiet_draws [] = refl
-quiet_draws (ping ∷ exchanges) = let more = quiet_draws exchanges in omega (arith, more)
 
 -- Nothing is done at a settled end.
 quiet_end : (terms : Terms) (drawn : ℕ) (w : Whole) (tail : Course) (rest : Option (List ℕ)) (end : ConnEnd) → Ends terms drawn w tail rest end → IsSettled end → tail.acts ≡ []

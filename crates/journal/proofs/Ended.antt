@@ -1,10 +1,10 @@
 -- The written journal is one.
-use Rattle.std.proofs.Common.{◌≡◌, ℕ, List, [], ◌∷◌, ◌++◌, refl, ap, sym, ◌∙◌, append_assoc, flat_map}
+use Rattle.std.proofs.Common.{ℕ, List, [], ◌∷◌, ◌++◌, refl, append_assoc, flat_map}
 use Rattle.std.specs.List.{AllByRecursion}
 use Rattle.object_ids.specs.declared.ids.Uid.{Uid}
 use Rattle.history.specs.declared.asks.SpaceConfig.{SpaceConfig}
 use Rattle.history.specs.declared.asks.Event.{Event}
-use Rattle.journal.specs.Grammar.{IsUid, SpellsEvents, JournalText}
+use Rattle.journal.specs.Grammar.{IsUid, SpellsConfig, SpellsEvents, JournalText}
 use Rattle.journal.specs.Written.{event_text, event_line, config_text, journal_text, EventFits, ConfigFits}
 use Rattle.journal.proofs.Written.{event_spelled, config_spelled}
 
@@ -19,12 +19,11 @@ events_spelled space (e ∷ events) fit = (
   append_assoc (event_text space e) (10 ∷ []) (flat_map (event_line space) events),
 )
 
-pub journal_spelled : (config : SpaceConfig) (events : List Event) → IsUid config.uid → ConfigFits config → AllByRecursion EventFits events → JournalText (journal_text config events) config events
+-- The same with a first line that spells the configuration.
+pub journal_after : (config : SpaceConfig) (events : List Event) → SpellsConfig config (config_text config) → AllByRecursion EventFits events → JournalText (journal_text config events) config events
 unfolding journal_text
-journal_spelled config events ids fits fit = (
-  config_text config,
-  flat_map (event_line config.uid) events,
-  config_spelled config ids.unique ids.time fits,
-  events_spelled config.uid events fit,
-  append_assoc (config_text config) (10 ∷ []) (flat_map (event_line config.uid) events),
-)
+journal_after config events first fit =
+    (config_text config, flat_map (event_line config.uid) events, first, events_spelled config.uid events fit, append_assoc (config_text config) (10 ∷ []) (flat_map (event_line config.uid) events))
+
+pub journal_spelled : (config : SpaceConfig) (events : List Event) → IsUid config.uid → ConfigFits config → AllByRecursion EventFits events → JournalText (journal_text config events) config events
+journal_spelled config events ids fits fit = journal_after config events (config_spelled config ids.unique ids.time fits) fit

@@ -1,10 +1,12 @@
 -- The status of a connection whose dialogue is told.
-use Rattle.std.proofs.Common.{refl, ap, ◌⊎◌, inl, inr}
+use Rattle.std.proofs.Common.{ℕ, List, refl, sym, subst, ◌⊎◌, inl, inr}
+use Rattle.wire_io.specs.Wire.{Wires}
 use Rattle.call_dispatch.specs.declared.end.ConnEnd.{ConnEnd}
 use Rattle.call_dispatch.specs.declared.end.ConnEnd.TheVariants.{Ended, BadHeader, UnknownProtocol, BadMessage, Truncated, NotBuilt, MessageLimit, ReadFault, WriteFault, OutOfMemory}
 use Rattle.call_dispatch.specs.End.{status_of, IsSettled}
-use Rattle.call_dispatch.specs.Progress.{Halves, Settles}
-use Rattle.rmi_cli.specs.Answer.{answer_setup, AnswersExactly, IsOutside}
+use Rattle.rmi_cli.specs.Answer.{ServesExactly, AnswersExactly, IsOutside}
+use Rattle.rmi_cli.specs.Told.{Told, TellsExactly, Tells}
+use Rattle.rmi_cli.specs.declared.end.RunEnd.TheVariants.{Answered}
 
 settled_or_outside : (end : ConnEnd) → IsSettled end ⊎ IsOutside (status_of end)
 settled_or_outside Ended = inl tt
@@ -18,16 +20,13 @@ settled_or_outside ReadFault = inr (inl refl)
 settled_or_outside (WriteFault sent) = inr (inr (inl refl))
 settled_or_outside OutOfMemory = inr (inr (inr refl))
 
--- A connection that went as its settled dialogue says has that dialogue's status.
-pub status_settles : (old new : Halves) (result : ConnEnd) → Settles answer_setup old new result → AnswersExactly old new (status_of result)
-unfolding Settles AnswersExactly
-status_settles old new result settles taken rest output end told dialogue settled =
+-- A connection that went as its settled dialogue says is told so.
+pub told_settles : (seed : List ℕ) (old new : Wires) (told : Told) (result : ConnEnd) → ServesExactly seed old new result → Tells told (Answered result) → AnswersExactly seed old new told
+unfolding ServesExactly AnswersExactly
+told_settles seed old new told result settles (inr memory) other rest end is dialogue settled = inr (inr (inr memory.1.0))
+told_settles seed old new told result settles (inl tells) other rest end is dialogue settled =
     elim (settled_or_outside result) [
-      | inl is ↦ let went = settles taken rest output end told dialogue settled is in inl (ap status_of went.0, went.1, went.2)
-      | inr not ↦ inr not
+      | inl ok ↦ let went = settles other rest end is dialogue settled ok in
+          let P : ConnEnd → Type 0 = λ x. TellsExactly told (Answered x) in inl (subst P went.0 tells, went.1, went.2)
+      | inr not ↦ inr (subst IsOutside (sym tells.0) not)
     ]
-
--- Want of memory for the line is the outside's.
-pub no_line : (old new : Halves) → AnswersExactly old new 5
-unfolding AnswersExactly
-no_line old new taken rest output end told dialogue settled = inr (inr (inr refl))

@@ -12,14 +12,15 @@ use Rattle.history.specs.Limits.{limits, refusal}
 use Rattle.history.specs.Steps.{answer_with, Step, Steps}
 use Rattle.history.specs.Table.{places}
 use Rattle.journal.specs.Parts.{Lacks}
-use Rattle.journal.specs.Grammar.{SpellsConfig, SpellsEvent}
+use Rattle.journal.specs.Grammar.{SpellsConfig, SpellsEvent, SpellsFront}
 use Rattle.journal.proofs.Laws.{event_once, event_lacks, config_lacks}
 use Rattle.space.specs.Built.{IsBuilt}
 use Rattle.space.specs.Lists.{TakesFront}
 use Rattle.space.proofs.ListLaws.{taken-after}
-use Rattle.rmi_cli.specs.declared.replay.ReplayFault.{ReplayFault}
-use Rattle.rmi_cli.specs.declared.replay.ReplayFault.TheVariants.{BadLine, Refused as RefusedTurn, OutOfMemory}
-use Rattle.rmi_cli.specs.Replay.{IsServed, IsTaken, TakesLines, BeginsWith, BeginsBadly, Opens, Stops, Goes}
+use Rattle.rmi_cli.specs.declared.outlines.ReplayFault.{ReplayFault}
+use Rattle.rmi_cli.specs.declared.outlines.ReplayFault.TheVariants.{BadLine, Refused as RefusedTurn, OutOfMemory}
+use Rattle.history.specs.Outline.{outline}
+use Rattle.rmi_cli.specs.Replay.{IsServed, IsTaken, TakesLines, BeginsWith, BeginsBadly, Opens, Stops, Goes, AllTaken, IsJournalUpTo, Outlines, Replays}
 use Rattle.rmi_cli.specs.Batches.{TakesLine, SpellsLines, HasRead, AreTaken, Halt, Halts, fault_of, TakesTo}
 
 -- ---- lines and their ends
@@ -299,3 +300,42 @@ no_config input line rest lacks is none config lines (line2, spelled, is2) =
 
 pub no_first_line : (input : List ℕ) → Lacks 10 input → (config : SpaceConfig) (lines : List ℕ) → Opens input config lines → ⊥
 no_first_line input lacks config lines (line, spelled, is) = no_line input line lines lacks is
+
+-- ---- the whole input
+
+-- Lines that are taken spell events in front of a rest, and these are all taken.
+to_front : (config : SpaceConfig) (h events : List Event) (front rest lines : List ℕ) → TakesLines config h events front → lines ≡ front ++ rest → SpellsFront config.uid events lines rest
+to_front config h [] front rest lines t is = is ∙ ap (λ f. f ++ rest) t
+to_front config h (e ∷ events) front rest lines (line, more, spells, served, taken, others, front_is) is =
+    (line, more ++ rest, spells, to_front config (h ++ e ∷ []) events more rest (more ++ rest) others refl, is ∙ ap (λ f. f ++ rest) front_is ∙ append_assoc line (10 ∷ more) rest)
+
+to_taken : (config : SpaceConfig) (h events : List Event) (front : List ℕ) → TakesLines config h events front → AllTaken config h events
+to_taken config h [] front t = tt
+to_taken config h (e ∷ events) front (line, more, spells, served, taken, others, front_is) = (served, taken, to_taken config (h ++ e ∷ []) events more others)
+
+-- All lines were taken.
+pub outlined : (input : List ℕ) (config : SpaceConfig) (lines output : List ℕ) (h2 : List Event) → Opens input config lines → Goes config [] lines 2 (Ok tt) h2 → output ≡ outline config h2
+    → Outlines input output
+outlined input config lines output h2 (first, opens, is) goes text =
+    let spelled = to_front config [] goes.events goes.front goes.rest lines goes.taken goes.lines_are in
+    let P : List ℕ → Type 0 = λ r. SpellsFront config.uid goes.events lines r in
+    (config, goes.events, (first, lines, opens, subst P goes.stops spelled, is), to_taken config [] goes.events goes.front goes.taken, text ∙ ap (outline config) goes.after)
+
+up_to : (input : List ℕ) (config : SpaceConfig) (lines : List ℕ) (stop : Result (Unit {0}) ReplayFault) (h2 : List Event) → Opens input config lines → (goes : Goes config [] lines 2 stop h2)
+    → IsJournalUpTo input config goes.events goes.rest
+up_to input config lines stop h2 opens goes = record {
+  lines = lines;
+  opens = opens;
+  spelled = to_front config [] goes.events goes.front goes.rest lines goes.taken goes.lines_are;
+  taken = to_taken config [] goes.events goes.front goes.taken;
+}
+
+-- A line was not taken.
+pub not_all : (input : List ℕ) (config : SpaceConfig) (lines : List ℕ) (fault : ReplayFault) (h2 : List Event) → Opens input config lines → Goes config [] lines 2 (Err fault) h2
+    → Replays input (Err fault)
+not_all input config lines (BadLine n) h2 opens goes =
+    inr (config, goes.events, goes.rest, up_to input config lines (Err (BadLine n)) h2 opens goes, (goes.stops.0, goes.stops.1), goes.stops.2)
+not_all input config lines RefusedTurn h2 opens goes =
+    let P : List Event → Type 0 = λ h. Stops config h goes.rest (2 + length goes.events) (Err RefusedTurn) in
+    (config, goes.events, goes.rest, up_to input config lines (Err RefusedTurn) h2 opens goes, subst P goes.after goes.stops)
+not_all input config lines OutOfMemory h2 opens goes = tt

@@ -1,9 +1,8 @@
 -- What reading the whole input as a stream answers.
-use Rattle.std.proofs.Common.{◌≡◌, ℕ, ◌+◌, ◌-◌, ◌≤◌, ◌<◌, List, length, take, Option, Some, Result, Ok, Err, IfOk, sym, subst, arith}
+use Rattle.std.proofs.Common.{◌≡◌, ℕ, ◌+◌, ◌-◌, ◌≤◌, ◌<◌, List, length, take, Option, Some, Result, Ok, Err, IfOk, arith}
 use Rattle.std.specs.Prelude.{IfErr, IsErrAnd}
 use Rattle.wire_io.specs.Pulled.{Place}
 use Rattle.ser_values.specs.declared.graph.Graph.{Graph}
-use Rattle.ser_values.specs.Reading.{stream_of}
 use Rattle.ser_read.specs.declared.fault.StreamFault.{StreamFault}
 use Rattle.ser_read.specs.declared.fault.StreamFault.TheVariants.{TooLarge, Truncated}
 use Rattle.ser_read.specs.declared.fault.Large.TheVariants.{Bytes}

@@ -1,28 +1,75 @@
 -- What `rmi answer` does.
-use Rattle.std.specs.Prelude.{◌≡◌, ℕ, pos, codes, ◌⊎◌, List, ◌++◌, Some}
-use Rattle.wire_io.specs.Wire.{with_end}
-use Rattle.call_dispatch.specs.declared.setup.Setup.{Setup}
+use Rattle.std.specs.Prelude.{◌≡◌, ℕ, ◌+◌, ◌%◌, ◌^◌, ℤ, pos, false, codes, ◌⊎◌, List, [], ◌++◌, slice_index, Option, Some}
+use Rattle.std.specs.List.{flat_map}
+use Rattle.std.specs.Int.{w32, w64, cast_signed, to_be_bytes}
+use Rattle.wire_io.specs.Wire.{Wires, with_front, with_end, Gave}
+use Rattle.history.specs.declared.asks.SpaceConfig.{SpaceConfig}
+use Rattle.history.specs.declared.asks.Event.{Event}
+use Rattle.space.specs.Ports.{Went}
 use Rattle.call_dispatch.specs.declared.end.ConnEnd.{ConnEnd}
-use Rattle.call_dispatch.specs.End.{status_of, IsSettled}
+use Rattle.call_dispatch.specs.End.{IsSettled}
+use Rattle.call_dispatch.specs.Terms.{Terms}
+use Rattle.call_dispatch.specs.Acts.{entries, moments}
+use Rattle.call_dispatch.specs.Spot.{Course}
 use Rattle.call_dispatch.specs.Dialogue.{Dialogue}
-use Rattle.call_dispatch.specs.Progress.{Halves, Talks}
+use Rattle.rmi_cli.specs.Told.{Told, TellsExactly, Tells}
+use Rattle.rmi_cli.specs.declared.end.RunEnd.TheVariants.{Answered}
 
--- The peer is 127.0.0.1, port 1234.
-abbrev pub answer_setup : Setup
-answer_setup = record { peer_host = codes "127.0.0.1"; peer_port = pos 1234 }
+-- the low 32 bits of a word, as a signed number
+abbrev pub low_signed : ℕ → ℤ
+low_signed word = cast_signed w32 (word % 2 ^ 32)
 
--- One connection was served: what was taken and written stands in a dialogue, whose end the status tells;
--- or there was no memory for the line that tells it.
-abbrev pub Answers : Halves → Halves → ℕ → Type 0
-Answers old new status = (end : ConnEnd) × Talks answer_setup old new end × ((status ≡ status_of end) ⊎ (status ≡ 5))
+-- The terms of the connection, by the seed: it has the number 1, its peer is 127.0.0.1, port 1234, its own end is 127.0.0.1, port 1099,
+-- and clients may not bind names.
+abbrev pub answer_terms : List ℕ → Terms
+answer_terms seed = record {
+  by = 1;
+  peer_host = codes "127.0.0.1";
+  peer_port = pos 1234;
+  host = codes "127.0.0.1";
+  port = pos 1099;
+  binding = false;
+  mark = to_be_bytes w64 (slice_index seed 2);
+  unique = low_signed ((slice_index seed 0 + 1) % 2 ^ 64);
+  time = pos (slice_index seed 1 % 2 ^ 61);
+}
+
+-- What the space keeps to, by the seed: leases of 600,000 milliseconds, and 300,000 to acknowledge a result.
+abbrev pub answer_space : List ℕ → SpaceConfig
+answer_space seed = record {
+  lease_ms = 600000;
+  ack_ms = 300000;
+  uid = record { unique = low_signed (slice_index seed 2); time = pos (slice_index seed 3 % 2 ^ 61); count = pos 0 };
+}
+
+-- One connection was served: what was taken, done and written is a dialogue with the end, on the terms of the seed, before which nothing was
+-- drawn. The clock gave the moments of its turns, and these are the events of a space that had none.
+pub record ServesOne (seed : List ℕ) (old new : Wires) (gave gave2 : Option (List ℕ)) (end : ConnEnd) : Type 0 where
+  pub course : Course
+  pub left : old.left ≡ with_front course.taken new.left
+  pub held : new.held ≡ with_end old.held course.written
+  pub dialogue : Dialogue (answer_terms seed) 0 course new.left end
+  pub given : Gave gave gave2 (flat_map moments course.acts)
+  pub events : List Event
+  pub went : Went (answer_space seed) 1 [] (flat_map entries course.acts) events
+
+-- Where a settled dialogue stands for the input that was told, the connection went so, unless something outside failed.
+unfoldable pub ServesExactly : List ℕ → Wires → Wires → ConnEnd → Type 0
+ServesExactly seed old new result = (other : Course) (rest : List ℕ) (end : ConnEnd)
+    → old.left ≡ Some (other.taken ++ rest) → Dialogue (answer_terms seed) 0 other (Some rest) end → IsSettled end → IsSettled result
+    → (result ≡ end) × (new.left ≡ Some rest) × (new.held ≡ with_end old.held other.written)
+
+-- One connection was served, and its end is told.
+abbrev pub Answers : List ℕ → Wires → Wires → Option (List ℕ) → Option (List ℕ) → Told → Type 0
+Answers seed old new given given2 told = (end : ConnEnd) × ServesOne seed old new given given2 end × Tells told (Answered end)
 
 -- The outside failed: reading, writing or memory.
 abbrev pub IsOutside : ℕ → Type 0
 IsOutside status = (status ≡ 3) ⊎ ((status ≡ 4) ⊎ (status ≡ 5))
 
 -- Where a settled dialogue stands for the input that was told, it is the one that was had: its rest is left, its output
--- was written, and the status is its end's; unless the outside failed.
-unfoldable pub AnswersExactly : Halves → Halves → ℕ → Type 0
-AnswersExactly old new status = (taken rest output : List ℕ) (end : ConnEnd)
-    → old.left ≡ Some (taken ++ rest) → Dialogue answer_setup taken (Some rest) output end → IsSettled end
-    → ((status ≡ status_of end) × (new.left ≡ Some rest) × (new.held ≡ with_end old.held output)) ⊎ IsOutside status
+-- was written, and its end is told; unless the outside failed.
+unfoldable pub AnswersExactly : List ℕ → Wires → Wires → Told → Type 0
+AnswersExactly seed old new told = (other : Course) (rest : List ℕ) (end : ConnEnd)
+    → old.left ≡ Some (other.taken ++ rest) → Dialogue (answer_terms seed) 0 other (Some rest) end → IsSettled end
+    → (TellsExactly told (Answered end) × (new.left ≡ Some rest) × (new.held ≡ with_end old.held other.written)) ⊎ IsOutside told.status

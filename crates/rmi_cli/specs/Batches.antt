@@ -7,10 +7,10 @@ use Rattle.history.specs.declared.replies.Refused.TheVariants.{HistoryFull, Full
 use Rattle.history.specs.Limits.{limits, refusal}
 use Rattle.history.specs.Table.{places}
 use Rattle.journal.specs.Grammar.{SpellsEvent}
-use Rattle.rmi_cli.specs.declared.replay.ReplayFault.{ReplayFault}
-use Rattle.rmi_cli.specs.declared.replay.ReplayFault.TheVariants.{BadLine, Refused as RefusedTurn, OutOfMemory}
-use Rattle.rmi_cli.specs.declared.replay.LineFault.{LineFault}
-use Rattle.rmi_cli.specs.declared.replay.LineFault.TheVariants.{Bad, OutOfMemory as NoRoom}
+use Rattle.rmi_cli.specs.declared.outlines.ReplayFault.{ReplayFault}
+use Rattle.rmi_cli.specs.declared.outlines.ReplayFault.TheVariants.{BadLine, Refused as RefusedTurn, OutOfMemory}
+use Rattle.rmi_cli.specs.declared.outlines.LineFault.{LineFault}
+use Rattle.rmi_cli.specs.declared.outlines.LineFault.TheVariants.{Bad, OutOfMemory as NoRoom}
 use Rattle.rmi_cli.specs.Replay.{IsServed, IsTaken, TakesLines, BeginsWith}
 
 -- ---- reading

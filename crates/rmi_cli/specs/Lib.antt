@@ -5,3 +5,4 @@ pub mod Line
 pub mod Replay
 pub mod Replayed
 pub mod Shown
+pub mod Told

@@ -7,10 +7,10 @@ use Rattle.history.specs.declared.replies.Refused.{Refused}
 use Rattle.history.specs.Limits.{limits, refusal}
 use Rattle.history.specs.Table.{places}
 use Rattle.history.specs.Outline.{outline}
-use Rattle.journal.specs.Grammar.{SpellsConfig, SpellsEvent}
+use Rattle.journal.specs.Grammar.{SpellsConfig, SpellsEvent, SpellsFront, JournalText}
 use Rattle.space.specs.Built.{IsBuilt}
-use Rattle.rmi_cli.specs.declared.replay.ReplayFault.{ReplayFault}
-use Rattle.rmi_cli.specs.declared.replay.ReplayFault.TheVariants.{BadLine, Refused as RefusedTurn, OutOfMemory}
+use Rattle.rmi_cli.specs.declared.outlines.ReplayFault.{ReplayFault}
+use Rattle.rmi_cli.specs.declared.outlines.ReplayFault.TheVariants.{BadLine, Refused as RefusedTurn, OutOfMemory}
 
 -- ---- lines
 
@@ -60,22 +60,34 @@ pub record Goes (config : SpaceConfig) (h : List Event) (lines : List ℕ) (numb
 abbrev pub Opens : List ℕ → SpaceConfig → List ℕ → Type 0
 Opens input config lines = (line : List ℕ) × SpellsConfig config line × (input ≡ line ++ 10 ∷ lines)
 
+-- After the history h these events are all served and taken, one after another.
+abbrev pub AllTaken : SpaceConfig → List Event → List Event → Type 0
+AllTaken config h [] = Unit {0}
+AllTaken config h (e ∷ events) = IsServed e.ask × IsTaken config h e × AllTaken config (h ++ e ∷ []) events
+
+-- The input is a journal up to this rest: of this configuration and of these events, which are all served and taken.
+pub record IsJournalUpTo (input : List ℕ) (config : SpaceConfig) (events : List Event) (rest : List ℕ) : Type 0 where
+  pub lines : List ℕ
+  pub opens : Opens input config lines
+  pub spelled : SpellsFront config.uid events lines rest
+  pub taken : AllTaken config [] events
+
 -- The input is a journal whose events are all served and taken, and the output is the outline of their history.
 abbrev pub Outlines : List ℕ → List ℕ → Type 0
 Outlines input output =
-    (config : SpaceConfig) × (events : List Event) × (lines : List ℕ)
-    × Opens input config lines × TakesLines config [] events lines × (output ≡ outline config events)
+    (config : SpaceConfig) × (events : List Event) × JournalText input config events × AllTaken config [] events × (output ≡ outline config events)
 
--- The first bad line: the first line of all, or one after lines that were all taken.
+-- The first bad line: the first line of all, which is number 1, or one after lines that were all taken.
 abbrev pub IsBadLine : List ℕ → ℕ → Type 0
 IsBadLine input number =
     ((number ≡ 1) × ((config : SpaceConfig) (lines : List ℕ) → Opens input config lines → ⊥))
-    ⊎ ((config : SpaceConfig) × (lines : List ℕ) × (h2 : List Event) × Opens input config lines × Goes config [] lines 2 (Err (BadLine number)) h2)
+    ⊎ ((config : SpaceConfig) × (events : List Event) × (rest : List ℕ) × IsJournalUpTo input config events rest × BeginsBadly config rest × (number ≡ 2 + length events))
 
 -- A turn is refused after lines that were all taken.
 abbrev pub IsRefused : List ℕ → Type 0
 IsRefused input =
-    (config : SpaceConfig) × (lines : List ℕ) × (h2 : List Event) × Opens input config lines × Goes config [] lines 2 (Err RefusedTurn) h2
+    (config : SpaceConfig) × (events : List Event) × (rest : List ℕ) × IsJournalUpTo input config events rest
+    × ((e : Event) × BeginsWith config rest e × ((cause : Refused) × (refusal limits config (places config events) e ≡ Some cause)))
 
 -- What a replay of an input answers.
 abbrev pub Replays : List ℕ → Result (List ℕ) ReplayFault → Type 0

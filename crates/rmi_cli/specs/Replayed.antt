@@ -1,9 +1,11 @@
 -- What `rmi replay` takes and writes.
-use Rattle.std.specs.Prelude.{◌≡◌, ℕ, ◌<◌, ◌≤◌, ◌⊎◌, List, length, take}
-use Rattle.wire_io.specs.Wire.{with_front, with_end, NothingLeft}
-use Rattle.call_dispatch.specs.Progress.{Halves}
-use Rattle.rmi_cli.specs.Line.{status_of_run}
-use Rattle.rmi_cli.specs.Replay.{Outlines, IsBadLine, IsRefused}
+use Rattle.std.specs.Prelude.{◌≡◌, ◌≢◌, ℕ, ◌<◌, ◌≤◌, ◌⊎◌, List, [], length, take, Some, Result, Ok, Err}
+use Rattle.wire_io.specs.Wire.{Wires, with_front, with_end, NothingLeft}
+use Rattle.rmi_cli.specs.Answer.{IsOutside}
+use Rattle.rmi_cli.specs.Replay.{Outlines, IsBadLine, IsRefused, Replays}
+use Rattle.rmi_cli.specs.Told.{Told, TellsExactly, Tells}
+use Rattle.rmi_cli.specs.declared.outlines.ReplayFault.{ReplayFault}
+use Rattle.rmi_cli.specs.declared.outlines.ReplayFault.TheVariants as faults
 use Rattle.rmi_cli.specs.declared.end.RunEnd.{RunEnd}
 use Rattle.rmi_cli.specs.declared.end.RunEnd.TheVariants.{Done, Usage, Answered, BadLine, Refused, TooLarge, NotShown, ReadFault, WriteFault, OutOfMemory}
 
@@ -12,13 +14,17 @@ abbrev pub journal_bytes : ℕ
 journal_bytes = 268435456
 
 -- The whole input was taken, within the limit.
-pub record TakesWhole (old new : Halves) (input : List ℕ) : Type 0 where
+pub record TakesWhole (old new : Wires) (input : List ℕ) : Type 0 where
   pub left : old.left ≡ with_front input new.left
   pub nothing : NothingLeft new.left
   pub short : length input ≤ journal_bytes
 
+-- Some front of the input was taken, and nothing was written.
+abbrev pub TakesFront : Wires → Wires → Type 0
+TakesFront old new = (front : List ℕ) × (old.left ≡ with_front front new.left) × (new.held ≡ old.held)
+
 -- What each end says of the input, and what was written.
-abbrev pub ReplayEnds : Halves → Halves → RunEnd → Type 0
+abbrev pub ReplayEnds : Wires → Wires → RunEnd → Type 0
 ReplayEnds old new Done =
     (input : List ℕ) × (output : List ℕ) × TakesWhole old new input × Outlines input output × (new.held ≡ with_end old.held output)
 ReplayEnds old new Usage = ⊥
@@ -28,12 +34,30 @@ ReplayEnds old new Refused = (input : List ℕ) × TakesWhole old new input × I
 ReplayEnds old new (TooLarge limit) =
     (limit ≡ journal_bytes) × ((front : List ℕ) × (journal_bytes < length front) × (old.left ≡ with_front front new.left)) × (new.held ≡ old.held)
 ReplayEnds old new (NotShown fault) = ⊥
-ReplayEnds old new ReadFault = (new.held ≡ old.held)
+ReplayEnds old new ReadFault = TakesFront old new
 ReplayEnds old new WriteFault =
     (input : List ℕ) × (output : List ℕ) × (sent : ℕ) × TakesWhole old new input × Outlines input output
     × (sent < length output) × (new.held ≡ with_end old.held (take sent output))
-ReplayEnds old new OutOfMemory = (new.held ≡ old.held)
+ReplayEnds old new OutOfMemory = TakesFront old new
 
--- The journal was replayed to its end, whose status is told; or there was no memory for the line that tells it.
-abbrev pub ReplaysInput : Halves → Halves → ℕ → Type 0
-ReplaysInput old new status = (end : RunEnd) × ReplayEnds old new end × ((status ≡ status_of_run end) ⊎ (status ≡ 5))
+-- The input was replayed to an end, which is told.
+abbrev pub ReplaysInput : Wires → Wires → Told → Type 0
+ReplaysInput old new told = (end : RunEnd) × ReplayEnds old new end × Tells told end
+
+-- The end that an answer makes, and the outline that is written, if any.
+abbrev pub end_of : Result (List ℕ) ReplayFault → RunEnd
+end_of (Ok output) = Done
+end_of (Err (faults.BadLine line)) = BadLine line
+end_of (Err faults.Refused) = Refused
+end_of (Err faults.OutOfMemory) = OutOfMemory
+
+abbrev pub output_of : Result (List ℕ) ReplayFault → List ℕ
+output_of (Ok output) = output
+output_of (Err fault) = []
+
+-- Where the input is told: if it is within the limit, and this is what a replay of it answers with ample memory, then all of it was taken,
+-- the outline was written, and the end is told; if it is past the limit, nothing was written, and that is told. Unless the outside failed.
+pub record ReplaysExactly (old new : Wires) (told : Told) : Type 0 where
+  pub within : (input : List ℕ) (answer : Result (List ℕ) ReplayFault) → old.left ≡ Some input → length input ≤ journal_bytes → Replays input answer → answer ≢ Err faults.OutOfMemory
+      → (TellsExactly told (end_of answer) × (new.left ≡ Some []) × (new.held ≡ with_end old.held (output_of answer))) ⊎ IsOutside told.status
+  pub past : (input : List ℕ) → old.left ≡ Some input → journal_bytes < length input → (TellsExactly told (TooLarge journal_bytes) × (new.held ≡ old.held)) ⊎ IsOutside told.status

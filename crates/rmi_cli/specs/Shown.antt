@@ -1,7 +1,7 @@
 -- What `rmi show` takes and writes.
-use Rattle.std.specs.Prelude.{◌≡◌, ℕ, ◌<◌, ◌≤◌, ◌⊎◌, List, length, take, Option, Some, Ok}
+use Rattle.std.specs.Prelude.{◌≡◌, ℕ, ◌<◌, ◌≤◌, List, length, take, Option, Some, Ok}
 use Rattle.class_desc.specs.declared.slot.Item.{Item}
-use Rattle.wire_io.specs.Wire.{with_front, with_end, NothingLeft}
+use Rattle.wire_io.specs.Wire.{Wires, with_front, with_end, NothingLeft}
 use Rattle.ser_values.specs.declared.node.Node.{Node}
 use Rattle.ser_values.specs.Shape.{parts_in}
 use Rattle.ser_values.specs.Spelled.{IsStream}
@@ -12,8 +12,7 @@ use Rattle.ser_read.specs.declared.fault.Large.TheVariants.{Bytes}
 use Rattle.ser_read.specs.Here.{Fails}
 use Rattle.ser_read.specs.Whole.{stream_at, going_on}
 use Rattle.graph_text.specs.GraphText.{graph_text}
-use Rattle.call_dispatch.specs.Progress.{Halves}
-use Rattle.rmi_cli.specs.Line.{status_of_run}
+use Rattle.rmi_cli.specs.Told.{Told, Tells}
 use Rattle.rmi_cli.specs.declared.end.RunEnd.{RunEnd}
 use Rattle.rmi_cli.specs.declared.end.RunEnd.TheVariants.{Done, Usage, Answered, BadLine, Refused, TooLarge, NotShown, ReadFault, WriteFault, OutOfMemory}
 
@@ -37,7 +36,7 @@ pub record IsFaultOf (left : Option (List ℕ)) (fault : StreamFault) : Type 0 w
   pub past : (input : List ℕ) → left ≡ Some input → stream_bytes < length input → Fails (faults.TooLarge Bytes stream_bytes) fault (going_on (stream_at stream_bytes (take stream_bytes input)))
 
 -- What each end says of the input, and what was written.
-abbrev pub ShowEnds : Halves → Halves → RunEnd → Type 0
+abbrev pub ShowEnds : Wires → Wires → RunEnd → Type 0
 ShowEnds old new Done = (nodes : List Node) × (items : List Item) × TakesGraph old.left new.left nodes items × (new.held ≡ with_end old.held (graph_text nodes items))
 ShowEnds old new Usage = ⊥
 ShowEnds old new (Answered end) = ⊥
@@ -51,6 +50,6 @@ ShowEnds old new WriteFault =
     × (sent < length (graph_text nodes items)) × (new.held ≡ with_end old.held (take sent (graph_text nodes items)))
 ShowEnds old new OutOfMemory = (new.held ≡ old.held)
 
--- The input was shown to its end, whose status is told; or there was no memory for the line that tells it.
-abbrev pub ShowsInput : Halves → Halves → ℕ → Type 0
-ShowsInput old new status = (end : RunEnd) × ShowEnds old new end × ((status ≡ status_of_run end) ⊎ (status ≡ 5))
+-- The input was shown to an end, which is told.
+abbrev pub ShowsInput : Wires → Wires → Told → Type 0
+ShowsInput old new told = (end : RunEnd) × ShowEnds old new end × Tells told end

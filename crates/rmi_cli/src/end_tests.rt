@@ -1,5 +1,5 @@
 //! How `show` and `replay` end where something is too large, or the outside fails.
-use crate::run::run;
+use crate::program::run;
 use crate::tests::{host_of, joined, words_of};
 use mod_utf::list::ByteList;
 use std::alloc::{AllocError, Global};

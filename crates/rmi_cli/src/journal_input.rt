@@ -1,12 +1,11 @@
 //! `replay` over the program's input and output.
 ghost use Rattle.std.specs.Prelude.{◌≡◌, ◌≢◌};
-ghost use Rattle.wire_io.specs.Wire.{Rose};
-ghost use Rattle.call_dispatch.specs.Progress.{Halves, halves};
+ghost use Rattle.wire_io.specs.Wire.{Rose, wires};
 ghost use Rattle.rmi_cli.specs.Line.{status_of_run};
 ghost use Rattle.rmi_cli.specs.Replayed.{ReplayEnds};
 
 use crate::end::RunEnd;
-use crate::replay::{ReplayFault, replay};
+use crate::outlines::{ReplayFault, replay};
 use std::alloc::Global;
 use wire_io::put::put_all;
 use wire_io::sink::Sink;
@@ -18,7 +17,7 @@ pub const JOURNAL_BYTES: usize = 268_435_456;
 
 /// Takes the whole input as a journal, and writes the outline of the history that it spells.
 pub fn replay_input<S: Source, K: Sink>(alloc: Global, source: &mut S, sink: &mut K) -> RunEnd
-    ensures ends { ReplayEnds (halves S.left K.held source.old sink.old) (halves S.left K.held source.new sink.new) result }
+    ensures ends { ReplayEnds (wires S.left K.held source.old sink.old) (wires S.left K.held source.new sink.new) result }
     ensures known { status_of_run result ≢ 1 }
     ensures read_fault { status_of_run result ≡ 3 → Rose (S.faults source.old) (S.faults source.new) }
     ensures write_fault { status_of_run result ≡ 4 → Rose (K.faults sink.old) (K.faults sink.new) }

@@ -1,19 +1,21 @@
 //! All that the program `rmi` does, over any input and output.
 #![tactic(auto)]
 
+mod answer_input;
 mod end;
 mod host;
 mod journal_input;
-mod replay;
-mod run;
+mod outlines;
+mod program;
 mod stream_input;
 mod words;
 
+pub use answer_input::setup_of;
 pub use end::RunEnd;
 pub use host::Host;
 pub use journal_input::JOURNAL_BYTES;
-pub use replay::{ReplayFault, replay};
-pub use run::{run, setup_of};
+pub use outlines::{ReplayFault, replay};
+pub use program::run;
 pub use stream_input::STREAM_BYTES;
 pub use words::{Command, Words};
 

@@ -1,5 +1,5 @@
 //! What `show` prints, and how it ends.
-use crate::run::run;
+use crate::program::run;
 use crate::tests::{host_of, joined, words_of};
 use std::test::Fail;
 

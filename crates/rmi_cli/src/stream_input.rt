@@ -1,8 +1,7 @@
 //! `show` over the program's input and output.
 ghost use Rattle.std.specs.Prelude.{◌≡◌, ◌≢◌, ◌≤◌, ◌<◌, length, List, ℕ, Some, IfOk, IfErr};
-ghost use Rattle.wire_io.specs.Wire.{Rose};
+ghost use Rattle.wire_io.specs.Wire.{Rose, wires};
 ghost use Rattle.ser_read.specs.Here.{Caused};
-ghost use Rattle.call_dispatch.specs.Progress.{Halves, halves};
 ghost use Rattle.rmi_cli.specs.Line.{status_of_run};
 ghost use Rattle.rmi_cli.specs.Shown.{TakesGraph, IsFaultOf, ShowEnds};
 
@@ -21,7 +20,7 @@ pub const STREAM_BYTES: u64 = 16_777_216;
 
 /// Takes the whole input as a stream, and writes the text of its graph.
 pub fn show_input<S: Source, K: Sink>(alloc: Global, source: &mut S, sink: &mut K) -> RunEnd
-    ensures ends { ShowEnds (halves S.left K.held source.old sink.old) (halves S.left K.held source.new sink.new) result }
+    ensures ends { ShowEnds (wires S.left K.held source.old sink.old) (wires S.left K.held source.new sink.new) result }
     ensures known { status_of_run result ≢ 1 }
     ensures read_fault { status_of_run result ≡ 3 → Rose (S.faults source.old) (S.faults source.new) }
     ensures write_fault { status_of_run result ≡ 4 → Rose (K.faults sink.old) (K.faults sink.new) }

@@ -1,6 +1,6 @@
 //! What the program does over streams in memory.
 use crate::host::Host;
-use crate::run::{run, setup_of};
+use crate::program::{run, setup_of};
 use crate::words::Words;
 use call_dispatch::end::ConnEnd;
 use call_dispatch::serve::serve_connection;

@@ -1,5 +1,7 @@
 -- The summary and the journal, by what is kept.
 use Rattle.std.proofs.Common.{◌≡◌, ℕ, suc, List, [], ◌∷◌, ◌++◌, length, refl, ap, sym, subst, ◌∙◌, arith, map, max, flat_map}
+use Rattle.std.specs.Prelude.{pos}
+use Rattle.std.specs.List.{AllByRecursion}
 use Rattle.history.specs.declared.asks.SpaceConfig.{SpaceConfig}
 use Rattle.history.specs.declared.asks.Event.{Event}
 use Rattle.history.specs.declared.calls.Call.{Call}
@@ -17,14 +19,16 @@ use Rattle.history.specs.Replies.{ids}
 use Rattle.history.specs.Table.{table, places, withdrawals}
 use Rattle.history.proofs.TableLaws.{length-places}
 use Rattle.journal.specs.Rows.{events_text}
-use Rattle.journal.specs.Written.{ended, config_text, event_line, journal_text}
+use Rattle.journal.specs.Grammar.{SpellsConfig, JournalText}
+use Rattle.journal.specs.Written.{ended, config_text, event_line, journal_text, ConfigFits, EventFits}
+use Rattle.journal.proofs.Ended.{journal_after}
 use Rattle.dgc_server.specs.Stands.{LeaseTable, StandsFor}
 use Rattle.export_table.specs.Table.{ExportTable}
 use Rattle.export_table.specs.Waits.{waiting}
 use Rattle.space.specs.declared.journal_text.Counts.{Counts}
 use Rattle.space.specs.declared.runs.Run.{Run}
 use Rattle.space.specs.Built.{SpaceHistory}
-use Rattle.space.specs.Kept.{live_calls, Keeps}
+use Rattle.space.specs.Kept.{HasDurations, live_calls, Keeps}
 use Rattle.space.specs.Summary.{counts_text}
 use Rattle.export_table.specs.Stands.{reference_of, end_of, row_of}
 use Rattle.space.proofs.LiveLaws.{left-live}
@@ -117,3 +121,17 @@ unfolding journal_text
 journalled config events start first second s v empty one two =
     let P : SpaceHistory → Type 0 = λ x. second ≡ journal_text x.configuration x.events in
     subst P v (two ∙ ap (λ (t : List ℕ). t ++ flat_map (event_line config.uid) events) (one ∙ ap (λ (t : List ℕ). t ++ ended (config_text config)) empty))
+
+-- It is the journal of the configuration and the events.
+pub journal_spelled : (config : SpaceConfig) (events : List Event) (text : List ℕ) (s : SpaceHistory) → record { configuration = config; events = events } ≡ s → HasDurations config
+    → (ConfigFits config → SpellsConfig config (config_text config)) → text ≡ journal_text s.configuration s.events
+    → s.configuration.uid.count ≡ pos 0 → AllByRecursion EventFits s.events → JournalText text s.configuration s.events
+journal_spelled config events text s v durations spells is =
+    let P : SpaceHistory → Type 0 = λ x. text ≡ journal_text x.configuration x.events → x.configuration.uid.count ≡ pos 0 → AllByRecursion EventFits x.events → JournalText text x.configuration x.events in
+    subst P v of_config is
+  where
+    of_config : text ≡ journal_text config events → config.uid.count ≡ pos 0 → AllByRecursion EventFits events → JournalText text config events
+    of_config same count fit =
+        let first = spells (record { some_lease = durations.some_lease; short_lease = durations.short_lease; some_ack = durations.some_ack; short_ack = durations.short_ack; count = count }) in
+        let Q : List ℕ → Type 0 = λ t. JournalText t config events in
+        subst Q (sym same) (journal_after config events first fit)

@@ -1,6 +1,8 @@
 //! The journal and the summary of a space.
-ghost use Rattle.std.specs.Prelude.{◌≡◌, ◌++◌, flat_map, OnOk, IfOk};
+ghost use Rattle.std.specs.Prelude.{◌≡◌, ◌++◌, flat_map, pos, OnOk, IfOk};
+ghost use Rattle.std.specs.List.{AllByRecursion};
 ghost use Rattle.history.specs.Outline as lines;
+ghost use Rattle.journal.specs.Grammar.{JournalText};
 ghost use Rattle.journal.specs.Written as written;
 ghost use Rattle.space.specs.Summary.{counts_text};
 
@@ -13,9 +15,12 @@ use mod_utf::list::ByteList;
 use object_ids::Uid;
 use std::alloc::{AllocError, Global};
 
-/// The journal of a space: a line of its configuration, then a line for each event that it took, in order.
+/// The journal of a space: a line of its configuration, then a line for each event that it took, in order. It spells this configuration,
+/// where its identifier's count is 0, and these events, where their numbers are within their ranges.
 pub fn journal(alloc: Global, space: &Space) -> Result<ByteList, AllocError>
-    ensures { IfOk result (λ text. text ≡ written.journal_text space.now.configuration space.now.events) }
+    ensures text { IfOk result (λ text. text ≡ written.journal_text space.now.configuration space.now.events) }
+    ensures spelled { IfOk result (λ text. space.now.configuration.uid.count ≡ pos 0 → AllByRecursion written.EventFits space.now.events
+        → JournalText text space.now.configuration space.now.events) }
 {
     let mut text = ByteList::new(alloc);
     put_first_line(&mut text, &space.tables.config)?;

@@ -1,4 +1,4 @@
-use Rattle.std.proofs.Common.{◌≡◌, arith, rules}
+use Rattle.std.proofs.Common.{arith, rules}
 use Rattle.wire_io.specs.Pulled.{place}
 use Rattle.rmi_cli.proofs.Showing.{graph_taken, fault_told}
 use Rattle.rmi_cli.proofs.stream_input.read_marked.Goals as goal

@@ -1,10 +1,14 @@
 use Rattle.std.proofs.Common.{List, ◌++◌, ap, ◌∙◌, flat_map}
 use Rattle.history.specs.declared.asks.Event.{Event}
 use Rattle.journal.specs.Written.{event_line}
-use Rattle.space.proofs.SummaryLaws.{journalled}
+use Rattle.space.proofs.SummaryLaws.{journalled, journal_spelled}
 use Rattle.space.proofs.journal_text.journal.Goals as goal
 
-pub returns : goal.returns
-returns c = journalled c.space.inside.tables.config c.space.inside.tables.events.items c.new-text.result c.put_first_line.new.out c.put_events.new.text c.args.space.now c.space.view_is
+pub returns-clause-text : goal.returns-clause-text
+returns-clause-text c = journalled c.space.inside.tables.config c.space.inside.tables.events.items c.new-text.result c.put_first_line.new.out c.put_events.new.text c.args.space.now c.space.view_is
     c.new-text.ensures (c.in_ok-put_first_line.ensures {u = tt}).text
     (c.in_ok-put_events.ensures {u = tt} ∙ ap (λ (es : List Event). c.put_first_line.new.out ++ flat_map (event_line c.space.inside.tables.config.uid) es) c.deref.ensures.value)
+
+pub returns-clause-spelled : goal.returns-clause-spelled
+returns-clause-spelled c = journal_spelled c.space.inside.tables.config c.space.inside.tables.events.items c.put_events.new.text c.args.space.now c.space.view_is c.space.invariant.0.durations
+    (c.in_ok-put_first_line.ensures {u = tt}).spelled (returns-clause-text c)

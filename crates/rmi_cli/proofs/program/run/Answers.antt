@@ -1,13 +1,13 @@
-use Rattle.std.proofs.Common.{inl, inr}
-use Rattle.rmi_cli.proofs.Exactly.{status_settles, no_line}
+use Rattle.rmi_cli.proofs.Exactly.{told_settles}
+use Rattle.rmi_cli.proofs.Once.{replays_exactly}
 use Rattle.rmi_cli.specs.declared.words.Command.TheVariants.{Answer, Replay, Show}
-use Rattle.rmi_cli.proofs.run.run.Goals as goal
+use Rattle.rmi_cli.proofs.program.run.Goals as goal
 
 pub returns-in-Some-Answer-clause-exact : goal.returns-in-Some-Answer-clause-exact
-returns-in-Some-Answer-clause-exact g c is = elim c.told.ensures [
-  | inl same ↦ rw same (status_settles _ _ _ c.answer-end.ensures.settles)
-  | inr five ↦ rw five (no_line _ _)
-]
+returns-in-Some-Answer-clause-exact g c is = told_settles _ _ _ _ _ c.answer_input-end.ensures.exact c.told.ensures.told
+
+pub returns-in-Some-Replay-clause-replay_exact : goal.returns-in-Some-Replay-clause-replay_exact
+returns-in-Some-Replay-clause-replay_exact g c is = replays_exactly _ _ _ _ c.replay_input-end.ensures.ends c.told-in-Some-Replay.ensures.told
 
 pub returns-in-None-clause-answer : goal.returns-in-None-clause-answer
 returns-in-None-clause-answer g c is = absurd (c.in-None.ensures.none Answer is)
@@ -17,6 +17,9 @@ returns-in-None-clause-exact g c is = absurd (c.in-None.ensures.none Answer is)
 
 pub returns-in-None-clause-replay : goal.returns-in-None-clause-replay
 returns-in-None-clause-replay g c is = absurd (c.in-None.ensures.none Replay is)
+
+pub returns-in-None-clause-replay_exact : goal.returns-in-None-clause-replay_exact
+returns-in-None-clause-replay_exact g c is = absurd (c.in-None.ensures.none Replay is)
 
 pub returns-in-None-clause-show : goal.returns-in-None-clause-show
 returns-in-None-clause-show g c is = absurd (c.in-None.ensures.none Show is)

@@ -2,7 +2,7 @@ use Rattle.std.proofs.Common.{rules, ◌≡◌, IsTrue, false, refl}
 use Rattle.std.specs.Prelude.{◌↔◌}
 use Rattle.rmi_cli.specs.Replay.{IsServed}
 use Rattle.rmi_cli.proofs.Replaying.{no_end, no_event, unserved, not_true}
-use Rattle.rmi_cli.proofs.replay.read_line.Goals as goal
+use Rattle.rmi_cli.proofs.outlines.read_line.Goals as goal
 
 pub returns-in_default-clause-bad : goal.returns-in_default-clause-bad
 returns-in_default-clause-bad c = no_end c.args.config.now c.args.lines.now c.in_default.ensures

@@ -1,8 +1,8 @@
 use Rattle.std.proofs.Common.{◌≡◌, ◌≤◌, ◌+◌, List, Result, length}
 use Rattle.history.specs.declared.asks.Event.{Event}
-use Rattle.rmi_cli.specs.declared.replay.ReplayFault.{ReplayFault}
+use Rattle.rmi_cli.specs.declared.outlines.ReplayFault.{ReplayFault}
 use Rattle.rmi_cli.specs.Replay.{Goes}
-use Rattle.rmi_cli.proofs.replay.take_lines.Given as goal
+use Rattle.rmi_cli.proofs.outlines.take_lines.Given as goal
 
 abbrev pub invariant-loop-rest : goal.invariant-loop-rest
 invariant-loop-rest l =

@@ -1,6 +1,6 @@
 use Rattle.std.proofs.Common.{◌≡◌, ◌+◌, length, ap, rules}
 use Rattle.rmi_cli.proofs.Replaying.{spelled_moments, spelled_served, takes_to, bad_next, halts_there}
-use Rattle.rmi_cli.proofs.replay.take_batch.Goals as goal
+use Rattle.rmi_cli.proofs.outlines.take_batch.Goals as goal
 
 pub make_turns-requires-clause-moments : goal.make_turns-requires-clause-moments
 make_turns-requires-clause-moments c = spelled_moments c.args.config.now c.in-Ok.batch.events.items c.in-Ok.ensures.read.front c.in-Ok.ensures.read.spelled

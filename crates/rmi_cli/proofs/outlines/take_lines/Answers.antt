@@ -1,6 +1,6 @@
 use Rattle.std.proofs.Common.{Err, arith}
 use Rattle.rmi_cli.proofs.Replaying.{goes_on}
-use Rattle.rmi_cli.proofs.replay.take_lines.Goals as goal
+use Rattle.rmi_cli.proofs.outlines.take_lines.Goals as goal
 
 pub returns-in-Err-clause-goes : goal.returns-in-Err-clause-goes
 returns-in-Err-clause-goes c = c.loop-rest.invariant.0 (Err c.in-Err.fault) c.take_batch.new.space.events c.in-Err.ensures.stops

@@ -1,6 +1,6 @@
 use Rattle.std.proofs.Common.{◌∷◌, [], length, ap, arith, length-append}
 use Rattle.rmi_cli.proofs.Replaying.{read_next, line_shorter}
-use Rattle.rmi_cli.proofs.replay.read_batch.Goals as goal
+use Rattle.rmi_cli.proofs.outlines.read_batch.Goals as goal
 
 pub loop-events-preserved : goal.loop-events-preserved
 loop-events-preserved c =

@@ -1,5 +1,5 @@
 use Rattle.rmi_cli.proofs.Replaying.{front_taken, front_halts}
-use Rattle.rmi_cli.proofs.replay.make_turns.Goals as goal
+use Rattle.rmi_cli.proofs.outlines.make_turns.Goals as goal
 
 pub returns-in-None-clause-ok : goal.returns-in-None-clause-ok
 returns-in-None-clause-ok c =

@@ -1,0 +1,25 @@
+//! Tests of the program, and of what it reads, writes and serves.
+//!
+//! A case is a row of a table with what it must give, and one loop runs all rows of its kind.
+#![tactic(auto)]
+
+#[cfg(test)]
+mod answers;
+#[cfg(test)]
+mod connections;
+#[cfg(test)]
+mod ends;
+#[cfg(test)]
+mod frames;
+#[cfg(test)]
+mod hosts;
+#[cfg(test)]
+mod journals;
+#[cfg(test)]
+mod promptness;
+#[cfg(test)]
+mod replays;
+#[cfg(test)]
+mod shows;
+#[cfg(test)]
+mod wires;

@@ -1,0 +1,94 @@
+//! Each answer is written before the next byte is asked for.
+ghost use Rattle.std.specs.Prelude.{None};
+
+use crate::hosts::{must, sink_of, words_of};
+use rmi_cli::{Host, run};
+use std::cell::Cell;
+use std::test::Fail;
+use wire_io::sink::Sink;
+use wire_io::source::{Failed, Source};
+
+/// An opening, two Pings and the end.
+const INPUT: &[u8] = b"JRMI\x00\x02K\x00\x00\x00\x00\x00\x00RR";
+
+/// How many bytes are to be written before the byte of this index is asked for: the acknowledgement after the header's 7, and an
+/// answer after each Ping.
+fn due(index: usize) -> usize {
+    match index {
+        0..=6 => 0,
+        7..=13 => 16,
+        14 => 17,
+        _ => 18,
+    }
+}
+
+/// A source that gives one byte a read, and counts the reads that come before what is due was written.
+#[derive(Drop)]
+struct Asking<'a> {
+    at: usize,
+    written: &'a Cell<usize>,
+    early: &'a Cell<usize>,
+}
+
+impl Source for Asking<'_> {
+    ghost left = { λ _. None };
+
+    ghost faults = { λ _. 0 };
+
+    fn read(&mut self, buf: &mut [u8]) -> Result<usize, Failed> {
+        if self.written.get() != due(self.at) {
+            self.early.set(self.early.get().saturating_add(1));
+        }
+        match (INPUT.get(self.at), buf.first_mut()) {
+            (Some(byte), Some(place)) => {
+                *place = *byte;
+                self.at = self.at.saturating_add(1);
+                Ok(1)
+            }
+            _ => Ok(0),
+        }
+    }
+
+    fn shut(&mut self) {}
+}
+
+/// A sink that counts the bytes that it took.
+#[derive(Drop)]
+struct Counting<'a> {
+    written: &'a Cell<usize>,
+}
+
+impl Sink for Counting<'_> {
+    ghost held = { λ _. None };
+
+    ghost faults = { λ _. 0 };
+
+    fn write(&mut self, piece: &[u8]) -> Result<usize, Failed> {
+        self.written.set(self.written.get().saturating_add(piece.len()));
+        Ok(piece.len())
+    }
+
+    fn shut(&mut self) {}
+}
+
+#[test]
+fn answers_are_written_before_more_is_read(rt: HostRuntime) -> Result<(), Fail> {
+    let written = Cell::new(0);
+    let early = Cell::new(0);
+    let words = words_of(rt.alloc(), "answer")?;
+    let mut host = Host {
+        input: Asking {
+            at: 0,
+            written: &written,
+            early: &early,
+        },
+        output: Counting { written: &written },
+        errors: sink_of(rt.alloc(), &[])?,
+    };
+    let status = run(rt.alloc(), &words, &mut host);
+    must(&rt, status == 0, "status");
+    must(&rt, host.input.at == INPUT.len(), "all was read");
+    must(&rt, early.get() == 0, "reads before what was due");
+    must(&rt, written.get() == 18, "all was written");
+    Ok(())
+}

@@ -1,0 +1,462 @@
+//! What `replay` prints, and how it ends.
+use crate::hosts::{Wanted, check, cut_by, joined, repeated};
+use std::alloc::{AllocError, Global};
+use std::process::Abort;
+use std::test::Fail;
+
+/// Journals, each with its outline: the lines after `=`.
+const JOURNALS: &str = "space 1 1 0 0
+=
+events 0 units 0 now 0
+
+space 600000 300000 7 9
+0 0 open 1 pinned
+=
+events 1 units 1 now 0
+object 16 kind 1 pinned running 0 awaiting 0 held 0 names 0
+
+space 600000 300000 7 9
+0 0 open 1 pinned
+1 1 clean aa@3/4/5 9 strong 16
+1 2 dirty aa@3/4/5 8 600000 16
+=
+events 3 units 5 now 2
+object 16 kind 1 pinned running 0 awaiting 0 held 0 names 0
+lease aa@3/4/5 until 600002
+
+space 600000 300000 7 9
+0 0 open 1 pinned
+1 1 clean aa@3/4/5 9 strong 16
+1 2 dirty aa@3/4/5 8 600000 16
+1 3 dirty aa@3/4/5 10 600000 16
+=
+events 4 units 7 now 3
+object 16 kind 1 pinned running 0 awaiting 0 held 1 names 0
+lease aa@3/4/5 until 600003
+
+space 600000 300000 7 9
+0 0 open 1 pinned
+1 1 clean aa@3/4/5 9 strong 16
+1 2 dirty aa@3/4/5 8 600000 16
+1 3 dirty aa@3/4/5 10 600000 16
+1 4 clean aa@3/4/5 10 weak 16
+=
+events 5 units 9 now 4
+object 16 kind 1 pinned running 0 awaiting 0 held 0 names 0
+lease aa@3/4/5 until 600003
+
+space 600000 300000 7 9
+0 0 open 1 pinned
+1 1 clean aa@3/4/5 9 strong 16
+1 2 dirty aa@3/4/5 8 600000 16
+1 3 dirty aa@3/4/5 10 600000 16
+1 4 clean aa@3/4/5 7 weak 16
+=
+events 5 units 9 now 4
+object 16 kind 1 pinned running 0 awaiting 0 held 1 names 0
+lease aa@3/4/5 until 600003
+
+space 10 5 1 1
+0 0 open 4294967295 pinned
+0 5 dirty 00ff@1/2/3 1 1 16
+4294967295 15 tick
+=
+events 3 units 4 now 15
+object 16 kind 4294967295 pinned running 0 awaiting 0 held 0 names 0
+
+space 1099511627776 1099511627776 2147483647 9223372036854775807
+0 4611686018427387903 dirty -@-2147483648/-9223372036854775808/-32768 0 0 -
+=
+events 1 units 1 now 4611686018427387903
+lease -@-2147483648/-9223372036854775808/-32768 until 4611687117939015679
+
+space 5 100 -1 -5
+0 0 open 1 pinned
+2 0 begin 16
+2 0 finish 16 1,1 - 1/0/0
+2 105 begin 17
+2 226 finish 17 - 17 1/0/1
+=
+events 5 units 8 now 226
+object 16 kind 1 pinned running 0 awaiting 0 held 0 names 0
+object 17 kind 1 free running 0 awaiting 1 held 0 names 0
+withdrawn 18 place 3
+
+space 50 5 7 9
+0 0 open 2 pinned
+3 54 begin 16:7/9/1
+=
+events 2 units 2 now 54
+object 16 kind 2 pinned running 0 awaiting 0 held 0 names 0
+
+space 10 1000 -1 -5
+1 12 open 2 pinned
+1 1019 dirty aa@2/4/5 9223372036854775807 9223372036854775807 16,17
+1 1019 clean aa@2/4/5 9223372036854775806 strong 16
+=
+events 3 units 6 now 1019
+object 16 kind 2 pinned running 0 awaiting 0 held 1 names 0
+lease aa@2/4/5 until 1029
+
+space 2 50 7 9
+0 0 open 2 pinned
+1 4 begin 16
+1 4 finish 16 - 16 1/0/0
+=
+events 3 units 4 now 4
+object 16 kind 2 pinned running 0 awaiting 1 held 0 names 0
+
+space 10 2 7 9
+0 0 open 2 pinned
+2 52 begin 16
+1 82 finish 16 2 - 1/0/0
+=
+events 3 units 4 now 82
+object 16 kind 2 pinned running 1 awaiting 0 held 0 names 0
+
+space 1 50 7 9
+3 353 tick
+0 303 dirty -@3/4/5 5 1 16
+=
+events 2 units 3 now 353
+lease -@3/4/5 until 354
+
+space 2 10 -2147483648 -9223372036854775808
+0 0 open 2 pinned
+1 1 begin 16
+1 1 finish 16 1,1 - 1/0/0
+1 13 begin 17
+1 25 open 2 free
+=
+events 5 units 7 now 25
+object 16 kind 2 pinned running 0 awaiting 0 held 0 names 0
+object 17 kind 1 free running 1 awaiting 0 held 0 names 0
+withdrawn 18 place 3
+withdrawn 19 place 4
+
+space 1 5 -1 -5
+0 0 open 2 pinned
+3 1 clean aa@3/4/5 -1 strong 16
+0 9 dirty aa@3/4/5 6 1 16
+3 18 dirty aa@3/4/5 -9223372036854775808 1 16,17,16
+=
+events 4 units 9 now 18
+object 16 kind 2 pinned running 0 awaiting 0 held 0 names 0
+lease aa@3/4/5 until 19
+
+space 10 5 -1 -5
+1 31 dirty -@0/0/0 1 10 16,16
+=
+events 1 units 3 now 31
+lease -@0/0/0 until 41
+
+space 600000 300000 7 9
+0 0 open 2 pinned
+1 10 begin 16
+1 11 finish 16 1 - 1/0/0
+1 12 dirty aa@3/4/5 5 600000 17
+1 13 ack 1/0/0
+1 14 clean aa@3/4/5 6 weak 17
+=
+events 6 units 9 now 14
+object 16 kind 2 pinned running 0 awaiting 0 held 0 names 0
+lease aa@3/4/5 until 600012
+withdrawn 17 place 5
+
+space 600000 300000 7 9
+0 0 open 2 pinned
+1 10 begin 16
+1 11 finish 16 1 - 1/0/0
+1 12 dirty aa@3/4/5 5 600000 17
+1 13 ack 1/0/0
+1 600011 tick
+=
+events 6 units 8 now 600011
+object 16 kind 2 pinned running 0 awaiting 0 held 0 names 0
+object 17 kind 1 free running 0 awaiting 0 held 1 names 0
+lease aa@3/4/5 until 600012
+
+space 600000 300000 7 9
+0 0 open 2 pinned
+1 10 begin 16
+1 11 finish 16 1 - 1/0/0
+1 12 dirty aa@3/4/5 5 600000 17
+1 13 ack 1/0/0
+1 600012 tick
+=
+events 6 units 8 now 600012
+object 16 kind 2 pinned running 0 awaiting 0 held 0 names 0
+withdrawn 17 place 5
+
+space 600000 300000 7 9
+0 0 open 2 pinned
+1 10 begin 16
+1 11 finish 16 1 - 1/0/0
+1 12 dirty aa@3/4/5 5 600000 17
+1 12 dirty aa@3/4/5 5 600000 17
+1 13 ack 1/0/0
+=
+events 6 units 9 now 13
+object 16 kind 2 pinned running 0 awaiting 0 held 0 names 0
+object 17 kind 1 free running 0 awaiting 0 held 1 names 0
+lease aa@3/4/5 until 600012
+
+space 600000 300000 7 9
+0 0 open 2 pinned
+1 10 begin 16
+1 11 finish 16 1 - 1/0/0
+1 12 dirty aa@3/4/5 5 600000 17
+1 12 dirty aa@3/4/5 5 600000 17
+1 13 ack 1/0/0
+1 14 clean aa@3/4/5 6 weak 17
+=
+events 7 units 11 now 14
+object 16 kind 2 pinned running 0 awaiting 0 held 0 names 0
+lease aa@3/4/5 until 600012
+withdrawn 17 place 6
+
+space 600000 300000 7 9
+0 0 open 2 pinned
+1 5 dirty aa@3/4/5 5 600000 17
+1 10 begin 16
+1 11 finish 16 1 - 1/0/0
+1 12 ack 1/0/0
+=
+events 5 units 8 now 12
+object 16 kind 2 pinned running 0 awaiting 0 held 0 names 0
+lease aa@3/4/5 until 600005
+withdrawn 17 place 4
+
+space 600000 300000 7 9
+0 0 open 2 pinned
+1 10 begin 16
+1 11 finish 16 1 - 1/0/0
+1 12 begin 17
+1 13 ack 1/0/0
+2 14 abandon 17
+1 15 abandon 17
+=
+events 7 units 8 now 15
+object 16 kind 2 pinned running 0 awaiting 0 held 0 names 0
+withdrawn 17 place 6
+
+space 10 5 -1 -5
+0 0 open 2 pinned
+1 10 begin 16
+1 10 finish 16 1 - 1/0/0
+1 11 ack 1/0/0
+=
+events 4 units 5 now 11
+object 16 kind 2 pinned running 0 awaiting 0 held 0 names 0
+withdrawn 17 place 3
+
+space 600000 300000 7 9
+0 0 open 2 free
+=
+events 1 units 1 now 0
+withdrawn 16 place 0
+
+space 600000 300000 7 9
+0 0 open 2 pinned
+0 0 open 3 free
+1 0 begin 16
+2 5 abandon 16
+=
+events 4 units 4 now 5
+object 16 kind 2 pinned running 1 awaiting 0 held 0 names 0
+withdrawn 17 place 1
+
+space 600000 300000 7 9
+0 10 open 2 pinned
+1 0 begin 16
+1 12 begin 16
+1 11 abandon 16
+1 11 ack 1/0/0
+=
+events 5 units 5 now 12
+object 16 kind 2 pinned running 1 awaiting 0 held 0 names 0
+
+space 600000 300000 7 9
+0 0 open 2 pinned
+1 0 begin 17
+1 0 begin 16:7/9/1
+1 0 abandon 17
+=
+events 4 units 4 now 0
+object 16 kind 2 pinned running 0 awaiting 0 held 0 names 0
+
+space 600000 300000 7 9
+0 0 open 2 pinned
+1 10 begin 16
+1 11 finish 16 1 - 1/0/0
+1 12 dirty aa@3/4/5 5 600000 17
+1 13 clean aa@3/4/5 7 weak 17
+1 14 dirty aa@3/4/5 6 600000 17
+1 15 ack 1/0/0
+=
+events 7 units 11 now 15
+object 16 kind 2 pinned running 0 awaiting 0 held 0 names 0
+lease aa@3/4/5 until 600014
+withdrawn 17 place 6
+
+space 600000 300000 7 9
+0 0 open 2 pinned
+1 0 begin 16
+1 0 finish 16 1 - 1/0/0
+1 0 dirty aa@3/4/5 1 600000 17
+1 1 ack 1/0/0
+1 600000 dirty aa@3/4/5 2 600000 17
+=
+events 6 units 9 now 600000
+object 16 kind 2 pinned running 0 awaiting 0 held 0 names 0
+object 17 kind 1 free running 0 awaiting 0 held 1 names 0
+lease aa@3/4/5 until 1200000
+
+space 600000 300000 7 9
+0 0 open 2 pinned
+1 0 begin 16
+1 0 finish 16 1 - 1/0/0
+1 0 dirty aa@3/4/5 1 600000 17
+1 1 ack 1/0/0
+1 599999 dirty aa@3/4/5 2 600000 17
+=
+events 6 units 9 now 599999
+object 16 kind 2 pinned running 0 awaiting 0 held 0 names 0
+object 17 kind 1 free running 0 awaiting 0 held 1 names 0
+lease aa@3/4/5 until 1199999
+
+space 600000 300000 7 9
+0 0 open 2 pinned
+1 0 begin 16
+1 0 finish 16 1 - 1/0/0
+1 0 dirty aa@3/4/5 1 600000 17
+1 1 ack 1/0/0
+1 600000 dirty aa@3/4/5 2 600000 -
+=
+events 6 units 8 now 600000
+object 16 kind 2 pinned running 0 awaiting 0 held 0 names 0
+lease aa@3/4/5 until 1200000
+withdrawn 17 place 5
+
+space 600000 300000 7 9
+0 0 open 2 pinned
+1 0 begin 16
+1 0 finish 16 1 - 1/0/0
+1 299999 tick
+=
+events 4 units 5 now 299999
+object 16 kind 2 pinned running 0 awaiting 0 held 0 names 0
+object 17 kind 1 free running 0 awaiting 1 held 0 names 0
+
+space 600000 300000 7 9
+0 0 open 2 pinned
+1 0 begin 16
+1 0 finish 16 1 - 1/0/0
+1 299999 tick
+1 300000 tick
+=
+events 5 units 6 now 300000
+object 16 kind 2 pinned running 0 awaiting 0 held 0 names 0
+withdrawn 17 place 4
+
+space 600000 300000 7 9
+0 0 open 2 pinned
+1 0 begin 16
+1 0 finish 16 1 - 1/0/0
+2 5 abandon 16
+=
+events 4 units 5 now 5
+object 16 kind 2 pinned running 0 awaiting 0 held 0 names 0
+object 17 kind 1 free running 0 awaiting 1 held 0 names 0";
+
+/// Replays a journal, whole and in pieces of 7 bytes.
+fn check_replay(
+    rt: &impl Abort,
+    alloc: Global,
+    journal: &[u8],
+    wanted: Wanted,
+) -> Result<(), AllocError> {
+    let _ = check(rt, alloc, "replay", journal, cut_by(None), wanted)?;
+    let _ = check(rt, alloc, "replay", journal, cut_by(Some(7)), wanted)?;
+    Ok(())
+}
+
+/// Replays a journal that has an outline, of which the last LF was left out here.
+fn check_outline(rt: &impl Abort, alloc: Global, journal: &str, outline: &str) -> Result<(), AllocError> {
+    let output = joined(alloc, outline.as_bytes(), b"\n")?;
+    let wanted = Wanted {
+        output: output.as_slice(),
+        line: "",
+        status: 0,
+    };
+    check_replay(rt, alloc, journal.as_bytes(), wanted)
+}
+
+#[test]
+fn each_journal_has_its_outline(rt: HostRuntime) -> Result<(), Fail> {
+    for row in JOURNALS.split("\n\n") {
+        let (journal, outline) = row.split_once("=\n").ok_or("no outline")?;
+        check_outline(&rt, rt.alloc(), journal, outline)?;
+    }
+    Ok(())
+}
+
+/// Journals with a bad line, each with the line that tells it.
+const BAD_LINES: [(&str, &str); 12] = [
+    ("", "bad line 1\n"),
+    ("space 600000 300000 7 9", "bad line 1\n"),
+    ("space 0 300000 7 9\n", "bad line 1\n"),
+    ("space 1 1099511627777 7 9\n", "bad line 1\n"),
+    ("tick\n", "bad line 1\n"),
+    ("space 1 1 7 9\n0 0 tick", "bad line 2\n"),
+    ("space 1 1 7 9\n0 0 tick\n0 0 open 1 free\n0 0 tock\n0 0 tack\n", "bad line 4\n"),
+    ("space 1 1 7 9\n0 0 tick\n\n", "bad line 3\n"),
+    ("space 1 1 7 9\n0 4611686018427387904 tick\n", "bad line 2\n"),
+    ("space 1 1 7 9\n0 00 tick\n", "bad line 2\n"),
+    ("space 1 1 7 9\n0 0 begin 16\n0 0 list\n", "bad line 3\n"),
+    ("space 1 1 7 9\n0 0 lookup \"a\" 1/0/0\n", "bad line 2\n"),
+];
+
+#[test]
+fn each_bad_line_has_its_number(rt: HostRuntime) -> Result<(), Fail> {
+    for (journal, line) in BAD_LINES {
+        let wanted = Wanted {
+            output: &[],
+            line,
+            status: 2,
+        };
+        check_replay(&rt, rt.alloc(), journal.as_bytes(), wanted)?;
+    }
+    Ok(())
+}
+
+/// Replays a journal with lines before the refused turn, the turn, and lines after it.
+fn check_refused(
+    rt: &impl Abort,
+    alloc: Global,
+    before: &[u8],
+    after: &[u8],
+    line: &str,
+    status: u8,
+) -> Result<(), AllocError> {
+    let kinds = repeated(alloc, b",1", 65_535)?;
+    let mut journal = joined(alloc, b"space 600000 300000 7 9\n0 0 open 1 pinned\n1 0 begin 16\n", before)?;
+    journal.append(b"1 0 finish 16 1")?;
+    journal.append(kinds.as_slice())?;
+    journal.append(b" - 1/0/0\n")?;
+    journal.append(after)?;
+    let wanted = Wanted {
+        output: &[],
+        line,
+        status,
+    };
+    let _ = check(rt, alloc, "replay", journal.as_slice(), cut_by(None), wanted)?;
+    Ok(())
+}
+
+#[test]
+fn the_first_of_a_bad_line_and_a_refused_turn_is_told(rt: HostRuntime) -> Result<(), Fail> {
+    check_refused(&rt, rt.alloc(), b"", b"0 0 tack\n", "refused\n", 6)?;
+    check_refused(&rt, rt.alloc(), b"0 0 tack\n", b"", "bad line 4\n", 2)?;
+    Ok(())
+}

@@ -1,0 +1,44 @@
+-- How the end of a run is told: by the status of the process, and by a line on the errors' sink.
+use Rattle.std.specs.Prelude.{◌≡◌, ◌≢◌, ℕ, ◌⊎◌, List, [], ◌∷◌, ◌++◌, Option}
+use Rattle.wire_io.specs.Wire.{with_end, Rose}
+use Rattle.rmi_cli.specs.Line.{line_of, status_of_run}
+use Rattle.rmi_cli.specs.declared.end.RunEnd.{RunEnd}
+use Rattle.rmi_cli.specs.declared.end.RunEnd.TheVariants.{Usage, Answered, Done, BadLine, Refused, TooLarge, NotShown, ReadFault, WriteFault, OutOfMemory}
+
+-- What a run answered, and what it did to the errors' sink: what that held, where it tells it, and its count of faults, before and after.
+pub record Told : Type 0 where
+  pub status : ℕ
+  pub before : Option (List ℕ)
+  pub after : Option (List ℕ)
+  pub faults_before : ℕ
+  pub faults_after : ℕ
+
+-- the same of a sink
+abbrev pub told_by : {E : Type 0} → (E → Option (List ℕ)) → (E → ℕ) → E → E → ℕ → Told
+told_by held faults before after status =
+    record { status = status; before = held before; after = held after; faults_before = faults before; faults_after = faults after }
+
+-- The errors' sink took exactly these bytes, unless its count of faults rose.
+abbrev pub Took : Told → List ℕ → Type 0
+Took told bytes = (Rose told.faults_before told.faults_after → ⊥) → told.after ≡ with_end told.before bytes
+
+-- The line of an end, with its LF. No line tells that all was done.
+abbrev pub told_line : RunEnd → List ℕ
+told_line Done = []
+told_line Usage = line_of Usage ++ 10 ∷ []
+told_line (Answered end) = line_of (Answered end) ++ 10 ∷ []
+told_line (BadLine line) = line_of (BadLine line) ++ 10 ∷ []
+told_line Refused = line_of Refused ++ 10 ∷ []
+told_line (TooLarge limit) = line_of (TooLarge limit) ++ 10 ∷ []
+told_line (NotShown fault) = line_of (NotShown fault) ++ 10 ∷ []
+told_line ReadFault = line_of ReadFault ++ 10 ∷ []
+told_line WriteFault = line_of WriteFault ++ 10 ∷ []
+told_line OutOfMemory = line_of OutOfMemory ++ 10 ∷ []
+
+-- The status is the end's, and the line is its line.
+abbrev pub TellsExactly : Told → RunEnd → Type 0
+TellsExactly told end = (told.status ≡ status_of_run end) × Took told (told_line end)
+
+-- So an end is told; where it has a line for which there is no memory, want of memory is told in its place.
+abbrev pub Tells : Told → RunEnd → Type 0
+Tells told end = TellsExactly told end ⊎ ((end ≢ Done) × TellsExactly told OutOfMemory)

@@ -1,0 +1,125 @@
+//! All that the program does.
+ghost use Rattle.std.specs.Prelude.{◌≡◌, ◌↔◌, ◌⊎◌, IfOk};
+ghost use Rattle.wire_io.specs.Wire.{Rose, wires};
+ghost use Rattle.rmi_cli.specs.Answer.{Answers, AnswersExactly};
+ghost use Rattle.rmi_cli.specs.Command.{AskFor};
+ghost use Rattle.rmi_cli.specs.Line.{status_of_run};
+ghost use Rattle.rmi_cli.specs.Replayed.{ReplaysInput, ReplaysExactly};
+ghost use Rattle.rmi_cli.specs.Shown.{ShowsInput};
+ghost use Rattle.rmi_cli.specs.Told.{told_by, TellsExactly, Tells};
+ghost use Rattle.rmi_cli.specs.declared.end.RunEnd.{RunEnd as RunEnds};
+ghost use Rattle.rmi_cli.specs.declared.words.Command.{Command as Commands};
+
+use crate::answer_input::answer_input;
+use crate::end::RunEnd;
+use crate::host::Host;
+use crate::journal_input::replay_input;
+use crate::stream_input::show_input;
+use crate::words::{Command, Words};
+use std::alloc::Global;
+use wire_io::clock::Clock;
+use wire_io::put::put_all;
+use wire_io::sink::Sink;
+use wire_io::source::Source;
+
+/// Does what the words say, and answers the status of the process:
+///
+/// | status | comes |
+/// |---|---|
+/// | 0 | the command ended well |
+/// | 1 | exactly where the words are no command line; nothing is read or written then |
+/// | 2 | the input is not what the command reads, or is not built yet |
+/// | 3, 4 | only where reading the input, or writing the output, failed |
+/// | 5 | for want of memory |
+/// | 6 | at a limit |
+///
+/// One line on the errors' sink tells the end, but that all was done, which no line tells. That it could not be written changes nothing.
+/// Where there is no memory for the line, the status is 5, and the line is that of want of memory.
+pub fn run<I: Source, O: Sink, E: Sink, T: Clock>(
+    alloc: Global,
+    words: &Words,
+    host: &mut Host<I, O, E, T>,
+) -> u8
+    // Other words are no command line.
+    ensures usage { (result ≡ 1) ↔ ((command : Commands) → AskFor words.now command → ⊥) }
+    ensures untouched { result ≡ 1 → (I.left host.new.input ≡ I.left host.old.input)
+        × (O.held host.new.output ≡ O.held host.old.output) }
+    ensures usage_line { result ≡ 1 → TellsExactly (told_by E.held E.faults host.old.errors host.new.errors result) RunEnds.Usage }
+
+    // `answer` serves one connection over a space of its own: what was taken, done and written is a dialogue, whose end is told.
+    ensures answer { AskFor words.now Command.Answer → Answers host.old.seed
+        (wires I.left O.held host.old.input host.old.output)
+        (wires I.left O.held host.new.input host.new.output)
+        (T.given host.old.ticks) (T.given host.new.ticks)
+        (told_by E.held E.faults host.old.errors host.new.errors result) }
+    ensures exact { AskFor words.now Command.Answer → AnswersExactly host.old.seed
+        (wires I.left O.held host.old.input host.old.output)
+        (wires I.left O.held host.new.input host.new.output)
+        (told_by E.held E.faults host.old.errors host.new.errors result) }
+
+    // `replay` takes the whole input as a journal, and writes the outline of the history that it spells, or says why it has none.
+    ensures replay { AskFor words.now Command.Replay → ReplaysInput
+        (wires I.left O.held host.old.input host.old.output)
+        (wires I.left O.held host.new.input host.new.output)
+        (told_by E.held E.faults host.old.errors host.new.errors result) }
+    ensures replay_exact { AskFor words.now Command.Replay → ReplaysExactly
+        (wires I.left O.held host.old.input host.old.output)
+        (wires I.left O.held host.new.input host.new.output)
+        (told_by E.held E.faults host.old.errors host.new.errors result) }
+
+    // `show` takes the whole input as a stream, and writes the text of its graph, or says at which fault reading it stops.
+    ensures show { AskFor words.now Command.Show → ShowsInput
+        (wires I.left O.held host.old.input host.old.output)
+        (wires I.left O.held host.new.input host.new.output)
+        (told_by E.held E.faults host.old.errors host.new.errors result) }
+
+    // The outside's failures.
+    ensures read_fault { result ≡ 3 → Rose (I.faults host.old.input) (I.faults host.new.input) }
+    ensures write_fault { result ≡ 4 → Rose (O.faults host.old.output) (O.faults host.new.output) }
+{
+    match words.command() {
+        Some(Command::Answer) => {
+            let end = answer_input(
+                alloc,
+                &mut host.input,
+                &mut host.output,
+                &mut host.ticks,
+                &host.seed,
+            );
+            told(alloc, &mut host.errors, RunEnd::Answered(end))
+        }
+        Some(Command::Replay) => {
+            let end = replay_input(alloc, &mut host.input, &mut host.output);
+            told(alloc, &mut host.errors, end)
+        }
+        Some(Command::Show) => {
+            let end = show_input(alloc, &mut host.input, &mut host.output);
+            told(alloc, &mut host.errors, end)
+        }
+        None => {
+            let _ = put_all(&mut host.errors, b"usage\n");
+            1
+        }
+    }
+}
+
+/// Writes the line that tells an end, where the sink takes it, and answers the status. Where there is no memory for the line, want of
+/// memory is told.
+fn told<E: Sink>(alloc: Global, errors: &mut E, end: RunEnd) -> u8
+    ensures told { Tells (told_by E.held E.faults errors.old errors.new result) end }
+    ensures status { (result ≡ status_of_run end) ⊎ (result ≡ 5) }
+{
+    if end.is_silent() {
+        return end.status();
+    }
+    match format!(in alloc; "{end}\n") {
+        Ok(line) => {
+            let _ = put_all(errors, line.as_bytes());
+            end.status()
+        }
+        Err(_) => {
+            let _ = put_all(errors, b"out of memory\n");
+            RunEnd::OutOfMemory.status()
+        }
+    }
+}
