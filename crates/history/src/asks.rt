@@ -98,6 +98,65 @@ pub struct Event {
 /// A list of events.
 pub type EventList = Sequence<Event>;
 
+// ---- copies of the asks with lists
+
+fn finish_of(
+    alloc: Global,
+    object: ObjId,
+    made: &Kinds,
+    listed: &ObjIds,
+    uid: Uid,
+) -> Result<Ask, AllocError>
+    ensures { IfOk result (λ copy. copy ≡ Ask.Finish object made.now listed.now uid) }
+{
+    let made = made.copy(alloc)?;
+    let listed = listed.copy(alloc)?;
+    Ok(Ask::Finish {
+        object,
+        made,
+        listed,
+        uid,
+    })
+}
+
+fn dirty_of(
+    alloc: Global,
+    client: &Vmid,
+    number: i64,
+    asked: i64,
+    objects: &ObjIds,
+) -> Result<Ask, AllocError>
+    ensures { IfOk result (λ copy. copy ≡ Ask.Dirty client.now number asked objects.now) }
+{
+    let client = client.copy(alloc)?;
+    let objects = objects.copy(alloc)?;
+    Ok(Ask::Dirty {
+        client,
+        number,
+        asked,
+        objects,
+    })
+}
+
+fn clean_of(
+    alloc: Global,
+    client: &Vmid,
+    number: i64,
+    objects: &ObjIds,
+    strong: bool,
+) -> Result<Ask, AllocError>
+    ensures { IfOk result (λ copy. copy ≡ Ask.Clean client.now number objects.now strong) }
+{
+    let client = client.copy(alloc)?;
+    let objects = objects.copy(alloc)?;
+    Ok(Ask::Clean {
+        client,
+        number,
+        objects,
+        strong,
+    })
+}
+
 impl Ask {
     /// A copy, which equals its source. It is refused only for want of memory.
     pub fn copy(&self, alloc: Global) -> Result<Ask, AllocError>
@@ -114,35 +173,20 @@ impl Ask {
                 made,
                 listed,
                 uid,
-            } => Ask::Finish {
-                object: *object,
-                made: made.copy(alloc)?,
-                listed: listed.copy(alloc)?,
-                uid: *uid,
-            },
+            } => finish_of(alloc, *object, made, listed, *uid)?,
             Ask::Abandon { object } => Ask::Abandon { object: *object },
             Ask::Dirty {
                 client,
                 number,
                 asked,
                 objects,
-            } => Ask::Dirty {
-                client: client.copy(alloc)?,
-                number: *number,
-                asked: *asked,
-                objects: objects.copy(alloc)?,
-            },
+            } => dirty_of(alloc, client, *number, *asked, objects)?,
             Ask::Clean {
                 client,
                 number,
                 objects,
                 strong,
-            } => Ask::Clean {
-                client: client.copy(alloc)?,
-                number: *number,
-                objects: objects.copy(alloc)?,
-                strong: *strong,
-            },
+            } => clean_of(alloc, client, *number, objects, *strong)?,
             Ask::Ack { uid } => Ask::Ack { uid: *uid },
             Ask::Bind { name, object } => Ask::Bind {
                 name: name.copy(alloc)?,

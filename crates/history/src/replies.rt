@@ -3,7 +3,7 @@ ghost use Rattle.std.specs.Prelude.{◌≡◌, IfOk};
 
 use mod_utf::list::{NameList, Same, TryCopy};
 use object_ids::{FullKind, ObjId, ObjIds};
-use std::alloc::{AllocError, Global};
+use std::alloc::{AllocError, AllocFailed, Global};
 
 /// What an event is answered.
 #[derive(Debug, Drop)]
@@ -56,6 +56,26 @@ pub enum Refused {
     Full(FullKind),
     /// There was no memory.
     OutOfMemory,
+}
+
+impl From<AllocError> for Refused {
+    ghost use Rattle.history.specs.declared.replies.Refused.TheVariants.{OutOfMemory};
+
+    ghost from_gives = { λ _ refused. refused ≡ OutOfMemory };
+
+    fn from(_error: AllocError) -> Refused {
+        Refused::OutOfMemory
+    }
+}
+
+impl<T: Drop> From<AllocFailed<T>> for Refused {
+    ghost use Rattle.history.specs.declared.replies.Refused.TheVariants.{OutOfMemory};
+
+    ghost from_gives = { λ _ refused. refused ≡ OutOfMemory };
+
+    fn from(_error: AllocFailed<T>) -> Refused {
+        Refused::OutOfMemory
+    }
 }
 
 impl Reply {

@@ -8,7 +8,8 @@ ghost use Rattle.history.specs.Limits as words;
 ghost use Rattle.history.specs.Lists.{distinct};
 ghost use Rattle.history.specs.Awaiting.{returned as returned_at};
 ghost use Rattle.history.specs.Names as name_words;
-ghost use Rattle.history.specs.Table.{place_of as place_at};
+ghost use Rattle.history.specs.Replies.{ids as ids_of};
+ghost use Rattle.history.specs.Table.{place_of as place_at, table as table_of};
 
 use crate::asks::{Ask, Event, SpaceConfig};
 use crate::calls::{Call, CallKind, Pair};
@@ -296,6 +297,20 @@ fn with_dirty(
     }
 }
 
+/// The clients that have time left at a moment.
+fn clients_left(
+    alloc: Global,
+    config: &SpaceConfig,
+    places: &[Place],
+    moment: u64,
+) -> Result<Vec<Vmid>, AllocError>
+    ensures { IfOk result (λ left. left.items ≡ lease_words.clients_with_time_left config.now.lease_ms moment (calls_in places.now)) }
+{
+    let calls = lease_calls(alloc, places)?;
+    let left = clients_with_time_left(alloc, config.lease_ms, moment, calls.as_slice())?;
+    Ok(left)
+}
+
 /// How many clients have time left with the one that an event brings.
 #[tactic(auto, unfolding(crate::specs::Limits::clients_with))]
 fn clients_with(
@@ -306,9 +321,8 @@ fn clients_with(
 ) -> Result<usize, AllocError>
     ensures { IfOk result (λ count. count ≡ words.clients_with config.now places.now event.now) }
 {
-    let calls = lease_calls(alloc, places)?;
     let moment = event.moment.max(now(places));
-    let left = clients_with_time_left(alloc, config.lease_ms, moment, calls.as_slice())?;
+    let left = clients_left(alloc, config, places, moment)?;
     let call = lease_call(alloc, config, places, event)?;
     let all = with_dirty(alloc, left, call)?;
     Ok(distinct_clients(all.as_slice()))
@@ -360,6 +374,22 @@ fn pairs_brought(
     }
 }
 
+/// The pairs with objects of the table that are remembered at a moment.
+fn pairs_remembered(
+    alloc: Global,
+    config: &SpaceConfig,
+    places: &[Place],
+    moment: u64,
+    calls: &[Call],
+) -> Result<Vec<Pair>, AllocError>
+    ensures { IfOk result (λ pairs. pairs.items ≡ lease_words.pairs_with config.now.lease_ms moment calls.now (ids_of (table_of config.now places.now))) }
+{
+    let objects = table(alloc, config, places)?;
+    let objects = ids(alloc, objects.as_slice())?;
+    let pairs = pairs_with(alloc, config.lease_ms, moment, calls, objects.as_slice())?;
+    Ok(pairs)
+}
+
 /// How many pairs are remembered with those that an event brings.
 #[tactic(auto, unfolding(crate::specs::Limits::pairs_with_event))]
 fn pairs_with_event(
@@ -372,16 +402,8 @@ fn pairs_with_event(
 {
     let calls = lease_calls(alloc, places)?;
     let moment = event.moment.max(now(places));
-    let objects = table(alloc, config, places)?;
-    let objects = ids(alloc, objects.as_slice())?;
+    let mut all = pairs_remembered(alloc, config, places, moment, calls.as_slice())?;
     let call = lease_call(alloc, config, places, event)?;
-    let mut all = pairs_with(
-        alloc,
-        config.lease_ms,
-        moment,
-        calls.as_slice(),
-        objects.as_slice(),
-    )?;
     let mut new = pairs_brought(alloc, config.lease_ms, calls.as_slice(), call)?;
     all.append(&mut new)?;
     Ok(distinct_pairs(all.as_slice()))

@@ -268,10 +268,39 @@ fn stood(places: &[Place], ask: &Ask) -> Option<ObjId>
     }
 }
 
-fn if_effective<T: Drop>(alloc: Global, effective: bool, items: Vec<T>) -> Vec<T>
-    ensures { result.items ≡ (if effective then items.items else []) }
+/// What an ask exports, and the objects to which it returns references: nothing where it is not effective.
+fn effects(
+    alloc: Global,
+    config: &SpaceConfig,
+    places: &[Place],
+    effective: bool,
+    ask: &Ask,
+) -> Result<(ExportedList, ObjIds), AllocError>
+    ensures adds { IfOk result (λ both. both.0 ≡ (if effective then words.exports config.now places.now ask.now else [])) }
+    ensures lists { IfOk result (λ both. both.1 ≡ (if effective then words.lists config.now places.now ask.now else [])) }
 {
-    if effective { items } else { Vec::new(alloc) }
+    if !effective {
+        let none = Sequence::from_vec(Vec::new(alloc));
+        return Ok((none, Sequence::from_vec(Vec::new(alloc))));
+    }
+    let adds = exports(alloc, config, places, ask)?;
+    let listed = lists(alloc, config, places, ask)?;
+    Ok((Sequence::from_vec(adds), Sequence::from_vec(listed)))
+}
+
+/// The table before an event, and a copy of the event.
+fn table_and_event(
+    alloc: Global,
+    config: &SpaceConfig,
+    places: &[Place],
+    event: &Event,
+) -> Result<(ExportedList, Event), AllocError>
+    ensures table { IfOk result (λ both. both.0 ≡ words.table config.now places.now) }
+    ensures event { IfOk result (λ both. both.1 ≡ event.now) }
+{
+    let objects = table(alloc, config, places)?;
+    let copy = event.copy(alloc)?;
+    Ok((ExportedList::from_vec(objects), copy))
 }
 
 /// The place of an event after a history.
@@ -285,17 +314,19 @@ pub fn place_of(
     ensures { IfOk result (λ p. p ≡ words.place_of config.now places.now event.now) }
 {
     let effective = is_effective(alloc, config, places, event.by, &event.ask)?;
-    let adds = exports(alloc, config, places, &event.ask)?;
-    let listed = lists(alloc, config, places, &event.ask)?;
+    let stood = stood(places, &event.ask);
+    let moment = event.moment.max(now(places));
+    let (adds, lists) = effects(alloc, config, places, effective, &event.ask)?;
+    let (before, event) = table_and_event(alloc, config, places, event)?;
     Ok(Place {
         index: places.len() as u64,
-        moment: event.moment.max(now(places)),
-        event: event.copy(alloc)?,
+        moment,
+        event,
         effective,
-        before: ExportedList::from_vec(table(alloc, config, places)?),
-        stood: stood(places, &event.ask),
-        adds: Sequence::from_vec(if_effective(alloc, effective, adds)),
-        lists: Sequence::from_vec(if_effective(alloc, effective, listed)),
+        before,
+        stood,
+        adds,
+        lists,
     })
 }
 

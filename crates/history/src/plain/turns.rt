@@ -1,5 +1,6 @@
 //! Replies, refusals and whole runs.
-ghost use Rattle.std.specs.Prelude.{◌≡◌, ◌<◌, ◌^◌, ◌++◌, map, if◌then◌else◌, IfOk};
+ghost use Rattle.std.specs.Prelude.{◌≡◌, ◌<◌, ◌^◌, ◌∷◌, ◌++◌, map, if◌then◌else◌, IfOk};
+ghost use Rattle.history.specs.Limits.{refusal as cause_of};
 ghost use Rattle.history.specs.Names as name_words;
 ghost use Rattle.history.specs.Places as place_words;
 ghost use Rattle.history.specs.Replies as reply_words;
@@ -31,8 +32,22 @@ pub fn reply(
     ensures { IfOk result (λ reply. reply ≡ reply_words.reply config.now places.now event.now) }
 {
     let p = place_of(alloc, config, places, event)?;
+    let answer = reply_at(alloc, config, places, &p, &event.ask)?;
+    Ok(answer)
+}
+
+/// What an event is replied, whose place this is.
+fn reply_at(
+    alloc: Global,
+    config: &SpaceConfig,
+    places: &[Place],
+    p: &Place,
+    ask: &Ask,
+) -> Result<Reply, AllocError>
+    ensures { IfOk result (λ reply. reply ≡ reply_words.reply_to config.now places.now p.now ask.now) }
+{
     let objects = table(alloc, config, places)?;
-    let answer = reply_to(alloc, config, places, &p, objects.as_slice(), &event.ask)?;
+    let answer = reply_to(alloc, config, places, p, objects.as_slice(), ask)?;
     Ok(answer)
 }
 
@@ -268,10 +283,40 @@ fn with_withdrawn(
     Ok(more)
 }
 
+/// The places of a history with that of one more event.
+fn with_place(
+    alloc: Global,
+    config: &SpaceConfig,
+    places: Vec<Place>,
+    event: &Event,
+) -> Result<Vec<Place>, AllocError>
+    ensures { IfOk result (λ more. more.items ≡ table_words.place_of config.now places.items event.now ∷ places.items) }
+{
+    let p = place_of(alloc, config, places.as_slice(), event)?;
+    let mut more = places;
+    more.insert(0, p)?;
+    Ok(more)
+}
+
+/// The objects that an event tells as gone after a history.
+#[tactic(auto, unfolding(crate::specs::Replies::gone))]
+fn gone(
+    alloc: Global,
+    config: &SpaceConfig,
+    places: Vec<Place>,
+    event: &Event,
+) -> Result<ObjIds, AllocError>
+    ensures { IfOk result (λ objects. objects ≡ reply_words.gone config.now places.items event.now) }
+{
+    let told = pending(alloc, config, places.as_slice())?;
+    let after = with_place(alloc, config, places, event)?;
+    let all = with_withdrawn(alloc, config, after.as_slice(), told)?;
+    Ok(ObjIds::from_vec(all))
+}
+
 // ---- turns
 
 /// The turn of an event that is taken after these events.
-#[tactic(auto, unfolding(crate::specs::Replies::gone))]
 pub fn turn(
     alloc: Global,
     config: &SpaceConfig,
@@ -280,17 +325,39 @@ pub fn turn(
 ) -> Result<Turn, AllocError>
     ensures { IfOk result (λ turn. turn ≡ turn_of config.now events.now event.now) }
 {
-    let mut history = places(alloc, config, events)?;
+    let history = places(alloc, config, events)?;
     let reply = reply(alloc, config, history.as_slice(), event)?;
-    let told = pending(alloc, config, history.as_slice())?;
-    let p = place_of(alloc, config, history.as_slice(), event)?;
-    history.insert(0, p)?;
-    let gone = with_withdrawn(alloc, config, history.as_slice(), told)?;
+    let gone = gone(alloc, config, history, event)?;
     Ok(Turn {
         place: events.len() as u64,
         reply,
-        gone: ObjIds::from_vec(gone),
+        gone,
     })
+}
+
+/// Why an event is refused after these events, if it is.
+fn refused(
+    alloc: Global,
+    limits: &Limits,
+    config: &SpaceConfig,
+    events: &[Event],
+    event: &Event,
+) -> Result<Option<Refused>, AllocError>
+    ensures { IfOk result (λ cause. cause ≡ cause_of limits.now config.now (table_words.places config.now events.now) event.now) }
+{
+    let history = places(alloc, config, events)?;
+    let cause = refusal(alloc, limits, config, history.as_slice(), event)?;
+    Ok(cause)
+}
+
+/// Events with a copy of one more.
+fn with_copy(alloc: Global, events: Vec<Event>, event: &Event) -> Result<Vec<Event>, AllocError>
+    ensures { IfOk result (λ more. more.items ≡ table_words.with_event events.items event.now) }
+{
+    let copy = event.copy(alloc)?;
+    let mut more = events;
+    more.push(copy)?;
+    Ok(more)
 }
 
 /// The answer to an event after these events, and the events that stand after it.
@@ -304,13 +371,11 @@ pub fn step(
     ensures answer { IfOk result (λ step. step.0 ≡ answer_to limits.now config.now events.items event.now) }
     ensures after { IfOk result (λ step. step.1.items ≡ history_after limits.now config.now events.items event.now) }
 {
-    let history = places(alloc, config, events.as_slice())?;
-    match refusal(alloc, limits, config, history.as_slice(), event)? {
+    match refused(alloc, limits, config, events.as_slice(), event)? {
         Some(refused) => Ok((Err(refused), events)),
         None => {
             let turn = turn(alloc, config, events.as_slice(), event)?;
-            let mut after = events;
-            after.push(event.copy(alloc)?)?;
+            let after = with_copy(alloc, events, event)?;
             Ok((Ok(turn), after))
         }
     }
