@@ -13,7 +13,7 @@ use Rattle.history.specs.declared.asks.Ask.TheVariants.{Begin, Finish, Abandon, 
 use Rattle.history.specs.declared.places.Place.{Place}
 use Rattle.history.specs.declared.places.Exported.{Exported}
 use Rattle.history.specs.declared.places.Returned.{Returned}
-use Rattle.history.specs.Awaiting.{same_returned, returned, return_uid, is_ack_of, awaiting, awaiting_of}
+use Rattle.history.specs.Awaiting.{same_returned, returned, return_uid, is_ack_of, awaiting, awaiting_of, until_of}
 use Rattle.history.specs.Places.{has, now}
 use Rattle.history.specs.Running.{is_begin_of, is_end_of, running_calls}
 use Rattle.history.specs.Table.{is_effective, place_of, places}
@@ -25,7 +25,7 @@ use Rattle.dgc_server.proofs.Distinct.{Decides, turned}
 use Rattle.export_table.specs.declared.rows.Export.{Export}
 use Rattle.export_table.specs.declared.waits.Wait.{Wait}
 use Rattle.export_table.specs.Rows.{is_of, is_exported, kind_of, running_of, changed, begun, ended}
-use Rattle.export_table.specs.Stands.{until_of, row_of, rows_of, waits_once, references, reference_of, end_of, WaitsStand, AreWaits, NoneAwaits, WaitingAwaits, WaitingStands, ReturnLists, AckEnds, RowsCount, BeginCounts, EndsCallOf, EndCounts}
+use Rattle.export_table.specs.Stands.{row_of, rows_of, waits_once, references, reference_of, end_of, WaitsStand, AreWaits, NoneAwaits, WaitingAwaits, WaitingStands, ReturnLists, AckEnds, RowsCount, BeginCounts, EndsCallOf, EndCounts}
 use Rattle.export_table.specs.Waits.{waiting, is_waiting, listed as listed_wait, listed_each}
 use Rattle.export_table.proofs.WaitLaws.{until-none, waits-await, waiting_refs, refs-any, refs-await, refs-waiting-once, count-awaiting, count-awaiting_of}
 use Rattle.export_table.proofs.WaitSteps.{until_in-find, waits-later, going, going-until, but, listed, listed-once, listed_all, waits-push, waits-push-ack}

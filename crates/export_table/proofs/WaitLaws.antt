@@ -11,7 +11,7 @@ use Rattle.history.specs.declared.asks.SpaceConfig.{SpaceConfig}
 use Rattle.history.specs.declared.asks.Event.{Event}
 use Rattle.history.specs.declared.places.Place.{Place}
 use Rattle.history.specs.declared.places.Returned.{Returned}
-use Rattle.history.specs.Awaiting.{same_returned, returns, is_ack_of, is_acknowledged, awaits, awaiting, awaiting_of}
+use Rattle.history.specs.Awaiting.{same_returned, returns, is_ack_of, awaits, awaiting, awaiting_of, until_of}
 use Rattle.history.specs.Lists.{distinct, option_any}
 use Rattle.history.specs.Places.{now}
 use Rattle.history.specs.Table.{place_of, places_back, places}
@@ -20,7 +20,7 @@ use Rattle.history.proofs.ListLemmas.{AllOnce, IsEquality, AllOnce-distinct, All
 use Rattle.history.proofs.TableLaws.{IsNumbered, index-place_of, adds-place, places_back-numbered, moment-place_of, now-push, places-numbered}
 use Rattle.dgc_server.proofs.Distinct.{Decides, any-filtered, turned}
 use Rattle.dgc_server.proofs.Outputs.{no_time}
-use Rattle.export_table.specs.Stands.{until_of, until_in, waits_once, WaitsFor, WaitsStand}
+use Rattle.export_table.specs.Stands.{until_in, waits_once, WaitsFor, WaitsStand}
 
 -- ---- how many items a list has, each counted once
 
@@ -37,36 +37,14 @@ distinct-same same e xs ys f =
 -- ---- until when
 
 pub awaits-until : (ack t : ℕ) (h : List Place) (r : Returned) → awaits ack t h r ≡ nat_lt t (until_of ack h r)
-unfolding awaits until_of
-awaits-until ack t h r = go (find (returns r) h)
-  where
-    go : (f : Option Place) → option_any (λ p. nat_lt t (p.moment + ack) && not (is_acknowledged h r.uid p)) f ≡ nat_lt t (unwrap_or (option_map (λ p. if is_acknowledged h r.uid p then 0 else p.moment + ack) f) 0)
-    go None = sym (no_time t)
-    go (Some p) = acked (is_acknowledged h r.uid p)
-      where
-        acked : (b : Bool) → (nat_lt t (p.moment + ack) && not b) ≡ nat_lt t (if b then 0 else p.moment + ack)
-        acked true = and_false (nat_lt t (p.moment + ack)) ∙ sym (no_time t)
-        acked false = and_true (nat_lt t (p.moment + ack))
-
--- Moments that come after the same ones are equal.
-alike : (a b : ℕ) → ((t : ℕ) → nat_lt t a ≡ nat_lt t b) → a ≡ b
-alike a b f = elim (order a b) [
-  | inl less ↦ absurd (let one = lt-ltb a b less in let other = le-ltb a a (omega arith) in let same = f a in cc)
-  | inr more ↦ elim (order b a) [
-    | inl less ↦ absurd (let one = lt-ltb b a less in let other = le-ltb b b (omega arith) in let same = f b in cc)
-    | inr less ↦ omega arith
-  ]
-]
+unfolding awaits
+awaits-until ack t h r = refl
 
 -- ONE MORE EVENT: it returns the reference, or acknowledges its return, or neither.
 pub until-push : (ack : ℕ) (p : Place) (h : List Place) (r : Returned) → IsNumbered (p ∷ h) →
     until_of ack (p ∷ h) r ≡ (if returns r p then p.moment + ack else if is_ack_of r.uid p.event.ask then 0 else until_of ack h r)
-until-push ack p h r n = go (returns r p) (is_ack_of r.uid p.event.ask) refl refl
-  where
-    go : (b c : Bool) → returns r p ≡ b → is_ack_of r.uid p.event.ask ≡ c → until_of ack (p ∷ h) r ≡ (if b then p.moment + ack else if c then 0 else until_of ack h r)
-    go true c e f = alike (until_of ack (p ∷ h) r) (p.moment + ack) (λ t. sym (awaits-until ack t (p ∷ h) r) ∙ awaits-returned ack t p h r n e)
-    go false true e f = alike (until_of ack (p ∷ h) r) 0 (λ t. sym (awaits-until ack t (p ∷ h) r) ∙ awaits-acknowledged ack t p h r n e f ∙ sym (no_time t))
-    go false false e f = alike (until_of ack (p ∷ h) r) (until_of ack h r) (λ t. sym (awaits-until ack t (p ∷ h) r) ∙ awaits-passed ack t p h r e f ∙ awaits-until ack t h r)
+unfolding until_of
+until-push ack p h r n = refl
 
 pub until-none : (ack : ℕ) (r : Returned) → until_of ack [] r ≡ 0
 unfolding until_of

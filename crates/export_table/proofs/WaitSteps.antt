@@ -12,14 +12,14 @@ use Rattle.history.specs.declared.asks.SpaceConfig.{SpaceConfig}
 use Rattle.history.specs.declared.asks.Event.{Event}
 use Rattle.history.specs.declared.asks.Ask.TheVariants.{Ack}
 use Rattle.history.specs.declared.places.Returned.{Returned}
-use Rattle.history.specs.Awaiting.{same_returned, returned, returns, return_uid, is_ack_of}
+use Rattle.history.specs.Awaiting.{same_returned, returned, returns, return_uid, is_ack_of, until_of}
 use Rattle.history.specs.Places.{now}
 use Rattle.history.specs.Table.{place_of, places}
 use Rattle.history.proofs.AwaitingLaws.{returned-equality}
 use Rattle.history.proofs.ListLemmas.{AllOnce-filter}
 use Rattle.history.proofs.TableLaws.{moment-place_of, ask-place_of}
 use Rattle.dgc_server.proofs.Distinct.{turned}
-use Rattle.export_table.specs.Stands.{until_of, until_in, waits_once, WaitsFor, WaitsStand}
+use Rattle.export_table.specs.Stands.{until_in, waits_once, WaitsFor, WaitsStand}
 use Rattle.export_table.proofs.WaitLaws.{until-push, until-bound, decides-returned, absent-until, others-absent, numbered-place}
 
 -- The same moment, by the first wait that is of the reference.

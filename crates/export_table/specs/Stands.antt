@@ -10,7 +10,7 @@ use Rattle.history.specs.declared.asks.SpaceConfig.{SpaceConfig}
 use Rattle.history.specs.declared.places.Exported.{Exported}
 use Rattle.history.specs.declared.places.Place.{Place}
 use Rattle.history.specs.declared.places.Returned.{Returned}
-use Rattle.history.specs.Awaiting.{same_returned, returns, is_acknowledged, return_uid, awaits, awaiting, awaiting_of as awaiting_to}
+use Rattle.history.specs.Awaiting.{same_returned, return_uid, awaits, awaiting, awaiting_of as awaiting_to, until_of}
 use Rattle.history.specs.Places.{has, now}
 use Rattle.history.specs.Running.{running_calls}
 use Rattle.history.specs.Table.{is_effective, place_of, places}
@@ -21,10 +21,6 @@ use Rattle.export_table.specs.Rows.{running_of, changed, begun, ended}
 use Rattle.export_table.specs.Waits.{waiting, is_waiting, awaiting_of, listed_each, acknowledged}
 
 -- ---- waits
-
--- The moment until which a returned reference awaits: 0 where it was not returned, or its return is acknowledged.
-unfoldable pub until_of : ℕ → List Place → Returned → ℕ
-until_of ack h r = unwrap_or (option_map (λ p. if is_acknowledged h r.uid p then 0 else p.moment + ack) (find (returns r) h)) 0
 
 -- The moment until which the list has a reference wait, 0 where it isn't there.
 abbrev pub until_in : {W : Type 0} → (W → Returned) → (W → ℕ) → Returned → List W → ℕ

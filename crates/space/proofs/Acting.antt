@@ -14,7 +14,7 @@ use Rattle.history.specs.declared.places.Exported.{Exported}
 use Rattle.history.specs.declared.places.Returned.{Returned}
 use Rattle.history.specs.Awaiting.{returned, return_uid, is_ack_of}
 use Rattle.history.specs.Limits.{is_begin, is_end}
-use Rattle.history.specs.Places.{has, now, added, id_at, exported_from}
+use Rattle.history.specs.Places.{has, now, id_at, exported_from, next}
 use Rattle.history.specs.Replies.{ids}
 use Rattle.history.specs.Running.{is_begin_of, is_end_of, running, running_calls}
 use Rattle.history.specs.Table.{is_effective, exports, lists, table, place_of, places}
@@ -121,11 +121,11 @@ new-runs-none config events e b =
     (place_of config (places config events) e).adds (has-self (place_of config (places config events) e).adds)
   where
     opened : (a : Ask) → e.ask ≡ a → (o : ObjId) → has (place_of config (places config events) e).adds o ≡ true → is_begin_of o e.ask ≡ false
-    opened a s o there = go (opened_by config (length (added (places config events))) (length (places config events)) (is_effective config (places config events) e.by e.ask) e.ask) refl
+    opened a s o there = go (opened_by config (next (places config events)) (length (places config events)) (is_effective config (places config events) e.by e.ask) e.ask) refl
       where
-        go : (xs : List Exported) → opened_by config (length (added (places config events))) (length (places config events)) (is_effective config (places config events) e.by e.ask) e.ask ≡ xs → is_begin_of o e.ask ≡ false
+        go : (xs : List Exported) → opened_by config (next (places config events)) (length (places config events)) (is_effective config (places config events) e.by e.ask) e.ask ≡ xs → is_begin_of o e.ask ≡ false
         go [] n = absurd (let never : has (place_of config (places config events) e).adds o ≡ false = ap (λ l. has l o) (adds-built config (places config events) e b ∙ n) in cc)
-        go (x ∷ more) n = opened-begins-none o (is_effective config (places config events) e.by e.ask) e.ask x more config (length (added (places config events))) (length (places config events)) n
+        go (x ∷ more) n = opened-begins-none o (is_effective config (places config events) e.by e.ask) e.ask x more config (next (places config events)) (length (places config events)) n
 
     one : (o : ObjId) → is_begin_of o e.ask ≡ false → running_calls (places config events) o ≡ 0 →
         running_calls (place_of config (places config events) e ∷ places config events) o + one_if (is_effective config (places config events) e.by e.ask && is_end_of o e.ask)
@@ -135,7 +135,7 @@ new-runs-none config events e b =
         let never : one_if (is_effective config (places config events) e.by e.ask && is_begin_of o e.ask) ≡ 0 = ap (λ v. one_if (is_effective config (places config events) e.by e.ask && v)) begins ∙ ap one_if (and_false (is_effective config (places config events) e.by e.ask)) in
         omega (arith, s, never, none)
 
-pub rows-act : (config : SpaceConfig) (events : List Event) (e : Event) (t : ExportTable) (at : ℕ) → IsBuilt e.ask → t.space ≡ config.uid → t.added ≡ length (added (places config events)) →
+pub rows-act : (config : SpaceConfig) (events : List Event) (e : Event) (t : ExportTable) (at : ℕ) → IsBuilt e.ask → t.space ≡ config.uid → t.added ≡ next (places config events) →
     t.rows ≡ rows_of (places config events) (table config (places config events)) →
     (acted (is_effective config (places config events) e.by e.ask) at e.ask t).rows
     ≡ rows_of (place_of config (places config events) e ∷ places config events) (table config (places config events) ++ (place_of config (places config events) e).adds)
@@ -162,18 +162,18 @@ whole xs = rw append-nil refl
 
 -- What an event returns: nothing, or references to these objects.
 pub returned-is : (config : SpaceConfig) (h : List Place) (e : Event) (rows : List Export) → IsBuilt e.ask → rows ≡ rows_of h (table config h) →
-    returned (place_of config h e) ≡ flat_map (λ u. references u (returned_by config.uid (length (added h)) rows (is_effective config h e.by e.ask) e.ask)) (option_to_list (return_uid e.ask))
+    returned (place_of config h e) ≡ flat_map (λ u. references u (returned_by config.uid (next h) rows (is_effective config h e.by e.ask) e.ask)) (option_to_list (return_uid e.ask))
 unfolding place_of is_effective lists exports
 returned-is config h e rows b r = go e.ask b
   where
     finish : (v : Bool) (made : List ℕ) (listed : List ObjId) (u : Uid) →
-        map (λ (o : ObjId). record { object = o; uid = u }) (if v then ids (exported_from config.uid (length (added h)) (length h) false made) ++ filter (has (table config h)) listed else []) ++ []
-        ≡ references u (if v then new_ids config.uid (length (added h)) made ++ filter (is_exported rows) listed else []) ++ []
-    finish true made listed u = ap (λ l. references u l ++ []) (ap (λ l. l ++ filter (has (table config h)) listed) (new-ids config.uid (length (added h)) (length h) false made)
-        ∙ ap (λ l. new_ids config.uid (length (added h)) made ++ l) (live-same h (table config h) rows r listed))
+        map (λ (o : ObjId). record { object = o; uid = u }) (if v then ids (exported_from config.uid (next h) (length h) false made) ++ filter (has (table config h)) listed else []) ++ []
+        ≡ references u (if v then new_ids config.uid (next h) made ++ filter (is_exported rows) listed else []) ++ []
+    finish true made listed u = ap (λ l. references u l ++ []) (ap (λ l. l ++ filter (has (table config h)) listed) (new-ids config.uid (next h) (length h) false made)
+        ∙ ap (λ l. new_ids config.uid (next h) made ++ l) (live-same h (table config h) rows r listed))
     finish false made listed u = refl
 
-    go : (a : Ask) → IsBuilt a → returned (place_of config h (record e { ask = a })) ≡ flat_map (λ u. references u (returned_by config.uid (length (added h)) rows (is_effective config h e.by a) a)) (option_to_list (return_uid a))
+    go : (a : Ask) → IsBuilt a → returned (place_of config h (record e { ask = a })) ≡ flat_map (λ u. references u (returned_by config.uid (next h) rows (is_effective config h e.by a) a)) (option_to_list (return_uid a))
     go (Finish x made listed u) b = finish (nat_lt 0 (running h e.by x)) made listed u
     go (Open kind pinned) b = refl
     go (Dirty x y z w) b = refl
@@ -190,12 +190,12 @@ returned-is config h e rows b r = go e.ask b
 
 -- The references that a return has.
 pub returned-finish : (config : SpaceConfig) (h : List Place) (e : Event) (rows : List Export) (x : ObjId) (made : List ℕ) (listed : List ObjId) (u : Uid) → e.ask ≡ Finish x made listed u → rows ≡ rows_of h (table config h) →
-    returned (place_of config h e) ≡ references u (returned_by config.uid (length (added h)) rows (is_effective config h e.by e.ask) e.ask)
+    returned (place_of config h e) ≡ references u (returned_by config.uid (next h) rows (is_effective config h e.by e.ask) e.ask)
 returned-finish config h e rows x made listed u s r =
     let B : Ask → Type 0 = λ a. IsBuilt a in
     returned-is config h e rows (subst B (sym s) tt) r
-    ∙ ap (λ a. flat_map (λ v. references v (returned_by config.uid (length (added h)) rows (is_effective config h e.by e.ask) e.ask)) (option_to_list (return_uid a))) s
-    ∙ whole (references u (returned_by config.uid (length (added h)) rows (is_effective config h e.by e.ask) e.ask))
+    ∙ ap (λ a. flat_map (λ v. references v (returned_by config.uid (next h) rows (is_effective config h e.by e.ask) e.ask)) (option_to_list (return_uid a))) s
+    ∙ whole (references u (returned_by config.uid (next h) rows (is_effective config h e.by e.ask) e.ask))
 
 -- ---- the waits
 
@@ -209,7 +209,7 @@ finish-waits true at x made listed u t = refl
 finish-waits false at x made listed u t = refl
 
 pub waits-act : (config : SpaceConfig) (events : List Event) (e : Event) (t : ExportTable) (effective : Bool) (at : ℕ) → IsBuilt e.ask → at ≡ max e.moment (now (places config events)) →
-    effective ≡ is_effective config (places config events) e.by e.ask → t.space ≡ config.uid → t.ack ≡ config.ack_ms → t.added ≡ length (added (places config events)) →
+    effective ≡ is_effective config (places config events) e.by e.ask → t.space ≡ config.uid → t.ack ≡ config.ack_ms → t.added ≡ next (places config events) →
     t.rows ≡ rows_of (places config events) (table config (places config events)) →
     WaitsStand reference_of end_of config.ack_ms (now (places config events)) (places config events) t.waits →
     WaitsStand reference_of end_of config.ack_ms (max e.moment (now (places config events))) (place_of config (places config events) e ∷ places config events) (acted effective at e.ask t).waits
@@ -228,15 +228,15 @@ waits-act config events e t effective at b time eff space ack count rows w = go 
     quiet n silent =
         let G : List Returned → Type 0 = λ rs. Goal (listed_all reference_of end_of wait_of config.ack_ms (max e.moment (now (places config events))) rs t.waits) in
         subst G (returned-is config (places config events) e t.rows b rows
-        ∙ ap (λ u. flat_map (λ v. references v (returned_by config.uid (length (added (places config events))) t.rows (is_effective config (places config events) e.by e.ask) e.ask)) (option_to_list u)) silent) (pushed n)
+        ∙ ap (λ u. flat_map (λ v. references v (returned_by config.uid (next (places config events)) t.rows (is_effective config (places config events) e.by e.ask) e.ask)) (option_to_list u)) silent) (pushed n)
 
     returns : (v : Bool) (x : ObjId) (made : List ℕ) (listed : List ObjId) (u : Uid) → e.ask ≡ Finish x made listed u → v ≡ is_effective config (places config events) e.by e.ask → Goal (acted v at (Finish x made listed u) t).waits
     returns v x made listed u s f =
         let G : List Returned → Type 0 = λ rs. Goal (listed_all reference_of end_of wait_of config.ack_ms (max e.moment (now (places config events))) rs t.waits) in
         let H : List Wait → Type 0 = λ ws. Goal ws in
-        subst H (listed-each-is config.ack_ms (max e.moment (now (places config events))) u (returned_by config.uid (length (added (places config events))) t.rows (is_effective config (places config events) e.by e.ask) e.ask) t.waits
-        ∙ ap (λ a. listed_each config.ack_ms (max e.moment (now (places config events))) u (returned_by config.uid (length (added (places config events))) t.rows (is_effective config (places config events) e.by e.ask) a) t.waits) s
-        ∙ ap (λ y. listed_each config.ack_ms (max e.moment (now (places config events))) u (returned_by config.uid (length (added (places config events))) t.rows y (Finish x made listed u)) t.waits) (sym f)
+        subst H (listed-each-is config.ack_ms (max e.moment (now (places config events))) u (returned_by config.uid (next (places config events)) t.rows (is_effective config (places config events) e.by e.ask) e.ask) t.waits
+        ∙ ap (λ a. listed_each config.ack_ms (max e.moment (now (places config events))) u (returned_by config.uid (next (places config events)) t.rows (is_effective config (places config events) e.by e.ask) a) t.waits) s
+        ∙ ap (λ y. listed_each config.ack_ms (max e.moment (now (places config events))) u (returned_by config.uid (next (places config events)) t.rows y (Finish x made listed u)) t.waits) (sym f)
         ∙ ap (λ n. listed_each config.ack_ms (max e.moment (now (places config events))) u (returned_by config.uid n t.rows v (Finish x made listed u)) t.waits) (sym count)
         ∙ ap (λ y. listed_each config.ack_ms (max e.moment (now (places config events))) u (returned_by y t.added t.rows v (Finish x made listed u)) t.waits) (sym space)
         ∙ ap (λ n. listed_each n (max e.moment (now (places config events))) u (returned_by t.space t.added t.rows v (Finish x made listed u)) t.waits) (sym ack)

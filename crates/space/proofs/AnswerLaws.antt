@@ -25,7 +25,7 @@ use Rattle.history.specs.Limits.{limits, refusal}
 use Rattle.history.specs.Steps.{Step}
 use Rattle.history.specs.declared.replies.Reply.{Reply}
 use Rattle.history.specs.declared.replies.Reply.TheVariants.{Started, NoObject, Finished, NotRunning, Done}
-use Rattle.history.specs.Places.{added, exported_from, has, kind_of, now}
+use Rattle.history.specs.Places.{exported_from, has, kind_of, now, next}
 use Rattle.history.specs.Replies.{ids, reply}
 use Rattle.history.specs.Running.{running}
 use Rattle.history.specs.Table.{exports, is_effective, table, place_of, places}
@@ -56,11 +56,11 @@ reply-row config h e d b = go e.ask b
     ended o true s = tt
     ended o false s = λ r. (let yes = lt-ltb 0 (running h e.by o) r in cc)
 
-    all-made : (made : List ℕ) → length (ids (exported_from config.uid (length (added h)) (length h) false made)) ≡ length made
-    all-made made = length-map (exported_from config.uid (length (added h)) (length h) false made) (λ (x : Exported). x.id) ∙ exported_from-length config.uid (length (added h)) (length h) false made
+    all-made : (made : List ℕ) → length (ids (exported_from config.uid (next h) (length h) false made)) ≡ length made
+    all-made made = length-map (exported_from config.uid (next h) (length h) false made) (λ (x : Exported). x.id) ∙ exported_from-length config.uid (next h) (length h) false made
 
     finished : (o : ObjId) (made : List ℕ) (listed : List ObjId) (uid : Uid) (v : Bool) → nat_lt 0 (running h e.by o) ≡ v →
-        IsReplyTo (λ x. 0 < running h e.by x) (Finish o made listed uid) (if v then Finished (ids (if v then exported_from config.uid (length (added h)) (length h) false made else [])) else NotRunning)
+        IsReplyTo (λ x. 0 < running h e.by x) (Finish o made listed uid) (if v then Finished (ids (if v then exported_from config.uid (next h) (length h) false made else [])) else NotRunning)
     finished o made listed uid true s = all-made made
     finished o made listed uid false s = λ r. (let yes = lt-ltb 0 (running h e.by o) r in cc)
 

@@ -14,7 +14,7 @@ use Rattle.history.specs.declared.limits.TheConstants.{MAX_EXPORTS, MAX_AWAITING
 use Rattle.history.specs.declared.places.Withdrawal.{Withdrawal}
 use Rattle.history.specs.declared.replies.Refused.{Refused}
 use Rattle.history.specs.declared.replies.Refused.TheVariants.{HistoryFull, Full}
-use Rattle.history.specs.Places.{now, added, id_at}
+use Rattle.history.specs.Places.{now, id_at, next}
 use Rattle.history.specs.Limits.{units_of, is_begin, is_end}
 use Rattle.history.specs.Running.{running, running_calls}
 use Rattle.history.specs.Table.{is_effective, table, places}
@@ -136,11 +136,11 @@ finish-few config events e leases exports runs withdrawn told opened used moment
     (record { asked = s; effective = sym (is-effective config events e leases exports runs withdrawn told opened used moment effective q) ∙ t; rows_are = k.stands.rows_are; waits_stand = subst N k.stands.moment_is k.stands.waits_stand })
     (ap (λ n. await_refusal n exports.rows exports.waits true (Finish o made listed u)) (sym time_is) ∙ ap (λ v. await_refusal time exports.rows exports.waits v (Finish o made listed u)) (sym t)
     ∙ ap (await_refusal time exports.rows exports.waits effective) (sym s) ∙ fit) in
-    let is : awaiting_with time u os exports.waits ≡ awaiting_with (max e.moment (now (places config events))) u (new_ids config.uid (length (added (places config events))) made ++ filter (is_exported exports.rows) listed) exports.waits =
+    let is : awaiting_with time u os exports.waits ≡ awaiting_with (max e.moment (now (places config events))) u (new_ids config.uid (next (places config events)) made ++ filter (is_exported exports.rows) listed) exports.waits =
     ap (λ l. awaiting_with time u l exports.waits) (same ∙ ap (λ v. returned_by exports.space exports.added exports.rows v e.ask) t ∙ ap (returned_by exports.space exports.added exports.rows true) s
     ∙ ap (λ y. new_ids y exports.added made ++ filter (is_exported exports.rows) listed) k.stands.space_is
     ∙ ap (λ n. new_ids config.uid n made ++ filter (is_exported exports.rows) listed) (k.stands.added_is ∙ k.stands.opened_is))
-    ∙ ap (λ n. awaiting_with n u (new_ids config.uid (length (added (places config events))) made ++ filter (is_exported exports.rows) listed) exports.waits) time_is in
+    ∙ ap (λ n. awaiting_with n u (new_ids config.uid (next (places config events)) made ++ filter (is_exported exports.rows) listed) exports.waits) time_is in
     omega (arith, few, is)
 
 -- ---- what room leaves

@@ -17,7 +17,7 @@ use Rattle.history.specs.declared.replies.Refused.TheVariants.{Full}
 use Rattle.history.specs.Awaiting.{same_returned, returned, return_uid, awaiting}
 use Rattle.history.specs.Limits.{awaiting_with as awaiting_with_event}
 use Rattle.history.specs.Lists.{distinct}
-use Rattle.history.specs.Places.{has, now, added, exported_from}
+use Rattle.history.specs.Places.{has, now, exported_from, next}
 use Rattle.history.specs.Table.{is_effective, table, place_of, places}
 use Rattle.history.proofs.ListLemmas.{AllOnce}
 use Rattle.history.proofs.NumberLaws.{exported_from-numbered, NumberedFrom-apart}
@@ -57,19 +57,19 @@ pub record IsReturn (config : SpaceConfig) (events : List Event) (e : Event) (ro
 
 -- Its new objects were nowhere before.
 new-absent : (config : SpaceConfig) (events : List Event) (e : Event) (rows : List Export) (waits : List Wait) (x : ObjId) (made : List ℕ) (listed : List ObjId) (u : Uid) → IsReturn config events e rows waits x made listed u →
-    (o : ObjId) → list_any (same_id o) (new_ids config.uid (length (added (places config events))) made) ≡ true → has (table config (places config events)) o ≡ false
+    (o : ObjId) → list_any (same_id o) (new_ids config.uid (next (places config events)) made) ≡ true → has (table config (places config events)) o ≡ false
 new-absent config events e rows waits x made listed u r o h =
     not-exported-nowhere config events o (new-not-old config events e o (
     ap (λ l. has l o) (adds-built config (places config events) e (subst B (sym r.asked) tt)
     ∙ ap (λ v. opened v e.ask) r.effective ∙ ap (opened true) r.asked)
-    ∙ sym (any-ids (exported_from config.uid (length (added (places config events))) (length (places config events)) false made) o)
-    ∙ ap (list_any (same_id o)) (new-ids config.uid (length (added (places config events))) (length (places config events)) false made) ∙ h))
+    ∙ sym (any-ids (exported_from config.uid (next (places config events)) (length (places config events)) false made) o)
+    ∙ ap (list_any (same_id o)) (new-ids config.uid (next (places config events)) (length (places config events)) false made) ∙ h))
   where
     B : Ask → Type 0
     B a = IsBuilt a
 
     opened : Bool → Ask → List Exported
-    opened v a = opened_by config (length (added (places config events))) (length (places config events)) v a
+    opened v a = opened_by config (next (places config events)) (length (places config events)) v a
 
 absent : (b : Bool) → (b ≡ true → ⊥) → b ≡ false
 absent true n = absurd (n refl)
@@ -77,17 +77,17 @@ absent false n = refl
 
 -- HOW MANY AWAIT once it has returned.
 pub return-counted : (config : SpaceConfig) (events : List Event) (e : Event) (rows : List Export) (waits : List Wait) (x : ObjId) (made : List ℕ) (listed : List ObjId) (u : Uid) → IsReturn config events e rows waits x made listed u →
-    awaiting_with (max e.moment (now (places config events))) u (new_ids config.uid (length (added (places config events))) made ++ filter (is_exported rows) listed) waits
+    awaiting_with (max e.moment (now (places config events))) u (new_ids config.uid (next (places config events)) made ++ filter (is_exported rows) listed) waits
     ≡ awaiting_after (max e.moment (now (places config events))) u (length made) (filter (is_exported rows) listed) waits
 return-counted config events e rows waits x made listed u r =
-    awaiting-counted-with (max e.moment (now (places config events))) u (new_ids config.uid (length (added (places config events))) made) (filter (is_exported rows) listed) waits r.waits_stand.once
-    (new-once config.uid (length (added (places config events))) made)
+    awaiting-counted-with (max e.moment (now (places config events))) u (new_ids config.uid (next (places config events)) made) (filter (is_exported rows) listed) waits r.waits_stand.once
+    (new-once config.uid (next (places config events)) made)
     (λ o h. waits-await reference_of end_of config.ack_ms (now (places config events)) (max e.moment (now (places config events))) (places config events) waits (omega arith) r.waits_stand (record { object = o; uid = u })
     ∙ absent _ (λ t. (let never = not-there-awaits config events (record { object = o; uid = u }) (new-absent config events e rows waits x made listed u r o h) in
     let before = awaits-earlier config.ack_ms (now (places config events)) (max e.moment (now (places config events))) (places config events) (record { object = o; uid = u }) (omega arith) t in cc)))
     (λ o h. absent _ (λ t. (let never = new-absent config events e rows waits x made listed u r o h in
     let there = filter-there (table config (places config events)) o listed (ap (list_any (same_id o)) (live-same (places config events) (table config (places config events)) rows r.rows_are listed) ∙ t) in cc)))
-    ∙ ap (λ n. awaiting_after (max e.moment (now (places config events))) u n (filter (is_exported rows) listed) waits) (new-length config.uid (length (added (places config events))) made)
+    ∙ ap (λ n. awaiting_after (max e.moment (now (places config events))) u n (filter (is_exported rows) listed) waits) (new-length config.uid (next (places config events)) made)
 
 -- The same as the history counts them.
 event-counted : (config : SpaceConfig) (events : List Event) (e : Event) (rows : List Export) (waits : List Wait) (x : ObjId) (made : List ℕ) (listed : List ObjId) (u : Uid) → IsReturn config events e rows waits x made listed u →
@@ -99,8 +99,8 @@ event-counted config events e rows waits x made listed u r =
     (refs-await reference_of end_of config.ack_ms (now (places config events)) (max e.moment (now (places config events))) (places config events) waits (omega arith) r.waits_stand)
     ∙ ap (λ l. length (distinct same_returned (waiting_refs reference_of end_of (max e.moment (now (places config events))) waits ++ l)))
     (returned-finish config (places config events) e rows x made listed u r.asked r.rows_are
-    ∙ ap (λ v. references u (returned_by config.uid (length (added (places config events))) rows v e.ask)) r.effective
-    ∙ ap (λ a. references u (returned_by config.uid (length (added (places config events))) rows true a)) r.asked)
+    ∙ ap (λ v. references u (returned_by config.uid (next (places config events)) rows v e.ask)) r.effective
+    ∙ ap (λ a. references u (returned_by config.uid (next (places config events)) rows true a)) r.asked)
     ∙ return-counted config events e rows waits x made listed u r
 
 -- THE REFUSAL for want of room among those that await.
@@ -119,7 +119,7 @@ await-is config events e rows waits b w rs s = go e.ask refl (is_effective confi
     silent : return_uid e.ask ≡ None → returned (place_of config (places config events) e) ≡ []
     silent n =
         returned-is config (places config events) e rows b rs
-        ∙ ap (λ u. flat_map (λ v. references v (returned_by config.uid (length (added (places config events))) rows (is_effective config (places config events) e.by e.ask) e.ask)) (option_to_list u)) n
+        ∙ ap (λ u. flat_map (λ v. references v (returned_by config.uid (next (places config events)) rows (is_effective config (places config events) e.by e.ask) e.ask)) (option_to_list u)) n
 
     go : (a : Ask) → e.ask ≡ a → (v : Bool) → is_effective config (places config events) e.by e.ask ≡ v →
         (if nat_lt MAX_AWAITING (awaiting_with_event config (places config events) e) then Some (Full Awaiting) else None) ≡ await_refusal (max e.moment (now (places config events))) rows waits v a
@@ -128,8 +128,8 @@ await-is config events e rows waits b w rs s = go e.ask refl (is_effective confi
         (event-counted config events e rows waits x made listed u (record { asked = i; effective = f; rows_are = rs; waits_stand = s }))
     go (Finish x made listed u) i false f =
         few (returned-finish config (places config events) e rows x made listed u i rs
-        ∙ ap (λ v. references u (returned_by config.uid (length (added (places config events))) rows v e.ask)) f
-        ∙ ap (λ a. references u (returned_by config.uid (length (added (places config events))) rows false a)) i)
+        ∙ ap (λ v. references u (returned_by config.uid (next (places config events)) rows v e.ask)) f
+        ∙ ap (λ a. references u (returned_by config.uid (next (places config events)) rows false a)) i)
     go (Open kind pinned) i v f = few (silent (ap return_uid i))
     go (Begin x) i v f = few (silent (ap return_uid i))
     go (Abandon x) i v f = few (silent (ap return_uid i))
@@ -146,7 +146,7 @@ await-is config events e rows waits b w rs s = go e.ask refl (is_effective confi
 -- Where it is not refused, there is room for its references.
 pub return-few : (config : SpaceConfig) (events : List Event) (e : Event) (rows : List Export) (waits : List Wait) (x : ObjId) (made : List ℕ) (listed : List ObjId) (u : Uid) → IsReturn config events e rows waits x made listed u →
     return_refusal (max e.moment (now (places config events))) u (length made) (filter (is_exported rows) listed) waits ≡ None →
-    awaiting_with (max e.moment (now (places config events))) u (new_ids config.uid (length (added (places config events))) made ++ filter (is_exported rows) listed) waits ≤ MAX_AWAITING
+    awaiting_with (max e.moment (now (places config events))) u (new_ids config.uid (next (places config events)) made ++ filter (is_exported rows) listed) waits ≤ MAX_AWAITING
 return-few config events e rows waits x made listed u r n =
     let same = return-counted config events e rows waits x made listed u r in
     let few = ltb-false MAX_AWAITING (awaiting_after (max e.moment (now (places config events))) u (length made) (filter (is_exported rows) listed) waits)

@@ -1,19 +1,17 @@
 -- What is kept of no events.
-use Rattle.std.proofs.Common.{◌≡◌, List, [], length, refl, ap, sym, subst, arith, map}
-use Rattle.std.specs.Prelude.{filter, nat_le}
+use Rattle.std.proofs.Common.{◌≡◌, List, [], length, refl, ap, sym, subst, arith}
 use Rattle.history.specs.declared.asks.SpaceConfig.{SpaceConfig}
 use Rattle.history.specs.declared.asks.Event.{Event}
 use Rattle.history.specs.declared.places.Place.{Place}
 use Rattle.history.specs.declared.places.Withdrawal.{Withdrawal}
-use Rattle.history.specs.Awaiting.{awaiting}
+use Rattle.history.specs.Awaiting.{awaiting, references}
 use Rattle.history.specs.LeaseCalls.{lease_calls}
 use Rattle.history.specs.Leases.{clients, clients_with_time_left, pairs_with}
 use Rattle.history.specs.Limits.{reserved}
 use Rattle.history.specs.Names.{names}
-use Rattle.history.specs.Places.{now, added}
-use Rattle.history.specs.Replies.{first_untold}
+use Rattle.history.specs.Places.{now, next}
 use Rattle.history.proofs.StepLaws.{IsLegal-none}
-use Rattle.history.proofs.GoneLaws.{withdrawals-none}
+use Rattle.history.proofs.GoneLaws.{withdrawals-none, pending-none}
 use Rattle.history.proofs.TableLaws.{places-none, table-none, units-none}
 use Rattle.dgc_server.specs.Stands.{LeaseTable, StandsFor}
 use Rattle.export_table.specs.Table.{ExportTable, no_room}
@@ -28,12 +26,12 @@ abbrev pub nothing_exported : SpaceConfig → ExportTable
 nothing_exported config = record { space = config.uid; ack = config.ack_ms; added = 0; rows = []; waits = []; room = no_room }
 
 within-nothing : (config : SpaceConfig) → IsWithin config []
-unfolding now reserved lease_calls clients_with_time_left clients pairs_with awaiting names
+unfolding now reserved lease_calls clients_with_time_left clients pairs_with references awaiting names
 within-nothing config =
     record { history = (let none = units-none in omega arith); exports = (let none = ap length (table-none config) in omega arith); awaits = omega arith; clients = omega arith; pairs = omega arith; names = omega arith }
 
 stands-nothing : (config : SpaceConfig) (leases : LeaseTable) → StandsFor config.lease_ms leases 0 [] → Stands config [] leases (nothing_exported config) [] [] 0 0 0 0
-unfolding now added lease_calls
+unfolding now next lease_calls
 stands-nothing config leases s = record {
   leases_stand = s;
   space_is = refl;
@@ -44,7 +42,7 @@ stands-nothing config leases s = record {
   waits_stand = record { once = tt; each = λ r. rw (until-none config.ack_ms r) refl };
   runs_stand = runs-none caller_of object_of;
   withdrawn_are = sym (withdrawals-none config);
-  told_are = sym (ap (λ ws. map (λ (w : Withdrawal). w.object) (filter (λ w. nat_le (first_untold []) w.place) ws)) (withdrawals-none config));
+  told_are = sym (pending-none config);
   told_within = omega arith;
   used_is = sym units-none;
   moment_is = refl;

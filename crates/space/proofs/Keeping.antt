@@ -20,14 +20,14 @@ use Rattle.history.specs.declared.replies.Turn.{Turn}
 use Rattle.history.specs.LeaseCalls.{call_with, lease_calls}
 use Rattle.history.specs.Leases.{is_held}
 use Rattle.history.specs.Limits.{units_of, limits, refusal}
-use Rattle.history.specs.Places.{has, now, added, exported_from}
+use Rattle.history.specs.Places.{has, now, exported_from, next}
 use Rattle.history.specs.Replies.{reply, gone, ids, is_abandon}
 use Rattle.history.specs.Steps.{turn_of, answer_with, history_with, Step}
 use Rattle.history.specs.Table.{is_effective, exports, is_kept, table, place_of, places, withdrawn, withdrawals}
 use Rattle.history.proofs.GoneLaws.{pending, pending-push, withdrawals-push}
 use Rattle.history.proofs.ListLemmas.{Every, Every-weaker}
 use Rattle.history.proofs.StepLaws.{IsLegal-step}
-use Rattle.history.proofs.TableLaws.{places-push, places-numbered, length-places, now-push, table-place, units-push, ask-place_of, index-place_of, added-push}
+use Rattle.history.proofs.TableLaws.{places-push, places-numbered, length-places, now-push, table-place, units-push, ask-place_of, index-place_of}
 use Rattle.dgc_server.specs.Stands.{LeaseTable, StandsFor}
 use Rattle.export_table.specs.declared.rows.Export.{Export}
 use Rattle.export_table.specs.declared.waits.Wait.{Wait}
@@ -37,7 +37,7 @@ use Rattle.export_table.specs.Waits.{waiting, is_awaited}
 use Rattle.space.specs.declared.runs.Run.{Run}
 use Rattle.space.specs.Acts.{opens, new_ids, reply_at, started_reply, withdrawal_at, told_after, room_refusal, await_refusal, lease_refusal, first_of_two, Agrees}
 use Rattle.space.specs.Built.{IsBuilt}
-use Rattle.space.specs.Kept.{live_calls, AllBuilt, to_tell, Stands, Keeps}
+use Rattle.space.specs.Kept.{live_calls, AllBuilt, Stands, Keeps}
 use Rattle.space.specs.Runs.{RunsStand, caller_of, object_of}
 use Rattle.export_table.specs.Stands.{WaitsStand, reference_of, end_of, row_of, rows_of}
 use Rattle.space.proofs.Acting.{new-ids}
@@ -168,10 +168,9 @@ withdrawn-next config events e =
     ∙ ap (map (withdrawal_at (length events))) (withdrawn-ids config events e))
 
 -- WHAT A TURN TELLS as gone.
-pub gone-kept : (config : SpaceConfig) (events : List Event) (e : Event) (withdrawn : List Withdrawal) (told : ℕ) (os : List ObjId) → told ≤ length withdrawn → map (λ (w : Withdrawal). w.object) (drop told withdrawn) ≡ to_tell config (places config events) →
+pub gone-kept : (config : SpaceConfig) (events : List Event) (e : Event) (withdrawn : List Withdrawal) (told : ℕ) (os : List ObjId) → told ≤ length withdrawn → map (λ (w : Withdrawal). w.object) (drop told withdrawn) ≡ pending config (places config events) →
     os ≡ gone_of (table config (places config events) ++ (place_of config (places config events) e).adds) (is_kept config (place_of config (places config events) e ∷ places config events)) →
     map (λ (w : Withdrawal). w.object) (drop told (withdrawn ++ map (withdrawal_at (length events)) os)) ≡ gone config (places config events) e
-unfolding pending
 gone-kept config events e withdrawn told os le t o =
     ap (map (λ (w : Withdrawal). w.object)) (drop-append-le told withdrawn (map (withdrawal_at (length events)) os) le)
     ∙ map-append (λ (w : Withdrawal). w.object) (drop told withdrawn) (map (withdrawal_at (length events)) os)
@@ -180,17 +179,16 @@ gone-kept config events e withdrawn told os le t o =
     ∙ sym (gone-next config events e)
 
 -- What is to be told after the event.
-told-next : (config : SpaceConfig) (events : List Event) (e : Event) (withdrawn : List Withdrawal) (told : ℕ) (os : List ObjId) → told ≤ length withdrawn → map (λ (w : Withdrawal). w.object) (drop told withdrawn) ≡ to_tell config (places config events) →
+told-next : (config : SpaceConfig) (events : List Event) (e : Event) (withdrawn : List Withdrawal) (told : ℕ) (os : List ObjId) → told ≤ length withdrawn → map (λ (w : Withdrawal). w.object) (drop told withdrawn) ≡ pending config (places config events) →
     os ≡ gone_of (table config (places config events) ++ (place_of config (places config events) e).adds) (is_kept config (place_of config (places config events) e ∷ places config events)) →
-    map (λ (w : Withdrawal). w.object) (drop (told_after told (length (withdrawn ++ map (withdrawal_at (length events)) os)) e.ask) (withdrawn ++ map (withdrawal_at (length events)) os)) ≡ to_tell config (place_of config (places config events) e ∷ places config events)
-unfolding pending
+    map (λ (w : Withdrawal). w.object) (drop (told_after told (length (withdrawn ++ map (withdrawal_at (length events)) os)) e.ask) (withdrawn ++ map (withdrawal_at (length events)) os)) ≡ pending config (place_of config (places config events) e ∷ places config events)
 told-next config events e withdrawn told os le t o = go (is_abandon e.ask) (pending-push config (places config events) e (numbered-place config events e))
   where
     all : List Withdrawal
     all = withdrawn ++ map (withdrawal_at (length events)) os
 
-    go : (b : Bool) → to_tell config (place_of config (places config events) e ∷ places config events) ≡ (if b then gone config (places config events) e else []) →
-        map (λ (w : Withdrawal). w.object) (drop (if b then told else length (withdrawn ++ map (withdrawal_at (length events)) os)) (withdrawn ++ map (withdrawal_at (length events)) os)) ≡ to_tell config (place_of config (places config events) e ∷ places config events)
+    go : (b : Bool) → pending config (place_of config (places config events) e ∷ places config events) ≡ (if b then gone config (places config events) e else []) →
+        map (λ (w : Withdrawal). w.object) (drop (if b then told else length (withdrawn ++ map (withdrawal_at (length events)) os)) (withdrawn ++ map (withdrawal_at (length events)) os)) ≡ pending config (place_of config (places config events) e ∷ places config events)
     go true p = gone-kept config events e withdrawn told os le t o ∙ sym p
     go false p = ap (map (λ (w : Withdrawal). w.object)) (drop_all (length (withdrawn ++ map (withdrawal_at (length events)) os)) (withdrawn ++ map (withdrawal_at (length events)) os) (omega arith)) ∙ sym p
 
@@ -204,6 +202,10 @@ left config events e t = record t {
 -- All withdrawals then.
 abbrev pub withdrawn_then : SpaceConfig → List Event → Event → ExportTable → List Withdrawal → List Withdrawal
 withdrawn_then config events e t withdrawn = withdrawn ++ map (withdrawal_at (length events)) (going_now config events e t)
+
+next-push : (p : Place) (h : List Place) → next (p ∷ h) ≡ next h + length p.adds
+unfolding next
+next-push p h = refl
 
 stands-push : (config : SpaceConfig) (events : List Event) (e : Event) (leases leases1 leases2 : LeaseTable) (exports t : ExportTable) (runs runs1 : List Run) (withdrawn : List Withdrawal) (told opened used moment : ℕ) (effective : Bool) → effective ≡ is_effective config (places config events) e.by e.ask →
     Keeps config events leases exports runs withdrawn told opened used moment → IsBuilt e.ask → refusal limits config (places config events) e ≡ None →
@@ -225,9 +227,8 @@ stands-push config events e leases leases1 leases2 exports t runs runs1 withdraw
       added_is = ad;
       opened_is = (
           ap (λ n. n + opens effective e.ask) k.stands.opened_is
-          ∙ ap (λ n. length (added (places config events)) + n) (ap (λ v. opens v e.ask) f ∙ sym (adds-length config (places config events) e b))
-          ∙ sym (length-append (added (places config events)) (place_of config (places config events) e).adds)
-          ∙ ap length (sym (added-push (place_of config (places config events) e) (places config events))));
+          ∙ ap (λ n. next (places config events) + n) (ap (λ v. opens v e.ask) f ∙ sym (adds-length config (places config events) e b))
+          ∙ sym (next-push (place_of config (places config events) e) (places config events)));
       rows_are = (
           ap (filter (row_kept (max e.moment (now (places config events))) (held_by config.lease_ms (max e.moment (now (places config events))) (told_calls config events e)) t.waits)) a.rows_are
           ∙ filter-rows (place_of config (places config events) e ∷ places config events) (row_kept (max e.moment (now (places config events))) (held_by config.lease_ms (max e.moment (now (places config events))) (told_calls config events e)) t.waits)
@@ -342,17 +343,17 @@ found-some (x ∷ objects) o = go (same_id x.id o) (found-some objects o)
     go true e = refl
     go false e = e
 
-reply-is : (config : SpaceConfig) (h : List Place) (e : Event) (opened : ℕ) (rows : List Export) (effective : Bool) → IsBuilt e.ask → opened ≡ length (added h) → rows ≡ rows_of h (table config h) → effective ≡ is_effective config h e.by e.ask →
+reply-is : (config : SpaceConfig) (h : List Place) (e : Event) (opened : ℕ) (rows : List Export) (effective : Bool) → IsBuilt e.ask → opened ≡ next h → rows ≡ rows_of h (table config h) → effective ≡ is_effective config h e.by e.ask →
     reply config h e ≡ reply_at config opened rows effective e.ask
 unfolding reply place_of is_effective exports
 reply-is config h e opened rows effective b k rs f = go e.ask b (is_effective config h e.by e.ask) refl ∙ ap (λ n. reply_at config n (rows_of h (table config h)) (is_effective config h e.by e.ask) e.ask) (sym k)
     ∙ ap (λ l. reply_at config opened l (is_effective config h e.by e.ask) e.ask) (sym rs) ∙ ap (λ v. reply_at config opened rows v e.ask) (sym f)
   where
-    finished : (v : Bool) (made : List ℕ) → (if v then Finished (ids (if v then exported_from config.uid (length (added h)) (length h) false made else [])) else NotRunning) ≡ (if v then Finished (new_ids config.uid (length (added h)) made) else NotRunning)
-    finished true made = ap (λ l. Finished l) (new-ids config.uid (length (added h)) (length h) false made)
+    finished : (v : Bool) (made : List ℕ) → (if v then Finished (ids (if v then exported_from config.uid (next h) (length h) false made else [])) else NotRunning) ≡ (if v then Finished (new_ids config.uid (next h) made) else NotRunning)
+    finished true made = ap (λ l. Finished l) (new-ids config.uid (next h) (length h) false made)
     finished false made = refl
 
-    go : (a : Ask) → IsBuilt a → (v : Bool) → is_effective config h e.by a ≡ v → reply config h (record e { ask = a }) ≡ reply_at config (length (added h)) (rows_of h (table config h)) (is_effective config h e.by a) a
+    go : (a : Ask) → IsBuilt a → (v : Bool) → is_effective config h e.by a ≡ v → reply config h (record e { ask = a }) ≡ reply_at config (next h) (rows_of h (table config h)) (is_effective config h e.by a) a
     go (Open kind pinned) b v s = refl
     go (Begin o) b v s =
         reply-found (option_map (λ (x : Exported). x.kind) (find (λ x. same_id x.id o) (table config h))) (has (table config h) o) (found-some (table config h) o)
@@ -369,17 +370,13 @@ reply-is config h e opened rows effective b k rs f = go e.ask b (is_effective co
     go (Lookup x y) b v s = absurd b
     go ListNames b v s = absurd b
 
-pending-told : (config : SpaceConfig) (h : List Place) → pending config h ≡ to_tell config h
-unfolding pending
-pending-told config h = refl
-
 -- The turn of an event.
 pub turn-is : (config : SpaceConfig) (events : List Event) (e : Event) (leases leases1 : LeaseTable) (exports t : ExportTable) (runs runs1 : List Run) (withdrawn : List Withdrawal) (told opened used moment : ℕ) (effective : Bool) → Keeps config events leases exports runs withdrawn told opened used moment → IsBuilt e.ask →
     effective ≡ is_effective config (places config events) e.by e.ask → IsActed config events e leases1 t runs1 →
     turn_of config events e ≡ record { place = length events; reply = reply_at config opened exports.rows effective e.ask; gone = map (λ (w : Withdrawal). w.object) (drop told withdrawn) ++ going_now config events e t }
 turn-is config events e leases leases1 exports t runs runs1 withdrawn told opened used moment effective k b f a =
     two _ _ _ _ (reply-is config (places config events) e opened exports.rows effective b k.stands.opened_is k.stands.rows_are f)
-    (gone-next config events e ∙ ap (λ l. l ++ gone_of (table config (places config events) ++ (place_of config (places config events) e).adds) (is_kept config (place_of config (places config events) e ∷ places config events))) (pending-told config (places config events) ∙ sym k.stands.told_are)
+    (gone-next config events e ∙ ap (λ l. l ++ gone_of (table config (places config events) ++ (place_of config (places config events) e).adds) (is_kept config (place_of config (places config events) e ∷ places config events))) (sym k.stands.told_are)
     ∙ ap (λ l. map (λ (w : Withdrawal). w.object) (drop told withdrawn) ++ l) (sym (going-is config events e leases1 t runs1 k.built b a)))
   where
     two : (r s : Reply) (g g' : List ObjId) → r ≡ s → g ≡ g' → ◌≡◌ {A = Turn} (record { place = length events; reply = r; gone = g }) (record { place = length events; reply = s; gone = g' })

@@ -6,6 +6,7 @@ pub mod AskLaws
 pub mod AwaitLaws
 pub mod BalanceLaws
 pub mod Clients
+pub mod CollectLaws
 pub mod EndLaws
 pub mod FirstLaws
 pub mod Found

@@ -18,7 +18,7 @@ use Rattle.history.specs.declared.places.Place.{Place}
 use Rattle.history.specs.declared.places.Exported.{Exported}
 use Rattle.history.specs.declared.places.Returned.{Returned}
 use Rattle.history.specs.declared.replies.Refused.TheVariants.{HistoryFull, Full}
-use Rattle.history.specs.Awaiting.{same_returned, returned, returns, is_ack_of, awaits, awaiting}
+use Rattle.history.specs.Awaiting.{same_returned, returned, returns, is_ack_of, awaits, awaiting, until_of}
 use Rattle.history.specs.LeaseCalls.{call_with, lease_calls}
 use Rattle.history.specs.Leases.{is_dirty, calls_of, clients_with_time_left, is_remembered, same_pair, pairs_with, pairs, new_pairs}
 use Rattle.history.specs.Limits.{units_of, units, starts, ends, reserved, limits, exports_with, awaiting_with, lease_call, clients_with, pairs_with_event, names_with, is_full, refusal}
@@ -43,7 +43,6 @@ use Rattle.space.proofs.LiveLaws.{pairs-live, new_pairs-live, left-live}
 use Rattle.space.proofs.Named.{NamesOnly, call-names, calls-names, naming-has, any-ids, lease_calls-push}
 use Rattle.space.proofs.NextLaws.{new-not-old}
 use Rattle.space.proofs.Pairs.{pair-equality, any-pairs_with, remembered-named, remembered-earlier, pair-after}
-use Rattle.export_table.specs.Stands.{until_of}
 use Rattle.export_table.proofs.WaitLaws.{awaits-until, numbered-place, distinct-same}
 use Rattle.dgc_server.proofs.Steps.{earlier}
 

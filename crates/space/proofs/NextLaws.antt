@@ -12,7 +12,6 @@ use Rattle.object_ids.proofs.Exact.{same_id-equal, same_id-self}
 use Rattle.history.specs.declared.asks.SpaceConfig.{SpaceConfig}
 use Rattle.history.specs.declared.asks.Event.{Event}
 use Rattle.history.specs.declared.calls.Call.{Call}
-use Rattle.history.specs.declared.places.Place.{Place}
 use Rattle.history.specs.declared.places.Exported.{Exported}
 use Rattle.history.specs.declared.places.Returned.{Returned}
 use Rattle.history.specs.Awaiting.{same_returned, awaits, is_awaited}
@@ -22,12 +21,12 @@ use Rattle.history.specs.Names.{is_named}
 use Rattle.history.specs.Places.{has, now, added, id_at}
 use Rattle.history.specs.Replies.{ids, gone}
 use Rattle.history.specs.Running.{running_calls}
-use Rattle.history.specs.Table.{is_pinned, is_kept, is_kept_since_export, table, place_of, places, withdrawn}
+use Rattle.history.specs.Table.{is_pinned, is_kept, table, place_of, places, withdrawn}
 use Rattle.history.proofs.AlikeCalls.{AllAlike, is_held-alike}
 use Rattle.history.proofs.AwaitingLaws.{is_awaited-members}
 use Rattle.history.proofs.GoneLaws.{pending, gone-push}
 use Rattle.history.proofs.ListLemmas.{Every, Every-append, Every-weaker}
-use Rattle.history.proofs.NumberLaws.{NumberedFrom, NumberedFrom-apart, adds-numbered, added-numbered, has-smaller, has-filter, has-self, AllApart, AllApart-filter}
+use Rattle.history.proofs.NumberLaws.{NumberedFrom, NumberedFrom-apart, adds-numbered, added-numbered, has-smaller, has-self, AllApart, table-apart, table-exported}
 use Rattle.history.proofs.RunningLaws.{is_running-calls}
 use Rattle.history.proofs.TableLaws.{places-numbered, table-place, now-push, withdrawn-place}
 use Rattle.space.specs.Kept.{live_calls}
@@ -52,15 +51,6 @@ old-not-new config events e y h =
     ap (has (place_of config (places config events) e).adds) some.1
     ∙ has-smaller config.uid some.0 (length (added (places config events))) (place_of config (places config events) e).adds (adds-numbered config (places config events) e) (let l = some.2 in omega arith)
 
--- What is in the table was exported.
-pub table-exported : (config : SpaceConfig) (h : List Place) (y : ObjId) → has (table config h) y ≡ true → has (added h) y ≡ true
-unfolding table
-table-exported config h y t = go (has (added h) y) refl
-  where
-    go : (b : Bool) → has (added h) y ≡ b → b ≡ true
-    go true e = refl
-    go false e = absurd (let never = has-filter (is_kept_since_export (is_kept config) h) (added h) y e in cc)
-
 -- A list whose objects are apart, before another of other objects.
 apart-append : (xs ys : List Exported) → AllApart xs → AllApart ys → ((y : ObjId) → has xs y ≡ true → has ys y ≡ false) → AllApart (xs ++ ys)
 apart-append [] ys a b f = b
@@ -70,10 +60,9 @@ apart-append (x ∷ xs) ys a b f = (
 )
 
 pub table-all-apart : (config : SpaceConfig) (events : List Event) (e : Event) → AllApart (table config (places config events) ++ (place_of config (places config events) e).adds)
-unfolding table
 table-all-apart config events e =
     apart-append (table config (places config events)) (place_of config (places config events) e).adds
-    (AllApart-filter (is_kept_since_export (is_kept config) (places config events)) (added (places config events)) (NumberedFrom-apart config.uid 0 (added (places config events)) (added-numbered config events)))
+    (table-apart config events)
     (NumberedFrom-apart config.uid (length (added (places config events))) (place_of config (places config events) e).adds (adds-numbered config (places config events) e))
     (λ y h. old-not-new config events e y (table-exported config (places config events) y h))
 

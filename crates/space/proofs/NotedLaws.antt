@@ -15,7 +15,7 @@ use Rattle.history.specs.declared.replies.Refused.TheVariants.{OutOfMemory}
 use Rattle.history.specs.declared.replies.Reply.TheVariants.{Started, NoObject, Finished, NotRunning, Done, Names}
 use Rattle.history.specs.declared.replies.Turn.{Turn}
 use Rattle.history.specs.Limits.{units_of, limits, refusal}
-use Rattle.history.specs.Places.{added, exported_from, kind_of}
+use Rattle.history.specs.Places.{exported_from, kind_of, next}
 use Rattle.history.specs.Replies.{ids, reply, gone}
 use Rattle.history.specs.Steps.{turn_of, answer_with, history_with, Step}
 use Rattle.history.specs.Table.{is_effective, exports, is_kept, table, place_of, places, withdrawn}
@@ -25,7 +25,7 @@ use Rattle.dgc_server.specs.Stands.{LeaseTable}
 use Rattle.export_table.specs.Table.{ExportTable}
 use Rattle.space.specs.declared.runs.Run.{Run}
 use Rattle.space.specs.Built.{IsBuilt, SpaceHistory}
-use Rattle.space.specs.Kept.{to_tell, Keeps}
+use Rattle.space.specs.Kept.{Keeps}
 use Rattle.space.specs.Noted.{FitsIn}
 use Rattle.space.proofs.AheadLaws.{some-or-not}
 use Rattle.space.proofs.Keeping.{opened-few}
@@ -54,17 +54,13 @@ refused-turn config h h2 e refused (inr s) = (let same : refused ≡ OutOfMemory
 
 -- ---- the lengths of what a turn tells
 
-pending-told : (config : SpaceConfig) (h : List Place) → pending config h ≡ to_tell config h
-unfolding pending
-pending-told config h = refl
-
 gone-few : (config : SpaceConfig) (events : List Event) (e : Event) (leases : LeaseTable) (exports : ExportTable) (runs : List Run) (withdrawn_before : List Withdrawal) (told opened used moment : ℕ) →
     Keeps config events leases exports runs withdrawn_before told opened used moment → IsBuilt e.ask → length (gone config (places config events) e) ≤ length (map (λ (w : Withdrawal). w.object) (drop told withdrawn_before)) + (length exports.rows + units_of e.ask)
 gone-few config events e leases exports runs withdrawn_before told opened used moment k b =
     let all : List Exported = table config (places config events) ++ (place_of config (places config events) e).adds in
     let kept : Exported → Bool = is_kept config (place_of config (places config events) e ∷ places config events) in
     let rows : length exports.rows ≡ length (table config (places config events)) = ap length k.stands.rows_are ∙ length-map (table config (places config events)) (row_of (places config events)) in
-    let told_before : length (map (λ (w : Withdrawal). w.object) (drop told withdrawn_before)) ≡ length (pending config (places config events)) = ap length (k.stands.told_are ∙ sym (pending-told config (places config events))) in
+    let told_before : length (map (λ (w : Withdrawal). w.object) (drop told withdrawn_before)) ≡ length (pending config (places config events)) = ap length k.stands.told_are in
     let goes : length (ids (withdrawn config (place_of config (places config events) e ∷ places config events))) ≡ length (filter (λ x. not (kept x)) all) =
     length-map (withdrawn config (place_of config (places config events) e ∷ places config events)) (λ (x : Exported). x.id) ∙ ap length (withdrawn-place config (places config events) e) in
     let told_all = ap length (gone-push config (places config events) e (places-numbered config events)) ∙ length-append (pending config (places config events)) (ids (withdrawn config (place_of config (places config events) e ∷ places config events))) in
@@ -87,14 +83,14 @@ reply-ids config h e os b s = go e.ask b s
     ended true n t = absurd (cc)
     ended false n t = absurd (cc)
 
-    made-few : (made : List ℕ) → ids (exported_from config.uid (length (added h)) (length h) false made) ≡ os → length os ≤ length made
+    made-few : (made : List ℕ) → ids (exported_from config.uid (next h) (length h) false made) ≡ os → length os ≤ length made
     made-few made t =
         let same = ap length t in
-        let all = length-map (exported_from config.uid (length (added h)) (length h) false made) (λ (x : Exported). x.id) in
-        let long = exported_from-length config.uid (length (added h)) (length h) false made in
+        let all = length-map (exported_from config.uid (next h) (length h) false made) (λ (x : Exported). x.id) in
+        let long = exported_from-length config.uid (next h) (length h) false made in
         omega (arith, same, all, long)
 
-    finished : (v : Bool) (made : List ℕ) (n : ℕ) → (if v then Finished (ids (if v then exported_from config.uid (length (added h)) (length h) false made else [])) else NotRunning) ≡ Finished os → length os ≤ 1 + length made + n
+    finished : (v : Bool) (made : List ℕ) (n : ℕ) → (if v then Finished (ids (if v then exported_from config.uid (next h) (length h) false made else [])) else NotRunning) ≡ Finished os → length os ≤ 1 + length made + n
     finished true made n t = let few = made-few made (cc) in omega (arith, few)
     finished false made n t = absurd (cc)
 

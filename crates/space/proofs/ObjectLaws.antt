@@ -16,7 +16,7 @@ use Rattle.history.specs.declared.asks.Ask.TheVariants.{Begin, Finish, Bind, Reb
 use Rattle.history.specs.declared.places.Place.{Place}
 use Rattle.history.specs.declared.places.Exported.{Exported}
 use Rattle.history.specs.declared.places.Returned.{Returned}
-use Rattle.history.specs.Awaiting.{same_returned, returns, return_uid, is_ack_of, awaits, awaiting, is_awaited}
+use Rattle.history.specs.Awaiting.{same_returned, returns, return_uid, is_ack_of, awaits, awaiting, is_awaited, until_of}
 use Rattle.history.specs.LeaseCalls.{lease_calls}
 use Rattle.history.specs.Leases.{is_held}
 use Rattle.history.specs.Lists.{option_any}
@@ -32,7 +32,6 @@ use Rattle.history.proofs.RunningLaws.{begins_any, ends_any, running_calls-diffe
 use Rattle.history.proofs.TableLaws.{places-numbered, places-push, places-none, table-place, now-push}
 use Rattle.dgc_server.proofs.Steps.{earlier}
 use Rattle.space.proofs.Named.{any-ids}
-use Rattle.export_table.specs.Stands.{until_of}
 use Rattle.export_table.proofs.WaitLaws.{awaits-until, numbered-place}
 
 -- ---- from event to event

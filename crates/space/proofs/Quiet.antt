@@ -1,6 +1,6 @@
 -- What the served asks leave out: names.
-use Rattle.std.proofs.Common.{◌≡◌, ℕ, ◌+◌, suc, List, [], ◌∷◌, length, refl, ap, ◌∙◌, None}
-use Rattle.std.specs.Prelude.{Bool, true, false, filter, filter_map, reverse, if◌then◌else◌}
+use Rattle.std.proofs.Common.{◌≡◌, ℕ, ◌+◌, suc, List, [], ◌∷◌, ◌++◌, length, refl, ap, ◌∙◌, None}
+use Rattle.std.specs.Prelude.{Bool, true, false, not, ◌&&◌, filter, reverse, is_none, option_to_list, if◌then◌else◌}
 use Rattle.object_ids.specs.declared.ids.ObjId.{ObjId}
 use Rattle.object_ids.specs.declared.ids.Uid.{Uid}
 use Rattle.history.specs.declared.asks.SpaceConfig.{SpaceConfig}
@@ -9,10 +9,10 @@ use Rattle.history.specs.declared.asks.Ask.{Ask}
 use Rattle.history.specs.declared.asks.Ask.TheVariants.{Open, Begin, Finish, Abandon, Dirty, Clean, Ack, Bind, Rebind, Unbind, Lookup, List as ListNames, Tick}
 use Rattle.history.specs.declared.places.Place.{Place}
 use Rattle.history.specs.declared.places.Exported.{Exported}
-use Rattle.history.specs.Places.{added, exported_from}
-use Rattle.history.specs.Names.{name_bound, begins_name, names, names_of, is_named}
+use Rattle.history.specs.Places.{exported_from, next}
+use Rattle.history.specs.Names.{name_bound, names, names_of, is_named, name_begun, unbinds}
 use Rattle.history.specs.Table.{is_effective, exports, place_of, places_back, places}
-use Rattle.history.proofs.ListLemmas.{Every, Every-filter, Every-reverse}
+use Rattle.history.proofs.ListLemmas.{Every}
 use Rattle.space.specs.Built.{IsBuilt}
 use Rattle.space.specs.Kept.{AllBuilt}
 use Rattle.space.specs.Acts.{opens}
@@ -61,11 +61,11 @@ none-either : {X : Type 0} (b : Bool) → ◌≡◌ {A = List X} (if b then [] e
 none-either true = refl
 none-either false = refl
 
-pub adds-built : (config : SpaceConfig) (h : List Place) (e : Event) → IsBuilt e.ask → (place_of config h e).adds ≡ opened_by config (length (added h)) (length h) (is_effective config h e.by e.ask) e.ask
+pub adds-built : (config : SpaceConfig) (h : List Place) (e : Event) → IsBuilt e.ask → (place_of config h e).adds ≡ opened_by config (next h) (length h) (is_effective config h e.by e.ask) e.ask
 unfolding place_of is_effective exports
 adds-built config h e b = go e.ask b
   where
-    go : (a : Ask) → IsBuilt a → (place_of config h (record e { ask = a })).adds ≡ opened_by config (length (added h)) (length h) (is_effective config h e.by a) a
+    go : (a : Ask) → IsBuilt a → (place_of config h (record e { ask = a })).adds ≡ opened_by config (next h) (length h) (is_effective config h e.by a) a
     go (Open kind pinned) b = refl
     go (Dirty x y z w) b = refl
     go (Clean x y z w) b = refl
@@ -82,7 +82,7 @@ adds-built config h e b = go e.ask b
 
 -- How many they are.
 pub adds-length : (config : SpaceConfig) (h : List Place) (e : Event) → IsBuilt e.ask → length (place_of config h e).adds ≡ opens (is_effective config h e.by e.ask) e.ask
-adds-length config h e b = ap length (adds-built config h e b) ∙ opened-length config (length (added h)) (length h) (is_effective config h e.by e.ask) e.ask
+adds-length config h e b = ap length (adds-built config h e b) ∙ opened-length config (next h) (length h) (is_effective config h e.by e.ask) e.ask
 
 -- ---- all places
 
@@ -95,13 +95,13 @@ pub quiet : (config : SpaceConfig) (events : List Event) → AllBuilt (reverse e
 unfolding places
 quiet config events b = quiet_back config (reverse events) b
 
-none-bound : (ps : List Place) → Every IsQuiet ps → filter_map (λ (p : Place). name_bound p.event.ask) ps ≡ []
-none-bound [] q = refl
-none-bound (p ∷ ps) q = rw (q.0.binds, none-bound ps q.1) refl
+none-begun : (p : Place) → IsQuiet p → name_begun p ≡ []
+none-begun p q = ap (λ b. if p.effective && is_none p.stood then option_to_list b else []) q.binds ∙ none-either (p.effective && is_none p.stood)
 
 pub no-names : (h : List Place) → Every IsQuiet h → names h ≡ []
 unfolding names
-no-names h q = none-bound (filter (begins_name h) (reverse h)) (Every-filter IsQuiet (begins_name h) (reverse h) (Every-reverse IsQuiet h q))
+no-names [] q = refl
+no-names (p ∷ h) q = ap (λ l. filter (λ n. not (unbinds p n)) l ++ name_begun p) (no-names h q.1) ∙ none-begun p q.0
 
 pub no-names_of : (h : List Place) (o : ObjId) → Every IsQuiet h → names_of h o ≡ []
 unfolding names_of

@@ -14,7 +14,7 @@ use Rattle.history.specs.declared.asks.Ask.{Ask}
 use Rattle.history.specs.declared.asks.Ask.TheVariants.{Begin, Finish, Abandon}
 use Rattle.history.specs.Limits.{is_begin, is_end, starts, ends, reserved}
 use Rattle.history.specs.Places.{has}
-use Rattle.history.specs.Running.{connections, is_begin_of, is_end_of, begins_call, ends_call, running, running_calls}
+use Rattle.history.specs.Running.{is_begin_of, is_end_of, begins_call, ends_call, running, running_calls}
 use Rattle.history.specs.Table.{is_effective, table, place_of, places}
 use Rattle.space.specs.Runs.{without_first, is_run_of, is_run_on, RunsStand}
 use Rattle.history.proofs.Partitions.{one_if, length-filter-cons}
@@ -84,7 +84,7 @@ none-counted {R} test (r ∷ rs) h = go (test r) h (none-counted test rs)
 -- ---- running calls: each is of a connection and an object
 
 pub runs-none : {R : Type 0} (by : R → ℕ) (object : R → ObjId) → RunsStand by object [] []
-unfolding running running_calls reserved connections
+unfolding running running_calls reserved
 runs-none by object = record { lines = λ b o. refl; calls = λ o. refl; all = refl }
 
 step-same : (a b x y : ℕ) (ends begins : Bool) → a + one_if ends ≡ b + one_if begins → ends ≡ false → begins ≡ false → x ≡ b → x ≡ a

@@ -1,6 +1,5 @@
 -- What a space keeps beside its history.
-use Rattle.std.specs.Prelude.{◌≡◌, ℕ, ◌+◌, ◌≤◌, ◌<◌, ◌^◌, List, [], ◌∷◌, length, filter, map, reverse, drop, nat_le}
-use Rattle.object_ids.specs.declared.ids.ObjId.{ObjId}
+use Rattle.std.specs.Prelude.{◌≡◌, ℕ, ◌+◌, ◌≤◌, ◌<◌, ◌^◌, List, [], ◌∷◌, length, filter, map, reverse, drop}
 use Rattle.object_ids.specs.Same.{same_client}
 use Rattle.history.specs.declared.asks.SpaceConfig.{SpaceConfig}
 use Rattle.history.specs.declared.asks.Event.{Event}
@@ -15,8 +14,8 @@ use Rattle.history.specs.Leases.{clients_with_time_left, same_pair, pairs_with}
 use Rattle.history.specs.Limits.{units, reserved}
 use Rattle.history.specs.Lists.{distinct}
 use Rattle.history.specs.Names.{names}
-use Rattle.history.specs.Places.{has, now, added}
-use Rattle.history.specs.Replies.{ids, first_untold}
+use Rattle.history.specs.Places.{has, now, next}
+use Rattle.history.specs.Replies.{ids, pending}
 use Rattle.history.specs.Steps.{IsLegal}
 use Rattle.history.specs.Table.{places, table, withdrawals}
 use Rattle.dgc_server.specs.Stands.{LeaseTable, StandsFor}
@@ -54,10 +53,6 @@ abbrev pub AllBuilt : List Event → Type 0
 AllBuilt [] = Unit {0}
 AllBuilt (e ∷ before) = IsBuilt e.ask × AllBuilt before
 
--- The objects of the withdrawals of a history since its last event that is no Abandon.
-abbrev pub to_tell : SpaceConfig → List Place → List ObjId
-to_tell config h = map (λ w. w.object) (filter (λ w. nat_le (first_untold h) w.place) (withdrawals config h))
-
 -- What is kept is that of a history: the leases, the exported objects and the references that await, the running calls, the withdrawals and
 -- how many of them were told as gone, how many objects there ever were, the units and the greatest moment.
 pub record Stands (config : SpaceConfig) (h : List Place) (leases : LeaseTable) (exports : ExportTable) (runs : List Run) (withdrawn : List Withdrawal) (told opened used moment : ℕ) : Type 0 where
@@ -65,12 +60,12 @@ pub record Stands (config : SpaceConfig) (h : List Place) (leases : LeaseTable) 
   pub space_is : exports.space ≡ config.uid
   pub ack_is : exports.ack ≡ config.ack_ms
   pub added_is : exports.added ≡ opened
-  pub opened_is : opened ≡ length (added h)
+  pub opened_is : opened ≡ next h
   pub rows_are : exports.rows ≡ rows_of h (table config h)
   pub waits_stand : WaitsStand reference_of end_of config.ack_ms moment h exports.waits
   pub runs_stand : RunsStand caller_of object_of h runs
   pub withdrawn_are : withdrawn ≡ withdrawals config h
-  pub told_are : map (λ w. w.object) (drop told withdrawn) ≡ to_tell config h
+  pub told_are : map (λ w. w.object) (drop told withdrawn) ≡ pending config h
   pub told_within : told ≤ length withdrawn
   pub used_is : used ≡ units h
   pub moment_is : moment ≡ now h

@@ -7,6 +7,7 @@ use Rattle.history.specs.declared.asks.Event.{Event}
 use Rattle.history.specs.declared.places.Exported.{Exported}
 use Rattle.history.specs.declared.replies.Refused.{Refused}
 use Rattle.history.specs.declared.replies.Turn.{Turn}
+use Rattle.history.specs.Collector.{Collects}
 use Rattle.history.specs.Steps.{Step, Steps}
 use Rattle.export_table.specs.declared.rows.ExportRow.{ExportRow}
 use Rattle.space.specs.declared.lists.ObjectKind.{ObjectKind}
@@ -29,6 +30,11 @@ pub record TakesFront (config : SpaceConfig) (h events : List Event) (turns : Li
   pub events_are : events ≡ front ++ rest
   pub taken : Takes config h front turns h2
   pub stops : Stops config h2 rest refused
+
+-- After the history h these events are taken, the one after the other, and the collector keeps and withdraws at each as it is to.
+abbrev pub CollectsEach : SpaceConfig → List Event → List Event → List Event → Type 0
+CollectsEach config h [] h2 = h2 ≡ h
+CollectsEach config h (e ∷ events) h2 = (next : List Event) × Collects config h e next × CollectsEach config next events h2
 
 -- The kind of an object, where it is among these.
 abbrev pub kind_among : List Exported → ObjId → Option ℕ

@@ -1,6 +1,7 @@
 //! Calls that end without an answer.
 ghost use Rattle.std.specs.Prelude.{◌≡◌, ◌<◌, ◌^◌, ◌++◌, ◌∷◌, [], Ok};
 ghost use Rattle.history.specs.declared.asks.Ask.TheVariants.{Abandon};
+ghost use Rattle.history.specs.Collector.{Collects};
 ghost use Rattle.history.specs.Running.{running};
 ghost use Rattle.history.specs.Steps.{Step, turn_of};
 ghost use Rattle.history.specs.Table.{places};
@@ -20,6 +21,9 @@ impl Space {
         requires running { 0 < running (places self.old.configuration self.old.events) by object }
         ensures events { self.new.events ≡ self.old.events ++ event_of by moment (Abandon object) ∷ [] }
         ensures config { self.new.configuration ≡ self.old.configuration }
+
+        // The table keeps what there is a reason to keep, and the rest is withdrawn.
+        ensures collector { Collects self.old.configuration self.old.events (event_of by moment (Abandon object)) self.new.events }
 
         // It is taken: no limit refuses it.
         ensures step { let e = event_of by moment (Abandon object) in

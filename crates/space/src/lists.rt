@@ -1,11 +1,11 @@
 //! Whole lists of events, and what they leave exported.
-ghost use Rattle.std.specs.Prelude.{◌≡◌, ◌≢◌, ◌≤◌, ◌<◌, ◌^◌, [], map, Err, IfOk, OnErr};
+ghost use Rattle.std.specs.Prelude.{◌≡◌, ◌≢◌, ◌≤◌, ◌<◌, ◌^◌, [], length, map, take, Err, IfOk, OnErr};
 ghost use Rattle.std.specs.List.{AllByRecursion};
 ghost use Rattle.history.specs.Steps.{Steps, IsLegal, answers as answers_to};
 ghost use Rattle.history.specs.Limits.{limits};
 ghost use Rattle.history.specs.Table.{places, table};
 ghost use Rattle.space.specs.Built.{IsBuilt};
-ghost use Rattle.space.specs.Lists.{TakesFront, kind_among, with_kind, row_kind};
+ghost use Rattle.space.specs.Lists.{CollectsEach, TakesFront, kind_among, with_kind, row_kind};
 
 use crate::turns::Space;
 use export_table::ExportRow;
@@ -45,6 +45,7 @@ impl Space {
         requires short_ack { config.now.ack_ms ≤ 2 ^ 40 }
         requires moments { AllByRecursion (λ e. e.moment < 2 ^ 62) events.items }
         requires built { AllByRecursion (λ e. IsBuilt e.ask) events.items }
+        ensures collector { IfOk result (λ p. CollectsEach config.now [] (take (length p.1.turns.items) events.items) p.0.events) }
         ensures taken { IfOk result (λ p. TakesFront config.now [] events.items p.1.turns.items p.1.refused p.0.events) }
         ensures config { IfOk result (λ p. p.0.configuration ≡ config.now) }
         ensures legal { IfOk result (λ p. IsLegal config.now p.0.events) }
@@ -61,6 +62,7 @@ impl Space {
     pub fn turns(&mut self, events: Vec<Event>) -> Result<Turns, AllocError>
         requires moments { AllByRecursion (λ e. e.moment < 2 ^ 62) events.items }
         requires built { AllByRecursion (λ e. IsBuilt e.ask) events.items }
+        ensures collector { IfOk result (λ t. CollectsEach self.old.configuration self.old.events (take (length t.turns.items) events.items) self.new.events) }
         ensures taken { IfOk result (λ t. TakesFront self.old.configuration self.old.events events.items t.turns.items t.refused self.new.events) }
         ensures config { self.new.configuration ≡ self.old.configuration }
         ensures err { OnErr result (self.new ≡ self.old) }

@@ -1,9 +1,11 @@
 //! The space, turn by turn.
-ghost use Rattle.std.specs.Prelude.{◌≡◌, ◌≤◌, ◌<◌, ◌^◌, [], length, OnErr};
+ghost use Rattle.std.specs.Prelude.{◌≡◌, ◌≤◌, ◌<◌, ◌^◌, [], length, OnOk, OnErr};
+ghost use Rattle.history.specs.Collector.{Collects};
 ghost use Rattle.history.specs.Places as place_words;
 ghost use Rattle.history.specs.Running.{running};
 ghost use Rattle.history.specs.Steps.{Step, IsLegal};
 ghost use Rattle.history.specs.Table.{places};
+ghost use Rattle.space.specs.Acts.{event_of};
 ghost use Rattle.space.specs.Built.{IsBuilt};
 
 use crate::acts::put_event;
@@ -71,6 +73,9 @@ impl Space {
         requires moment { moment < 2 ^ 62 }
         requires built { IsBuilt ask }
         ensures step { Step self.old.configuration self.old.events (record { by = by; moment = moment; ask = ask }) result self.new.events }
+
+        // The table keeps what there is a reason to keep, and the rest is withdrawn.
+        ensures collector { OnOk result (Collects self.old.configuration self.old.events (event_of by moment ask) self.new.events) }
         ensures config { self.new.configuration ≡ self.old.configuration }
         ensures err { OnErr result (self.new ≡ self.old) }
     {

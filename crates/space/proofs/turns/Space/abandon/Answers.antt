@@ -1,8 +1,10 @@
+use Rattle.history.specs.declared.asks.Ask.TheVariants.{Abandon}
 use Rattle.std.proofs.Common.{◌≡◌, ◌+◌, ◌<◌, ◌≤◌, ◌++◌, length, ap, ◌∙◌, map, max, rules, arith}
 use Rattle.std.specs.Prelude.{vec_len, vec_capacity}
 use Rattle.history.specs.Running.{running}
 use Rattle.history.specs.Table.{places}
-use Rattle.space.specs.Acts.{withdrawal_at}
+use Rattle.space.specs.Acts.{event_of, withdrawal_at}
+use Rattle.space.proofs.CollectLaws.{appended-collects}
 use Rattle.space.proofs.AbandonLaws.{is-running, end-counted, end-acted, end-keeps, end-room, end-step, end-goes}
 use Rattle.space.proofs.TurnLaws.{HasWithdrawn}
 use Rattle.space.proofs.turns.Space.abandon.Goals as goal
@@ -58,3 +60,7 @@ returns-clause-step c =
     c.self.inside.tables.told c.self.inside.tables.added c.self.inside.tables.units c.self.inside.tables.moment c.max-now.result c.self.invariant.0 runs c.requires.moment time c.lapse.ensures.stands c.end.ensures in
     end-step c.self.inside.tables.config c.self.inside.tables.events.items c.put_event.new.events.items c.args.by c.args.moment c.args.object c.self.inside.tables.leases c.lapse.new.self c.self.inside.tables.exports c.end.new.self c.self.inside.tables.runs.items c.self.inside.tables.withdrawn.items
     c.self.inside.tables.told c.self.inside.tables.added c.self.inside.tables.units c.self.inside.tables.moment c.args.self.now acts c.self.view_is c.put_event.ensures.items
+
+pub returns-clause-collector : goal.returns-clause-collector
+returns-clause-collector c =
+    appended-collects c.self.inside.tables.config c.self.inside.tables.events.items c.put_event.new.events.items (event_of c.args.by c.args.moment (Abandon c.args.object)) c.args.self.now c.self.view_is c.put_event.ensures.items

@@ -1,8 +1,10 @@
-use Rattle.std.proofs.Common.{◌≡◌, ◌+◌, ◌<◌, ◌^◌, ◌∷◌, List, length, ap, subst, ◌∙◌, rules, arith, [], vec_len, length-append}
+use Rattle.std.proofs.Common.{◌≡◌, ◌+◌, ◌<◌, ◌^◌, ◌∷◌, List, length, ap, subst, ◌∙◌, rules, arith, [], vec_len, length-append, take, sym}
 use Rattle.std.specs.List.{AllByRecursion}
 use Rattle.std.specs.Vec.Iter.{into_iter_items, into_iter_len}
 use Rattle.history.specs.declared.asks.Event.{Event}
-use Rattle.space.specs.Built.{IsBuilt}
+use Rattle.space.specs.Built.{IsBuilt, SpaceHistory}
+use Rattle.space.specs.Lists.{CollectsEach}
+use Rattle.space.proofs.CollectLaws.{front-collects}
 use Rattle.space.proofs.ListLaws.{takes-next}
 use Rattle.space.proofs.turns.Space.turns.Goals as goal
 
@@ -23,3 +25,13 @@ loop-event-preserved c =
       left = omega (arith, h.left, fewer, count);
       room = (let capacity = c.push_reserved.ensures.capacity in let before : vec_len c.loop-event.turns ≡ length c.loop-event.turns.items = search rules in let after : vec_len c.push_reserved.new.self ≡ length c.push_reserved.new.self.items = search rules in let longer = ap length c.push_reserved.ensures.items ∙ length-append c.loop-event.turns.items (c.in-Ok.turn ∷ []) in omega (arith, h.room, fewer, capacity, before, after, longer));
     }
+
+pub returns-clause-collector : goal.returns-clause-collector
+returns-clause-collector c =
+    front-collects c.args.self.now.configuration c.args.self.now.events c.args.events.items c.loop-event.turns.items (into_iter_items c.loop-event.event-iterator) c.loop-event.self.events c.loop-event.invariant.taken
+
+pub returns-in-Err-clause-collector : goal.returns-in-Err-clause-collector
+returns-in-Err-clause-collector c =
+    let P : SpaceHistory → Type 0 = λ s. CollectsEach c.args.self.now.configuration c.args.self.now.events (take (length c.loop-event.turns.items) c.args.events.items) s.events in
+    subst P (sym c.in-Err.ensures.err)
+    (front-collects c.args.self.now.configuration c.args.self.now.events c.args.events.items c.loop-event.turns.items (into_iter_items c.loop-event.event-iterator) c.loop-event.self.events c.loop-event.invariant.taken)
