@@ -1,20 +1,39 @@
 //! How connections end that are served without the program.
-use crate::hosts::{Outside, must, sink_of, source_of};
-use call_dispatch::end::ConnEnd;
-use call_dispatch::serve::serve_connection;
+use crate::hosts::{Outside, SEED, must, sink_of, source_of};
+use call_dispatch::{ConnEnd, SilentWorker, serve_connection};
+use mod_utf::list::MomentList;
 use mod_utf::utf::encoded_len;
+use object_ids::Uid;
 use rmi_cli::setup_of;
+use space::{DirectPort, Space, SpaceConfig};
 use std::alloc::{AllocError, Global};
 use std::process::Abort;
 use std::test::Fail;
-use wire_io::mem::MemSink;
+use wire_io::mem::{MemClock, MemSink};
+
+/// What the space keeps to.
+const CONFIG: SpaceConfig = SpaceConfig {
+    lease_ms: 600_000,
+    ack_ms: 300_000,
+    uid: Uid {
+        unique: 1,
+        time: 2,
+        count: 0,
+    },
+};
 
 /// Serves the client at 127.0.0.1, port 1234, which sends these bytes, and answers how the connection ended and the sink.
 fn serve(alloc: Global, input: &[u8], outside: Outside) -> Result<(ConnEnd, MemSink), AllocError> {
     let mut source = source_of(alloc, input, outside)?;
     let mut sink = sink_of(alloc, outside.failing_writes)?;
-    let setup = setup_of(alloc)?;
-    let end = serve_connection(alloc, &mut source, &mut sink, &setup);
+    let mut clock = MemClock::new(MomentList::new(alloc));
+    let mut space = Space::fresh(alloc, &CONFIG);
+    let mut port = DirectPort::new(alloc, &mut space, 1);
+    let mut worker = SilentWorker::new();
+    let mut setup = setup_of(alloc, &SEED)?;
+    let end = serve_connection(
+        alloc, &mut source, &mut sink, &mut clock, &mut port, &mut worker, &mut setup,
+    );
     Ok((end, sink))
 }
 
@@ -58,7 +77,7 @@ fn check_row(rt: &impl Abort, alloc: Global, row: Row) -> Result<(), AllocError>
 
 #[test]
 fn each_connection_has_its_end(rt: HostRuntime) -> Result<(), Fail> {
-    let setup = setup_of(rt.alloc())?;
+    let setup = setup_of(rt.alloc(), &SEED)?;
     must(&rt, encoded_len(&setup.peer_host) <= 255, "the peer's host");
     for row in ROWS {
         check_row(&rt, rt.alloc(), row)?;

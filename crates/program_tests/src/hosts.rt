@@ -1,12 +1,15 @@
 //! What the tests run the program on.
-use mod_utf::list::{ByteList, Kinds};
+use mod_utf::list::{ByteList, Kinds, MomentList};
 use rmi_cli::{Host, Words, run};
 use std::alloc::{AllocError, Global};
 use std::process::Abort;
-use wire_io::mem::{MemSink, MemSource};
+use wire_io::mem::{MemClock, MemSink, MemSource};
 
 /// A host over streams in memory.
-pub(crate) type MemHost = Host<MemSource, MemSink, MemSink>;
+pub(crate) type MemHost = Host<MemSource, MemSink, MemSink, MemClock>;
+
+/// The seed of the tests' hosts.
+pub(crate) const SEED: [u64; 4] = [1, 2, 3, 4];
 
 /// Stops where this does not hold, and says what it is.
 pub(crate) fn must(rt: &impl Abort, holds: bool, what: &str) {
@@ -82,6 +85,8 @@ pub(crate) fn host_of(alloc: Global, input: &[u8], outside: Outside) -> Result<M
         input: source_of(alloc, input, outside)?,
         output,
         errors,
+        ticks: MemClock::new(MomentList::new(alloc)),
+        seed: SEED,
     })
 }
 

@@ -1,10 +1,12 @@
 //! Each answer is written before the next byte is asked for.
 ghost use Rattle.std.specs.Prelude.{None};
 
-use crate::hosts::{must, sink_of, words_of};
+use crate::hosts::{SEED, must, sink_of, words_of};
+use mod_utf::list::MomentList;
 use rmi_cli::{Host, run};
 use std::cell::Cell;
 use std::test::Fail;
+use wire_io::mem::MemClock;
 use wire_io::sink::Sink;
 use wire_io::source::{Failed, Source};
 
@@ -84,6 +86,8 @@ fn answers_are_written_before_more_is_read(rt: HostRuntime) -> Result<(), Fail> 
         },
         output: Counting { written: &written },
         errors: sink_of(rt.alloc(), &[])?,
+        ticks: MemClock::new(MomentList::new(rt.alloc())),
+        seed: SEED,
     };
     let status = run(rt.alloc(), &words, &mut host);
     must(&rt, status == 0, "status");
