@@ -1,3 +1,4 @@
+pub mod Asks
 pub mod Awaiting
 pub mod Collector
 pub mod Laws

@@ -1,5 +1,6 @@
 //! What a space is asked.
-ghost use Rattle.std.specs.Prelude.{◌≡◌, IfOk};
+ghost use Rattle.std.specs.Prelude.{◌≡◌, ◌↔◌, false, IfOk, IsTrue};
+ghost use Rattle.history.specs.Asks.{has_lists};
 
 use crate::names::Name;
 use mod_utf::list::{Kinds, Same, Sequence, TryCopy};
@@ -157,55 +158,66 @@ fn clean_of(
     })
 }
 
+/// A copy of an ask without lists.
+fn copy_without_lists(alloc: Global, ask: &Ask) -> Result<Ask, AllocError>
+    requires { has_lists ask.now ≡ false }
+    ensures { IfOk result (λ copy. copy ≡ ask.now) }
+{
+    Ok(match ask {
+        Ask::Open { kind, pinned } => Ask::Open {
+            kind: *kind,
+            pinned: *pinned,
+        },
+        Ask::Begin { object } => Ask::Begin { object: *object },
+        Ask::Abandon { object } => Ask::Abandon { object: *object },
+        Ask::Ack { uid } => Ask::Ack { uid: *uid },
+        Ask::Bind { name, object } => Ask::Bind {
+            name: name.copy(alloc)?,
+            object: *object,
+        },
+        Ask::Rebind { name, object } => Ask::Rebind {
+            name: name.copy(alloc)?,
+            object: *object,
+        },
+        Ask::Unbind { name } => Ask::Unbind {
+            name: name.copy(alloc)?,
+        },
+        Ask::Lookup { name, uid } => Ask::Lookup {
+            name: name.copy(alloc)?,
+            uid: *uid,
+        },
+        Ask::List => Ask::List,
+        // a Tick: no other ask is left
+        _ => Ask::Tick,
+    })
+}
+
 impl Ask {
     /// A copy, which equals its source. It is refused only for want of memory.
     pub fn copy(&self, alloc: Global) -> Result<Ask, AllocError>
         ensures { IfOk result (λ copy. copy ≡ self.now) }
     {
-        Ok(match self {
-            Ask::Open { kind, pinned } => Ask::Open {
-                kind: *kind,
-                pinned: *pinned,
-            },
-            Ask::Begin { object } => Ask::Begin { object: *object },
+        match self {
             Ask::Finish {
                 object,
                 made,
                 listed,
                 uid,
-            } => finish_of(alloc, *object, made, listed, *uid)?,
-            Ask::Abandon { object } => Ask::Abandon { object: *object },
+            } => finish_of(alloc, *object, made, listed, *uid),
             Ask::Dirty {
                 client,
                 number,
                 asked,
                 objects,
-            } => dirty_of(alloc, client, *number, *asked, objects)?,
+            } => dirty_of(alloc, client, *number, *asked, objects),
             Ask::Clean {
                 client,
                 number,
                 objects,
                 strong,
-            } => clean_of(alloc, client, *number, objects, *strong)?,
-            Ask::Ack { uid } => Ask::Ack { uid: *uid },
-            Ask::Bind { name, object } => Ask::Bind {
-                name: name.copy(alloc)?,
-                object: *object,
-            },
-            Ask::Rebind { name, object } => Ask::Rebind {
-                name: name.copy(alloc)?,
-                object: *object,
-            },
-            Ask::Unbind { name } => Ask::Unbind {
-                name: name.copy(alloc)?,
-            },
-            Ask::Lookup { name, uid } => Ask::Lookup {
-                name: name.copy(alloc)?,
-                uid: *uid,
-            },
-            Ask::List => Ask::List,
-            Ask::Tick => Ask::Tick,
-        })
+            } => clean_of(alloc, client, *number, objects, *strong),
+            _ => copy_without_lists(alloc, self),
+        }
     }
 }
 
@@ -234,85 +246,100 @@ impl TryCopy for Event {
     }
 }
 
+// ---- comparisons
+
+fn is_finish(ask: &Ask, object: &ObjId, made: &Kinds, listed: &ObjIds, uid: &Uid) -> bool
+    ensures { IsTrue result ↔ (Ask.Finish object.now made.now listed.now uid.now ≡ ask.now) }
+{
+    match ask {
+        Ask::Finish {
+            object: o,
+            made: m,
+            listed: l,
+            uid: u,
+        } => object.is_same(o) && made.is_same(m) && listed.is_same(l) && uid.is_same(u),
+        _ => false,
+    }
+}
+
+fn is_dirty(ask: &Ask, client: &Vmid, number: i64, asked: i64, objects: &ObjIds) -> bool
+    ensures { IsTrue result ↔ (Ask.Dirty client.now number asked objects.now ≡ ask.now) }
+{
+    match ask {
+        Ask::Dirty {
+            client: c,
+            number: n,
+            asked: a,
+            objects: o,
+        } => client.is_same(c) && number == *n && asked == *a && objects.is_same(o),
+        _ => false,
+    }
+}
+
+fn is_clean(ask: &Ask, client: &Vmid, number: i64, objects: &ObjIds, strong: bool) -> bool
+    ensures { IsTrue result ↔ (Ask.Clean client.now number objects.now strong ≡ ask.now) }
+{
+    match ask {
+        Ask::Clean {
+            client: c,
+            number: n,
+            objects: o,
+            strong: s,
+        } => client.is_same(c) && number == *n && objects.is_same(o) && strong == *s,
+        _ => false,
+    }
+}
+
+/// Whether two asks without lists are the same.
+fn same_without_lists(ask: &Ask, other: &Ask) -> bool
+    requires { has_lists ask.now ≡ false }
+    ensures { IsTrue result ↔ (ask.now ≡ other.now) }
+{
+    match (ask, other) {
+        (Ask::Open { kind, pinned }, Ask::Open { kind: k, pinned: p }) => {
+            *kind == *k && *pinned == *p
+        }
+        (Ask::Begin { object }, Ask::Begin { object: o }) => object.is_same(o),
+        (Ask::Abandon { object }, Ask::Abandon { object: o }) => object.is_same(o),
+        (Ask::Ack { uid }, Ask::Ack { uid: u }) => uid.is_same(u),
+        (Ask::Bind { name, object }, Ask::Bind { name: n, object: o }) => {
+            name.is_same(n) && object.is_same(o)
+        }
+        (Ask::Rebind { name, object }, Ask::Rebind { name: n, object: o }) => {
+            name.is_same(n) && object.is_same(o)
+        }
+        (Ask::Unbind { name }, Ask::Unbind { name: n }) => name.is_same(n),
+        (Ask::Lookup { name, uid }, Ask::Lookup { name: n, uid: u }) => {
+            name.is_same(n) && uid.is_same(u)
+        }
+        (Ask::List, Ask::List) => true,
+        (Ask::Tick, Ask::Tick) => true,
+        _ => false,
+    }
+}
+
 impl Same for Ask {
     fn is_same(&self, other: &Ask) -> bool {
         match self {
-            Ask::Open { kind, pinned } => match other {
-                Ask::Open { kind: k, pinned: p } => *kind == *k && *pinned == *p,
-                _ => false,
-            },
-            Ask::Begin { object } => match other {
-                Ask::Begin { object: o } => object.is_same(o),
-                _ => false,
-            },
             Ask::Finish {
                 object,
                 made,
                 listed,
                 uid,
-            } => match other {
-                Ask::Finish {
-                    object: o,
-                    made: m,
-                    listed: l,
-                    uid: u,
-                } => object.is_same(o) && made.is_same(m) && listed.is_same(l) && uid.is_same(u),
-                _ => false,
-            },
-            Ask::Abandon { object } => match other {
-                Ask::Abandon { object: o } => object.is_same(o),
-                _ => false,
-            },
+            } => is_finish(other, object, made, listed, uid),
             Ask::Dirty {
                 client,
                 number,
                 asked,
                 objects,
-            } => match other {
-                Ask::Dirty {
-                    client: c,
-                    number: n,
-                    asked: a,
-                    objects: o,
-                } => client.is_same(c) && *number == *n && *asked == *a && objects.is_same(o),
-                _ => false,
-            },
+            } => is_dirty(other, client, *number, *asked, objects),
             Ask::Clean {
                 client,
                 number,
                 objects,
                 strong,
-            } => match other {
-                Ask::Clean {
-                    client: c,
-                    number: n,
-                    objects: o,
-                    strong: s,
-                } => client.is_same(c) && *number == *n && objects.is_same(o) && *strong == *s,
-                _ => false,
-            },
-            Ask::Ack { uid } => match other {
-                Ask::Ack { uid: u } => uid.is_same(u),
-                _ => false,
-            },
-            Ask::Bind { name, object } => match other {
-                Ask::Bind { name: n, object: o } => name.is_same(n) && object.is_same(o),
-                _ => false,
-            },
-            Ask::Rebind { name, object } => match other {
-                Ask::Rebind { name: n, object: o } => name.is_same(n) && object.is_same(o),
-                _ => false,
-            },
-            Ask::Unbind { name } => match other {
-                Ask::Unbind { name: n } => name.is_same(n),
-                _ => false,
-            },
-            Ask::Lookup { name, uid } => match other {
-                Ask::Lookup { name: n, uid: u } => name.is_same(n) && uid.is_same(u),
-                _ => false,
-            },
-            Ask::List => matches!(other, Ask::List),
-            Ask::Tick => matches!(other, Ask::Tick),
+            } => is_clean(other, client, *number, objects, *strong),
+            _ => same_without_lists(self, other),
         }
     }
 }

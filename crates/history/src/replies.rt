@@ -128,38 +128,21 @@ impl TryCopy for Turn {
 
 impl Same for Reply {
     fn is_same(&self, other: &Reply) -> bool {
-        match self {
-            Reply::Opened(object) => match other {
-                Reply::Opened(o) => object.is_same(o),
-                _ => false,
-            },
-            Reply::Started(kind) => match other {
-                Reply::Started(k) => *kind == *k,
-                _ => false,
-            },
-            Reply::NoObject => matches!(other, Reply::NoObject),
-            Reply::Finished(objects) => match other {
-                Reply::Finished(o) => objects.is_same(o),
-                _ => false,
-            },
-            Reply::NotRunning => matches!(other, Reply::NotRunning),
-            Reply::Granted(duration) => match other {
-                Reply::Granted(d) => *duration == *d,
-                _ => false,
-            },
-            Reply::Done => matches!(other, Reply::Done),
-            Reply::Bound => matches!(other, Reply::Bound),
-            Reply::AlreadyBound => matches!(other, Reply::AlreadyBound),
-            Reply::Unbound => matches!(other, Reply::Unbound),
-            Reply::NotBound => matches!(other, Reply::NotBound),
-            Reply::Found(object, kind) => match other {
-                Reply::Found(o, k) => object.is_same(o) && *kind == *k,
-                _ => false,
-            },
-            Reply::Names(names) => match other {
-                Reply::Names(n) => names.is_same(n),
-                _ => false,
-            },
+        match (self, other) {
+            (Reply::Opened(a), Reply::Opened(b)) => a.is_same(b),
+            (Reply::Started(a), Reply::Started(b)) => *a == *b,
+            (Reply::NoObject, Reply::NoObject) => true,
+            (Reply::Finished(a), Reply::Finished(b)) => a.is_same(b),
+            (Reply::NotRunning, Reply::NotRunning) => true,
+            (Reply::Granted(a), Reply::Granted(b)) => *a == *b,
+            (Reply::Done, Reply::Done) => true,
+            (Reply::Bound, Reply::Bound) => true,
+            (Reply::AlreadyBound, Reply::AlreadyBound) => true,
+            (Reply::Unbound, Reply::Unbound) => true,
+            (Reply::NotBound, Reply::NotBound) => true,
+            (Reply::Found(a, kind), Reply::Found(b, k)) => a.is_same(b) && *kind == *k,
+            (Reply::Names(a), Reply::Names(b)) => a.is_same(b),
+            _ => false,
         }
     }
 }

@@ -215,27 +215,31 @@ pub fn calls_of(alloc: Global, client: &Vmid, calls: &[Call]) -> Result<Vec<Call
     }
 }
 
+/// Clients with a copy of one more in front.
+fn in_front(alloc: Global, client: &Vmid, clients: Vec<Vmid>) -> Result<Vec<Vmid>, AllocError>
+    ensures { IfOk result (λ more. more.items ≡ client.now ∷ clients.items) }
+{
+    let copy = client.copy(alloc)?;
+    let mut more = clients;
+    more.insert(0, copy)?;
+    Ok(more)
+}
+
 /// Clients in order, with one more.
 fn with_client(alloc: Global, client: &Vmid, clients: &[Vmid]) -> Result<Vec<Vmid>, AllocError>
     ensures { IfOk result (λ more. more.items ≡ with_item client_cmp client.now clients.now) }
 {
     match clients {
-        [] => {
-            let mut more = Vec::new(alloc);
-            more.push(client.copy(alloc)?)?;
-            Ok(more)
-        }
+        [] => in_front(alloc, client, Vec::new(alloc)),
         [first, rest @ ..] => match client.compare(first) {
             Ordering::Less => {
-                let mut more = Vmid::try_copy_all(alloc, clients)?;
-                more.insert(0, client.copy(alloc)?)?;
-                Ok(more)
+                let all = Vmid::try_copy_all(alloc, clients)?;
+                in_front(alloc, client, all)
             }
             Ordering::Equal => Vmid::try_copy_all(alloc, clients),
             Ordering::Greater => {
-                let mut more = with_client(alloc, client, rest)?;
-                more.insert(0, first.copy(alloc)?)?;
-                Ok(more)
+                let more = with_client(alloc, client, rest)?;
+                in_front(alloc, first, more)
             }
         },
     }
@@ -267,15 +271,6 @@ fn client_has_time(
 {
     let own = calls_of(alloc, client, calls)?;
     Ok(has_time_left(lease, at, own.as_slice()))
-}
-
-/// Clients with one more in front.
-fn in_front(alloc: Global, client: &Vmid, clients: Vec<Vmid>) -> Result<Vec<Vmid>, AllocError>
-    ensures { IfOk result (λ more. more.items ≡ client.now ∷ clients.items) }
-{
-    let mut more = clients;
-    more.insert(0, client.copy(alloc)?)?;
-    Ok(more)
 }
 
 /// Those of some clients that have time left at a moment.
