@@ -65,9 +65,7 @@ fn tell_dirty(
         Agrees (call_refusal lease now calls (dirty_call now client.now number.now (filter (is_exported exports.now.rows) named.now))) result) }
     ensures err { OnErr result (leases.new ≡ leases.old) }
 {
-    let Ok(live) = live_among(alloc, exports, named) else {
-        return Err(Refused::OutOfMemory);
-    };
+    let live = live_among(alloc, exports, named)?;
     match leases.dirty(client, *number, &live, now) {
         Ok(_granted) => Ok(()),
         Err(fault) => Err(refused_for(fault)),
@@ -91,9 +89,7 @@ fn tell_clean(
         Agrees (call_refusal lease now calls (clean_call now client.now number.now (filter (is_exported exports.now.rows) named.now) strong)) result) }
     ensures err { OnErr result (leases.new ≡ leases.old) }
 {
-    let Ok(live) = live_among(alloc, exports, named) else {
-        return Err(Refused::OutOfMemory);
-    };
+    let live = live_among(alloc, exports, named)?;
     match leases.clean(client, *number, &live, strong, now) {
         Ok(()) => Ok(()),
         Err(fault) => Err(refused_for(fault)),

@@ -51,12 +51,8 @@ pub(crate) fn prepare(
     let opened = opens(effective, ask);
     let objects = exports.count() as usize + opened as usize;
     let references = returned(alloc, config.uid, k, exports, effective, now, ask)?;
-    let Ok(gone) = still_to_tell(alloc, withdrawn, told, objects) else {
-        return Err(Refused::OutOfMemory);
-    };
-    let Ok(reply) = reply_at(alloc, config, k, exports, effective, ask) else {
-        return Err(Refused::OutOfMemory);
-    };
+    let gone = still_to_tell(alloc, withdrawn, told, objects)?;
+    let reply = reply_at(alloc, config, k, exports, effective, ask)?;
     Ok(Prepared {
         opened,
         objects,

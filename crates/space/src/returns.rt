@@ -64,16 +64,11 @@ fn of_return(
     ensures refusal { let live = filter (is_exported exports.now.rows) listed.now in
         Agrees (return_refusal now uid.now (length made.now) live exports.now.waits) result }
 {
-    let Ok(live) = live_among(alloc, exports, listed) else {
-        return Err(Refused::OutOfMemory);
-    };
+    let live = live_among(alloc, exports, listed)?;
     if is_past(exports, now, uid, made.len(), live.as_slice()) {
         return Err(Refused::Full(FullKind::Awaiting));
     }
-    match new_and(alloc, space, k, made, live.as_slice()) {
-        Ok(objects) => Ok(objects),
-        Err(_refused) => Err(Refused::OutOfMemory),
-    }
+    Ok(new_and(alloc, space, k, made, live.as_slice())?)
 }
 
 /// The identifiers of objects of these kinds, the first of them as the space's k-th, and after them those of

@@ -17,12 +17,8 @@ pub(crate) fn room_for_event(events: &mut Vec<Event>, runs: &mut Vec<Run>) -> Re
     ensures runs { runs.new.items ≡ runs.old.items }
     ensures grow { vec_capacity events.old ≤ vec_capacity events.new }
 {
-    let Ok(()) = events.reserve(runs.len() + 2) else {
-        return Err(Refused::OutOfMemory);
-    };
-    let Ok(()) = runs.reserve(1) else {
-        return Err(Refused::OutOfMemory);
-    };
+    events.reserve(runs.len() + 2)?;
+    runs.reserve(1)?;
     Ok(())
 }
 
@@ -40,12 +36,8 @@ pub(crate) fn room_for_gone(
     ensures withdrawn_grow { vec_capacity withdrawn.old ≤ vec_capacity withdrawn.new }
     ensures scratch_grow { vec_capacity scratch.old ≤ vec_capacity scratch.new }
 {
-    let Ok(()) = withdrawn.reserve(objects) else {
-        return Err(Refused::OutOfMemory);
-    };
-    let Ok(()) = scratch.reserve(objects) else {
-        return Err(Refused::OutOfMemory);
-    };
+    withdrawn.reserve(objects)?;
+    scratch.reserve(objects)?;
     Ok(())
 }
 
@@ -62,8 +54,6 @@ pub(crate) fn room_in_table(
     ensures refusal { IfErr result (λ refused. refused ≡ OutOfMemory) }
     ensures rest { exports.new ≡ record exports.old { room = exports.new.room } }
 {
-    let Ok(()) = exports.reserve(opened as u32, returned as u32) else {
-        return Err(Refused::OutOfMemory);
-    };
+    exports.reserve(opened as u32, returned as u32)?;
     Ok(())
 }

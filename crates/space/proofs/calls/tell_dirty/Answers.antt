@@ -12,25 +12,25 @@ use Rattle.space.specs.Faults.{refused_for}
 use Rattle.space.proofs.Refusals.{dirty-taken, dirty-refused}
 use Rattle.space.proofs.calls.tell_dirty.Goals as goal
 
-pub returns-in-Ok-dirty-clause-ok : goal.returns-in-Ok-dirty-clause-ok
-returns-in-Ok-dirty-clause-ok c lease moment calls s le =
+pub returns-in-Ok-clause-ok : goal.returns-in-Ok-clause-ok
+returns-in-Ok-clause-ok c lease moment calls s le =
     let fits : FitsSigned w64 c.args.number.now = search rules in
     let time : max c.args.now moment ≡ c.args.now = omega arith in
     let T : ℕ → ℤ → List ObjId → Type 0 = λ t n os. StandsFor lease c.dirty.new.self t (dirty_call t c.args.client.now n os ∷ calls) in
-    let P : ℤ → Type 0 = λ n. T (max c.args.now moment) n c.in-Ok.live in
+    let P : ℤ → Type 0 = λ n. T (max c.args.now moment) n c.in_ok-live.live in
     let Q : List ObjId → Type 0 = λ os. T (max c.args.now moment) c.args.number.now os in
     let M : ℕ → Type 0 = λ t. T t c.args.number.now (filter (is_exported c.args.exports.now.rows) c.args.named.now) in
-    subst M time (subst Q c.in-Ok.ensures (subst P (to_z-of_z w64 c.args.number.now fits) (c.in-Ok-dirty.ensures.ok lease moment calls s)))
+    subst M time (subst Q c.in_ok-live.ensures (subst P (to_z-of_z w64 c.args.number.now fits) (c.in-Ok.ensures.ok lease moment calls s)))
 
-pub returns-in-Ok-dirty-clause-refusal : goal.returns-in-Ok-dirty-clause-refusal
-returns-in-Ok-dirty-clause-refusal c lease moment calls s le =
+pub returns-in-Ok-clause-refusal : goal.returns-in-Ok-clause-refusal
+returns-in-Ok-clause-refusal c lease moment calls s le =
     let fits : FitsSigned w64 c.args.number.now = search rules in
     let time : max c.args.now moment ≡ c.args.now = omega arith in
     let told : ℕ → ℤ → List ObjId → Option Refused = λ t n os. call_refusal lease t calls (dirty_call t c.args.client.now n os) in
-    let P : ℤ → Type 0 = λ n. told (max c.args.now moment) n c.in-Ok.live ≡ None in
+    let P : ℤ → Type 0 = λ n. told (max c.args.now moment) n c.in_ok-live.live ≡ None in
     let Q : List ObjId → Type 0 = λ os. told (max c.args.now moment) c.args.number.now os ≡ None in
     let M : ℕ → Type 0 = λ t. told t c.args.number.now (filter (is_exported c.args.exports.now.rows) c.args.named.now) ≡ None in
-    subst M time (subst Q c.in-Ok.ensures (subst P (to_z-of_z w64 c.args.number.now fits) (dirty-taken _ _ _ (c.in-Ok-dirty.ensures.clients lease moment calls s) (c.in-Ok-dirty.ensures.pairs lease moment calls s))))
+    subst M time (subst Q c.in_ok-live.ensures (subst P (to_z-of_z w64 c.args.number.now fits) (dirty-taken _ _ _ (c.in-Ok.ensures.clients lease moment calls s) (c.in-Ok.ensures.pairs lease moment calls s))))
 
 pub returns-clause-refusal : goal.returns-clause-refusal
 returns-clause-refusal c lease moment calls s le =
@@ -38,9 +38,9 @@ returns-clause-refusal c lease moment calls s le =
     let time : max c.args.now moment ≡ c.args.now = omega arith in
     let told : ℕ → ℤ → List ObjId → Option Refused = λ t n os. call_refusal lease t calls (dirty_call t c.args.client.now n os) in
     let A : ℕ → ℤ → List ObjId → Refused → Type 0 = λ t n os r. (told t n os ≡ Some r) ⊎ (r ≡ OutOfMemory) in
-    let P : ℤ → Type 0 = λ n. A (max c.args.now moment) n c.in-Ok.live (refused_for c.in-Err.fault) in
+    let P : ℤ → Type 0 = λ n. A (max c.args.now moment) n c.in_ok-live.live (refused_for c.in-Err.fault) in
     let Q : List ObjId → Type 0 = λ os. A (max c.args.now moment) c.args.number.now os (refused_for c.in-Err.fault) in
     let M : ℕ → Type 0 = λ t. A t c.args.number.now (filter (is_exported c.args.exports.now.rows) c.args.named.now) (refused_for c.in-Err.fault) in
     let R : Refused → Type 0 = λ r. A c.args.now c.args.number.now (filter (is_exported c.args.exports.now.rows) c.args.named.now) r in
-    subst R (sym c.refused_for.ensures) (subst M time (subst Q c.in-Ok.ensures (subst P (to_z-of_z w64 c.args.number.now fits)
+    subst R (sym c.refused_for.ensures) (subst M time (subst Q c.in_ok-live.ensures (subst P (to_z-of_z w64 c.args.number.now fits)
     (dirty-refused _ _ c.in-Err.fault (c.in-Err.ensures.clients lease moment calls s) (c.in-Err.ensures.pairs lease moment calls s)))))
