@@ -26,13 +26,15 @@ pub enum DescFault {
     BadTypeText,
 }
 
-fn has_flag(flags: u8, flag: u8) -> bool
+/// Whether the sum of a class's flags has a flag.
+pub fn has_flag(flags: u8, flag: u8) -> bool
     ensures { result ≡ has_flag flags flag }
 {
     flags & flag == flag
 }
 
-fn lacks_flag(flags: u8, flag: u8) -> bool
+/// Whether the sum of a class's flags lacks a flag.
+pub fn lacks_flag(flags: u8, flag: u8) -> bool
     ensures { result ≡ lacks_flag flags flag }
 {
     flags & flag == 0

@@ -1,6 +1,6 @@
 //! The classes that Java's remote method invocation itself sends.
 ghost use Rattle.std.specs.Prelude.{◌≡◌, ◌++◌, ◌∷◌, [], IfOk, OnOk};
-ghost use Rattle.class_desc.specs.KnownClass.{parts_of, typed};
+ghost use Rattle.class_desc.specs.KnownClass.{parts_of, plain, typed};
 
 use crate::desc::{SERIALIZABLE, WRITE_METHOD};
 use crate::field::TypeCode;
@@ -147,70 +147,60 @@ fn flags_of(which: KnownClass) -> u8
     }
 }
 
+/// Appends a primitive field.
+fn put_plain(
+    alloc: Global,
+    fields: &mut PartFields,
+    code: TypeCode,
+    name: &str,
+) -> Result<(), AllocError>
+    ensures { OnOk result (fields.new ≡ fields.old ++ plain code name.now ∷ []) }
+{
+    put_field(alloc, fields, code, name, "")
+}
+
+/// Appends a field of a class or an interface.
+fn put_object(
+    alloc: Global,
+    fields: &mut PartFields,
+    name: &str,
+    type_text: &str,
+) -> Result<(), AllocError>
+    ensures { OnOk result (fields.new ≡ fields.old ++ typed TypeCode.Object name.now type_text.now ∷ []) }
+{
+    put_field(alloc, fields, TypeCode::Object, name, type_text)
+}
+
 /// Appends the fields of a known class.
 fn put_fields(alloc: Global, fields: &mut PartFields, which: KnownClass) -> Result<(), AllocError>
     ensures { OnOk result (fields.new ≡ fields.old ++ (parts_of which).fields) }
 {
     match which {
         KnownClass::ObjId => {
-            put_field(alloc, fields, TypeCode::J, "objNum", "")?;
-            put_field(
-                alloc,
-                fields,
-                TypeCode::Object,
-                "space",
-                "Ljava/rmi/server/UID;",
-            )
+            put_plain(alloc, fields, TypeCode::J, "objNum")?;
+            put_object(alloc, fields, "space", "Ljava/rmi/server/UID;")
         }
         KnownClass::Uid => {
-            put_field(alloc, fields, TypeCode::S, "count", "")?;
-            put_field(alloc, fields, TypeCode::J, "time", "")?;
-            put_field(alloc, fields, TypeCode::I, "unique", "")
+            put_plain(alloc, fields, TypeCode::S, "count")?;
+            put_plain(alloc, fields, TypeCode::J, "time")?;
+            put_plain(alloc, fields, TypeCode::I, "unique")
         }
         KnownClass::Vmid => {
             put_field(alloc, fields, TypeCode::Array, "addr", "[B")?;
-            put_field(
-                alloc,
-                fields,
-                TypeCode::Object,
-                "uid",
-                "Ljava/rmi/server/UID;",
-            )
+            put_object(alloc, fields, "uid", "Ljava/rmi/server/UID;")
         }
         KnownClass::Lease => {
-            put_field(alloc, fields, TypeCode::J, "value", "")?;
-            put_field(
-                alloc,
-                fields,
-                TypeCode::Object,
-                "vmid",
-                "Ljava/rmi/dgc/VMID;",
-            )
+            put_plain(alloc, fields, TypeCode::J, "value")?;
+            put_object(alloc, fields, "vmid", "Ljava/rmi/dgc/VMID;")
         }
-        KnownClass::Proxy => put_field(
-            alloc,
-            fields,
-            TypeCode::Object,
-            "h",
-            "Ljava/lang/reflect/InvocationHandler;",
-        ),
+        KnownClass::Proxy => {
+            put_object(alloc, fields, "h", "Ljava/lang/reflect/InvocationHandler;")
+        }
         KnownClass::RemoteException => {
-            put_field(
-                alloc,
-                fields,
-                TypeCode::Object,
-                "detail",
-                "Ljava/lang/Throwable;",
-            )
+            put_object(alloc, fields, "detail", "Ljava/lang/Throwable;")
         }
         KnownClass::Throwable => {
-            put_field(
-                alloc,
-                fields,
-                TypeCode::Object,
-                "detailMessage",
-                "Ljava/lang/String;",
-            )
+            put_object(alloc, fields, "detailMessage", "Ljava/lang/String;")
         }
         _ => Ok(()),
     }

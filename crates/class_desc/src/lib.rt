@@ -11,7 +11,7 @@ mod known_class;
 mod slot;
 mod type_text;
 
-pub use check::{DescFault, check_desc, check_type_text};
+pub use check::{DescFault, check_desc, check_type_text, has_flag, lacks_flag};
 pub use desc::{
     BLOCK_DATA, ClassDesc, ENUM, EXTERNALIZABLE, ProxyDesc, SERIALIZABLE, WRITE_METHOD,
 };

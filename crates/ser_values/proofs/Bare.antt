@@ -1,5 +1,5 @@
 -- Graphs that differ in the bytes of their objects' notes alone are numbered and shaped alike.
-use Rattle.std.proofs.Common.{◌≡◌, ◌&&◌, ◌||◌, not, ℕ, zero, suc, ◌+◌, ◌<◌, ◌≤◌, Bool, true, false, List, [], ◌∷◌, ◌++◌, map, length, Option, Some, None, slice_get, refl, sym, ap, subst, ◌∙◌, arith}
+use Rattle.std.proofs.Common.{◌≡◌, ◌&&◌, ◌||◌, not, ℕ, zero, suc, Bool, true, false, List, [], ◌∷◌, ◌++◌, map, length, Option, Some, None, slice_get, refl, sym, ap, subst, ◌∙◌, arith}
 use Rattle.std.specs.Prelude.{All, option_map, slice_set}
 use Rattle.class_desc.specs.declared.slot.Slot.{Slot}
 use Rattle.class_desc.specs.declared.slot.Slot.TheVariants as slots
@@ -22,7 +22,7 @@ use Rattle.ser_values.specs.Node.{has, is_desc, is_text, admits, takes, Want, it
 use Rattle.ser_values.specs.NoteBytes.{byte_to, item_to, note_to, object_to, with_note_byte}
 use Rattle.ser_values.specs.Numbered.{Numbering, NumberAll, Numbers, a_null, again, fresh, no_numbers, Numbered, IsGraph}
 use Rattle.ser_values.specs.Ranges.{PartFits, InRange}
-use Rattle.ser_values.specs.Shape.{joined_from, fits_node, fits_type, are_typed, fits_part, fits_above, fits_chain, is_external, fits_object, fits_array, is_enum, is_shaped, parts_of, parts_in, is_short}
+use Rattle.ser_values.specs.Shape.{joined_from, fits_node, fits_type, are_typed, fits_part, fits_above, fits_chain, is_external, fits_object, fits_array, is_enum, is_shaped, parts_in}
 use Rattle.ser_values.proofs.Lists.{some_same}
 use Rattle.ser_values.proofs.Ranged.{numbers_of, units_of, both_of, all_at, put_kept}
 

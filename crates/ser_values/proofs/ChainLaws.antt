@@ -1,17 +1,17 @@
 -- An object has as many parts as its class's chain has descriptions.
-use Rattle.std.proofs.Common.{◌≡◌, ◌⊎◌, ◌&&◌, ◌||◌, not, ℕ, zero, suc, ◌+◌, ◌-◌, ◌<◌, ◌≤◌, Bool, true, false, List, [], ◌∷◌, length, Option, Some, None, slice_get, refl, sym, ap, subst, ◌∙◌, arith, inl, inr}
+use Rattle.std.proofs.Common.{◌≡◌, ◌⊎◌, ◌&&◌, ◌||◌, not, ℕ, zero, suc, ◌-◌, ◌<◌, ◌≤◌, Bool, true, false, List, [], ◌∷◌, length, Option, Some, slice_get, refl, ap, arith, inl, inr}
 use Rattle.std.specs.Prelude.{is_some}
 use Rattle.class_desc.specs.declared.slot.Slot.{Slot}
 use Rattle.class_desc.specs.declared.slot.Slot.TheVariants as slots
 use Rattle.class_desc.specs.declared.slot.Item.{Item}
-use Rattle.class_desc.specs.TypeText.{is_nil, element_of}
+use Rattle.class_desc.specs.TypeText.{element_of}
 use Rattle.class_desc.specs.ClassDesc.{has_flag, lacks_flag}
 use Rattle.ser_values.specs.declared.node.Node.{Node}
-use Rattle.ser_values.specs.declared.node.Node.TheVariants.{Text, Desc, Proxy, Object, Array, Class, Enum}
+use Rattle.ser_values.specs.declared.node.Node.TheVariants.{Desc, Proxy, Object}
 use Rattle.ser_values.specs.declared.value.Part.{Part}
 use Rattle.ser_values.specs.Chain.{up_from, up_by, chain_within, chain, is_externalizable}
 use Rattle.ser_values.specs.Numbered.{IsGraph}
-use Rattle.ser_values.specs.Shape.{fits_part, fits_above, fits_chain, is_external, fits_object, is_shaped, is_joined, parts_of, parts_in}
+use Rattle.ser_values.specs.Shape.{fits_part, fits_above, fits_chain, is_external, fits_object, is_shaped}
 use Rattle.ser_values.proofs.Spelling.{both}
 use Rattle.ser_values.proofs.Mirror.{parts_room}
 use Rattle.ser_values.proofs.Shaped.{graph_shaped}

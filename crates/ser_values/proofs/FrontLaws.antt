@@ -1,9 +1,6 @@
 -- Bytes before items, taken away and put there.
-use Rattle.std.proofs.Common.{◌≡◌, ◌≢◌, ◌⊎◌, ◌&&◌, ◌||◌, not, ℕ, zero, suc, ◌+◌, ◌<◌, ◌≤◌, Bool, true, false, cond, eqb, ltb, List, [], ◌∷◌, ◌++◌, length, take, drop, Option, Some, None, refl, sym, ap, subst, ◌∙◌, arith, inl, inr}
-use Rattle.std.specs.Prelude.{All}
-use Rattle.std.specs.List.{remove}
-use Rattle.std.proofs.lemmas.Bool.{eqb-true, eqb-false, ltb-true, ltb-false, lt-ltb, le-ltb, cases_eq}
-use Rattle.class_desc.specs.declared.slot.Slot.{Slot}
+use Rattle.std.proofs.Common.{◌≡◌, ◌≢◌, ◌⊎◌, ◌||◌, not, ℕ, zero, suc, ◌+◌, ◌<◌, ◌≤◌, Bool, true, false, cond, eqb, ltb, List, [], ◌∷◌, ◌++◌, length, take, drop, Some, None, refl, sym, ap, subst, ◌∙◌, arith, inl, inr}
+use Rattle.std.proofs.lemmas.Bool.{eqb-true, eqb-false, ltb-false, lt-ltb, le-ltb, cases_eq}
 use Rattle.class_desc.specs.declared.slot.Item.{Item}
 use Rattle.class_desc.specs.declared.slot.Item.TheVariants as items
 use Rattle.class_desc.specs.TypeText.{is_nil}
@@ -12,7 +9,7 @@ use Rattle.ser_values.specs.Node.{Want, item_wants}
 use Rattle.ser_values.specs.Numbered.{NumberAll, Numbered, IsGraph}
 use Rattle.ser_values.specs.Shape.{joined_from, is_joined}
 use Rattle.ser_values.specs.Spelled.{put_block}
-use Rattle.ser_values.specs.Fronts.{front_len, first_less, without_front, HasFront}
+use Rattle.ser_values.specs.Fronts.{front_len, without_front, HasFront}
 use Rattle.ser_values.proofs.Lists.{some_same}
 use Rattle.ser_values.proofs.Spelling.{both, joined_put, put_wants}
 

@@ -1,5 +1,5 @@
 -- Items and the bytes that they begin with. `put_block bytes items` are items with bytes before them, which join those that they begin with.
-use Rattle.std.specs.Prelude.{◌≡◌, ℕ, zero, suc, Bool, true, false, nat_eq, nat_lt, List, [], ◌∷◌, length, drop, Option, Some, None, if◌then◌else◌}
+use Rattle.std.specs.Prelude.{◌≡◌, ℕ, zero, suc, Bool, true, false, nat_eq, nat_lt, List, ◌∷◌, length, drop, Option, Some, None, if◌then◌else◌}
 use Rattle.class_desc.specs.declared.slot.Item.{Item}
 use Rattle.class_desc.specs.declared.slot.Item.TheVariants as items
 use Rattle.ser_values.specs.Shape.{is_joined}

@@ -25,7 +25,9 @@ mod walking;
 pub use builder::Builder;
 pub use fault::BuildFault;
 pub use graph::{Graph, same_graph};
+pub use loose::elements_in;
 pub use node::{Node, NodeList, NumberList, Place};
 pub use note_bytes::NotePlace;
+pub use shape::{is_desc, is_text};
 pub use value::{Part, PartList, Value, ValueList, Values};
 

@@ -16,7 +16,7 @@ pub(crate) struct Loose<'a> {
 }
 
 /// The type of the elements of the array class that a text or a description names.
-fn elements_in(node: &Node) -> Option<TypeCode>
+pub fn elements_in(node: &Node) -> Option<TypeCode>
     ensures { result ≡ elements_in node.now }
 {
     match node {

@@ -9,14 +9,14 @@ use crate::node::{Node, Place};
 use crate::value::{Part, Value, Values};
 use class_desc::{
     BLOCK_DATA, ENUM, EXTERNALIZABLE, FieldDesc, Item, SERIALIZABLE, Slot, TypeCode, WRITE_METHOD,
-    check_desc, check_type_text, is_primitive,
+    check_desc, check_type_text, has_flag, is_primitive, lacks_flag,
 };
 use mod_utf::list::Units;
 use mod_utf::utf::encoded_len;
 
-/// Whether a node is a description.
+/// Whether a node is a description, of a class or of a proxy class.
 #[tactic(auto, unfolding(crate::specs::Node::is_desc))]
-pub(crate) fn is_desc(node: &Node) -> bool
+pub fn is_desc(node: &Node) -> bool
     ensures { result ≡ is_desc node.now }
 {
     match node {
@@ -32,7 +32,7 @@ pub(crate) fn is_desc(node: &Node) -> bool
 
 /// Whether a node is a text.
 #[tactic(auto, unfolding(crate::specs::Node::is_text))]
-fn is_text(node: &Node) -> bool
+pub fn is_text(node: &Node) -> bool
     ensures { result ≡ is_text node.now }
 {
     match node {
@@ -176,8 +176,8 @@ fn above(node: &Node, part: &Part) -> Option<Slot>
 {
     match node {
         Node::Desc(desc) => {
-            let writes = desc.flags & WRITE_METHOD == WRITE_METHOD;
-            if desc.flags & SERIALIZABLE == SERIALIZABLE
+            let writes = has_flag(desc.flags, WRITE_METHOD);
+            if has_flag(desc.flags, SERIALIZABLE)
                 && fits_part(desc.fields.as_slice(), writes, part)
             {
                 Some(desc.parent)
@@ -307,10 +307,9 @@ impl Loose<'_> {
         match self.node(class) {
             Some(Node::Desc(desc)) => {
                 let flags = desc.flags;
-                (flags & ENUM == 0 && self.elements(class).is_none())
+                (lacks_flag(flags, ENUM) && self.elements(class).is_none())
                     && (chained
-                        || ((flags & EXTERNALIZABLE == EXTERNALIZABLE
-                            && flags & BLOCK_DATA == BLOCK_DATA)
+                        || ((has_flag(flags, EXTERNALIZABLE) && has_flag(flags, BLOCK_DATA))
                             && is_external(parts)))
             }
             Some(Node::Proxy(_)) => chained,
@@ -335,7 +334,7 @@ impl Loose<'_> {
         ensures { result ≡ is_enum (slice_get self.now.nodes.now class) }
     {
         match self.node(class) {
-            Some(Node::Desc(desc)) => desc.flags & ENUM == ENUM,
+            Some(Node::Desc(desc)) => has_flag(desc.flags, ENUM),
             _ => false,
         }
     }

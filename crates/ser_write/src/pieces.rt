@@ -5,7 +5,7 @@ ghost use Rattle.ser_values.specs.Spelled.{writers};
 ghost use Rattle.ser_write.specs.Canonical.{block_of, blocks, code_of, short_bytes, text_bytes, primitive_bytes, value_bytes, is_external_class, writers_by};
 
 use crate::numbers::{Spelled, put_32, put_byte, put_each, put_long_text, put_short_text};
-use class_desc::{EXTERNALIZABLE, Slot, WRITE_METHOD};
+use class_desc::{EXTERNALIZABLE, Slot, WRITE_METHOD, has_flag};
 use mod_utf::list::{ByteList, Units};
 use mod_utf::utf::encoded_len;
 use ser_values::{Node, Value, Values};
@@ -141,7 +141,7 @@ pub(crate) fn is_external_class(node: Option<&Node>) -> bool
     ensures { result ≡ is_external_class (option_map (λ n. n.now) node.entry) }
 {
     match node {
-        Some(Node::Desc(desc)) => desc.flags & EXTERNALIZABLE == EXTERNALIZABLE,
+        Some(Node::Desc(desc)) => has_flag(desc.flags, EXTERNALIZABLE),
         _ => false,
     }
 }
@@ -154,9 +154,7 @@ fn writer_at(nodes: &[Node], slot: Slot) -> Option<(bool, Slot)>
     match slot {
         Slot::Null => None,
         Slot::Node(number) => match nodes.get(number as usize) {
-            Some(Node::Desc(desc)) => {
-                Some((desc.flags & WRITE_METHOD == WRITE_METHOD, desc.parent))
-            }
+            Some(Node::Desc(desc)) => { Some((has_flag(desc.flags, WRITE_METHOD), desc.parent)) }
             Some(Node::Proxy(proxy)) => Some((false, proxy.parent)),
             _ => None,
         },

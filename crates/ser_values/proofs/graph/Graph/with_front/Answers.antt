@@ -1,4 +1,4 @@
-use Rattle.std.proofs.Common.{rules, ◌≡◌, Some}
+use Rattle.std.proofs.Common.{rules, ◌≡◌}
 use Rattle.std.proofs.Math.Logic.{∥∥₁_map}
 use Rattle.ser_values.specs.Spelled.{put_block}
 use Rattle.ser_values.proofs.FrontLaws.{with_graph, front_undone}
