@@ -9,9 +9,10 @@ use Rattle.ser_values.specs.Spelled.{joined}
 use Rattle.std.proofs.lemmas.List.{append-nil}
 use Rattle.std.specs.Int.{w32}
 use Rattle.wire_io.proofs.Pulling.{takes_nothing, takes_more}
-use Rattle.ser_read.specs.Here.{AreBytes, Reads}
-use Rattle.ser_read.proofs.Steps.{Leads, leads_two, leads_read, bytes_more}
+use Rattle.ser_read.specs.Here.{AreBytes, NeedsLast, Reads}
+use Rattle.ser_read.proofs.Steps.{Goes, goes_two, Leads, leads_two, leads_read, no_last, least_two, bytes_more}
 use Rattle.ser_read.proofs.Bytes.{ok_is}
+use Rattle.ser_read.specs.Whole.{going_on}
 use Rattle.ser_read.specs.Named.{item_at, added}
 use Rattle.ser_read.proofs.Joins.{added_is}
 
@@ -29,6 +30,18 @@ added_all before (i ∷ is) = added_all (added before i) is
 abbrev pub after_all : List Item → Items → Items
 after_all before read = read >>= λ x. Ok (added_all before x.0, x.1, x.2)
 
+-- Items up to the end of the bytes are no end where the bytes go on.
+abbrev pub until : {Y : Type 0} → Bool → Result Y Fault → Result Y Fault
+until true r = r
+until false r = going_on r
+
+pub until_err : {Y : Type 0} (within : Bool) (r : Result Y Fault) (f : Fault) → r ≡ Err f → until within r ≡ Err f
+until_err true r f h = h
+until_err false r f h = rw h refl
+
+until_same : {Y : Type 0} (within : Bool) (r s : Result Y Fault) → r ≡ s → until within r ≡ until within s
+until_same {Y} within r s h = ap (λ (r : Result Y Fault). until within r) h
+
 -- Bytes were taken, and what reads the items after those that were read, reads all. Each item took a byte at least.
 pub record Slack (p q : Place) (inner : ℕ → Step Slot) (within : Bool) (first now : Progress) (is : List Item) : Type 0 where
   pub taken : List ℕ
@@ -36,6 +49,7 @@ pub record Slack (p q : Place) (inner : ℕ → Step Slot) (within : Bool) (firs
   pub takes : Takes p q taken
   pub spare : ℕ
   pub reads : (rest : List ℕ) → items_at (q.at + length rest) (inner (q.at + length rest)) within first (taken ++ rest) ≡ after_all is (blocks_at (q.at + length rest) (inner (q.at + length rest)) within (suc (spare + length rest)) now rest)
+  pub least : NeedsLast short p.at taken (λ end bs. until within (items_at end (inner end) within first bs))
 
 added_joined : (xs ys : List Item) → added_all (joined xs) ys ≡ joined (xs ++ ys)
 unfolding added_all
@@ -50,6 +64,7 @@ slack_start p inner within first = record {
   takes = takes_nothing p;
   spare = 0;
   reads = λ rest. let k : 0 + length rest ≡ length rest = omega arith in rw k (go (blocks_at (p.at + length rest) (inner (p.at + length rest)) within (suc (length rest)) first rest));
+  least = λ front last e. absurd (no_last front last e);
 }
   where
     go : (r : Items) → ◌>>=◌ {B = List Item × Progress × List ℕ} r (λ x. Ok (joined x.0, x.1, x.2)) ≡ after_all [] r
@@ -133,71 +148,6 @@ block_step end inner within most c is now bs ref i later rest other same h =
     go false true e = two (size_at end w32 (2 ^ 31) bs) e
     go false false e = one (ref now bs) e
 
--- ---- the loop
-
-pub one_byte : (taken : List ℕ) (c : ℕ) → ((rest : List ℕ) → byte_at (taken ++ rest) ≡ Ok (c, rest)) → taken ≡ c ∷ []
-one_byte [] c h = absurd (let e = h [] in cc)
-one_byte (b ∷ taken) c h =
-    let e : (b, taken ++ []) ≡ (c, []) = ok_is _ _ (byte_at ((b ∷ taken) ++ [])) refl (h []) in
-    let head : b ≡ c = ap (λ (x : ℕ × List ℕ). x.0) e in
-    let tail : taken ++ [] ≡ [] = ap (λ (x : ℕ × List ℕ). x.1) e in
-    rw (head, sym (append-nil taken) ∙ tail) refl
-
-pub slack_leads : {p q : Place} {inner : ℕ → Step Slot} {within : Bool} {first now : Progress} {is : List Item} (s : Slack p q inner within first now is)
-    → Leads p q (λ end. items_at end (inner end) within first) (λ end bs. after_all is (blocks_at end (inner end) within (suc (s.spare + length bs)) now bs))
-slack_leads s = record { taken = s.taken; bytes = s.bytes; takes = s.takes; is = s.reads }
-
-pub slack_next : {p q m r : Place} {inner : ℕ → Step Slot} {within : Bool} (ref : ℕ → Step Slot) {first now later : Progress} {is : List Item} {c : ℕ} {i : Item}
-    → Slack p q inner within first now is → Reads q m (λ end. byte_at) (λ rest. (c, rest)) → Reads m r (λ end. item_at end (ref end) c now) (λ rest. (i, later, rest))
-    → (within && nat_eq c 0x78) ≡ false → ((end : ℕ) (bs : List ℕ) → end ≡ q.at + suc (length bs) → inner end now (c ∷ bs) ≡ ref end now bs) → Slack p r inner within first later (added is i)
-slack_next {p} {q} {m} {r} {inner} {within} ref {first} {now} {later} {is} {c} {i} s a b other same =
-    let one : a.taken ≡ c ∷ [] = one_byte a.taken c a.is in
-    let len : length a.taken ≡ 1 = ap (λ (x : List ℕ). length x) one in
-    record {
-      taken = s.taken ++ (a.taken ++ b.taken);
-      bytes = bytes_more s.taken (a.taken ++ b.taken) s.bytes (bytes_more a.taken b.taken a.bytes b.bytes);
-      takes = takes_more p q r s.taken (a.taken ++ b.taken) s.takes (takes_more q m r a.taken b.taken a.takes b.takes);
-      spare = s.spare + length b.taken;
-      reads = λ rest.
-          let end = r.at + length rest in
-          let whole : (s.taken ++ (a.taken ++ b.taken)) ++ rest ≡ s.taken ++ (c ∷ (b.taken ++ rest)) =
-          append_assoc s.taken (a.taken ++ b.taken) rest ∙ ap (λ (x : List ℕ). s.taken ++ x) (append_assoc a.taken b.taken rest ∙ ap (λ (x : List ℕ). x ++ (b.taken ++ rest)) one) in
-          let ends : r.at + length rest ≡ q.at + length (c ∷ (b.taken ++ rest)) = omega (arith, len, a.takes.at, b.takes.at, length-append b.taken rest) in
-          let here : r.at + length rest ≡ q.at + suc (length (b.taken ++ rest)) = ends in
-          let first_is = rw (← ends) at (s.reads (c ∷ (b.taken ++ rest))) in
-          let mid : r.at + length rest ≡ m.at + length (b.taken ++ rest) = omega (arith, b.takes.at, length-append b.taken rest) in
-          let most : s.spare + length (c ∷ (b.taken ++ rest)) ≡ suc (s.spare + length b.taken + length rest) = omega (arith, length-append b.taken rest) in
-          rw whole (first_is ∙ block_step end (inner end) within (s.spare + length (c ∷ (b.taken ++ rest))) c is now (b.taken ++ rest) (ref end) i later rest other (same end (b.taken ++ rest) here) (b.is rest) ∙ ap (λ n. after_all (added is i) (blocks_at end (inner end) within n later rest)) most);
-    }
-
-pub slack_more : {p q m r : Place} {inner : ℕ → Step Slot} (ref : ℕ → Step Slot) {first now later : Progress} {is : List Item} {c : ℕ} {i : Item}
-    → Slack p q inner true first now is → Reads q m (λ end. byte_at) (λ rest. (c, rest)) → Reads m r (λ end. item_at end (ref end) c now) (λ rest. (i, later, rest))
-    → nat_eq c 0x78 ≡ false → ((end : ℕ) (bs : List ℕ) → end ≡ q.at + suc (length bs) → inner end now (c ∷ bs) ≡ ref end now bs) → Slack p r inner true first later (added is i)
-slack_more ref s a b other same = slack_next {within = true} ref s a b other same
-
-pub slack_end : {p q m : Place} {inner : ℕ → Step Slot} {first now : Progress} {is : List Item} {c : ℕ}
-    → Slack p q inner true first now is → Reads q m (λ end. byte_at) (λ rest. (c, rest)) → c ≡ 0x78 → Reads p m (λ end. items_at end (inner end) true first) (λ rest. (is, now, rest))
-unfolding blocks_at added_all
-slack_end {p} {q} {m} {inner} {first} {now} {is} {c} s a h =
-    let one : a.taken ≡ c ∷ [] = one_byte a.taken c a.is in
-    let len : length a.taken ≡ 1 = ap (λ (x : List ℕ). length x) one in
-    record {
-      taken = s.taken ++ a.taken;
-      bytes = bytes_more s.taken a.taken s.bytes a.bytes;
-      takes = takes_more p q m s.taken a.taken s.takes a.takes;
-      is = λ rest.
-          let ends : m.at + length rest ≡ q.at + length (c ∷ rest) = omega (arith, len, a.takes.at) in
-          let whole : (s.taken ++ a.taken) ++ rest ≡ s.taken ++ (c ∷ rest) = append_assoc s.taken a.taken rest ∙ ap (λ (x : List ℕ). s.taken ++ (x ++ rest)) one in
-          let first_is = rw (← ends) at (s.reads (c ∷ rest)) in
-          rw whole (first_is ∙ rw h refl);
-    }
-
-pub byte_cons : (bs : List ℕ) (c : ℕ) (rest : List ℕ) → byte_at bs ≡ Ok (c, rest) → bs ≡ c ∷ rest
-byte_cons [] c rest h = absurd cc
-byte_cons (b ∷ bs) c rest h =
-    let e : (b, bs) ≡ (c, rest) = ok_is _ _ (byte_at (b ∷ bs)) refl h in
-    ap (λ (x : ℕ × List ℕ). x.0 ∷ x.1) e
-
 -- ---- where an item or a code is wanting
 
 err_as : {X Y : Type 0} (g f : Fault) (r : Result X Fault) → r ≡ Err g → r ≡ Err f → fault_in {Y = Y} g ≡ fault_in f
@@ -235,9 +185,102 @@ unfolding blocks_at
 code_err end inner most now is [] f h = err_as short f (byte_at []) refl h
 code_err end inner most now is (b ∷ bs) f h = absurd cc
 
+first_err : (end : ℕ) (inner : Step Slot) (within : Bool) (most : ℕ) (now : Progress) (is : List Item) (bs : List ℕ) → byte_at bs ≡ Err short → until within (after_all is (blocks_at end inner within (suc most) now bs)) ≡ Err short
+unfolding blocks_at
+first_err end inner true most now is [] h = refl
+first_err end inner false most now is [] h = refl
+first_err end inner within most now is (b ∷ bs) h = absurd cc
+
+pub byte_cons : (bs : List ℕ) (c : ℕ) (rest : List ℕ) → byte_at bs ≡ Ok (c, rest) → bs ≡ c ∷ rest
+byte_cons [] c rest h = absurd cc
+byte_cons (b ∷ bs) c rest h =
+    let e : (b, bs) ≡ (c, rest) = ok_is _ _ (byte_at (b ∷ bs)) refl h in
+    ap (λ (x : ℕ × List ℕ). x.0 ∷ x.1) e
+
+-- ---- the loop
+
+pub one_byte : (taken : List ℕ) (c : ℕ) → ((rest : List ℕ) → byte_at (taken ++ rest) ≡ Ok (c, rest)) → taken ≡ c ∷ []
+one_byte [] c h = absurd (let e = h [] in cc)
+one_byte (b ∷ taken) c h =
+    let e : (b, taken ++ []) ≡ (c, []) = ok_is _ _ (byte_at ((b ∷ taken) ++ [])) refl (h []) in
+    let head : b ≡ c = ap (λ (x : ℕ × List ℕ). x.0) e in
+    let tail : taken ++ [] ≡ [] = ap (λ (x : ℕ × List ℕ). x.1) e in
+    rw (head, sym (append-nil taken) ∙ tail) refl
+
+pub slack_goes : {p q : Place} {inner : ℕ → Step Slot} {within : Bool} {first now : Progress} {is : List Item} (s : Slack p q inner within first now is)
+    → Goes p q (λ end. items_at end (inner end) within first) (λ end bs. after_all is (blocks_at end (inner end) within (suc (s.spare + length bs)) now bs))
+slack_goes s = record { taken = s.taken; bytes = s.bytes; takes = s.takes; is = s.reads }
+
+pub slack_leads : {p q : Place} {inner : ℕ → Step Slot} {within : Bool} {first now : Progress} {is : List Item} (s : Slack p q inner within first now is)
+    → Leads short p q (λ end bs. until within (items_at end (inner end) within first bs)) (λ end bs. until within (after_all is (blocks_at end (inner end) within (suc (s.spare + length bs)) now bs)))
+slack_leads {within = within} s = record { taken = s.taken; bytes = s.bytes; takes = s.takes; is = λ rest. until_same within _ _ (s.reads rest); least = s.least }
+
 -- and then a code was read
-pub slack_byte : {p q m : Place} {inner : ℕ → Step Slot} {within : Bool} {first now : Progress} {is : List Item} {c : ℕ} (s : Slack p q inner within first now is) → Reads q m (λ end. byte_at) (λ rest. (c, rest))
-    → Leads p m (λ end. items_at end (inner end) within first) (λ end bs. after_all is (blocks_at end (inner end) within (suc (s.spare + suc (length bs))) now (c ∷ bs)))
-slack_byte {p} {q} {m} {inner} {within} {first} {now} {is} {c} s a =
-    leads_two (slack_leads s) (leads_read (λ end bs. after_all is (blocks_at end (inner end) within (suc (s.spare + suc (length bs))) now (c ∷ bs))) a
-    (λ end bs rest here h. ap (λ (l : List ℕ). after_all is (blocks_at end (inner end) within (suc (s.spare + length l)) now l)) (byte_cons bs c rest h)))
+byte_leads : {q m : Place} (inner : ℕ → Step Slot) (within : Bool) (spare : ℕ) (now : Progress) (is : List Item) (c : ℕ) → Reads short q m (λ end. byte_at) (λ rest. (c, rest))
+    → Leads short q m (λ end bs. until within (after_all is (blocks_at end (inner end) within (suc (spare + length bs)) now bs))) (λ end bs. until within (after_all is (blocks_at end (inner end) within (suc (spare + suc (length bs))) now (c ∷ bs))))
+byte_leads inner within spare now is c a = leads_read (λ end bs. until within (after_all is (blocks_at end (inner end) within (suc (spare + suc (length bs))) now (c ∷ bs)))) a
+    (λ end bs rest here h. ap (λ (l : List ℕ). until within (after_all is (blocks_at end (inner end) within (suc (spare + length l)) now l))) (byte_cons bs c rest h))
+    (λ end bs here h. first_err end (inner end) within (spare + length bs) now is bs h)
+
+pub slack_byte : {p q m : Place} {inner : ℕ → Step Slot} {within : Bool} {first now : Progress} {is : List Item} {c : ℕ} (s : Slack p q inner within first now is) → Reads short q m (λ end. byte_at) (λ rest. (c, rest))
+    → Leads short p m (λ end bs. until within (items_at end (inner end) within first bs)) (λ end bs. until within (after_all is (blocks_at end (inner end) within (suc (s.spare + suc (length bs))) now (c ∷ bs))))
+slack_byte {inner = inner} {within = within} {now = now} {is = is} {c = c} s a = leads_two (slack_leads s) (byte_leads inner within s.spare now is c a)
+
+pub byte_goes : {p q m : Place} {inner : ℕ → Step Slot} {within : Bool} {first now : Progress} {is : List Item} {c : ℕ} (s : Slack p q inner within first now is) → Reads short q m (λ end. byte_at) (λ rest. (c, rest))
+    → Goes p m (λ end. items_at end (inner end) within first) (λ end bs. after_all is (blocks_at end (inner end) within (suc (s.spare + suc (length bs))) now (c ∷ bs)))
+byte_goes {p} {q} {m} {inner} {within} {first} {now} {is} {c} s a = goes_two (slack_goes s) (record {
+  taken = a.taken;
+  bytes = a.bytes;
+  takes = a.takes;
+  is = λ rest. ap (λ (l : List ℕ). after_all is (blocks_at (m.at + length rest) (inner (m.at + length rest)) within (suc (s.spare + length l)) now l)) (byte_cons (a.taken ++ rest) c rest (a.is rest));
+})
+
+pub slack_next : {p q m r : Place} {inner : ℕ → Step Slot} {within : Bool} (ref : ℕ → Step Slot) {first now later : Progress} {is : List Item} {c : ℕ} {i : Item}
+    → Slack p q inner within first now is → Reads short q m (λ end. byte_at) (λ rest. (c, rest)) → Reads short m r (λ end. item_at end (ref end) c now) (λ rest. (i, later, rest))
+    → (within && nat_eq c 0x78) ≡ false → ((end : ℕ) (bs : List ℕ) → end ≡ q.at + suc (length bs) → inner end now (c ∷ bs) ≡ ref end now bs) → Slack p r inner within first later (added is i)
+unfolding byte_leads slack_leads leads_read
+slack_next {p} {q} {m} {r} {inner} {within} ref {first} {now} {later} {is} {c} {i} s a b other same =
+    let one : a.taken ≡ c ∷ [] = one_byte a.taken c a.is in
+    let len : length a.taken ≡ 1 = ap (λ (x : List ℕ). length x) one in
+    record {
+      taken = s.taken ++ (a.taken ++ b.taken);
+      bytes = bytes_more s.taken (a.taken ++ b.taken) s.bytes (bytes_more a.taken b.taken a.bytes b.bytes);
+      takes = takes_more p q r s.taken (a.taken ++ b.taken) s.takes (takes_more q m r a.taken b.taken a.takes b.takes);
+      spare = s.spare + length b.taken;
+      least = least_two (slack_leads s) (a.taken ++ b.taken) (least_two (byte_leads inner within s.spare now is c a) b.taken (λ front last e.
+          let here : m.at + length front ≡ q.at + suc (length front) = omega (arith, len, a.takes.at) in
+          until_err within _ short (item_err (m.at + length front) (inner (m.at + length front)) within (s.spare + suc (length front)) c is now front (ref (m.at + length front)) short other (same (m.at + length front) front here) (b.least front last e))));
+      reads = λ rest.
+          let end = r.at + length rest in
+          let whole : (s.taken ++ (a.taken ++ b.taken)) ++ rest ≡ s.taken ++ (c ∷ (b.taken ++ rest)) =
+          append_assoc s.taken (a.taken ++ b.taken) rest ∙ ap (λ (x : List ℕ). s.taken ++ x) (append_assoc a.taken b.taken rest ∙ ap (λ (x : List ℕ). x ++ (b.taken ++ rest)) one) in
+          let ends : r.at + length rest ≡ q.at + length (c ∷ (b.taken ++ rest)) = omega (arith, len, a.takes.at, b.takes.at, length-append b.taken rest) in
+          let here : r.at + length rest ≡ q.at + suc (length (b.taken ++ rest)) = ends in
+          let first_is = rw (← ends) at (s.reads (c ∷ (b.taken ++ rest))) in
+          let mid : r.at + length rest ≡ m.at + length (b.taken ++ rest) = omega (arith, b.takes.at, length-append b.taken rest) in
+          let most : s.spare + length (c ∷ (b.taken ++ rest)) ≡ suc (s.spare + length b.taken + length rest) = omega (arith, length-append b.taken rest) in
+          rw whole (first_is ∙ block_step end (inner end) within (s.spare + length (c ∷ (b.taken ++ rest))) c is now (b.taken ++ rest) (ref end) i later rest other (same end (b.taken ++ rest) here) (b.is rest) ∙ ap (λ n. after_all (added is i) (blocks_at end (inner end) within n later rest)) most);
+    }
+
+pub slack_more : {p q m r : Place} {inner : ℕ → Step Slot} (ref : ℕ → Step Slot) {first now later : Progress} {is : List Item} {c : ℕ} {i : Item}
+    → Slack p q inner true first now is → Reads short q m (λ end. byte_at) (λ rest. (c, rest)) → Reads short m r (λ end. item_at end (ref end) c now) (λ rest. (i, later, rest))
+    → nat_eq c 0x78 ≡ false → ((end : ℕ) (bs : List ℕ) → end ≡ q.at + suc (length bs) → inner end now (c ∷ bs) ≡ ref end now bs) → Slack p r inner true first later (added is i)
+slack_more ref s a b other same = slack_next {within = true} ref s a b other same
+
+pub slack_end : {p q m : Place} {inner : ℕ → Step Slot} {first now : Progress} {is : List Item} {c : ℕ}
+    → Slack p q inner true first now is → Reads short q m (λ end. byte_at) (λ rest. (c, rest)) → c ≡ 0x78 → Reads short p m (λ end. items_at end (inner end) true first) (λ rest. (is, now, rest))
+unfolding blocks_at added_all slack_leads
+slack_end {p} {q} {m} {inner} {first} {now} {is} {c} s a h =
+    let one : a.taken ≡ c ∷ [] = one_byte a.taken c a.is in
+    let len : length a.taken ≡ 1 = ap (λ (x : List ℕ). length x) one in
+    record {
+      taken = s.taken ++ a.taken;
+      bytes = bytes_more s.taken a.taken s.bytes a.bytes;
+      takes = takes_more p q m s.taken a.taken s.takes a.takes;
+      is = λ rest.
+          let ends : m.at + length rest ≡ q.at + length (c ∷ rest) = omega (arith, len, a.takes.at) in
+          let whole : (s.taken ++ a.taken) ++ rest ≡ s.taken ++ (c ∷ rest) = append_assoc s.taken a.taken rest ∙ ap (λ (x : List ℕ). s.taken ++ (x ++ rest)) one in
+          let first_is = rw (← ends) at (s.reads (c ∷ rest)) in
+          rw whole (first_is ∙ rw h refl);
+      least = least_two (slack_leads s) a.taken (λ front last e. first_err (q.at + length front) (inner (q.at + length front)) true (s.spare + length front) now is front (a.least front last e));
+    }

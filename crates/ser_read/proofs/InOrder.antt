@@ -7,7 +7,7 @@ use Rattle.class_desc.specs.declared.slot.Item.{Item}
 use Rattle.ser_values.specs.declared.node.Node.{Node}
 use Rattle.ser_values.specs.declared.graph.Graph.{Graph}
 use Rattle.ser_values.specs.Spelled.{joined}
-use Rattle.ser_values.specs.Reading.{bad, bad_magic, byte_at, magic_at}
+use Rattle.ser_values.specs.Reading.{short, bad, bad_magic, byte_at, magic_at}
 use Rattle.ser_values.proofs.PlainSound as plain
 use Rattle.ser_values.proofs.PlainSound.{bind_ok, passed, ok_is}
 use Rattle.ser_values.proofs.Complete as complete
@@ -50,6 +50,13 @@ serve_err end front ws i d s bs f lt h =
     let k : drop i ws ≡ get_or ws i d ∷ drop (i + 1) ws = rw (add-one, drop-cons ws i d) refl in
     rw (k, h) refl
 
+pub serve_start : (end : ℕ) (ws : List Want) (s : Stand) (bs : List ℕ) → serve end ws s bs ≡ given_before [] (serve end (drop 0 ws) s bs)
+serve_start end ws s bs = same (serve end ws s bs)
+  where
+    same : (r : Serving) → r ≡ given_before [] r
+    same (Ok x) = refl
+    same (Err f) = refl
+
 pub serve_end : (end : ℕ) (front : List Item) (ws : List Want) (i : ℕ) (s : Stand) (bs : List ℕ) → length ws ≤ i → given_before front (serve end (drop i ws) s bs) ≡ Ok (front, s, bs)
 unfolding serve
 serve_end end front ws i s bs le = let k : drop i ws ≡ [] = nil_from_length (drop i ws) (omega (arith, length-drop i ws)) in rw k (ap (λ (xs : List Item). Ok (xs, s, bs)) (append-nil front))
@@ -57,19 +64,20 @@ serve_end end front ws i s bs le = let k : drop i ws ≡ [] = nil_from_length (d
 -- ---- the whole stream
 
 pub close_reads : {p q r : Place} (ws : List Want) (answers : List Item) (s : Stand) (nodes : List Node) (is : List Item)
-    → Reads p q (λ end bs. magic_at end (0xAC ∷ 0xED ∷ 0x00 ∷ 0x05 ∷ []) bs) (λ rest. rest) → Reads q r (λ end. serve end ws nothing_read) (λ rest. (answers, s, rest)) → close_at r.at s ≡ Ok (nodes, is)
-    → Reads p r (λ end. wants_at end ws) (λ rest. (answers, nodes, is, rest))
+    → Reads short p q (λ end bs. magic_at end (0xAC ∷ 0xED ∷ 0x00 ∷ 0x05 ∷ []) bs) (λ rest. rest) → Reads (inside short) q r (λ end. serve end ws nothing_read) (λ rest. (answers, s, rest)) → close_at r.at s ≡ Ok (nodes, is)
+    → Reads (inside short) p r (λ end. wants_at end ws) (λ rest. (answers, nodes, is, rest))
 unfolding wants_at serve_all
 close_reads {p} {q} {r} ws answers s nodes is a b closed = want_then (λ end. serve_all end ws) a (record {
   taken = b.taken;
   bytes = b.bytes;
   takes = b.takes;
   is = λ rest. let k : r.at + length rest - length rest ≡ r.at = omega arith in rw (b.is rest) (rw k (rw closed refl));
+  least = λ front last e. rw (b.least front last e) refl;
 })
 
 -- a block is left where the end is wanted
-pub close_stops : {p q r : Place} (ws : List Want) (answers : List Item) (s : Stand) (e : StreamFault) → Reads p q (λ end bs. magic_at end (0xAC ∷ 0xED ∷ 0x00 ∷ 0x05 ∷ []) bs) (λ rest. rest)
-    → Reads q r (λ end. serve end ws nothing_read) (λ rest. (answers, s, rest)) → e ≡ faults.Bad kinds.BlockLeft r.at → s.block ≢ 0 → WantBreaks p r e (λ end. wants_at end ws)
+pub close_stops : {p q r : Place} (ws : List Want) (answers : List Item) (s : Stand) (e : StreamFault) → Reads short p q (λ end bs. magic_at end (0xAC ∷ 0xED ∷ 0x00 ∷ 0x05 ∷ []) bs) (λ rest. rest)
+    → Reads (inside short) q r (λ end. serve end ws nothing_read) (λ rest. (answers, s, rest)) → e ≡ faults.Bad kinds.BlockLeft r.at → s.block ≢ 0 → WantBreaks p r e (λ end. wants_at end ws)
 unfolding wants_at serve_all close_at
 close_stops {p} {q} {r} ws answers s e a b is some =
     let open_block : eqb s.block 0 ≡ false = ne_eqb s.block 0 some in
@@ -85,7 +93,7 @@ magic_is end (w ∷ ws) bs rest e =
     byte_is bs a.0 a.1 ∙ (ap (λ z. z ∷ a.0.1) (eqb-true a.0.0 w p.0) ∙ ap (λ (l : List ℕ). w ∷ l) (magic_is end ws a.0.1 rest p.1))
 
 -- what was read is what was asked
-pub takes_asked : {p q : Place} (ws : List Want) (answers : List Item) (nodes : List Node) (is : List Item) → Reads p q (λ end. wants_at end ws) (λ rest. (answers, nodes, is, rest)) → TakesAsked p q ws answers nodes is
+pub takes_asked : {p q : Place} (ws : List Want) (answers : List Item) (nodes : List Node) (is : List Item) → Reads (inside short) p q (λ end. wants_at end ws) (λ rest. (answers, nodes, is, rest)) → TakesAsked p q ws answers nodes is
 unfolding wants_at
 takes_asked {p} {q} ws answers nodes is r =
     let end = q.at + 0 in
@@ -115,7 +123,7 @@ gives_asked after end ws answers nodes bytes rest now coming result h here limit
         (ap (λ (t : Whole). t.0) same, ap (λ (t : Whole). t.1) same, ap (λ (t : Whole). t.2) same, ap (λ (t : Whole). t.3) same)
     go (Err e) h read = fails_outside inside WantIsBad after e (wants_at end ws coming) (answers, nodes, joined answers, rest) read (λ kind at is. absurd (let same = sym is ∙ read in cc)) h
 
-pub taken_asked : (p q : Place) (ws : List Want) (result : Result (List Item × Graph) StreamFault) → IfOk result (λ x. Reads {Y = Whole} p q (λ end. wants_at end ws) (λ rest. (x.0, x.1.nodes, x.1.items, rest)))
+pub taken_asked : (p q : Place) (ws : List Want) (result : Result (List Item × Graph) StreamFault) → IfOk result (λ x. Reads {Y = Whole} (inside short) p q (λ end. wants_at end ws) (λ rest. (x.0, x.1.nodes, x.1.items, rest)))
     → IfOk result (λ x. TakesAsked p q ws x.0 x.1.nodes x.1.items)
 taken_asked p q ws (Ok x) h = takes_asked ws x.0 x.1.nodes x.1.items h
 taken_asked p q ws (Err e) h = tt

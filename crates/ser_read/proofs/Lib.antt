@@ -22,3 +22,4 @@ pub mod Given
 pub mod InOrder
 pub mod Streams
 pub mod ToEnd
+pub mod Rows

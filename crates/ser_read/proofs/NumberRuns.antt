@@ -89,7 +89,7 @@ times_more n width = omega arith
 
 -- ---- blocks of them
 
-pub block_long : {p q : Place} (n : ℕ) (block : List ℕ) → Reads p q (λ end. take_at n) (λ rest. (block, rest)) → length block ≡ n
+pub block_long : {p q : Place} (n : ℕ) (block : List ℕ) → Reads short p q (λ end. take_at n) (λ rest. (block, rest)) → length block ≡ n
 block_long {p} {q} n block h = (taken_is n (h.taken ++ []) block [] (h.is [])).1
 
 pub run_start : {A : Type 0} (step : Step A) (n : ℕ) (now : Progress) (bs : List ℕ) → many_at step n now bs ≡ front_of [] (many_at step n now bs)

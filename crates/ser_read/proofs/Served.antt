@@ -10,7 +10,7 @@ use Rattle.ser_values.specs.Node.{has, item_wants}
 use Rattle.ser_values.specs.Shape.{is_joined, parts_in}
 use Rattle.ser_values.specs.Numbered.{NumberAll, Numbered, IsGraph}
 use Rattle.ser_values.specs.Spelled.{joined, Spells}
-use Rattle.ser_values.specs.Reading.{Fault, Progress, slot_at, coded}
+use Rattle.ser_values.specs.Reading.{short, Fault, Progress, slot_at, coded}
 use Rattle.std.proofs.lemmas.List.Elements.{All-nil}
 use Rattle.ser_values.specs.Ranges.{InRange}
 use Rattle.ser_values.proofs.Ranged.{numbers_of, units_of}
@@ -25,7 +25,7 @@ use Rattle.ser_read.specs.Heads.{head_at}
 use Rattle.ser_read.specs.Named.{add_bytes}
 use Rattle.ser_read.specs.declared.serving.Want.{Want}
 use Rattle.ser_read.specs.declared.serving.Want.TheVariants as wanted
-use Rattle.ser_read.specs.Wants.{WantFault, ◌▸◌, lifted, Stand, nothing_read, run_at, only_slot, reference_at, bytes_at, slot_next, want_at, Served, AreServed, IsServed}
+use Rattle.ser_read.specs.Wants.{WantFault, inside, ◌▸◌, lifted, Stand, nothing_read, run_at, only_slot, reference_at, bytes_at, slot_next, want_at, Served, AreServed, IsServed}
 use Rattle.ser_read.proofs.Joins.{added_is}
 use Rattle.ser_read.proofs.Slots.{slot_is}
 use Rattle.ser_read.proofs.Empties.{Empties, found}
@@ -199,13 +199,13 @@ served_graph s h few =
 
 -- ---- one want more
 
-pub bytes_served : {p q : Place} (n : ℕ) (before after : Stand) (x : List ℕ) → Reads p q (λ end. bytes_at end n before) (λ rest. (x, after, rest)) → IsServed before → IsServed after
+pub bytes_served : {p q : Place} (n : ℕ) (before after : Stand) (x : List ℕ) → Reads (inside short) p q (λ end. bytes_at end n before) (λ rest. (x, after, rest)) → IsServed before → IsServed after
 unfolding want_at
 bytes_served {p} {q} n before after x r h =
     let one : bytes_at (q.at + 0) n before r.taken ≡ Ok (x, after, []) = ap (λ (bs : List ℕ). bytes_at (q.at + 0) n before bs) (sym (append-nil r.taken)) ∙ r.is [] in
     (record { want = wanted.Bytes n; end = q.at + 0; bytes = r.taken; answer = items.Bytes x } ∷ h.0, (before, r.bytes, rw one refl, h.1))
 
-pub slot_served : {p q : Place} (before after : Stand) (x : Slot) → Reads p q (λ end. slot_next end before) (λ rest. (x, after, rest)) → IsServed before → IsServed after
+pub slot_served : {p q : Place} (before after : Stand) (x : Slot) → Reads (inside short) p q (λ end. slot_next end before) (λ rest. (x, after, rest)) → IsServed before → IsServed after
 unfolding want_at
 slot_served {p} {q} before after x r h =
     let one : slot_next (q.at + 0) before r.taken ≡ Ok (x, after, []) = ap (λ (bs : List ℕ). slot_next (q.at + 0) before bs) (sym (append-nil r.taken)) ∙ r.is [] in

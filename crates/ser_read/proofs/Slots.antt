@@ -1,5 +1,5 @@
 -- References, and what is read in one way whatever stands inside.
-use Rattle.std.proofs.Common.{◌≡◌, if◌then◌else◌, ℕ, zero, suc, ◌+◌, ◌-◌, ◌^◌, Bool, true, false, List, [], ◌∷◌, ◌++◌, length, Result, Ok, Err, IfOk, refl, sym, ap, subst, ◌∙◌, arith}
+use Rattle.std.proofs.Common.{◌≡◌, if◌then◌else◌, ℕ, zero, suc, ◌+◌, ◌-◌, ◌^◌, ◌<◌, eqb, nat_lt, not, Bool, true, false, List, [], ◌∷◌, ◌++◌, length, Result, Ok, Err, IfOk, refl, sym, ap, subst, ◌∙◌, arith}
 use Rattle.class_desc.specs.declared.slot.Slot.{Slot}
 use Rattle.class_desc.specs.declared.slot.Slot.TheVariants as slots
 use Rattle.class_desc.specs.declared.field.TypeCode.{TypeCode}
@@ -8,7 +8,7 @@ use Rattle.class_desc.specs.TypeCode.{is_primitive}
 use Rattle.ser_values.specs.declared.node.Node.{Node}
 use Rattle.ser_values.specs.declared.node.Place.{Place}
 use Rattle.wire_io.specs.Pulled as pulled
-use Rattle.ser_values.specs.Reading.{◌>>=◌, Fault, Progress, Step, Slots, fill, byte_at, take_at, size_at, value_at, elements_at, null_at, coded, slot_at}
+use Rattle.ser_values.specs.Reading.{◌>>=◌, Fault, short, Progress, Step, Slots, fill, byte_at, take_at, size_at, value_at, elements_at, null_at, coded, slot_at, bad, too_many, too_deep, admits_code, code_fault}
 use Rattle.ser_read.specs.declared.fault.StreamFault.{StreamFault}
 use Rattle.ser_read.specs.declared.fault.StreamFault.TheVariants as faults
 use Rattle.ser_read.specs.declared.fault.Large.TheVariants as larges
@@ -18,7 +18,7 @@ use Rattle.std.specs.Int.{w32}
 use Rattle.class_desc.specs.declared.slot.Item.TheVariants as items
 use Rattle.ser_read.specs.Wants.{Stand, ◌▸◌, reference_at, slot_next}
 use Rattle.ser_read.specs.Named.{item_at}
-use Rattle.ser_read.proofs.Steps.{done}
+use Rattle.ser_read.proofs.Steps.{done, said}
 use Rattle.wire_io.proofs.Pulling.{takes_nothing}
 use Rattle.ser_read.proofs.Breaking.{breaks_as, bad_here, many_here, deep_here, no_memory}
 
@@ -44,7 +44,7 @@ unfolding coded
 coded_null end left inner p unread at code now bs h = rw h refl
 
 pub null_reads : (q : pulled.Place) (left : ℕ) (inner : ℕ → Slots) (p : Place) (unread : List ℕ) (at code : ℕ) (now : Progress) (result : Result Slot StreamFault) → code ≡ 0x70
-    → ((after : StreamFault) (now : Progress) (bs : List ℕ) → Gives {Y = Slot × Progress × List ℕ} after (λ slot. (slot, now, bs)) result (null_at p at now bs)) → IfOk result (λ x. Reads {Y = Slot × Progress × List ℕ} q q (λ end. coded end left (inner end) p unread at code now) (λ rest. (x, now, rest)))
+    → ((after : StreamFault) (now : Progress) (bs : List ℕ) → Gives {Y = Slot × Progress × List ℕ} after (λ slot. (slot, now, bs)) result (null_at p at now bs)) → IfOk result (λ x. Reads {Y = Slot × Progress × List ℕ} short q q (λ end. coded end left (inner end) p unread at code now) (λ rest. (x, now, rest)))
 null_reads q left inner p unread at code now (Ok x) h g = done (λ end bs. coded_null end left (inner end) p unread at code now bs h ∙ g faults.ReadFault now bs)
 null_reads q left inner p unread at code now (Err e) h g = tt
 
@@ -95,11 +95,11 @@ unfolding item_at
 item_long end ref code now bs h = rw h refl
 
 -- the branch that is taken
-pub when : {Y : Type 0} {p q : pulled.Place} {b : Bool} {x : ℕ → List ℕ → Result Y Fault} (y : ℕ → List ℕ → Result Y Fault) {out : List ℕ → Y} → b ≡ true → Reads p q x out → Reads p q (λ end bs. if b then x end bs else y end bs) out
-when y h r = record { taken = r.taken; bytes = r.bytes; takes = r.takes; is = λ rest. rw h (r.is rest) }
+pub when : {Y : Type 0} {p q : pulled.Place} {b : Bool} {x : ℕ → List ℕ → Result Y Fault} (y : ℕ → List ℕ → Result Y Fault) {out : List ℕ → Y} → b ≡ true → Reads short p q x out → Reads short p q (λ end bs. if b then x end bs else y end bs) out
+when y h r = said (λ end bs here. rw h refl) r
 
-pub otherwise : {Y : Type 0} {p q : pulled.Place} {b : Bool} (x : ℕ → List ℕ → Result Y Fault) {y : ℕ → List ℕ → Result Y Fault} {out : List ℕ → Y} → b ≡ false → Reads p q y out → Reads p q (λ end bs. if b then x end bs else y end bs) out
-otherwise x h r = record { taken = r.taken; bytes = r.bytes; takes = r.takes; is = λ rest. rw h (r.is rest) }
+pub otherwise : {Y : Type 0} {p q : pulled.Place} {b : Bool} (x : ℕ → List ℕ → Result Y Fault) {y : ℕ → List ℕ → Result Y Fault} {out : List ℕ → Y} → b ≡ false → Reads short p q y out → Reads short p q (λ end bs. if b then x end bs else y end bs) out
+otherwise x h r = said (λ end bs here. rw h refl) r
 
 pub stops_when : {Y : Type 0} {p q : pulled.Place} {e : StreamFault} {b : Bool} {x : ℕ → List ℕ → Result Y Fault} (y : ℕ → List ℕ → Result Y Fault) → b ≡ true → Breaks p q e x → Breaks p q e (λ end bs. if b then x end bs else y end bs)
 stops_when y h r = breaks_as (λ end bs f here is. rw h is) r
@@ -111,3 +111,25 @@ stops_otherwise x h r = breaks_as (λ end bs f here is. rw h is) r
 pub slot_none : (end : ℕ) (s : Stand) (bs : List ℕ) → s.block ≡ 0 → slot_next end s bs ≡ (reference_at end s.progress bs ▸ λ x. Ok (x.0, record { progress = x.1; items = s.items ++ items.Ref x.0 ∷ []; block = 0 }, x.2))
 unfolding slot_next
 slot_none end s bs h = rw h refl
+
+-- codes that begin nothing here
+
+pub coded_none : (end left : ℕ) (inner : Slots) (p : Place) (unread : List ℕ) (at code : ℕ) (now : Progress) (bs : List ℕ) → eqb code 0x70 ≡ false → eqb code 0x71 ≡ false → admits_code p code ≡ false
+    → coded end left inner p unread at code now bs ≡ Err (bad (code_fault code) at)
+unfolding coded
+coded_none end left inner p unread at code now bs a b c = rw (a, b, c) refl
+
+pub coded_deep : (end left : ℕ) (inner : Slots) (p : Place) (unread : List ℕ) (at code : ℕ) (now : Progress) (bs : List ℕ) → eqb code 0x70 ≡ false → eqb code 0x71 ≡ false → admits_code p code ≡ true → left ≡ 0
+    → coded end left inner p unread at code now bs ≡ Err (too_deep at)
+unfolding coded
+coded_deep end left inner p unread at code now bs a b c none = rw (a, b, c, none) refl
+
+pub coded_full : (end left : ℕ) (inner : Slots) (p : Place) (unread : List ℕ) (at code : ℕ) (now : Progress) (bs : List ℕ) → eqb code 0x70 ≡ false → eqb code 0x71 ≡ false → admits_code p code ≡ true → 0 < left
+    → not (nat_lt (length now.nodes) 65536) ≡ true → coded end left inner p unread at code now bs ≡ Err (too_many at)
+unfolding coded
+coded_full end zero inner p unread at code now bs a b c some full = absurd (omega arith)
+coded_full end (suc left) inner p unread at code now bs a b c some full = let none : nat_lt (length now.nodes) 65536 ≡ false = not_true (nat_lt (length now.nodes) 65536) full in rw (a, b, c, none) refl
+  where
+    not_true : (b : Bool) → not b ≡ true → b ≡ false
+    not_true true h = absurd cc
+    not_true false h = refl

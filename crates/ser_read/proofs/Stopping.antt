@@ -5,12 +5,13 @@ use Rattle.std.proofs.lemmas.Bool.{cases_lt, le-ltb}
 use Rattle.std.specs.Int.{Width, w16, w32, w64}
 use Rattle.mod_utf.specs.Decoding.{decoded}
 use Rattle.wire_io.specs.Pulled.{Place, Takes}
-use Rattle.ser_values.specs.Reading.{◌>>=◌, value_at, elements_at, items_at, Fault, short, bad, negative_length, bad_utf, Plain, Progress, Step, plain, mapped, byte_at, take_at, number_at, size_at, units_at, units_of, many_at}
+use Rattle.ser_values.specs.Reading.{◌>>=◌, value_at, elements_at, items_at, blocks_at, Fault, short, bad, negative_length, bad_utf, Plain, Progress, Step, plain, mapped, byte_at, take_at, number_at, size_at, units_at, units_of, many_at}
 use Rattle.ser_read.specs.declared.fault.StreamFault.{StreamFault}
 use Rattle.ser_read.specs.declared.fault.StreamFault.TheVariants as faults
 use Rattle.ser_read.specs.declared.fault.StreamKind.{StreamKind}
 use Rattle.ser_read.specs.declared.fault.StreamKind.TheVariants as kinds
 use Rattle.ser_read.specs.Here.{Reads, Breaks}
+use Rattle.ser_read.specs.Whole.{BreaksWhole}
 use Rattle.ser_read.specs.Lists.{all_at}
 use Rattle.class_desc.specs.declared.slot.Slot.{Slot}
 use Rattle.class_desc.specs.declared.slot.Item.{Item}
@@ -22,9 +23,9 @@ use Rattle.ser_values.specs.declared.value.Value.TheVariants as values
 use Rattle.ser_values.specs.declared.value.Values.TheVariants as kinds_of
 use Rattle.ser_read.specs.Named.{item_at}
 use Rattle.ser_read.proofs.Loop.{front_of}
-use Rattle.ser_read.proofs.Blocks.{Slack, slack_byte, one_byte, item_err}
+use Rattle.ser_read.proofs.Blocks.{Slack, slack_byte, byte_goes, one_byte, item_err, until, until_err, after_all}
 use Rattle.ser_read.proofs.Bytes.{onto, takes_all, takes_short}
-use Rattle.ser_read.proofs.Breaking.{breaks_said, loop_stops, first, later, bad_here}
+use Rattle.ser_read.proofs.Breaking.{short_two, short_as, breaks_said, loop_stops, first, later, bad_here}
 
 -- ---- lengths and counts
 
@@ -35,7 +36,7 @@ size_here end w bound at bs e = let h : end - length bs ≡ at = omega arith in 
 pub size_stops : {p q : Place} {e : StreamFault} (w : Width) (bound : ℕ) → Breaks p q e (λ end. number_at w) → Breaks p q e (λ end. size_at end w bound)
 size_stops {p} w bound h = breaks_said (λ end bs here. size_here end w bound p.at bs here) (first _ h)
 
-pub size_negative : {p q : Place} {n : ℕ} (w : Width) (bound : ℕ) → bound ≤ n → Reads p q (λ end. number_at w) (λ rest. (n, rest)) → Breaks p q (faults.Bad kinds.NegativeLength p.at) (λ end. size_at end w bound)
+pub size_negative : {p q : Place} {n : ℕ} (w : Width) (bound : ℕ) → bound ≤ n → Reads short p q (λ end. number_at w) (λ rest. (n, rest)) → Breaks p q (faults.Bad kinds.NegativeLength p.at) (λ end. size_at end w bound)
 size_negative {p} {q} {n} w bound le h =
     let great : nat_lt n bound ≡ false = le-ltb _ _ le in
     breaks_said (λ end bs here. size_here end w bound p.at bs here) (later _ h (bad_here kinds.NegativeLength p.at tt (λ end bs here. rw great refl)))
@@ -49,7 +50,7 @@ units_here end n at bs e = let h : end - length bs ≡ at = omega arith in ap (�
 pub units_stop : {p q : Place} {e : StreamFault} (n : ℕ) → Breaks p q e (λ end. take_at n) → Breaks p q e (λ end. units_at end n)
 units_stop {p} n h = breaks_said (λ end bs here. units_here end n p.at bs here) (first _ h)
 
-pub units_bad : {p q : Place} {bytes : List ℕ} {at : ℕ} (n : ℕ) → decoded bytes ≡ Err at → Reads p q (λ end. take_at n) (λ rest. (bytes, rest)) → Breaks p q (faults.Bad kinds.BadUtf (p.at + at)) (λ end. units_at end n)
+pub units_bad : {p q : Place} {bytes : List ℕ} {at : ℕ} (n : ℕ) → decoded bytes ≡ Err at → Reads short p q (λ end. take_at n) (λ rest. (bytes, rest)) → Breaks p q (faults.Bad kinds.BadUtf (p.at + at)) (λ end. units_at end n)
 units_bad {p} {q} {bytes} {at} n is h = breaks_said (λ end bs here. units_here end n p.at bs here) (later _ h (bad_here kinds.BadUtf (p.at + at) tt (λ end bs here. rw is refl)))
 
 -- ---- bytes, piece by piece
@@ -77,15 +78,37 @@ all_err_item step front cs i c now bs f lt is h = all_err step front cs i c now 
 
 -- ---- items
 
-pub slack_stops : {p q m r : Place} {e : StreamFault} {inner : ℕ → Step Slot} {within : Bool} (ref : ℕ → Step Slot) {before now : Progress} {is : List Item} {c : ℕ}
-    → Slack p q inner within before now is → Reads q m (λ end. byte_at) (λ rest. (c, rest)) → (within && nat_eq c 0x78) ≡ false → ((end : ℕ) (bs : List ℕ) → end ≡ q.at + suc (length bs) → inner end now (c ∷ bs) ≡ ref end now bs)
-    → Breaks m r e (λ end. item_at end (ref end) c now) → Breaks p r e (λ end. items_at end (inner end) within before)
-slack_stops {p} {q} {m} {r} {e} {inner} {within} ref {before} {now} {is} {c} s a other same h =
+-- the position behind a code
+behind_code : {q m : Place} {c : ℕ} (end : ℕ) (bs : List ℕ) → Reads short q m (λ end. byte_at) (λ rest. (c, rest)) → end ≡ m.at + length bs → end ≡ q.at + suc (length bs)
+behind_code {q} {m} {c} end bs a here =
     let one : a.taken ≡ c ∷ [] = one_byte a.taken c a.is in
     let len : length a.taken ≡ 1 = ap (λ (x : List ℕ). length x) one in
-    loop_stops (slack_byte s a) (λ end bs f here err.
-    let there : end ≡ q.at + suc (length bs) = omega (arith, here, a.takes.at, len) in
-    item_err end (inner end) within (s.spare + suc (length bs)) c is now bs (ref end) f other (same end bs there) err) h
+    omega (arith, here, a.takes.at, len)
+
+pub slack_stops : {p q m r : Place} {e : StreamFault} {inner : ℕ → Step Slot} {within : Bool} (ref : ℕ → Step Slot) {before now : Progress} {is : List Item} {c : ℕ}
+    → Slack p q inner within before now is → Reads short q m (λ end. byte_at) (λ rest. (c, rest)) → (within && nat_eq c 0x78) ≡ false → ((end : ℕ) (bs : List ℕ) → end ≡ q.at + suc (length bs) → inner end now (c ∷ bs) ≡ ref end now bs)
+    → Breaks m r e (λ end. item_at end (ref end) c now) → Breaks p r e (λ end bs. until within (items_at end (inner end) within before bs))
+slack_stops {p} {q} {m} {r} {e} {inner} {within} ref {before} {now} {is} {c} s a other same h =
+    loop_stops (slack_byte s a) (λ end bs f here err. until_err within _ f (item_err end (inner end) within (s.spare + suc (length bs)) c is now bs (ref end) f other (same end bs (behind_code end bs a here)) err)) h
+
+-- the same up to the end of the bytes
+pub whole_stops : {p q m r : Place} {inner : ℕ → Step Slot} (ref : ℕ → Step Slot) {before now : Progress} {is : List Item} {c : ℕ} (e : StreamFault)
+    → Slack p q inner false before now is → Reads short q m (λ end. byte_at) (λ rest. (c, rest)) → ((end : ℕ) (bs : List ℕ) → end ≡ q.at + suc (length bs) → inner end now (c ∷ bs) ≡ ref end now bs)
+    → Breaks m r e (λ end. item_at end (ref end) c now) → BreaksWhole p r e (λ end. items_at end (inner end) false before)
+whole_stops {p} {q} {m} {r} {inner} ref {before} {now} {is} {c} (faults.Truncated at) s a same h =
+    record {
+      is = record {
+        is = (
+          short_two at short (byte_goes s a) (short_as at (λ end bs. after_all is (blocks_at end (inner end) false (suc (s.spare + suc (length bs))) now (c ∷ bs))) short short
+              (λ end bs here err. item_err end (inner end) false (s.spare + suc (length bs)) c is now bs (ref end) short refl (same end bs (behind_code end bs a here)) err) h.is.0),
+          h.is.1,
+        );
+      };
+    }
+whole_stops ref (faults.Bad kind at) s a same h = record { is = slack_stops {within = false} ref s a refl same h }
+whole_stops ref (faults.TooLarge what at) s a same h = record { is = slack_stops {within = false} ref s a refl same h }
+whole_stops ref faults.ReadFault s a same h = record { is = slack_stops {within = false} ref s a refl same h }
+whole_stops ref faults.OutOfMemory s a same h = record { is = slack_stops {within = false} ref s a refl same h }
 
 pub item_other : (end : ℕ) (ref : Step Slot) (code : ℕ) (now : Progress) (bs : List ℕ) → eqb code 0x77 ≡ false → eqb code 0x7A ≡ false → item_at end ref code now bs ≡ (ref now bs >>= λ s. Ok (items.Ref s.0, s.1, s.2))
 unfolding item_at

@@ -86,19 +86,12 @@ no_code {p} {q} {m} {inner} {first} (TooLarge Bytes at) s h =
     let k : q.at + 0 ≡ q.at = omega arith in
     let all = rw (append-nil, k) at (s.reads []) in
     record { is = record { is = (q, record { taken = s.taken; takes = s.takes; here = h.0; is = rw all refl }, h.1) } }
-no_code ReadFault s h = breaks_whole (breaks_two (slack_leads s) (record { is = (([], h.0), h.1) }))
+no_code ReadFault s h = record { is = breaks_two (slack_leads s) (record { is = (([], h.0), h.1) }) }
 no_code (TooLarge Nodes at) s h = absurd h
 no_code (TooLarge Depth at) s h = absurd h
 no_code (Bad kind at) s h = absurd h
 no_code (Truncated at) s h = absurd h
 no_code faults.OutOfMemory s h = absurd h
-
--- why no code came
-pub no_code_by : (old new : Place) (e : PullEnd) → GivesByte old new (Err e) → ((at : ℕ) → e ≡ End at → ⊥) → NoCode old new (fault_of e)
-no_code_by old new (End at) h other = absurd (other at refl)
-no_code_by old new (Limit at) h other = h
-no_code_by old new ends.ReadFault h other = h
-no_code_by old new ends.OutOfMemory h other = h
 
 -- ---- what was taken
 
@@ -114,7 +107,7 @@ slack_all {p} {q} {m} {inner} {first} {now} {is} s t nothing = record {
 }
 
 pub then_all : {A Y : Type 0} {p q r : Place} {first : ℕ → List ℕ → Result A Fault} {mid : List ℕ → A} (k : ℕ → A → Result Y Fault) {y : Y}
-    → Reads p q first mid → ReadsAll q r (λ end bs. k end (mid bs)) y → ReadsAll p r (λ end bs. first end bs >>= k end) y
+    → Reads short p q first mid → ReadsAll q r (λ end bs. k end (mid bs)) y → ReadsAll p r (λ end bs. first end bs >>= k end) y
 then_all {A} {Y} {p} {q} {r} {first} {mid} k {y} a b = record {
   taken = a.taken ++ b.taken;
   bytes = bytes_more a.taken b.taken a.bytes b.bytes;
@@ -138,15 +131,19 @@ stream_is : (after : StreamFault) (end : ℕ) (bs rest : List ℕ) → magic_at 
 unfolding stream_at
 stream_is after end bs rest h = rw h (to_end_map after (contents end rest) (λ x. (x.1.nodes, x.0)))
 
+stream_err : (end : ℕ) (bs : List ℕ) (f : Fault) → magic_at end (0xAC ∷ 0xED ∷ 0x00 ∷ 0x05 ∷ []) bs ≡ Err f → stream_at end bs ≡ Err f
+unfolding stream_at
+stream_err end bs f h = rw h refl
+
 pub magic_breaks : {p q : Place} {e : StreamFault} → Breaks p q e (λ end. magic_at end (0xAC ∷ 0xED ∷ 0x00 ∷ 0x05 ∷ [])) → BreaksWhole p q e stream_at
 unfolding stream_at
 magic_breaks h = breaks_whole (first (λ end bs. graph_in (contents end bs)) h)
 
-pub items_break : {p q r : Place} {e : StreamFault} → Reads p q (λ end. magic_at end (0xAC ∷ 0xED ∷ 0x00 ∷ 0x05 ∷ [])) (λ rest. rest)
+pub items_break : {p q r : Place} {e : StreamFault} → Reads short p q (λ end. magic_at end (0xAC ∷ 0xED ∷ 0x00 ∷ 0x05 ∷ [])) (λ rest. rest)
     → BreaksWhole q r e (λ end. items_at end (slot_at end 200 places.Reference []) false nothing_read) → BreaksWhole p r e stream_at
-items_break {p} {q} {r} {e} a b = record { is = breaks_two (leads_read (λ end bs. graph_in (to_end e (contents end bs))) a (λ end bs rest here is. stream_is e end bs rest is)) (first (λ end x. Ok (x.1.nodes, x.0)) b.is) }
+items_break {p} {q} {r} {e} a b = record { is = breaks_two (leads_read (λ end bs. graph_in (to_end e (contents end bs))) a (λ end bs rest here is. stream_is e end bs rest is) (λ end bs here is. to_end_err e (stream_at end bs) short (stream_err end bs short is))) (first (λ end x. Ok (x.1.nodes, x.0)) b.is) }
 
-pub stream_reads : {p q r : Place} (is : List Item) (later : Progress) → Reads p q (λ end. magic_at end (0xAC ∷ 0xED ∷ 0x00 ∷ 0x05 ∷ [])) (λ rest. rest)
+pub stream_reads : {p q r : Place} (is : List Item) (later : Progress) → Reads short p q (λ end. magic_at end (0xAC ∷ 0xED ∷ 0x00 ∷ 0x05 ∷ [])) (λ rest. rest)
     → ReadsAll q r (λ end. items_at end (slot_at end 200 places.Reference []) false nothing_read) (is, later, []) → ReadsAll p r stream_at (later.nodes, is)
 unfolding stream_at
 stream_reads is later a b = then_all (λ end bs. graph_in (contents end bs)) a (map_all (λ x. (x.1.nodes, x.0)) b)

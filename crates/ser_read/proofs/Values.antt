@@ -7,7 +7,7 @@ use Rattle.class_desc.specs.declared.field.TypeCode.{TypeCode}
 use Rattle.class_desc.specs.declared.field.TypeCode.TheVariants as codes
 use Rattle.ser_values.specs.declared.value.Value.TheVariants as values
 use Rattle.ser_values.specs.declared.value.Values.TheVariants as kinds
-use Rattle.ser_values.specs.Reading.{◌>>=◌, Fault, Plain, Progress, Step, mapped, plain}
+use Rattle.ser_values.specs.Reading.{short, ◌>>=◌, Fault, Plain, Progress, Step, mapped, plain}
 use Rattle.ser_read.specs.Signed.{signed_at}
 use Rattle.ser_read.specs.declared.fault.StreamFault.{StreamFault}
 use Rattle.ser_read.specs.Here.{Reads, Breaks}
@@ -21,7 +21,7 @@ twice {A} {B} {C} f g step now bs = go (step now bs)
     go (Ok x) = refl
     go (Err e) = refl
 
-pub mapped_reads : {A B : Type 0} {p q : Place} (f : A → B) (step : Step A) (now : Progress) (x : A) → Reads p q (λ end. step now) (λ rest. (x, now, rest)) → Reads p q (λ end. mapped f step now) (λ rest. (f x, now, rest))
+pub mapped_reads : {A B : Type 0} {p q : Place} (f : A → B) (step : Step A) (now : Progress) (x : A) → Reads short p q (λ end. step now) (λ rest. (x, now, rest)) → Reads short p q (λ end. mapped f step now) (λ rest. (f x, now, rest))
 mapped_reads f step now x h = then (λ end y. Ok (f y.0, y.1, y.2)) h (done (λ end bs. refl))
 
 pub mapped_stops : {A B : Type 0} {p q : Place} {e : StreamFault} (f : A → B) (step : Step A) (now : Progress) → Breaks p q e (λ end. step now) → Breaks p q e (λ end. mapped f step now)

@@ -124,25 +124,31 @@ GivesTold left old new result read out = GivesToldBy Fails left old new result r
 abbrev pub AreBytes : List ℕ → Type 0
 AreBytes bs = AllByRecursion (λ b. b < 256) bs
 
--- Bytes were taken, and whatever comes after them, reading gives `out` of that.
-pub record Reads {Y F : Type 0} (old new : Place) (read : ℕ → List ℕ → Result Y F) (out : List ℕ → Y) : Type 0 where
+-- Without the last of these bytes, which begin at this position, reading wants more: `more` says that.
+abbrev pub NeedsLast : {Y F : Type 0} → F → ℕ → List ℕ → (ℕ → List ℕ → Result Y F) → Type 0
+NeedsLast more at taken read = (front : List ℕ) (last : ℕ) → taken ≡ front ++ last ∷ [] → read (at + length front) front ≡ Err more
+
+-- Bytes were taken, and whatever comes after them, reading gives `out` of that. None of them could be left out.
+pub record Reads {Y F : Type 0} (more : F) (old new : Place) (read : ℕ → List ℕ → Result Y F) (out : List ℕ → Y) : Type 0 where
   pub taken : List ℕ
   pub bytes : AreBytes taken
   pub takes : Takes old new taken
   pub is : (rest : List ℕ) → read (new.at + length rest) (taken ++ rest) ≡ Ok (out rest)
+  pub least : NeedsLast more old.at taken read
 
 -- Whether the bytes are told or not, what a call answers is read from those that it took.
-abbrev pub ReadsTaken : {S X Y F : Type 0} → (S → Option (List ℕ)) → (S → ℕ) → Pull S → Pull S → Result X StreamFault → (ℕ → List ℕ → Result Y F) → (X → List ℕ → Y) → Type 0
-ReadsTaken left faults old new result read out = IfOk result (λ x. Reads (place left faults old) (place left faults new) read (out x))
+abbrev pub ReadsTaken : {S X Y : Type 0} → (S → Option (List ℕ)) → (S → ℕ) → Pull S → Pull S → Result X StreamFault → (ℕ → List ℕ → Result Y Fault) → (X → List ℕ → Y) → Type 0
+ReadsTaken left faults old new result read out = IfOk result (λ x. Reads short (place left faults old) (place left faults new) read (out x))
 
 -- ---- what was taken on a fault, and why reading ends there
 
--- Bytes were taken, and whatever comes after them, reading gives the fault of which this is said.
-pub record Decides {Y F : Type 0} (old new : Place) (read : ℕ → List ℕ → Result Y F) (is_fault : Result Y F → Type 0) : Type 0 where
+-- Bytes were taken, and whatever comes after them, reading gives the fault of which this is said. None of them could be left out.
+pub record Decides {Y F : Type 0} (more : F) (old new : Place) (read : ℕ → List ℕ → Result Y F) (is_fault : Result Y F → Type 0) : Type 0 where
   pub taken : List ℕ
   pub bytes : AreBytes taken
   pub takes : Takes old new taken
   pub is : (rest : List ℕ) → is_fault (read (new.at + length rest) (taken ++ rest))
+  pub least : NeedsLast more old.at taken read
 
 -- Bytes were taken up to this place, at which the fault stands, and reading wants more of them.
 pub record FallsShort {Y F : Type 0} (old new : Place) (at : ℕ) (read : ℕ → List ℕ → Result Y F) (fault : F) : Type 0 where
@@ -157,11 +163,11 @@ TakesSome old new = (taken : List ℕ) × Takes old new taken
 
 -- What was taken where this fault is answered, and why reading ends there. `said` says a fault of what is read, and `of_kind` whether reading
 -- gives the fault of a kind at a position. What is wrong, or too deep, or one node too many, is decided by the bytes taken, whatever comes
--- after them. The input ends behind the bytes taken, or goes on there past the limit, and reading them wants more.
+-- after them, and by no fewer of them. The input ends behind the bytes taken, or goes on there past the limit, and reading them wants more.
 abbrev pub BreaksBy : {Y F : Type 0} → (Fault → F) → (Result Y F → StreamKind → ℕ → Type 0) → Place → Place → StreamFault → (ℕ → List ℕ → Result Y F) → Type 0
-BreaksBy said of_kind old new (Bad kind at) read = Decides old new read (λ r. of_kind r kind at)
-BreaksBy said of_kind old new (TooLarge Nodes at) read = Decides old new read (λ r. r ≡ Err (said (too_many at)))
-BreaksBy said of_kind old new (TooLarge Depth at) read = Decides old new read (λ r. r ≡ Err (said (too_deep at)))
+BreaksBy said of_kind old new (Bad kind at) read = Decides (said short) old new read (λ r. of_kind r kind at)
+BreaksBy said of_kind old new (TooLarge Nodes at) read = Decides (said short) old new read (λ r. r ≡ Err (said (too_many at)))
+BreaksBy said of_kind old new (TooLarge Depth at) read = Decides (said short) old new read (λ r. r ≡ Err (said (too_deep at)))
 BreaksBy said of_kind old new (TooLarge Bytes at) read = (mid : Place) × FallsShort old mid at read (said short) × Passes mid new
 BreaksBy said of_kind old new (Truncated at) read = FallsShort old new at read (said short) × NothingLeft new.left
 BreaksBy said of_kind old new ReadFault read = TakesSome old new × Rose old.faults new.faults

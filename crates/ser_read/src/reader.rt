@@ -5,7 +5,7 @@ ghost use Rattle.ser_read.specs.declared.fault.StreamFault.{StreamFault};
 ghost use Rattle.ser_read.specs.declared.fault.StreamFault.TheVariants.{Bad};
 ghost use Rattle.ser_read.specs.declared.fault.StreamKind.TheVariants.{BlockLeft};
 ghost use Rattle.ser_read.specs.Here.{env, Caused, GivesTold, ReadsTaken, StopsTaken};
-ghost use Rattle.ser_read.specs.Wants.{GivesWant, WantGives, StopsWant, bytes_at, reference_at, slot_next, close_at, nothing_read};
+ghost use Rattle.ser_read.specs.Wants.{GivesWant, WantGives, StopsWant, WantTaken, bytes_at, reference_at, slot_next, serve, close_at, nothing_read};
 ghost use Rattle.ser_read.specs.Tables.{now_of};
 ghost use Rattle.ser_read.specs.Stands.{stand_of};
 
@@ -14,6 +14,7 @@ use crate::fault::{StreamFault, StreamKind};
 use crate::header::magic;
 use crate::pieces::{add, bad};
 use crate::reading::coded;
+use crate::serving::{Want, serve_all};
 use crate::table::Table;
 use class_desc::{Item, Items, Slot};
 use mod_utf::list::{ByteList, TryCopy};
@@ -45,7 +46,7 @@ fn bytes_in<S: Source>(
 ) -> Result<ByteList, StreamFault>
     ensures lent { pull.new.source.ghost_name ≡ pull.old.source.ghost_name }
     ensures table { stand.new.table ≡ stand.old.table }
-    ensures reads { ReadsTaken S.left S.faults pull.old pull.new result (λ end. bytes_at end n (stand_of stand.old)) (λ x rest. (x, stand_of stand.new, rest)) }
+    ensures reads { WantTaken S.left S.faults pull.old pull.new result (λ end. bytes_at end n (stand_of stand.old)) (λ x rest. (x, stand_of stand.new, rest)) }
     ensures stops { StopsWant S.left S.faults pull.old pull.new result (λ end. bytes_at end n (stand_of stand.old)) }
 {
     let bytes = run(alloc, pull, &mut stand.block, n)?;
@@ -64,7 +65,7 @@ fn reference<S: Source>(
     requires read { table.old.unread.items ≡ [] }
     ensures lent { pull.new.source.ghost_name ≡ pull.old.source.ghost_name }
     ensures read { OnOk result (table.new.unread.items ≡ []) }
-    ensures reads { ReadsTaken S.left S.faults pull.old pull.new result (λ end. reference_at end (now_of table.old)) (λ x rest. (x, now_of table.new, rest)) }
+    ensures reads { WantTaken S.left S.faults pull.old pull.new result (λ end. reference_at end (now_of table.old)) (λ x rest. (x, now_of table.new, rest)) }
     ensures stops { StopsWant S.left S.faults pull.old pull.new result (λ end. reference_at end (now_of table.old)) }
 {
     match next_head(pull)? {
@@ -83,7 +84,7 @@ fn slot_in<S: Source>(
     requires read { stand.old.table.unread.items ≡ [] }
     ensures lent { pull.new.source.ghost_name ≡ pull.old.source.ghost_name }
     ensures read { OnOk result (stand.new.table.unread.items ≡ []) }
-    ensures reads { ReadsTaken S.left S.faults pull.old pull.new result (λ end. slot_next end (stand_of stand.old)) (λ x rest. (x, stand_of stand.new, rest)) }
+    ensures reads { WantTaken S.left S.faults pull.old pull.new result (λ end. slot_next end (stand_of stand.old)) (λ x rest. (x, stand_of stand.new, rest)) }
     ensures stops { StopsWant S.left S.faults pull.old pull.new result (λ end. slot_next end (stand_of stand.old)) }
 {
     if stand.block > 0 {
@@ -154,7 +155,7 @@ impl Reader {
         ensures lent { pull.new.source.ghost_name ≡ pull.old.source.ghost_name }
         ensures env { OnOk result (env S.left pull.new ≡ env S.left pull.old) }
         ensures gives { self.old.refused ≡ None → GivesWant S.left pull.old pull.new result (λ end. bytes_at end n self.old.stand) (λ x rest. (x, self.new.stand, rest)) }
-        ensures reads { ReadsTaken S.left S.faults pull.old pull.new result (λ end. bytes_at end n self.old.stand) (λ x rest. (x, self.new.stand, rest)) }
+        ensures reads { WantTaken S.left S.faults pull.old pull.new result (λ end. bytes_at end n self.old.stand) (λ x rest. (x, self.new.stand, rest)) }
         ensures stops { self.old.refused ≡ None → StopsWant S.left S.faults pull.old pull.new result (λ end. bytes_at end n self.old.stand) }
     {
         if let Some(earlier) = self.refused {
@@ -184,7 +185,7 @@ impl Reader {
         ensures lent { pull.new.source.ghost_name ≡ pull.old.source.ghost_name }
         ensures env { OnOk result (env S.left pull.new ≡ env S.left pull.old) }
         ensures gives { self.old.refused ≡ None → GivesWant S.left pull.old pull.new result (λ end. slot_next end self.old.stand) (λ x rest. (x, self.new.stand, rest)) }
-        ensures reads { ReadsTaken S.left S.faults pull.old pull.new result (λ end. slot_next end self.old.stand) (λ x rest. (x, self.new.stand, rest)) }
+        ensures reads { WantTaken S.left S.faults pull.old pull.new result (λ end. slot_next end self.old.stand) (λ x rest. (x, self.new.stand, rest)) }
         ensures stops { self.old.refused ≡ None → StopsWant S.left S.faults pull.old pull.new result (λ end. slot_next end self.old.stand) }
     {
         if let Some(fault) = self.refused {
@@ -192,6 +193,37 @@ impl Reader {
         }
         match slot_in(alloc, pull, &mut self.stand) {
             Ok(slot) => Ok(slot),
+            Err(fault) => {
+                self.refused = Some(fault);
+                Err(fault)
+            }
+        }
+    }
+
+    /// What it gives for wants, one after the other.
+    ///
+    /// Each fault comes as at [`Reader::bytes`] and [`Reader::slot`].
+    pub fn serve<S: Source>(
+        &mut self,
+        alloc: Global,
+        pull: &mut Pull<'_, S>,
+        wants: &[Want],
+    ) -> Result<Items, StreamFault>
+        ensures again { (fault : StreamFault) → self.old.refused ≡ Some fault → (result ≡ Err fault) × (self.new.refused ≡ Some fault) × (pull.new.source.now ≡ pull.old.source.now) × (pull.new.at ≡ pull.old.at) × (pull.new.stop ≡ pull.old.stop) }
+        ensures kept { OnOk result (self.new.refused ≡ None) }
+        ensures refused { IfErr result (λ fault. self.new.refused ≡ Some fault) }
+        ensures cause { self.old.refused ≡ None → Caused (S.faults pull.old.source.now) (S.faults pull.new.source.now) result }
+        ensures lent { pull.new.source.ghost_name ≡ pull.old.source.ghost_name }
+        ensures env { OnOk result (env S.left pull.new ≡ env S.left pull.old) }
+        ensures gives { self.old.refused ≡ None → GivesWant S.left pull.old pull.new result (λ end. serve end wants.now self.old.stand) (λ x rest. (x, self.new.stand, rest)) }
+        ensures reads { WantTaken S.left S.faults pull.old pull.new result (λ end. serve end wants.now self.old.stand) (λ x rest. (x, self.new.stand, rest)) }
+        ensures stops { self.old.refused ≡ None → StopsWant S.left S.faults pull.old pull.new result (λ end. serve end wants.now self.old.stand) }
+    {
+        if let Some(earlier) = self.refused {
+            return Err(earlier);
+        }
+        match serve_all(alloc, pull, self, wants) {
+            Ok(answers) => Ok(answers),
             Err(fault) => {
                 self.refused = Some(fault);
                 Err(fault)

@@ -3,8 +3,8 @@ ghost use Rattle.std.specs.Prelude.{◌≡◌, ◌∷◌, List, ℕ, OnOk, IfOk,
 ghost use Rattle.wire_io.specs.Pulled.{place};
 ghost use Rattle.class_desc.specs.declared.slot.Item.{Item};
 ghost use Rattle.ser_values.specs.declared.node.Node.{Node};
-ghost use Rattle.ser_read.specs.Here.{coming, IsTold, Caused, ReadsTaken};
-ghost use Rattle.ser_read.specs.Wants.{GivesWant, StopsWant, want_at, serve, wants_at};
+ghost use Rattle.ser_read.specs.Here.{coming, IsTold, Caused};
+ghost use Rattle.ser_read.specs.Wants.{GivesWant, StopsWant, WantTaken, want_at, serve, wants_at};
 ghost use Rattle.ser_read.specs.Asked.{IsAsked, TakesAsked, InLimits, AnswersAsked};
 
 use crate::fault::StreamFault;
@@ -35,7 +35,7 @@ fn serve_one<S: Source>(
     requires kept { reader.old.refused ≡ None }
     ensures kept { OnOk result (reader.new.refused ≡ None) }
     ensures lent { pull.new.source.ghost_name ≡ pull.old.source.ghost_name }
-    ensures reads { ReadsTaken S.left S.faults pull.old pull.new result (λ end. want_at end want reader.old.stand) (λ x rest. (x, reader.new.stand, rest)) }
+    ensures reads { WantTaken S.left S.faults pull.old pull.new result (λ end. want_at end want reader.old.stand) (λ x rest. (x, reader.new.stand, rest)) }
     ensures stops { StopsWant S.left S.faults pull.old pull.new result (λ end. want_at end want reader.old.stand) }
 {
     match want {
@@ -51,7 +51,7 @@ fn serve_one<S: Source>(
 }
 
 /// What a reader gives for wants, one after the other.
-fn serve<S: Source>(
+pub(crate) fn serve_all<S: Source>(
     alloc: Global,
     pull: &mut Pull<'_, S>,
     reader: &mut Reader,
@@ -60,7 +60,7 @@ fn serve<S: Source>(
     requires kept { reader.old.refused ≡ None }
     ensures kept { OnOk result (reader.new.refused ≡ None) }
     ensures lent { pull.new.source.ghost_name ≡ pull.old.source.ghost_name }
-    ensures reads { ReadsTaken S.left S.faults pull.old pull.new result (λ end. serve end wants.now reader.old.stand) (λ x rest. (x, reader.new.stand, rest)) }
+    ensures reads { WantTaken S.left S.faults pull.old pull.new result (λ end. serve end wants.now reader.old.stand) (λ x rest. (x, reader.new.stand, rest)) }
     ensures stops { StopsWant S.left S.faults pull.old pull.new result (λ end. serve end wants.now reader.old.stand) }
 {
     let mut answers = Items::new(alloc);
@@ -79,11 +79,11 @@ fn read_each<S: Source>(
     wants: &[Want],
 ) -> Result<(Items, Graph), StreamFault>
     ensures lent { pull.new.source.ghost_name ≡ pull.old.source.ghost_name }
-    ensures reads { ReadsTaken S.left S.faults pull.old pull.new result (λ end. wants_at end wants.now) (λ x rest. (x.0, x.1.nodes, x.1.items, rest)) }
+    ensures reads { WantTaken S.left S.faults pull.old pull.new result (λ end. wants_at end wants.now) (λ x rest. (x.0, x.1.nodes, x.1.items, rest)) }
     ensures stops { StopsWant S.left S.faults pull.old pull.new result (λ end. wants_at end wants.now) }
 {
     let mut reader = Reader::start(alloc, pull)?;
-    let answers = serve(alloc, pull, &mut reader, wants)?;
+    let answers = serve_all(alloc, pull, &mut reader, wants)?;
     let graph = reader.close(pull)?;
     Ok((answers, graph))
 }

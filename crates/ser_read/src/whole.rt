@@ -5,7 +5,7 @@ ghost use Rattle.wire_io.specs.Wire.{NothingLeft};
 ghost use Rattle.wire_io.specs.Pulled.{place, Takes};
 ghost use Rattle.ser_values.specs.declared.node.Node.{Node};
 ghost use Rattle.ser_values.specs.declared.node.Place.TheVariants.{Reference};
-ghost use Rattle.ser_values.specs.Reading.{byte_at, items_at, slot_at};
+ghost use Rattle.ser_values.specs.Reading.{short, byte_at, items_at, slot_at};
 ghost use Rattle.ser_values.specs.Spelled.{IsStream};
 ghost use Rattle.ser_read.specs.declared.fault.StreamFault.TheVariants.{Truncated, TooLarge};
 ghost use Rattle.ser_read.specs.declared.fault.Large.TheVariants.{Bytes};
@@ -28,7 +28,7 @@ use wire_io::source::Source;
 /// The next code, or none where the input ends.
 fn next_code<S: Source>(pull: &mut Pull<'_, S>) -> Result<Option<u8>, StreamFault>
     ensures lent { pull.new.source.ghost_name ≡ pull.old.source.ghost_name }
-    ensures reads { IfOk result (λ code. IfSome code (λ b. Reads (place S.left S.faults pull.old) (place S.left S.faults pull.new) (λ end. byte_at) (λ rest. (b, rest)))) }
+    ensures reads { IfOk result (λ code. IfSome code (λ b. Reads short (place S.left S.faults pull.old) (place S.left S.faults pull.new) (λ end. byte_at) (λ rest. (b, rest)))) }
     ensures ends { IfOk result (λ code. code ≡ None → Takes (place S.left S.faults pull.old) (place S.left S.faults pull.new) [] × NothingLeft (S.left pull.new.source.now)) }
     ensures stops { IfErr result (λ e. NoCode (place S.left S.faults pull.old) (place S.left S.faults pull.new) e) }
 {

@@ -1,4 +1,5 @@
 use Rattle.std.proofs.Common.{◌∙◌, refl, sym, Ok}
+use Rattle.ser_values.specs.Reading.{short}
 use Rattle.ser_read.proofs.Steps.{leads_more, leads_done}
 use Rattle.ser_read.proofs.Heads.{head_goes, head_stops, head_err, head_nearer}
 use Rattle.ser_read.proofs.Breaking.{raised, loop_stops}
@@ -6,13 +7,13 @@ use Rattle.ser_read.proofs.block.next_head.Goals as goal
 
 pub returns-then-not-is_empty-clause-reads : goal.returns-then-not-is_empty-clause-reads
 returns-then-not-is_empty-clause-reads g c =
-    leads_done (leads_more (λ end rest. Ok (c.in_ok-head.head, rest)) c.loop-head.invariant.leads c.in_ok-head.ensures.reads (λ end bs rest here h. head_stops end bs c.in_ok-head.head rest h (sym c.is_empty.ensures ∙ c.if-not-is_empty.true))) (λ end bs. refl)
+    leads_done (leads_more (λ end rest. Ok (c.in_ok-head.head, rest)) c.loop-head.invariant.leads c.in_ok-head.ensures.reads (λ end bs rest here h. head_stops end bs c.in_ok-head.head rest h (sym c.is_empty.ensures ∙ c.if-not-is_empty.true)) (λ end bs here is. head_err end bs short is)) (λ end bs. refl)
 
 pub loop-head-preserved : goal.loop-head-preserved
 loop-head-preserved g c =
     record {
       lent = c.in_ok-head.ensures.lent ∙ c.loop-head.invariant.lent;
-      leads = leads_more _ c.loop-head.invariant.leads c.in_ok-head.ensures.reads (λ end bs rest here h. head_goes end bs c.in_ok-head.head rest h (sym c.is_empty.ensures ∙ c.if-not-is_empty.false));
+      leads = leads_more _ c.loop-head.invariant.leads c.in_ok-head.ensures.reads (λ end bs rest here h. head_goes end bs c.in_ok-head.head rest h (sym c.is_empty.ensures ∙ c.if-not-is_empty.false)) (λ end bs here is. head_err end bs short is);
     }
 
 pub returns-in_err-head-clause-stops : goal.returns-in_err-head-clause-stops

@@ -1,5 +1,6 @@
 use Rattle.std.proofs.Common.{◌≡◌, ◌∙◌, ap, arith, []}
-use Rattle.ser_read.specs.Wants.{run_at}
+use Rattle.ser_read.specs.Wants.{inside, run_at}
+use Rattle.ser_values.specs.Reading.{short}
 use Rattle.ser_read.proofs.Steps.{leads_more, leads_done}
 use Rattle.ser_read.proofs.Runs.{behind, opened_some, run_opens, run_unopened, piece_next, piece_err, run_end}
 use Rattle.ser_read.proofs.Breaking.{want_raised, want_loop_stops, inside_loop_stops, want_breaks_two, want_took}
@@ -15,9 +16,10 @@ loop-left-preserved g c =
     record {
       lent = c.in_ok-piece.ensures.lent ∙ c.in_ok-present.ensures.lent ∙ c.loop-left.invariant.lent;
       leads =
-          let opens = leads_more (λ end bs. behind c.loop-left.bytes (run_at end c.loop-left.left c.in_ok-present.present bs)) c.loop-left.invariant.leads c.in_ok-present.ensures.reads (λ end bs rest here h. ap (behind c.loop-left.bytes) (run_opens end c.loop-left.left c.loop-left.block bs c.in_ok-present.present rest c.loop-left-test.true h)) in
+          let opens = leads_more (λ end bs. behind c.loop-left.bytes (run_at end c.loop-left.left c.in_ok-present.present bs)) c.loop-left.invariant.leads c.in_ok-present.ensures.reads (λ end bs rest here h. ap (behind c.loop-left.bytes) (run_opens end c.loop-left.left c.loop-left.block bs c.in_ok-present.present rest c.loop-left-test.true h)) (λ end bs here is. run_unopened c.loop-left.bytes end c.loop-left.left c.loop-left.block bs (inside short) c.loop-left-test.true is) in
           leads_more _ opens c.in_ok-piece.ensures.reads (λ end bs rest here h. rw (c.in_ok-append.ensures.ok, c.as_slice.ensures)
-          (piece_next c.loop-left.bytes end c.min-more.result c.loop-left.left c.in_ok-present.present bs c.in_ok-piece.piece rest (omega (arith, c.min-more.ensures)) (omega (arith, c.min-more.ensures)) (rw c.from.ensures at h)));
+          (piece_next c.loop-left.bytes end c.min-more.result c.loop-left.left c.in_ok-present.present bs c.in_ok-piece.piece rest (omega (arith, c.min-more.ensures)) (omega (arith, c.min-more.ensures)) (rw c.from.ensures at h)))
+          (λ end bs here is. piece_err c.loop-left.bytes end c.min-more.result c.loop-left.left c.in_ok-present.present bs short (omega (arith, c.min-more.ensures)) (omega (arith, c.min-more.ensures)) (rw c.from.ensures at is));
     }
 
 pub returns-clause-reads : goal.returns-clause-reads
@@ -30,11 +32,11 @@ returns-in_err-present-clause-stops g c = want_raised c.from_residual.result c.f
 
 pub returns-in_err-piece-clause-stops : goal.returns-in_err-piece-clause-stops
 returns-in_err-piece-clause-stops g c =
-    let more = leads_more (λ end bs. behind c.loop-left.bytes (run_at end c.loop-left.left c.in_ok-present.present bs)) c.loop-left.invariant.leads c.in_ok-present.ensures.reads (λ end bs rest here h. ap (behind c.loop-left.bytes) (run_opens end c.loop-left.left c.loop-left.block bs c.in_ok-present.present rest c.loop-left-test.true h)) in
+    let more = leads_more (λ end bs. behind c.loop-left.bytes (run_at end c.loop-left.left c.in_ok-present.present bs)) c.loop-left.invariant.leads c.in_ok-present.ensures.reads (λ end bs rest here h. ap (behind c.loop-left.bytes) (run_opens end c.loop-left.left c.loop-left.block bs c.in_ok-present.present rest c.loop-left-test.true h)) (λ end bs here is. run_unopened c.loop-left.bytes end c.loop-left.left c.loop-left.block bs (inside short) c.loop-left-test.true is) in
     want_raised c.from_residual-in_err-piece.result c.from_residual-in_err-piece.ensures.1 (inside_loop_stops more
     (λ end bs f here is. piece_err c.loop-left.bytes end c.min-more.result c.loop-left.left c.in_ok-present.present bs f (omega (arith, c.min-more.ensures)) (omega (arith, c.min-more.ensures)) is) (rw c.from.ensures at c.in_err-piece.ensures.stops))
 
 pub returns-in_err-append-clause-stops : goal.returns-in_err-append-clause-stops
 returns-in_err-append-clause-stops g c =
-    let more = leads_more (λ end bs. behind c.loop-left.bytes (run_at end c.loop-left.left c.in_ok-present.present bs)) c.loop-left.invariant.leads c.in_ok-present.ensures.reads (λ end bs rest here h. ap (behind c.loop-left.bytes) (run_opens end c.loop-left.left c.loop-left.block bs c.in_ok-present.present rest c.loop-left-test.true h)) in
+    let more = leads_more (λ end bs. behind c.loop-left.bytes (run_at end c.loop-left.left c.in_ok-present.present bs)) c.loop-left.invariant.leads c.in_ok-present.ensures.reads (λ end bs rest here h. ap (behind c.loop-left.bytes) (run_opens end c.loop-left.left c.loop-left.block bs c.in_ok-present.present rest c.loop-left-test.true h)) (λ end bs here is. run_unopened c.loop-left.bytes end c.loop-left.left c.loop-left.block bs (inside short) c.loop-left-test.true is) in
     want_raised c.from_residual-in_err-append.result c.from_residual-in_err-append.ensures.1 (want_breaks_two more (want_took c.in_ok-piece.ensures.reads))

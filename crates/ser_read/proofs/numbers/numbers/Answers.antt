@@ -1,4 +1,5 @@
 use Rattle.std.proofs.Common.{◌≡◌, ◌∙◌, ◌*◌, arith, refl, rules}
+use Rattle.ser_values.specs.Reading.{short}
 use Rattle.ser_read.proofs.Steps.{leads_start, leads_more, leads_done}
 use Rattle.ser_read.proofs.Breaking.{raised, loop_stops, breaks_two, took_then}
 use Rattle.ser_read.proofs.NumberRuns.{block_long, run_start, run_err, run_next, run_end}
@@ -27,7 +28,8 @@ loop-left-preserved g c = record {
   lent = c.in_ok-block.ensures.lent ∙ c.loop-left.invariant.lent;
   leads = λ now. leads_more _ (c.loop-left.invariant.leads now) c.in_ok-block.ensures.reads
       (λ end bs rest here h. rw (c.in_ok-append_run.ensures, c.as_slice.ensures)
-      (run_next g.T.Number.read g.T.Number.WIDTH g.T.Number.value g.met.T.Number.spelled c.loop-left.numbers c.loop-left.left c.min-more.result now bs c.in_ok-block.block rest (omega arith) (rw c.WIDTH.ensures at h)));
+      (run_next g.T.Number.read g.T.Number.WIDTH g.T.Number.value g.met.T.Number.spelled c.loop-left.numbers c.loop-left.left c.min-more.result now bs c.in_ok-block.block rest (omega arith) (rw c.WIDTH.ensures at h)))
+      (λ end bs here is. run_err g.T.Number.read g.T.Number.WIDTH g.T.Number.value g.met.T.Number.spelled c.loop-left.numbers c.loop-left.left c.min-more.result now bs short (omega arith) (rw c.WIDTH.ensures at is));
 }
 
 pub returns-clause-reads : goal.returns-clause-reads

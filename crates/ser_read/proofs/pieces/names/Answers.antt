@@ -1,5 +1,5 @@
 use Rattle.std.proofs.Common.{◌∙◌, arith, refl, rules}
-use Rattle.ser_values.specs.Reading.{plain, short_at}
+use Rattle.ser_values.specs.Reading.{short, plain, short_at}
 use Rattle.ser_read.proofs.Steps.{leads_start, leads_more, leads_done, plain_reads}
 use Rattle.ser_read.proofs.Loop.{many_start, many_next, many_end}
 use Rattle.ser_read.proofs.Values.{plain_stops}
@@ -24,7 +24,8 @@ pub loop-preserved : goal.loop-preserved
 loop-preserved g c = record {
   lent = c.in_ok-name.ensures.lent ∙ c.loop.invariant.lent;
   leads = λ now. leads_more _ (c.loop.invariant.leads now) (plain_reads now c.in_ok-name.ensures.reads)
-      (λ end bs rest here h. rw c.in_ok-push.ensures.ok (many_next (plain (short_at end)) c.loop.names c.args.n c.loop.counter now bs c.in_ok-name.name now rest c.loop-test.true h));
+      (λ end bs rest here h. rw c.in_ok-push.ensures.ok (many_next (plain (short_at end)) c.loop.names c.args.n c.loop.counter now bs c.in_ok-name.name now rest c.loop-test.true h))
+      (λ end bs here is. many_err (plain (short_at end)) c.loop.names c.args.n c.loop.counter now bs short c.loop-test.true is);
 }
 
 pub returns-clause-reads : goal.returns-clause-reads

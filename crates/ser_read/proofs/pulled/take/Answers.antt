@@ -1,5 +1,5 @@
 use Rattle.std.proofs.Common.{◌≡◌, ◌∙◌, arith, ap}
-use Rattle.ser_values.specs.Reading.{take_at}
+use Rattle.ser_values.specs.Reading.{short, take_at}
 use Rattle.ser_read.proofs.Steps.{leads_more}
 use Rattle.ser_read.proofs.Bytes.{onto, take_more, take_end}
 use Rattle.ser_read.proofs.Breaking.{raised, loop_stops, breaks_two, took_then}
@@ -16,5 +16,6 @@ pub loop-left-preserved : goal.loop-left-preserved
 loop-left-preserved g c =
     record {
       lent = c.in_ok-piece.ensures.lent ∙ c.loop-left.invariant.lent;
-      leads = leads_more _ c.loop-left.invariant.leads c.in_ok-piece.ensures.reads (λ end bs rest here h. rw (c.in_ok-append.ensures.ok, c.as_slice.ensures) (take_more c.loop-left.bytes c.loop-left.left c.min-more.result bs c.in_ok-piece.piece rest (omega arith) h));
+      leads = leads_more _ c.loop-left.invariant.leads c.in_ok-piece.ensures.reads (λ end bs rest here h. rw (c.in_ok-append.ensures.ok, c.as_slice.ensures) (take_more c.loop-left.bytes c.loop-left.left c.min-more.result bs c.in_ok-piece.piece rest (omega arith) h))
+          (λ end bs here is. take_err c.loop-left.bytes c.loop-left.left c.min-more.result bs short (omega arith) is);
     }

@@ -1,8 +1,8 @@
-use Rattle.std.proofs.Common.{◌≡◌, ◌-◌, ◌+◌, ◌∙◌, ℕ, length, FitsSigned, suc, ◌∷◌, [], Some, None, true, false, arith, refl, rules, sym, ap, subst, nat_lt, Option, option_map}
+use Rattle.std.proofs.Common.{◌≡◌, Err, ◌-◌, ◌+◌, ◌∙◌, ℕ, length, FitsSigned, suc, ◌∷◌, [], Some, None, true, false, arith, refl, rules, sym, ap, subst, nat_lt, Option, option_map}
 use Rattle.std.proofs.lemmas.Bool.{ne_eqb}
 use Rattle.class_desc.specs.declared.slot.Slot.TheVariants as slots
 use Rattle.ser_values.specs.declared.node.Place.TheVariants.{Reference, Text}
-use Rattle.ser_values.specs.Reading.{slot_at, coded, field_at, field_of, value_at, Progress, push, fill, blank, desc_at, desc_after, proxy_at, array_of}
+use Rattle.ser_values.specs.Reading.{Kind, short, bad, enum_at, fresh_at, note_at, slot_at, coded, field_at, field_of, value_at, Progress, push, fill, blank, desc_at, desc_after, proxy_at, array_of}
 use Rattle.ser_read.specs.Rows.{part_by, values_by, parts_by}
 use Rattle.ser_read.specs.Tables.{now_of}
 use Rattle.ser_read.specs.Here.{kind_of}
@@ -12,10 +12,10 @@ use Rattle.ser_read.proofs.Breaking.{raised, first, later, later_last, breaks_sa
 use Rattle.ser_read.proofs.Stopping.{many_err, all_err, all_err_item, slack_stops, item_other, value_refs, elements_refs}
 use Rattle.ser_read.specs.declared.fault.StreamKind.TheVariants.{BadDesc, BadCode}
 use Rattle.ser_read.specs.Named.{class_named}
-use Rattle.ser_read.proofs.Loop.{many_next, many_end, all_start, all_next, all_end, all_next_item}
+use Rattle.ser_read.proofs.Loop.{many_start, many_next, many_end, all_start, all_next, all_end, all_next_item}
 use Rattle.ser_read.proofs.Blocks.{slack_start, slack_more, slack_end, slack_leads, slack_byte, code_err}
-use Rattle.ser_read.proofs.Parts.{with_class_is, object_is, object_here}
-use Rattle.ser_read.proofs.Slots.{made, slot_here, slot_gives, null_reads, null_stops, value_any, item_block, item_long, when, otherwise, stops_when, stops_otherwise, elements_any}
+use Rattle.ser_read.proofs.Parts.{with_class_is, object_is, object_here, object_bad}
+use Rattle.ser_read.proofs.Slots.{made, slot_here, slot_gives, null_reads, null_stops, value_any, item_block, item_long, when, otherwise, stops_when, stops_otherwise, elements_any, coded_none, coded_deep, coded_full}
 use Rattle.ser_read.proofs.reading.+reading.Goals as goal
 use Rattle.std.proofs.lemmas.Int.{to_z-of_z}
 use Rattle.std.specs.Int.{w64, cast_signed}
@@ -107,7 +107,8 @@ slots-loop-preserved g t c = record {
   lent = c.in_ok-slot.ensures.lent ∙ c.loop.invariant.lent;
   grows = omega (arith, c.slot.ensures.grows, c.loop.invariant.grows);
   unread = c.in_ok-slot.ensures.unread ∙ c.loop.invariant.unread;
-  leads = leads_more _ c.loop.invariant.leads (rw c.loop.invariant.unread at c.in_ok-slot.ensures.reads) (λ end bs rest here h. rw c.in_ok-push.ensures.ok (many_next (slot_at end c.args.left Reference c.args.table.now.unread.items) c.loop.slots c.args.n c.loop.counter (now_of c.loop.table) bs c.in_ok-slot.slot (now_of c.slot.new.table) rest c.loop-test.true h));
+  leads = leads_more _ c.loop.invariant.leads (rw c.loop.invariant.unread at c.in_ok-slot.ensures.reads) (λ end bs rest here h. rw c.in_ok-push.ensures.ok (many_next (slot_at end c.args.left Reference c.args.table.now.unread.items) c.loop.slots c.args.n c.loop.counter (now_of c.loop.table) bs c.in_ok-slot.slot (now_of c.slot.new.table) rest c.loop-test.true h))
+      (λ end bs here is. many_err (slot_at end c.args.left Reference c.args.table.now.unread.items) c.loop.slots c.args.n c.loop.counter (now_of c.loop.table) bs short c.loop-test.true is);
 }
 
 pub slots-returns-clause-reads : goal.slots-returns-clause-reads
@@ -118,7 +119,8 @@ fields-loop-preserved g t c = record {
   lent = c.in_ok-field.ensures.lent ∙ c.loop.invariant.lent;
   grows = omega (arith, c.field.ensures.grows, c.loop.invariant.grows);
   unread = c.in_ok-field.ensures.unread ∙ c.loop.invariant.unread;
-  leads = leads_more _ c.loop.invariant.leads (rw c.loop.invariant.unread at c.in_ok-field.ensures.reads) (λ end bs rest here h. rw c.in_ok-push.ensures.ok (many_next (field_at end c.args.at (slot_at end c.args.left Text c.args.table.now.unread.items)) c.loop.fields c.args.n c.loop.counter (now_of c.loop.table) bs c.in_ok-field.field (now_of c.field.new.table) rest c.loop-test.true h));
+  leads = leads_more _ c.loop.invariant.leads (rw c.loop.invariant.unread at c.in_ok-field.ensures.reads) (λ end bs rest here h. rw c.in_ok-push.ensures.ok (many_next (field_at end c.args.at (slot_at end c.args.left Text c.args.table.now.unread.items)) c.loop.fields c.args.n c.loop.counter (now_of c.loop.table) bs c.in_ok-field.field (now_of c.field.new.table) rest c.loop-test.true h))
+      (λ end bs here is. many_err (field_at end c.args.at (slot_at end c.args.left Text c.args.table.now.unread.items)) c.loop.fields c.args.n c.loop.counter (now_of c.loop.table) bs short c.loop-test.true is);
 }
 
 pub fields-returns-clause-reads : goal.fields-returns-clause-reads
@@ -138,7 +140,8 @@ values-loop-code-preserved g t c = record {
   lent = c.in_ok-value.ensures.lent ∙ c.loop-code.invariant.lent;
   grows = omega (arith, c.value.ensures.grows, c.loop-code.invariant.grows);
   unread = c.in_ok-value.ensures.unread ∙ c.loop-code.invariant.unread;
-  leads = leads_more _ c.loop-code.invariant.leads (rw c.loop-code.invariant.unread at c.in_ok-value.ensures.reads) (λ end bs rest here h. rw c.in_ok-push.ensures.ok (all_next (value_at (slot_at end c.args.left Reference c.args.table.now.unread.items)) c.loop-code.values c.args.codes.now c.loop-code.code-index _ (now_of c.loop-code.table) bs c.in_ok-value.value (now_of c.value.new.table) rest c.loop-code-test.true h));
+  leads = leads_more _ c.loop-code.invariant.leads (rw c.loop-code.invariant.unread at c.in_ok-value.ensures.reads) (λ end bs rest here h. rw c.in_ok-push.ensures.ok (all_next (value_at (slot_at end c.args.left Reference c.args.table.now.unread.items)) c.loop-code.values c.args.codes.now c.loop-code.code-index _ (now_of c.loop-code.table) bs c.in_ok-value.value (now_of c.value.new.table) rest c.loop-code-test.true h))
+      (λ end bs here is. all_err (value_at (slot_at end c.args.left Reference c.args.table.now.unread.items)) c.loop-code.values c.args.codes.now c.loop-code.code-index _ (now_of c.loop-code.table) bs short c.loop-code-test.true is);
 }
 
 pub values-returns-clause-reads : goal.values-returns-clause-reads
@@ -158,7 +161,8 @@ parts-loop-row-preserved g t c = record {
   lent = c.in_ok-part.ensures.lent ∙ c.loop-row.invariant.lent;
   grows = omega (arith, c.part.ensures.grows, c.loop-row.invariant.grows);
   unread = c.in_ok-part.ensures.unread ∙ c.loop-row.invariant.unread;
-  leads = leads_more _ c.loop-row.invariant.leads (rw c.loop-row.invariant.unread at c.in_ok-part.ensures.reads) (λ end bs rest here h. rw c.in_ok-push.ensures.ok (all_next_item (part_by end (slot_at end c.args.left Reference c.args.table.now.unread.items)) c.loop-row.parts c.args.rows.now c.loop-row.row-index c.row-item.result (now_of c.loop-row.table) bs c.in_ok-part.part (now_of c.part.new.table) rest c.loop-row-test.true c.row-item.is h));
+  leads = leads_more _ c.loop-row.invariant.leads (rw c.loop-row.invariant.unread at c.in_ok-part.ensures.reads) (λ end bs rest here h. rw c.in_ok-push.ensures.ok (all_next_item (part_by end (slot_at end c.args.left Reference c.args.table.now.unread.items)) c.loop-row.parts c.args.rows.now c.loop-row.row-index c.row-item.result (now_of c.loop-row.table) bs c.in_ok-part.part (now_of c.part.new.table) rest c.loop-row-test.true c.row-item.is h))
+      (λ end bs here is. all_err_item (part_by end (slot_at end c.args.left Reference c.args.table.now.unread.items)) c.loop-row.parts c.args.rows.now c.loop-row.row-index c.row-item.result (now_of c.loop-row.table) bs short c.loop-row-test.true c.row-item.is is);
 }
 
 pub parts-returns-clause-reads : goal.parts-returns-clause-reads
@@ -432,3 +436,57 @@ object_in-returns-then-lacks_parts-clause-stops g t c =
     let rows = c.as_slice-rows.ensures.value ∙ c.in_ok-shape.ensures.rows in
     let lacks = sym c.lacks_parts.ensures ∙ c.if-lacks_parts.true in
     many_here c.args.at (λ end bs here. object_is end c.args.at (slot_at end c.args.left Reference c.args.table.now.unread.items) c.args.class c.as_slice-rows.result.now (now_of c.args.table.now) bs rows ∙ rw lacks refl)
+
+pub coded-returns-then-not-admits_code-clause-stops : goal.coded-returns-then-not-admits_code-clause-stops
+coded-returns-then-not-admits_code-clause-stops g t c =
+    let none = sym c.admits_code.ensures ∙ c.if-not-admits_code.true in
+    rw c.bad.ensures (bad_here c.code_fault.result c.args.at c.code_fault.ensures.known (λ end bs here.
+    coded_none end c.args.left (slot_at end (c.args.left - 1)) c.args.place c.args.table.now.unread.items c.args.at c.args.code (now_of c.args.table.now) bs (ne_eqb c.args.code 112 c.if-code-eq112.false) (ne_eqb c.args.code 113 c.if-code-eq113.false) none ∙ ap (λ (k : Kind). Err (bad k c.args.at)) (sym c.code_fault.ensures.kind)))
+
+pub coded-returns-then-left-eq0-clause-stops : goal.coded-returns-then-left-eq0-clause-stops
+coded-returns-then-left-eq0-clause-stops g t c =
+    let some = sym c.admits_code.ensures ∙ c.if-not-admits_code.false in
+    deep_here c.args.at (λ end bs here. coded_deep end c.args.left (slot_at end (c.args.left - 1)) c.args.place c.args.table.now.unread.items c.args.at c.args.code (now_of c.args.table.now) bs (ne_eqb c.args.code 112 c.if-code-eq112.false) (ne_eqb c.args.code 113 c.if-code-eq113.false) some c.if-left-eq0.true)
+
+pub coded-returns-then-is_full-clause-stops : goal.coded-returns-then-is_full-clause-stops
+coded-returns-then-is_full-clause-stops g t c =
+    let some = sym c.admits_code.ensures ∙ c.if-not-admits_code.false in
+    many_here c.args.at (λ end bs here. coded_full end c.args.left (slot_at end (c.args.left - 1)) c.args.place c.args.table.now.unread.items c.args.at c.args.code (now_of c.args.table.now) bs (ne_eqb c.args.code 112 c.if-code-eq112.false) (ne_eqb c.args.code 113 c.if-code-eq113.false) some (omega arith) (sym c.is_full.ensures ∙ c.if-is_full.true))
+
+pub constant_in-returns-then-not-is_enum-clause-stops : goal.constant_in-returns-then-not-is_enum-clause-stops
+unfolding enum_at
+constant_in-returns-then-not-is_enum-clause-stops g t c =
+    let none = sym c.is_enum.ensures ∙ c.if-not-is_enum.true in
+    rw c.bad.ensures (bad_here BadDesc c.args.at tt (λ end bs here. rw none refl))
+
+pub fields-loop-init : goal.fields-loop-init
+fields-loop-init g t c = record {
+  lent = refl;
+  grows = omega arith;
+  unread = refl;
+  leads = rw c.new-fields.ensures (leads_start _ _ _ (λ end bs. many_start (field_at end c.args.at (slot_at end c.args.left Text c.args.table.now.unread.items)) c.args.n (now_of c.args.table.now) bs));
+}
+
+pub slots-loop-init : goal.slots-loop-init
+slots-loop-init g t c = record {
+  lent = refl;
+  grows = omega arith;
+  unread = refl;
+  leads = rw c.new-slots.ensures (leads_start _ _ _ (λ end bs. many_start (slot_at end c.args.left Reference c.args.table.now.unread.items) c.args.n (now_of c.args.table.now) bs));
+}
+
+pub fresh-returns-in_default-clause-stops : goal.fresh-returns-in_default-clause-stops
+unfolding fresh_at
+fresh-returns-in_default-clause-stops g t c = rw c.bad.ensures (bad_here BadCode c.args.at tt (λ end bs here. search rules))
+
+pub note-returns-else-writes-clause-reads : goal.note-returns-else-writes-clause-reads
+unfolding note_at
+note-returns-else-writes-clause-reads g t c = rw (c.new.ensures, c.if-writes.false) (done (λ end bs. refl))
+
+pub object_in-returns-in-Some-clause-stops : goal.object_in-returns-in-Some-clause-stops
+object_in-returns-in-Some-clause-stops g t c =
+    let rows = c.as_slice-rows.ensures.value ∙ c.in_ok-shape.ensures.rows in
+    let few = sym c.lacks_parts.ensures ∙ c.if-lacks_parts.false in
+    let wrong = sym c.in_ok-shape.ensures.fault ∙ ap (λ (f : Option StreamKind). option_map kind_of f) c.in-Some.is in
+    rw c.bad.ensures (bad_here c.in-Some.kind c.args.at (rw c.in-Some.is at c.in_ok-shape.ensures.known) (λ end bs here.
+    object_bad end c.args.at (slot_at end c.args.left Reference c.args.table.now.unread.items) c.args.class c.as_slice-rows.result.now (now_of c.args.table.now) bs (kind_of c.in-Some.kind) rows few wrong))

@@ -5,6 +5,7 @@ use Rattle.ser_values.specs.Reading.{slot_at, many_at, field_at, value_at}
 use Rattle.ser_read.specs.Lists.{all_at}
 use Rattle.ser_read.specs.Rows.{part_by, values_by, parts_by}
 use Rattle.ser_read.specs.Tables.{now_of}
+use Rattle.ser_values.specs.Reading.{short}
 use Rattle.ser_read.proofs.Steps.{Leads}
 use Rattle.ser_read.proofs.Loop.{front_of}
 use Rattle.ser_read.proofs.Blocks.{Slack}
@@ -100,7 +101,7 @@ invariant-slots-loop g l =
       lent : l.pull.source.ghost_name ≡ l.fn.pull.source.ghost_name;
       grows : length l.fn.table.nodes.items ≤ length l.table.nodes.items;
       unread : l.table.unread.items ≡ l.fn.table.unread.items;
-      leads : Leads (place g.S.Source.left g.S.Source.faults l.fn.pull) (place g.S.Source.left g.S.Source.faults l.pull) (λ end. many_at (slot_at end l.left Reference l.fn.table.unread.items) l.n (now_of l.fn.table)) (λ end bs. front_of l.slots (many_at (slot_at end l.left Reference l.fn.table.unread.items) (l.n - l.counter) (now_of l.table) bs));
+      leads : Leads short (place g.S.Source.left g.S.Source.faults l.fn.pull) (place g.S.Source.left g.S.Source.faults l.pull) (λ end. many_at (slot_at end l.left Reference l.fn.table.unread.items) l.n (now_of l.fn.table)) (λ end bs. front_of l.slots (many_at (slot_at end l.left Reference l.fn.table.unread.items) (l.n - l.counter) (now_of l.table) bs));
     }
 
 abbrev pub invariant-fields-loop : goal.invariant-fields-loop
@@ -109,7 +110,7 @@ invariant-fields-loop g l =
       lent : l.pull.source.ghost_name ≡ l.fn.pull.source.ghost_name;
       grows : length l.fn.table.nodes.items ≤ length l.table.nodes.items;
       unread : l.table.unread.items ≡ l.fn.table.unread.items;
-      leads : Leads (place g.S.Source.left g.S.Source.faults l.fn.pull) (place g.S.Source.left g.S.Source.faults l.pull) (λ end. many_at (field_at end l.at (slot_at end l.left Text l.fn.table.unread.items)) l.n (now_of l.fn.table)) (λ end bs. front_of l.fields (many_at (field_at end l.at (slot_at end l.left Text l.fn.table.unread.items)) (l.n - l.counter) (now_of l.table) bs));
+      leads : Leads short (place g.S.Source.left g.S.Source.faults l.fn.pull) (place g.S.Source.left g.S.Source.faults l.pull) (λ end. many_at (field_at end l.at (slot_at end l.left Text l.fn.table.unread.items)) l.n (now_of l.fn.table)) (λ end bs. front_of l.fields (many_at (field_at end l.at (slot_at end l.left Text l.fn.table.unread.items)) (l.n - l.counter) (now_of l.table) bs));
     }
 
 abbrev pub invariant-values-loop-code : goal.invariant-values-loop-code
@@ -118,7 +119,7 @@ invariant-values-loop-code g l =
       lent : l.pull.source.ghost_name ≡ l.fn.pull.source.ghost_name;
       grows : length l.fn.table.nodes.items ≤ length l.table.nodes.items;
       unread : l.table.unread.items ≡ l.fn.table.unread.items;
-      leads : Leads (place g.S.Source.left g.S.Source.faults l.fn.pull) (place g.S.Source.left g.S.Source.faults l.pull) (λ end. values_by (slot_at end l.left Reference l.fn.table.unread.items) l.codes (now_of l.fn.table)) (λ end bs. front_of l.values (all_at (value_at (slot_at end l.left Reference l.fn.table.unread.items)) (drop l.code-index l.codes) (now_of l.table) bs));
+      leads : Leads short (place g.S.Source.left g.S.Source.faults l.fn.pull) (place g.S.Source.left g.S.Source.faults l.pull) (λ end. values_by (slot_at end l.left Reference l.fn.table.unread.items) l.codes (now_of l.fn.table)) (λ end bs. front_of l.values (all_at (value_at (slot_at end l.left Reference l.fn.table.unread.items)) (drop l.code-index l.codes) (now_of l.table) bs));
     }
 
 abbrev pub invariant-parts-loop-row : goal.invariant-parts-loop-row
@@ -127,7 +128,7 @@ invariant-parts-loop-row g l =
       lent : l.pull.source.ghost_name ≡ l.fn.pull.source.ghost_name;
       grows : length l.fn.table.nodes.items ≤ length l.table.nodes.items;
       unread : l.table.unread.items ≡ l.fn.table.unread.items;
-      leads : Leads (place g.S.Source.left g.S.Source.faults l.fn.pull) (place g.S.Source.left g.S.Source.faults l.pull) (λ end. parts_by end (slot_at end l.left Reference l.fn.table.unread.items) l.rows (now_of l.fn.table)) (λ end bs. front_of l.parts (all_at (part_by end (slot_at end l.left Reference l.fn.table.unread.items)) (drop l.row-index l.rows) (now_of l.table) bs));
+      leads : Leads short (place g.S.Source.left g.S.Source.faults l.fn.pull) (place g.S.Source.left g.S.Source.faults l.pull) (λ end. parts_by end (slot_at end l.left Reference l.fn.table.unread.items) l.rows (now_of l.fn.table)) (λ end bs. front_of l.parts (all_at (part_by end (slot_at end l.left Reference l.fn.table.unread.items)) (drop l.row-index l.rows) (now_of l.table) bs));
     }
 
 abbrev pub invariant-items-loop-items : goal.invariant-items-loop-items

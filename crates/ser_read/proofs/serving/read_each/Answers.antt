@@ -6,7 +6,7 @@ use Rattle.ser_read.proofs.serving.read_each.Goals as goal
 
 pub returns-clause-reads : goal.returns-clause-reads
 returns-clause-reads g c =
-    close_reads c.args.wants.now c.in_ok-answers.answers c.serve.new.reader.stand c.in_ok-graph.graph.nodes c.in_ok-graph.graph.items c.in_ok-reader.ensures.reads
+    close_reads c.args.wants.now c.in_ok-answers.answers c.serve_all.new.reader.stand c.in_ok-graph.graph.nodes c.in_ok-graph.graph.items c.in_ok-reader.ensures.reads
     (rw c.in_ok-reader.ensures.stand at c.in_ok-answers.ensures.reads) (c.in_ok-graph.ensures.gives c.in_ok-answers.ensures.kept)
 
 pub returns-in_err-reader-clause-stops : goal.returns-in_err-reader-clause-stops
@@ -21,4 +21,4 @@ pub returns-in_err-graph-clause-stops : goal.returns-in_err-graph-clause-stops
 returns-in_err-graph-clause-stops g c =
     let left = c.in_err-graph.ensures.left c.in_ok-answers.ensures.kept in
     want_raised c.from_residual-in_err-graph.result c.from_residual-in_err-graph.ensures.1
-    (close_stops c.args.wants.now c.in_ok-answers.answers c.serve.new.reader.stand c.in_err-graph.field-0.0 c.in_ok-reader.ensures.reads (rw c.in_ok-reader.ensures.stand at c.in_ok-answers.ensures.reads) left.0 left.1)
+    (close_stops c.args.wants.now c.in_ok-answers.answers c.serve_all.new.reader.stand c.in_err-graph.field-0.0 c.in_ok-reader.ensures.reads (rw c.in_ok-reader.ensures.stand at c.in_ok-answers.ensures.reads) left.0 left.1)

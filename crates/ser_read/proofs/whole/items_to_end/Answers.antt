@@ -5,8 +5,8 @@ use Rattle.ser_read.specs.Tables.{now_of}
 use Rattle.ser_read.proofs.Slots.{slot_gives}
 use Rattle.ser_read.proofs.Blocks.{slack_start, slack_next, slack_byte}
 use Rattle.ser_read.proofs.Breaking.{breaks_two, took_then, nearer}
-use Rattle.ser_read.proofs.Stopping.{slack_stops}
-use Rattle.ser_read.proofs.ToEnd.{slack_all, no_code, breaks_whole, whole_raised}
+use Rattle.ser_read.proofs.Stopping.{whole_stops}
+use Rattle.ser_read.proofs.ToEnd.{slack_all, no_code, whole_raised}
 use Rattle.ser_read.proofs.whole.items_to_end.Goals as goal
 
 pub loop-items-init : goal.loop-items-init
@@ -26,12 +26,12 @@ returns-in-None-clause-reads g c =
 
 pub returns-in_err-item-in-Some-clause-stops : goal.returns-in_err-item-in-Some-clause-stops
 returns-in_err-item-in-Some-clause-stops g c = whole_raised c.from_residual-in_err-item-in-Some.result c.from_residual-in_err-item-in-Some.ensures.1
-    (breaks_whole (slack_stops {within = false} (λ end. coded end 200 (slot_at end (200 - 1)) Reference c.args.table.now.unread.items c.loop-items.pull.at c.in-Some.code) c.loop-items.invariant.slack (rw c.in-Some.is at c.in_ok-next_code.ensures.reads) refl
-    (λ end bs here. slot_gives end 200 Reference c.args.table.now.unread.items (now_of c.loop-items.table) (c.in-Some.code ∷ bs) c.loop-items.pull.at c.in-Some.code bs here refl) (rw c.loop-items.invariant.unread at c.in_err-item-in-Some.ensures.stops)))
+    (whole_stops (λ end. coded end 200 (slot_at end (200 - 1)) Reference c.args.table.now.unread.items c.loop-items.pull.at c.in-Some.code) c.in_err-item-in-Some.field-0.0 c.loop-items.invariant.slack (rw c.in-Some.is at c.in_ok-next_code.ensures.reads)
+    (λ end bs here. slot_gives end 200 Reference c.args.table.now.unread.items (now_of c.loop-items.table) (c.in-Some.code ∷ bs) c.loop-items.pull.at c.in-Some.code bs here refl) (rw c.loop-items.invariant.unread at c.in_err-item-in-Some.ensures.stops))
 
 pub returns-in_err-add-in-Some-clause-stops : goal.returns-in_err-add-in-Some-clause-stops
 returns-in_err-add-in-Some-clause-stops g c = whole_raised c.from_residual-in_err-add-in-Some.result c.from_residual-in_err-add-in-Some.ensures.1
-    (breaks_whole (breaks_two (slack_byte c.loop-items.invariant.slack (rw c.in-Some.is at c.in_ok-next_code.ensures.reads)) (took_then c.in_ok-item-in-Some.ensures.reads)))
+    (record { is = breaks_two (slack_byte c.loop-items.invariant.slack (rw c.in-Some.is at c.in_ok-next_code.ensures.reads)) (took_then c.in_ok-item-in-Some.ensures.reads) })
 
 pub loop-items-preserved : goal.loop-items-preserved
 loop-items-preserved g c =

@@ -1,0 +1,74 @@
+-- The first fault that stands in some bytes, computed: one row for each kind that has no row where reading is defined.
+use Rattle.std.proofs.Common.{◌≡◌, ℕ, List, [], ◌∷◌, length, Result, Ok, Err, refl}
+use Rattle.mod_utf.specs.Decoding.{decoded_at, front}
+use Rattle.class_desc.specs.declared.slot.Slot.{Slot}
+use Rattle.class_desc.specs.declared.slot.Item.{Item}
+use Rattle.class_desc.specs.TypeText.{element_of, is_array_text, is_component_text, ends_class}
+use Rattle.class_desc.specs.ClassDesc.{is_good_desc, fit_flags, are_ordered}
+use Rattle.ser_values.specs.declared.node.Node.{Node}
+use Rattle.ser_values.specs.declared.node.Place.TheVariants.{Reference}
+use Rattle.ser_values.specs.Reading.{Fault, Progress, bad, too_many, too_deep, bad_desc, negative_length, inner_exception, stream_of, magic_at, items_at, blocks_at, slot_at, coded, fresh_at, desc_at, desc_after, short_at, units_at, size_at, many_at, field_at, field_of, text_at, with_class, object_at, chain_of, array_at, array_of, enum_at}
+use Rattle.ser_read.specs.Heads.{one_head, any_head, head_within}
+use Rattle.ser_read.specs.Wants.{WantFault, missing_block, block_left, Stand, nothing_read, no_block, opened_at, run_at, bytes_at, slot_next}
+
+abbrev Answer : Type 0
+Answer = Result (List Node × List Item) Fault
+
+abbrev fails : Fault → Answer
+fails f = Err f
+
+abbrev after_head : List ℕ → Answer
+after_head bytes = stream_of (0xAC ∷ 0xED ∷ 0x00 ∷ 0x05 ∷ bytes)
+
+an_inner_exception : after_head (0x7B ∷ []) ≡ fails (bad inner_exception 4)
+unfolding stream_of magic_at items_at blocks_at slot_at coded
+an_inner_exception = refl
+
+a_wrong_field_code : after_head (0x72 ∷ 0x00 ∷ 0x01 ∷ 0x4E ∷ 0x00 ∷ 0x00 ∷ 0x00 ∷ 0x00 ∷ 0x00 ∷ 0x00 ∷ 0x00 ∷ 0x00 ∷ 0x02 ∷ 0x00 ∷ 0x01 ∷ 0x51 ∷ []) ≡ fails (bad bad_desc 4)
+unfolding stream_of magic_at items_at blocks_at slot_at coded fresh_at desc_at short_at units_at decoded_at front desc_after size_at many_at field_at field_of
+a_wrong_field_code = refl
+
+too_many_fields : after_head (0x72 ∷ 0x00 ∷ 0x01 ∷ 0x4E ∷ 0x00 ∷ 0x00 ∷ 0x00 ∷ 0x00 ∷ 0x00 ∷ 0x00 ∷ 0x00 ∷ 0x00 ∷ 0x02 ∷ 0x80 ∷ 0x00 ∷ []) ≡ fails (bad negative_length 17)
+unfolding stream_of magic_at items_at blocks_at slot_at coded fresh_at desc_at short_at units_at decoded_at front desc_after size_at many_at
+too_many_fields = refl
+
+a_wrong_type_text : after_head (0x72 ∷ 0x00 ∷ 0x01 ∷ 0x4E ∷ 0x00 ∷ 0x00 ∷ 0x00 ∷ 0x00 ∷ 0x00 ∷ 0x00 ∷ 0x00 ∷ 0x00 ∷ 0x02 ∷ 0x00 ∷ 0x01 ∷ 0x4C ∷ 0x00 ∷ 0x01 ∷ 0x61 ∷ 0x74 ∷ 0x00 ∷ 0x01 ∷ 0x58 ∷ []) ≡ fails (bad bad_desc 4)
+unfolding stream_of magic_at items_at blocks_at slot_at coded fresh_at desc_at short_at units_at decoded_at front desc_after size_at many_at field_at field_of text_at ends_class is_component_text is_array_text element_of
+a_wrong_type_text = refl
+
+no_class_of_objects : after_head (0x73 ∷ 0x72 ∷ 0x00 ∷ 0x01 ∷ 0x4E ∷ 0x00 ∷ 0x00 ∷ 0x00 ∷ 0x00 ∷ 0x00 ∷ 0x00 ∷ 0x00 ∷ 0x00 ∷ 0x00 ∷ 0x00 ∷ 0x00 ∷ 0x78 ∷ 0x70 ∷ []) ≡ fails (bad bad_desc 4)
+unfolding stream_of magic_at items_at blocks_at slot_at coded fresh_at desc_at short_at units_at decoded_at front desc_after size_at many_at is_good_desc fit_flags are_ordered with_class object_at chain_of element_of is_array_text is_component_text ends_class
+no_class_of_objects = refl
+
+no_class_of_arrays : after_head (0x75 ∷ 0x72 ∷ 0x00 ∷ 0x01 ∷ 0x4E ∷ 0x00 ∷ 0x00 ∷ 0x00 ∷ 0x00 ∷ 0x00 ∷ 0x00 ∷ 0x00 ∷ 0x00 ∷ 0x02 ∷ 0x00 ∷ 0x00 ∷ 0x78 ∷ 0x70 ∷ []) ≡ fails (bad bad_desc 4)
+unfolding stream_of magic_at items_at blocks_at slot_at coded fresh_at desc_at short_at units_at decoded_at front desc_after size_at many_at is_good_desc fit_flags are_ordered with_class array_at array_of element_of is_array_text is_component_text ends_class
+no_class_of_arrays = refl
+
+no_class_of_enums : after_head (0x7E ∷ 0x72 ∷ 0x00 ∷ 0x01 ∷ 0x4E ∷ 0x00 ∷ 0x00 ∷ 0x00 ∷ 0x00 ∷ 0x00 ∷ 0x00 ∷ 0x00 ∷ 0x00 ∷ 0x02 ∷ 0x00 ∷ 0x00 ∷ 0x78 ∷ 0x70 ∷ []) ≡ fails (bad bad_desc 4)
+unfolding stream_of magic_at items_at blocks_at slot_at coded fresh_at desc_at short_at units_at decoded_at front desc_after size_at many_at is_good_desc fit_flags are_ordered with_class enum_at
+no_class_of_enums = refl
+
+abbrev Referred : Type 0
+Referred = Result (Slot × Progress × List ℕ) Fault
+
+abbrev slot_fails : Fault → Referred
+slot_fails f = Err f
+
+a_level_too_deep : slot_at 1 0 Reference [] (record { nodes = []; parts = 0 }) (0x74 ∷ []) ≡ slot_fails (too_deep 0)
+unfolding slot_at coded
+a_level_too_deep = refl
+
+a_node_too_many : (now : Progress) → length now.nodes ≡ 65536 → slot_at 1 200 Reference [] now (0x74 ∷ []) ≡ slot_fails (too_many 0)
+unfolding slot_at coded
+a_node_too_many now full = rw full refl
+
+abbrev want_fails : {A : Type 0} → WantFault → Result A WantFault
+want_fails f = Err f
+
+a_block_left : slot_next 1 (record { progress = record { nodes = []; parts = 0 }; items = []; block = 1 }) (0x70 ∷ []) ≡ want_fails (block_left 0)
+unfolding slot_next
+a_block_left = refl
+
+a_missing_block : bytes_at 1 1 nothing_read (0x70 ∷ []) ≡ want_fails (missing_block 0)
+unfolding bytes_at run_at opened_at head_within any_head one_head no_block
+a_missing_block = refl
