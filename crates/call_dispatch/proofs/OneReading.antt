@@ -1,5 +1,5 @@
 -- An input and the answers of the outside have one settled dialogue: the next whole exchange is a function of them.
-use Rattle.std.proofs.Common.{◌≡◌, ◌≢◌, ℕ, suc, ◌+◌, ◌^◌, ◌<◌, ◌≤◌, ◌⊎◌, inl, inr, List, [], ◌∷◌, ◌++◌, length, Option, Some, None, Bool, cond, eqb, true, false, ◌||◌, refl, ap, sym, subst, ◌∙◌, arith, append_assoc, append-nil, length-append, eq-eqb, add-zero, zero-add}
+use Rattle.std.proofs.Common.{◌≡◌, ℕ, ◌+◌, ◌^◌, ◌<◌, ◌≤◌, ◌⊎◌, inl, inr, List, [], ◌∷◌, ◌++◌, length, Option, Some, None, cond, eqb, true, false, ◌||◌, refl, ap, sym, subst, ◌∙◌, arith, append_assoc, append-nil, length-append, eq-eqb, zero-add}
 use Rattle.std.proofs.lemmas.List.{append_cancel_right}
 use Rattle.std.proofs.lemmas.Grind.{flat_map-append}
 use Rattle.std.specs.List.{flat_map}
@@ -12,10 +12,10 @@ use Rattle.call_dispatch.specs.declared.end.ConnEnd.{ConnEnd}
 use Rattle.call_dispatch.specs.declared.end.ConnEnd.TheVariants.{Ended, BadHeader, UnknownProtocol, BadMessage, Truncated, NotBuilt, MessageLimit, ReadFault, WriteFault, OutOfMemory}
 use Rattle.call_dispatch.specs.End.{IsSettled}
 use Rattle.call_dispatch.specs.Terms.{Terms}
-use Rattle.call_dispatch.specs.Acts.{Act, Call as WorkerCall, States}
+use Rattle.call_dispatch.specs.Acts.{Call as WorkerCall, States}
 use Rattle.call_dispatch.specs.Spot.{Spot, Course, took, followed_by}
 use Rattle.call_dispatch.specs.Rows.{Exchange, ping, taken_by, acts_by, draws_by, IsExchange, IsChain}
-use Rattle.call_dispatch.specs.Dialogue.{Opening, stream, single_op, most_messages, opening_taken, Whole, nothing, greeted, opened, taken_in, written_in, course_in, IsAtCode, IsDone, IsUnbuilt, Ends, Dialogue}
+use Rattle.call_dispatch.specs.Dialogue.{Opening, stream, single_op, most_messages, opening_taken, Whole, nothing, greeted, opened, taken_in, course_in, IsAtCode, IsDone, IsUnbuilt, Ends, Dialogue}
 use Rattle.call_dispatch.specs.Tape.{Tick, ticks, tape}
 use Rattle.call_dispatch.specs.Progress.{Talks, Settles, Talked, Served}
 use Rattle.call_dispatch.proofs.Steps.{course_is}

@@ -17,13 +17,14 @@ const OUT_OF_MEMORY: u8 = 5;
 /// Runs the program with its words, its standard streams and their buffers, and answers its status.
 fn run_process(rt: &HostRuntime) -> io::Result<u8> {
     let alloc = rt.alloc();
+    let seed = [word(rt)?, word(rt)?, word(rt)?, word(rt)?];
     let words = Words::from_vec(env::args(rt)?.skip(1).collect(alloc)?);
     let mut host = Host {
         input: StdSource::new(alloc, rt.stdin())?,
         output: StdSink::new(rt.stdout()),
         errors: StdSink::new(rt.stderr()),
         ticks: StdClock::new(rt),
-        seed: [word(rt)?, word(rt)?, word(rt)?, word(rt)?],
+        seed,
     };
     Ok(run(alloc, &words, &mut host))
 }
@@ -35,8 +36,8 @@ fn word(rt: &HostRuntime) -> io::Result<u64> {
     Ok(u64::from_be_bytes(bytes))
 }
 
-/// The status is that of `run`. Where there is no memory for the words or for the input's buffer, or the system gives no words by chance, it is 5, and where a word is no
-/// UTF-8, 1; nothing is read or written then but the line that says so.
+/// The status is that of `run`. Where there is no memory for the words or for the input's buffer, or the system gives no words by chance,
+/// it is 5, and where a word is no UTF-8, 1; nothing is read or written then but the line that says so.
 fn main(rt: HostRuntime) -> ExitCode {
     let (line, status): (&[u8], u8) = match run_process(&rt) {
         Ok(status) => (b"", status),
