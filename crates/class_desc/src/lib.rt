@@ -19,4 +19,3 @@ pub use field::{FieldDesc, FieldList, TypeCode, is_primitive};
 pub use known_class::{ClassParts, KnownClass, PartField, PartFields, known};
 pub use slot::{Item, Items, Slot, SlotList};
 pub use type_text::element_code;
-

@@ -5,4 +5,3 @@ mod lines;
 mod words;
 
 pub use lines::graph_text;
-

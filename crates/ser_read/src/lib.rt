@@ -22,4 +22,3 @@ pub use reader::Reader;
 pub use serving::{Want, read_wants};
 pub use wanted::{to_u8, to_u16, to_u32, to_u64};
 pub use whole::read_to_end;
-

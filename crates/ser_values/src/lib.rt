@@ -30,4 +30,3 @@ pub use node::{Node, NodeList, NumberList, Place};
 pub use note_bytes::NotePlace;
 pub use shape::{is_desc, is_text};
 pub use value::{Part, PartList, Value, ValueList, Values};
-

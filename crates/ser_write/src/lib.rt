@@ -6,4 +6,3 @@ mod pieces;
 mod writing;
 
 pub use writing::{write_items_onto, write_stream};
-
