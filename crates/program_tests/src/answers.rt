@@ -1,5 +1,7 @@
 //! What `answer` writes, and how it ends.
-use crate::hosts::{Outside, Wanted, check, cut_by, host_of, joined, must, repeated, sink_of, words_of};
+use crate::hosts::{
+    Outside, Wanted, check, cut_by, host_of, joined, must, repeated, sink_of, words_of,
+};
 use mod_utf::list::ByteList;
 use rmi_cli::run;
 use std::alloc::{AllocError, Global};
@@ -15,7 +17,15 @@ const TWO_PINGS: &[u8] = b"JRMI\x00\x02K\x00\x00\x00\x00\x00\x00RR";
 
 /// A front of the opening, and more; whether the acknowledgement is written, and what comes after it; how many bytes are left;
 /// the line and the status.
-type Row = (usize, &'static [u8], bool, &'static [u8], usize, &'static str, u8);
+type Row = (
+    usize,
+    &'static [u8],
+    bool,
+    &'static [u8],
+    usize,
+    &'static str,
+    u8,
+);
 
 const ROWS: [Row; 18] = [
     (13, b"R", true, b"S", 0, "ended\n", 0),
@@ -70,7 +80,12 @@ fn each_input_has_its_end(rt: HostRuntime) -> Result<(), Fail> {
 }
 
 /// Serves a front of the opening.
-fn check_front(rt: &impl Abort, alloc: Global, len: usize, cut: Option<u32>) -> Result<(), AllocError> {
+fn check_front(
+    rt: &impl Abort,
+    alloc: Global,
+    len: usize,
+    cut: Option<u32>,
+) -> Result<(), AllocError> {
     let line = format!(in alloc; "truncated at {len}\n")?;
     let wanted = Wanted {
         output: if len > 6 { ACK } else { &[] },
@@ -109,7 +124,14 @@ fn a_host_has_any_length(rt: HostRuntime) -> Result<(), Fail> {
             line: "ended\n",
             status: 0,
         };
-        let _ = check(&rt, rt.alloc(), "answer", input.as_slice(), cut_by(None), wanted)?;
+        let _ = check(
+            &rt,
+            rt.alloc(),
+            "answer",
+            input.as_slice(),
+            cut_by(None),
+            wanted,
+        )?;
     }
     Ok(())
 }

@@ -31,15 +31,64 @@ type Row = (
 const PINGS: &[u8] = b"JRMI\x00\x02K\x00\x00\x00\x00\x00\x00RRR";
 
 const ROWS: [Row; 9] = [
-    (PINGS, &[], &[], ConnEnd::Ended, b"N\x00\x09127.0.0.1\x00\x00\x04\xD2SSS", 4),
-    (PINGS, &[14], &[], ConnEnd::ReadFault, b"N\x00\x09127.0.0.1\x00\x00\x04\xD2S", 2),
+    (
+        PINGS,
+        &[],
+        &[],
+        ConnEnd::Ended,
+        b"N\x00\x09127.0.0.1\x00\x00\x04\xD2SSS",
+        4,
+    ),
+    (
+        PINGS,
+        &[14],
+        &[],
+        ConnEnd::ReadFault,
+        b"N\x00\x09127.0.0.1\x00\x00\x04\xD2S",
+        2,
+    ),
     (b"JRMI\x00\x02LRR", &[], &[], ConnEnd::Ended, b"S", 1),
-    (b"JRMI\x00\x02M", &[], &[], ConnEnd::UnknownProtocol { byte: 0x4D }, b"O", 1),
+    (
+        b"JRMI\x00\x02M",
+        &[],
+        &[],
+        ConnEnd::UnknownProtocol { byte: 0x4D },
+        b"O",
+        1,
+    ),
     (PINGS, &[], &[0], ConnEnd::WriteFault { sent: 0 }, b"", 1),
-    (PINGS, &[], &[1], ConnEnd::WriteFault { sent: 16 }, b"N\x00\x09127.0.0.1\x00\x00\x04\xD2", 2),
-    (PINGS, &[], &[2], ConnEnd::WriteFault { sent: 17 }, b"N\x00\x09127.0.0.1\x00\x00\x04\xD2S", 3),
-    (b"JRMI\x00\x02LR", &[], &[0], ConnEnd::WriteFault { sent: 0 }, b"", 1),
-    (b"JRMI\x00\x02M", &[], &[0], ConnEnd::WriteFault { sent: 0 }, b"", 1),
+    (
+        PINGS,
+        &[],
+        &[1],
+        ConnEnd::WriteFault { sent: 16 },
+        b"N\x00\x09127.0.0.1\x00\x00\x04\xD2",
+        2,
+    ),
+    (
+        PINGS,
+        &[],
+        &[2],
+        ConnEnd::WriteFault { sent: 17 },
+        b"N\x00\x09127.0.0.1\x00\x00\x04\xD2S",
+        3,
+    ),
+    (
+        b"JRMI\x00\x02LR",
+        &[],
+        &[0],
+        ConnEnd::WriteFault { sent: 0 },
+        b"",
+        1,
+    ),
+    (
+        b"JRMI\x00\x02M",
+        &[],
+        &[0],
+        ConnEnd::WriteFault { sent: 0 },
+        b"",
+        1,
+    ),
 ];
 
 fn check_row(rt: &impl Abort, alloc: Global, row: Row) -> Result<(), AllocError> {

@@ -10,7 +10,13 @@ use std::process::Abort;
 use std::test::Fail;
 use wire_io::pull::Pull;
 
-fn check_ack(rt: &impl Abort, alloc: Global, host: &[u16], port: i32, wanted: &[u8]) -> Result<(), AllocError> {
+fn check_ack(
+    rt: &impl Abort,
+    alloc: Global,
+    host: &[u16],
+    port: i32,
+    wanted: &[u8],
+) -> Result<(), AllocError> {
     let host = Units::from_slice(alloc, host)?;
     let bytes = ack_bytes(alloc, &host, port)?;
     must(rt, bytes.as_slice() == wanted, "acknowledgement");
@@ -32,7 +38,11 @@ fn parts_are_read_in_turn(rt: HostRuntime) -> Result<(), Fail> {
     let bytes = joined(rt.alloc(), head.as_slice(), b"RTPQ")?;
     let mut source = source_of(rt.alloc(), bytes.as_slice(), cut_by(None))?;
     let mut pull = Pull::new(&mut source);
-    must(&rt, read_header(&mut pull) == Ok(Protocol::Stream), "header");
+    must(
+        &rt,
+        read_header(&mut pull) == Ok(Protocol::Stream),
+        "header",
+    );
     must(&rt, skip_endpoint(&mut pull) == Ok(()), "endpoint");
     let bad = FrameFault::BadMessage {
         byte: 0x51,

@@ -75,7 +75,11 @@ pub(crate) fn sink_of(alloc: Global, failing: &[u32]) -> Result<MemSink, AllocEr
 }
 
 /// A host of this input.
-pub(crate) fn host_of(alloc: Global, input: &[u8], outside: Outside) -> Result<MemHost, AllocError> {
+pub(crate) fn host_of(
+    alloc: Global,
+    input: &[u8],
+    outside: Outside,
+) -> Result<MemHost, AllocError> {
     let output = sink_of(alloc, outside.failing_writes)?;
     let errors = sink_of(alloc, &[])?;
     Ok(Host {
@@ -116,7 +120,11 @@ pub(crate) fn check_host(
     let status = run(alloc, &words, host);
     must(rt, status == wanted.status, wanted.line);
     must(rt, host.output.held() == wanted.output, "output");
-    must(rt, host.errors.held() == wanted.line.as_bytes(), wanted.line);
+    must(
+        rt,
+        host.errors.held() == wanted.line.as_bytes(),
+        wanted.line,
+    );
     Ok(())
 }
 

@@ -64,7 +64,8 @@ impl Sink for Counting<'_> {
     ghost faults = { λ _. 0 };
 
     fn write(&mut self, piece: &[u8]) -> Result<usize, Failed> {
-        self.written.set(self.written.get().saturating_add(piece.len()));
+        self.written
+            .set(self.written.get().saturating_add(piece.len()));
         Ok(piece.len())
     }
 

@@ -222,7 +222,7 @@ space 600000 300000 7 9
 1 11 finish 16 1 - 1/0/0
 1 12 ack 1/0/0
 =
-events 5 units 8 now 12
+events 5 units 7 now 12
 object 16 kind 2 pinned running 0 awaiting 0 held 0 names 0
 lease aa@3/4/5 until 600005
 withdrawn 17 place 4
@@ -382,7 +382,12 @@ fn check_replay(
 }
 
 /// Replays a journal that has an outline, of which the last LF was left out here.
-fn check_outline(rt: &impl Abort, alloc: Global, journal: &str, outline: &str) -> Result<(), AllocError> {
+fn check_outline(
+    rt: &impl Abort,
+    alloc: Global,
+    journal: &str,
+    outline: &str,
+) -> Result<(), AllocError> {
     let output = joined(alloc, outline.as_bytes(), b"\n")?;
     let wanted = Wanted {
         output: output.as_slice(),
@@ -409,9 +414,15 @@ const BAD_LINES: [(&str, &str); 12] = [
     ("space 1 1099511627777 7 9\n", "bad line 1\n"),
     ("tick\n", "bad line 1\n"),
     ("space 1 1 7 9\n0 0 tick", "bad line 2\n"),
-    ("space 1 1 7 9\n0 0 tick\n0 0 open 1 free\n0 0 tock\n0 0 tack\n", "bad line 4\n"),
+    (
+        "space 1 1 7 9\n0 0 tick\n0 0 open 1 free\n0 0 tock\n0 0 tack\n",
+        "bad line 4\n",
+    ),
     ("space 1 1 7 9\n0 0 tick\n\n", "bad line 3\n"),
-    ("space 1 1 7 9\n0 4611686018427387904 tick\n", "bad line 2\n"),
+    (
+        "space 1 1 7 9\n0 4611686018427387904 tick\n",
+        "bad line 2\n",
+    ),
     ("space 1 1 7 9\n0 00 tick\n", "bad line 2\n"),
     ("space 1 1 7 9\n0 0 begin 16\n0 0 list\n", "bad line 3\n"),
     ("space 1 1 7 9\n0 0 lookup \"a\" 1/0/0\n", "bad line 2\n"),
@@ -440,7 +451,11 @@ fn check_refused(
     status: u8,
 ) -> Result<(), AllocError> {
     let kinds = repeated(alloc, b",1", 65_535)?;
-    let mut journal = joined(alloc, b"space 600000 300000 7 9\n0 0 open 1 pinned\n1 0 begin 16\n", before)?;
+    let mut journal = joined(
+        alloc,
+        b"space 600000 300000 7 9\n0 0 open 1 pinned\n1 0 begin 16\n",
+        before,
+    )?;
     journal.append(b"1 0 finish 16 1")?;
     journal.append(kinds.as_slice())?;
     journal.append(b" - 1/0/0\n")?;
@@ -450,7 +465,14 @@ fn check_refused(
         line,
         status,
     };
-    let _ = check(rt, alloc, "replay", journal.as_slice(), cut_by(None), wanted)?;
+    let _ = check(
+        rt,
+        alloc,
+        "replay",
+        journal.as_slice(),
+        cut_by(None),
+        wanted,
+    )?;
     Ok(())
 }
 

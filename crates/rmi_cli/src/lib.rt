@@ -16,12 +16,3 @@ pub use outlines::{ReplayFault, replay};
 pub use program::{run, setup_of};
 pub use stream_input::STREAM_BYTES;
 pub use words::{Command, Words};
-
-#[cfg(test)]
-mod end_tests;
-#[cfg(test)]
-mod replay_tests;
-#[cfg(test)]
-mod show_tests;
-#[cfg(test)]
-mod tests;
