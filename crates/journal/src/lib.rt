@@ -14,8 +14,6 @@ pub(crate) mod number;
 pub mod outline;
 pub(crate) mod parts;
 pub mod put;
-#[cfg(test)]
-mod tests;
 pub mod text_laws;
 pub(crate) mod unread;
 pub mod write;

@@ -222,7 +222,7 @@ space 600000 300000 7 9
 1 11 finish 16 1 - 1/0/0
 1 12 ack 1/0/0
 =
-events 5 units 8 now 12
+events 5 units 7 now 12
 object 16 kind 2 pinned running 0 awaiting 0 held 0 names 0
 lease aa@3/4/5 until 600005
 withdrawn 17 place 4

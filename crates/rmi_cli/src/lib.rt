@@ -18,12 +18,3 @@ pub use outlines::{ReplayFault, replay};
 pub use program::run;
 pub use stream_input::STREAM_BYTES;
 pub use words::{Command, Words};
-
-#[cfg(test)]
-mod end_tests;
-#[cfg(test)]
-mod replay_tests;
-#[cfg(test)]
-mod show_tests;
-#[cfg(test)]
-mod tests;

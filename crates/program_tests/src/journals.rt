@@ -1,13 +1,14 @@
-//! What no contract says: that lines are read and written with ample memory, with lines that were
-//! written by hand.
-use crate::outline::{
+//! Lines of journals, written by hand: which are read, and how they are written.
+use crate::hosts::must;
+use history::{Name, SpaceConfig};
+use journal::outline::{
     put_events_line, put_lease_line, put_name_line, put_object_line, put_withdrawal_line,
 };
-use crate::{ObjectRow, put_event_line, put_first_line, read_event, read_first_line};
-use history::{Name, SpaceConfig};
+use journal::{ObjectRow, put_event_line, put_first_line, read_event, read_first_line};
 use mod_utf::list::{ByteList, Units};
 use object_ids::{ObjId, Uid, Vmid};
 use std::alloc::{AllocError, Global};
+use std::process::Abort;
 use std::test::Fail;
 
 const SPACE: Uid = Uid {
@@ -97,31 +98,45 @@ name "\ud800\u0022a" -16:7/9/1
 withdrawn 17 place 6
 "#;
 
+/// Reads a line, which spells an event or none.
+fn check_event(
+    rt: &impl Abort,
+    alloc: Global,
+    line: &str,
+    spelled: bool,
+) -> Result<(), AllocError> {
+    let event = read_event(alloc, SPACE, line.as_bytes())?;
+    must(rt, event.is_some() == spelled, line);
+    Ok(())
+}
+
 #[test]
 fn events_are_read(rt: HostRuntime) -> Result<(), Fail> {
     for (lines, spelled) in [(EVENTS, true), (IN_FULL, true), (NO_EVENTS, false)] {
         for line in lines.split('\n') {
-            let event = read_event(rt.alloc(), SPACE, line.as_bytes())?;
-            assert_eq!(rt; event.is_some(), spelled, "{line}");
+            check_event(&rt, rt.alloc(), line, spelled)?;
         }
     }
     Ok(())
 }
 
-/// Whether a line that spells an event is written again as it stands.
-fn is_written_again(alloc: Global, line: &str) -> Result<bool, Fail> {
+/// Writes the event of a line again.
+fn written_again(alloc: Global, line: &str) -> Result<ByteList, Fail> {
     let event = read_event(alloc, SPACE, line.as_bytes())?.ok_or("no event")?;
     let mut written = ByteList::new(alloc);
     put_event_line(&mut written, SPACE, &event)?;
-    let mut expected = ByteList::from_slice(alloc, line.as_bytes())?;
-    expected.push(b'\n')?;
-    Ok(written.as_slice() == expected.as_slice())
+    Ok(written)
 }
 
 #[test]
 fn events_are_written(rt: HostRuntime) -> Result<(), Fail> {
     for line in EVENTS.split('\n') {
-        assert_eq!(rt; is_written_again(rt.alloc(), line)?, true, "{line}");
+        let written = written_again(rt.alloc(), line)?;
+        must(
+            &rt,
+            written.as_slice().strip_suffix(b"\n") == Some(line.as_bytes()),
+            line,
+        );
     }
     Ok(())
 }
@@ -130,9 +145,10 @@ fn events_are_written(rt: HostRuntime) -> Result<(), Fail> {
 fn first_lines_are_written(rt: HostRuntime) -> Result<(), Fail> {
     let mut out = ByteList::new(rt.alloc());
     put_first_line(&mut out, &CONFIG)?;
-    assert_eq!(rt;
-        str::from_utf8(out.as_slice()).ok(),
-        Some("space 600000 300000 7 9\n")
+    must(
+        &rt,
+        out.as_slice() == b"space 600000 300000 7 9\n".as_slice(),
+        "first line",
     );
     Ok(())
 }
@@ -141,8 +157,11 @@ fn first_lines_are_written(rt: HostRuntime) -> Result<(), Fail> {
 fn first_lines_are_read(rt: HostRuntime) {
     for (lines, spelled) in [(FIRST_LINES, true), (NO_FIRST_LINES, false)] {
         for line in lines.split('\n') {
-            let config = read_first_line(line.as_bytes());
-            assert_eq!(rt; config.is_some(), spelled, "{line}");
+            must(
+                &rt,
+                read_first_line(line.as_bytes()).is_some() == spelled,
+                line,
+            );
         }
     }
 }
@@ -188,6 +207,10 @@ fn lines_are_written(rt: HostRuntime) -> Result<(), Fail> {
     let name = Name::new(units).ok().ok_or("too long")?;
     let mut out = ByteList::new(rt.alloc());
     put_outline(&mut out, &client, &name)?;
-    assert_eq!(rt; str::from_utf8(out.as_slice()).ok(), Some(OUTLINE));
+    must(
+        &rt,
+        out.as_slice() == OUTLINE.as_bytes(),
+        "lines of an outline",
+    );
     Ok(())
 }
