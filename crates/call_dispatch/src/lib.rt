@@ -10,8 +10,6 @@ mod opening;
 pub mod outcome;
 pub mod serve;
 pub mod setup;
-#[cfg(test)]
-mod tests;
 pub mod words;
 pub mod worker;
 

@@ -6,8 +6,6 @@ pub mod code;
 pub mod endpoint;
 pub mod fault;
 pub mod header;
-#[cfg(test)]
-mod tests;
 
 pub use arguments::{Arg, ArgList, Arguments};
 pub use code::{Code, read_code};

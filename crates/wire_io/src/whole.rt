@@ -54,36 +54,3 @@ pub fn take_whole<S: Source>(
     }
     Err(WholeEnd::TooLarge)
 }
-
-#[cfg(test)]
-mod tests {
-    use super::*;
-    use crate::mem::MemSource;
-    use mod_utf::list::Kinds;
-    use std::test::Fail;
-
-    #[test]
-    fn takes_all_or_passes_the_limit(rt: HostRuntime) -> Result<(), Fail> {
-        let alloc = rt.alloc();
-        // how many bytes there are, the limit, and whether they are taken
-        for (len, limit, whole) in [
-            (0usize, 0usize, true),
-            (1, 0, false),
-            (5000, 5000, true),
-            (5001, 5000, false),
-        ] {
-            let mut bytes = ByteList::new(alloc);
-            for _ in 0..len {
-                bytes.push(7)?;
-            }
-            let cuts = Kinds::from_slice(alloc, &[3, 0, 4096])?;
-            let mut source = MemSource::new(bytes.copy(alloc)?, cuts, Kinds::new(alloc));
-            let taken = take_whole(alloc, &mut source, limit);
-            assert_eq!(rt; taken.is_ok(), whole);
-            if let Ok(taken) = taken {
-                assert_eq!(rt; taken.as_slice(), bytes.as_slice());
-            }
-        }
-        Ok(())
-    }
-}
