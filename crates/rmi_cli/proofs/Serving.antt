@@ -1,7 +1,7 @@
 -- What serving one connection over a space of its own says.
 use Rattle.std.proofs.Common.{◌≡◌, ℕ, List, [], ◌++◌, Option, Some, refl, ap, sym, subst, ◌∙◌, inl}
 use Rattle.std.specs.List.{flat_map}
-use Rattle.wire_io.specs.Wire.{Wires, with_front, with_end, with_front-nothing, with_end-nothing, Gave-nothing}
+use Rattle.wire_io.specs.Wire.{Wires, with_end, with_front-nothing, with_end-nothing, Gave-nothing}
 use Rattle.history.specs.declared.asks.SpaceConfig.{SpaceConfig}
 use Rattle.space.specs.Built.{SpaceHistory}
 use Rattle.space.specs.Ports.{Went}
