@@ -1,20 +1,18 @@
 -- Where reading ends at a fault, and what was taken then.
-use Rattle.std.proofs.Common.{◌≡◌, ℕ, ◌+◌, ◌-◌, ◌^◌, ◌≤◌, ◌<◌, min, List, [], ◌∷◌, ◌++◌, length, Result, Ok, Err, IfOk, refl, sym, ap, subst, ◌∙◌, append_assoc, append-nil, length-append, arith, true, Option}
+use Rattle.std.proofs.Common.{◌≡◌, ℕ, ◌+◌, ◌-◌, ◌≤◌, ◌<◌, List, [], ◌∷◌, ◌++◌, length, Result, Ok, Err, IfOk, refl, sym, ap, subst, ◌∙◌, append_assoc, append-nil, length-append, arith, true, Option}
 use Rattle.std.specs.Prelude.{IfErr, IsErrAnd}
-use Rattle.std.proofs.lemmas.Result.{err_from_is_err_and}
-use Rattle.wire_io.specs.Wire.{Rose, NothingLeft}
-use Rattle.wire_io.specs.Pulled.{Place, Takes, Passes, GivesByte, GivesBytes, place}
-use Rattle.wire_io.specs.Pulled as pulled
+use Rattle.wire_io.specs.Wire.{Rose}
+use Rattle.wire_io.specs.Pulled.{Place, Takes, GivesByte, GivesBytes, place}
 use Rattle.wire_io.specs.declared.pull.Pull.{Pull}
 use Rattle.wire_io.specs.declared.pull.PullEnd.{PullEnd}
 use Rattle.wire_io.specs.declared.pull.PullEnd.TheVariants as ends
 use Rattle.wire_io.proofs.Pulling.{takes_nothing, takes_more, takes_stop}
-use Rattle.ser_values.specs.Reading.{◌>>=◌, Fault, short, bad, too_many, too_deep, Progress, plain, byte_at, take_at}
+use Rattle.ser_values.specs.Reading.{◌>>=◌, Fault, short, bad, too_many, too_deep, byte_at, take_at}
 use Rattle.ser_read.specs.declared.fault.StreamKind.{StreamKind}
 use Rattle.ser_read.specs.declared.fault.StreamFault.{StreamFault}
 use Rattle.ser_read.specs.declared.fault.StreamFault.TheVariants as faults
 use Rattle.ser_read.specs.declared.fault.Large.TheVariants as larges
-use Rattle.ser_read.specs.Here.{Env, IsBad, IsInBytes, kind_of, fault_of, FailsBy, Fails, GivesBy, Caused, GivesTold, env_at, coming_at, env, coming, IsTold, AreBytes, Reads, Decides, FallsShort, TakesSome, BreaksBy, Breaks}
+use Rattle.ser_read.specs.Here.{Env, IsBad, IsInBytes, kind_of, fault_of, FailsBy, Fails, GivesBy, Caused, env_at, coming_at, env, coming, IsTold, Reads, Decides, FallsShort, TakesSome, BreaksBy, Breaks}
 use Rattle.ser_read.specs.Wants.{WantFault, inside, ◌▸◌, lifted, fault_at, WantIsBad, WantFails, GivesWant, WantBreaks}
 use Rattle.ser_read.proofs.Wants.{inside_is}
 use Rattle.ser_read.proofs.Steps.{Goes, Leads, goes, no_last, least_two, bytes_more, leads_read, end_is, reads_gives}

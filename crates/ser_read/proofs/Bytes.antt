@@ -1,5 +1,5 @@
 -- Numbers, byte by byte.
-use Rattle.std.proofs.Common.{◌≡◌, ◌-◌, ◌++◌, inl, inr, sym, subst, ◌∙◌, append_assoc, length-append, ℕ, ◌+◌, ◌*◌, ◌<◌, ◌≤◌, ap, List, [], ◌∷◌, length, take, drop, true, false, nat_lt, Result, Ok, Err, refl, arith}
+use Rattle.std.proofs.Common.{◌≡◌, ◌-◌, ◌++◌, inl, inr, sym, ◌∙◌, append_assoc, length-append, ℕ, ◌+◌, ◌*◌, ◌<◌, ◌≤◌, ap, List, [], ◌∷◌, length, take, drop, true, false, nat_lt, Result, Ok, Err, refl, arith}
 use Rattle.std.proofs.lemmas.Bool.{lt-ltb, le-ltb}
 use Rattle.std.specs.Int.{w16, w32, w64, from_be_bytes}
 use Rattle.std.proofs.lemmas.Bool.{cases_lt}

@@ -17,7 +17,7 @@ use Rattle.ser_read.specs.declared.fault.StreamFault.TheVariants as faults
 use Rattle.ser_read.specs.declared.fault.StreamKind.TheVariants as kinds
 use Rattle.ser_read.proofs.Breaking.{inside_later, want_later, want_here}
 use Rattle.ser_read.specs.Here.{Reads}
-use Rattle.ser_read.specs.Wants.{WantFault, inside, block_left, WantBreaks, ◌▸◌, Stand, nothing_read, close_at, want_at, serve, serve_all, wants_at, WantIsBad, WantFails, WantGives}
+use Rattle.ser_read.specs.Wants.{WantFault, inside, block_left, WantBreaks, ◌▸◌, Stand, nothing_read, close_at, want_at, serve, serve_all, wants_at, WantIsBad, WantGives}
 use Rattle.ser_read.specs.Asked.{IsAsked, TakesAsked, InLimits, AnswersAsked}
 use Rattle.ser_read.proofs.Heads.{byte_is}
 use Rattle.ser_read.proofs.Steps.{fails_outside}

@@ -1,19 +1,12 @@
 -- What a Pull's bytes are, up to the limit.
-use Rattle.std.proofs.Common.{◌≡◌, ℕ, zero, suc, ◌+◌, ◌-◌, ◌≤◌, ◌<◌, true, List, [], ◌∷◌, ◌++◌, length, take, drop, length-append, nat_lt, Option, None, Some, Ok, Err, refl, subst, ◌∙◌, arith}
-use Rattle.std.proofs.lemmas.Bool.{lt-ltb}
+use Rattle.std.proofs.Common.{◌≡◌, ℕ, zero, suc, ◌+◌, ◌-◌, ◌≤◌, true, List, [], ◌∷◌, ◌++◌, length, take, drop, length-append, Option, None, Some, refl, ◌∙◌, arith}
 use Rattle.std.proofs.Math.Seq.{take-append-add, drop-append-add}
-use Rattle.std.proofs.lemmas.List.{append-nil}
 use Rattle.wire_io.specs.Wire.{with_front, NothingLeft}
-use Rattle.wire_io.specs.Pulled.{Place, Takes, Passes, GivesByte, GivesBytes}
-use Rattle.wire_io.specs.declared.pull.PullEnd.{PullEnd}
-use Rattle.wire_io.specs.declared.pull.PullEnd.TheVariants.{End, Limit}
-use Rattle.wire_io.specs.declared.pull.Pull.{Pull}
-use Rattle.ser_values.specs.Reading.{byte_at, take_at}
-use Rattle.ser_read.specs.declared.fault.StreamFault.{StreamFault}
-use Rattle.ser_read.specs.declared.fault.StreamFault.TheVariants.{Bad, Truncated, TooLarge, ReadFault}
-use Rattle.ser_read.specs.declared.fault.StreamFault.TheVariants as faults
-use Rattle.ser_read.specs.declared.fault.Large.TheVariants.{Bytes, Nodes, Depth}
-use Rattle.ser_read.specs.Here.{Fails, fault_after, coming_at, env_at, coming, env}
+use Rattle.wire_io.specs.Pulled.{Place, Takes, Passes}
+use Rattle.ser_values.specs.Reading.{byte_at}
+use Rattle.ser_read.specs.declared.fault.StreamFault.TheVariants.{Truncated, TooLarge}
+use Rattle.ser_read.specs.declared.fault.Large.TheVariants.{Bytes}
+use Rattle.ser_read.specs.Here.{Fails, fault_after, coming_at, env_at}
 
 abbrev nil : List ℕ
 nil = []

@@ -1,5 +1,5 @@
 -- The first fault that stands in some bytes, computed: one row for each kind that has no row where reading is defined.
-use Rattle.std.proofs.Common.{◌≡◌, ℕ, List, [], ◌∷◌, length, Result, Ok, Err, refl}
+use Rattle.std.proofs.Common.{◌≡◌, ℕ, List, [], ◌∷◌, length, Result, Err, refl}
 use Rattle.mod_utf.specs.Decoding.{decoded_at, front}
 use Rattle.class_desc.specs.declared.slot.Slot.{Slot}
 use Rattle.class_desc.specs.declared.slot.Item.{Item}
@@ -9,7 +9,7 @@ use Rattle.ser_values.specs.declared.node.Node.{Node}
 use Rattle.ser_values.specs.declared.node.Place.TheVariants.{Reference}
 use Rattle.ser_values.specs.Reading.{Fault, Progress, bad, too_many, too_deep, bad_desc, negative_length, inner_exception, stream_of, magic_at, items_at, blocks_at, slot_at, coded, fresh_at, desc_at, desc_after, short_at, units_at, size_at, many_at, field_at, field_of, text_at, with_class, object_at, chain_of, array_at, array_of, enum_at}
 use Rattle.ser_read.specs.Heads.{one_head, any_head, head_within}
-use Rattle.ser_read.specs.Wants.{WantFault, missing_block, block_left, Stand, nothing_read, no_block, opened_at, run_at, bytes_at, slot_next}
+use Rattle.ser_read.specs.Wants.{WantFault, missing_block, block_left, nothing_read, no_block, opened_at, run_at, bytes_at, slot_next}
 
 abbrev Answer : Type 0
 Answer = Result (List Node × List Item) Fault

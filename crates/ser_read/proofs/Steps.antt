@@ -1,15 +1,15 @@
 -- Reading one thing after the other.
 use Rattle.std.specs.Prelude.{◌⊎◌}
-use Rattle.std.proofs.Common.{◌≡◌, ℕ, ◌+◌, List, [], ◌∷◌, ◌++◌, length, Result, Ok, Err, IfOk, refl, sym, ap, subst, ◌∙◌, ◌≤◌, true, Option, append_assoc, length-append, arith, inl, inr}
+use Rattle.std.proofs.Common.{◌≡◌, ℕ, ◌+◌, List, [], ◌∷◌, ◌++◌, length, Result, Ok, Err, IfOk, refl, sym, ap, ◌∙◌, ◌≤◌, true, Option, append_assoc, length-append, arith, inl, inr}
 use Rattle.wire_io.specs.Pulled.{Place, Takes, place}
 use Rattle.wire_io.specs.declared.pull.Pull.{Pull}
 use Rattle.wire_io.proofs.Pulling.{takes_nothing, takes_more}
-use Rattle.ser_values.specs.Reading.{◌>>=◌, Fault, short, bad, too_many, too_deep, Plain, Progress, plain}
+use Rattle.ser_values.specs.Reading.{◌>>=◌, Fault, short, Plain, Progress, plain}
 use Rattle.ser_read.specs.declared.fault.StreamKind.{StreamKind}
 use Rattle.ser_read.specs.declared.fault.StreamFault.{StreamFault}
 use Rattle.ser_read.specs.declared.fault.StreamFault.TheVariants as faults
 use Rattle.ser_read.specs.declared.fault.Large.TheVariants as larges
-use Rattle.ser_read.specs.Here.{Env, FailsBy, IsBad, Fails, IsOutside, kind_of, AreBytes, NeedsLast, Reads, env_at, coming_at, env, coming, IsTold}
+use Rattle.ser_read.specs.Here.{FailsBy, IsOutside, AreBytes, NeedsLast, Reads, env_at, coming_at, env, coming, IsTold}
 use Rattle.ser_read.proofs.Pulling.{takes_told}
 
 pub bytes_more : (xs ys : List ℕ) → AreBytes xs → AreBytes ys → AreBytes (xs ++ ys)

@@ -1,14 +1,12 @@
 -- Where steps of reading end at a fault.
-use Rattle.std.proofs.Common.{◌≡◌, ◌≢◌, if◌then◌else◌, ℕ, zero, suc, ◌+◌, ◌-◌, ◌*◌, ◌^◌, ◌<◌, ◌≤◌, Bool, true, false, ◌&&◌, nat_eq, nat_lt, eqb, List, [], ◌∷◌, ◌++◌, length, drop, get_or, Option, Some, None, Result, Ok, Err, IfOk, refl, sym, ap, subst, ◌∙◌, arith, inl, inr, drop-cons, add-one}
-use Rattle.std.specs.Prelude.{IfErr}
+use Rattle.std.proofs.Common.{◌≡◌, if◌then◌else◌, ℕ, suc, ◌+◌, ◌-◌, ◌<◌, ◌≤◌, Bool, false, ◌&&◌, nat_eq, nat_lt, eqb, List, [], ◌∷◌, length, drop, get_or, Ok, Err, refl, sym, ap, subst, ◌∙◌, arith, inl, inr, drop-cons, add-one}
 use Rattle.std.proofs.lemmas.Bool.{cases_lt, le-ltb}
-use Rattle.std.specs.Int.{Width, w16, w32, w64}
+use Rattle.std.specs.Int.{Width}
 use Rattle.mod_utf.specs.Decoding.{decoded}
-use Rattle.wire_io.specs.Pulled.{Place, Takes}
-use Rattle.ser_values.specs.Reading.{◌>>=◌, value_at, elements_at, items_at, blocks_at, Fault, short, bad, negative_length, bad_utf, Plain, Progress, Step, plain, mapped, byte_at, take_at, number_at, size_at, units_at, units_of, many_at}
+use Rattle.wire_io.specs.Pulled.{Place}
+use Rattle.ser_values.specs.Reading.{◌>>=◌, value_at, elements_at, items_at, blocks_at, Fault, short, bad, negative_length, Progress, Step, mapped, byte_at, take_at, number_at, size_at, units_at, units_of, many_at}
 use Rattle.ser_read.specs.declared.fault.StreamFault.{StreamFault}
 use Rattle.ser_read.specs.declared.fault.StreamFault.TheVariants as faults
-use Rattle.ser_read.specs.declared.fault.StreamKind.{StreamKind}
 use Rattle.ser_read.specs.declared.fault.StreamKind.TheVariants as kinds
 use Rattle.ser_read.specs.Here.{Reads, Breaks}
 use Rattle.ser_read.specs.Whole.{BreaksWhole}

@@ -1,32 +1,29 @@
 -- Reading to the end of the input.
-use Rattle.std.proofs.Common.{◌≡◌, ℕ, suc, ◌+◌, ◌-◌, ◌≤◌, ◌<◌, true, false, List, [], ◌∷◌, ◌++◌, length, take, drop, Option, None, Some, Result, Ok, Err, IfOk, refl, sym, ap, subst, ◌∙◌, arith, append-nil}
+use Rattle.std.proofs.Common.{◌≡◌, ℕ, ◌+◌, ◌-◌, ◌≤◌, ◌<◌, true, false, List, [], ◌∷◌, ◌++◌, length, take, drop, Option, Some, Result, Ok, Err, IfOk, refl, sym, ap, subst, ◌∙◌, arith, append-nil}
 use Rattle.std.specs.Prelude.{IsErrAnd, IfErr}
 use Rattle.std.proofs.lemmas.List.{take_all, drop_all, length-take-le, length-drop}
 use Rattle.class_desc.specs.declared.slot.Slot.{Slot}
 use Rattle.class_desc.specs.declared.slot.Item.{Item}
 use Rattle.wire_io.specs.Wire.{NothingLeft}
-use Rattle.wire_io.specs.Pulled.{Place, place, Takes, GivesByte}
-use Rattle.wire_io.specs.declared.pull.PullEnd.{PullEnd}
-use Rattle.wire_io.specs.declared.pull.PullEnd.TheVariants.{End, Limit}
-use Rattle.wire_io.specs.declared.pull.PullEnd.TheVariants as ends
+use Rattle.wire_io.specs.Pulled.{Place, place, Takes}
 use Rattle.wire_io.proofs.Pulling.{takes_nothing, takes_more, takes_stop}
 use Rattle.ser_values.specs.declared.graph.Graph.{Graph}
 use Rattle.ser_values.specs.declared.node.Node.{Node}
 use Rattle.ser_values.specs.declared.node.Place.TheVariants as places
 use Rattle.ser_values.specs.Numbered.{IsGraph}
-use Rattle.ser_values.specs.Reading.{◌>>=◌, Fault, Kind, short, bad, too_many, too_deep, Progress, Step, byte_at, magic_at, blocks_at, items_at, slot_at}
+use Rattle.ser_values.specs.Reading.{◌>>=◌, Fault, Kind, short, bad, too_many, too_deep, Progress, Step, magic_at, blocks_at, items_at, slot_at}
 use Rattle.ser_read.specs.declared.fault.StreamFault.{StreamFault}
 use Rattle.ser_read.specs.declared.fault.StreamFault.TheVariants.{Bad, TooLarge, Truncated, ReadFault}
 use Rattle.ser_read.specs.declared.fault.StreamFault.TheVariants as faults
 use Rattle.ser_read.specs.declared.fault.Large.TheVariants.{Bytes, Nodes, Depth}
 use Rattle.wire_io.specs.declared.pull.Pull.{Pull}
-use Rattle.ser_read.specs.Here.{kind_of, fault_of, Caused, IsBad, Fails, Gives, Reads, Breaks, fault_after, env_at, coming_at, env, coming, IsTold}
+use Rattle.ser_read.specs.Here.{kind_of, Caused, IsBad, Fails, Gives, Reads, Breaks, fault_after, env_at, coming_at, env, coming, IsTold}
 use Rattle.ser_read.specs.Whole.{nothing_read, stream_at, going_on, to_end, ReadsAll, BreaksWhole, NoCode, TakesStream, AnswersGraph}
 use Rattle.ser_read.proofs.Pulling.{byte_ends}
 use Rattle.ser_read.proofs.Bytes.{ok_is}
 use Rattle.ser_read.proofs.Steps.{bytes_more, leads_read, fails_outside}
 use Rattle.ser_read.proofs.Breaking.{breaks_as, breaks_two, first, all_told, breaks_told, breaks_caused}
-use Rattle.ser_read.proofs.Blocks.{Items, Slack, slack_leads, added_all, after_all}
+use Rattle.ser_read.proofs.Blocks.{Items, Slack, slack_leads, added_all}
 use Rattle.ser_read.proofs.Streams.{Answer, stream_at_sound, graph_at}
 
 -- ---- up to the end

@@ -1,14 +1,7 @@
 -- Values and elements of primitive types.
 use Rattle.std.proofs.Common.{◌≡◌, ℕ, List, Result, Ok, Err, refl}
 use Rattle.wire_io.specs.Pulled.{Place}
-use Rattle.std.specs.Int.{w16, w32, w64, cast_signed}
-use Rattle.class_desc.specs.declared.slot.Slot.{Slot}
-use Rattle.class_desc.specs.declared.field.TypeCode.{TypeCode}
-use Rattle.class_desc.specs.declared.field.TypeCode.TheVariants as codes
-use Rattle.ser_values.specs.declared.value.Value.TheVariants as values
-use Rattle.ser_values.specs.declared.value.Values.TheVariants as kinds
 use Rattle.ser_values.specs.Reading.{short, ◌>>=◌, Fault, Plain, Progress, Step, mapped, plain}
-use Rattle.ser_read.specs.Signed.{signed_at}
 use Rattle.ser_read.specs.declared.fault.StreamFault.{StreamFault}
 use Rattle.ser_read.specs.Here.{Reads, Breaks}
 use Rattle.ser_read.proofs.Steps.{then, done}

@@ -1,5 +1,5 @@
 -- What is read inside wants.
-use Rattle.std.proofs.Common.{◌≡◌, ◌≤◌, ℕ, List, Option, Result, Ok, Err, IfOk, refl, sym, ap, subst}
+use Rattle.std.proofs.Common.{◌≡◌, ℕ, List, Result, Ok, Err, IfOk, refl}
 use Rattle.wire_io.specs.Pulled.{Place}
 use Rattle.ser_values.specs.Reading.{Fault, short, bad}
 use Rattle.ser_read.specs.declared.fault.StreamFault.{StreamFault}

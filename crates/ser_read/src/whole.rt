@@ -84,8 +84,8 @@ fn graph<S: Source>(alloc: Global, pull: &mut Pull<'_, S>) -> Result<Graph, Stre
 /// Reads a whole stream, from the Pull's position to the end of its input: the magic, and every item.
 ///
 /// `Truncated` comes where the input ends inside the stream, `TooLarge` of bytes where the message's limit is reached and
-/// the input goes on, and each other fault at the first position at which the bytes are wrong. After an error a front of
-/// the stream was taken.
+/// the input goes on, and each other fault at the first position at which the bytes are wrong. At a fault exactly the bytes
+/// were taken that show it.
 pub fn read_to_end<S: Source>(alloc: Global, pull: &mut Pull<'_, S>) -> Result<Graph, StreamFault>
     ensures lent { pull.new.source.ghost_name ≡ pull.old.source.ghost_name }
     ensures cause { Caused (S.faults pull.old.source.now) (S.faults pull.new.source.now) result }

@@ -1,4 +1,4 @@
-use Rattle.std.proofs.Common.{◌≡◌, arith, ap, sym, Err}
+use Rattle.std.proofs.Common.{arith, ap, sym, Err}
 use Rattle.ser_read.specs.Wants.{WantFault}
 use Rattle.ser_read.proofs.Runs.{opened_none}
 use Rattle.ser_read.proofs.Breaking.{want_raised, want_said, inside_first, inside_later, want_here}

@@ -4,7 +4,7 @@ use Rattle.ser_read.specs.Wants.{run_at}
 use Rattle.ser_values.specs.Reading.{short}
 use Rattle.ser_read.specs.Wants.{inside}
 use Rattle.ser_read.proofs.Steps.{Leads}
-use Rattle.ser_read.proofs.Runs.{Run, behind}
+use Rattle.ser_read.proofs.Runs.{behind}
 use Rattle.ser_read.proofs.block.run.Given as goal
 
 abbrev pub invariant-loop-left : goal.invariant-loop-left

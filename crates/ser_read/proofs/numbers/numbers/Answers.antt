@@ -1,4 +1,4 @@
-use Rattle.std.proofs.Common.{◌≡◌, ◌∙◌, ◌*◌, arith, refl, rules}
+use Rattle.std.proofs.Common.{◌≡◌, ◌∙◌, ◌*◌, arith, refl}
 use Rattle.ser_values.specs.Reading.{short}
 use Rattle.ser_read.proofs.Steps.{leads_start, leads_more, leads_done}
 use Rattle.ser_read.proofs.Breaking.{raised, loop_stops, breaks_two, took_then}

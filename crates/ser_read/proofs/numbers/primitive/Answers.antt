@@ -1,4 +1,4 @@
-use Rattle.std.proofs.Common.{◌∙◌, refl, rules, FitsSigned}
+use Rattle.std.proofs.Common.{refl, rules, FitsSigned}
 use Rattle.std.proofs.lemmas.Int.{to_z-of_z}
 use Rattle.std.specs.Int.{w16, w32, w64, cast_signed}
 use Rattle.ser_values.specs.declared.value.Value.TheVariants as values

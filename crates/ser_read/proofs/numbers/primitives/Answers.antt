@@ -1,4 +1,4 @@
-use Rattle.std.proofs.Common.{refl, ◌∙◌}
+use Rattle.std.proofs.Common.{refl}
 use Rattle.std.specs.Int.{w16, w32, w64}
 use Rattle.ser_values.specs.declared.value.Values.TheVariants as kinds
 use Rattle.ser_values.specs.Reading.{plain, byte_at, number_at, many_at, elements_at}

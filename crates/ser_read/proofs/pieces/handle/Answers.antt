@@ -1,4 +1,3 @@
-use Rattle.std.proofs.Common.{◌≡◌, refl, rules}
 use Rattle.ser_values.specs.Reading.{handle_at}
 use Rattle.ser_read.proofs.Breaking.{raised, first}
 use Rattle.ser_read.proofs.pieces.handle.Goals as goal

@@ -1,4 +1,4 @@
-use Rattle.std.proofs.Common.{◌≡◌, ◌-◌, ◌≤◌}
+use Rattle.std.proofs.Common.{◌≡◌, ◌-◌}
 use Rattle.wire_io.specs.Pulled.{place}
 use Rattle.ser_values.specs.Reading.{Progress, many_at, plain, short_at}
 use Rattle.ser_values.specs.Reading.{short}

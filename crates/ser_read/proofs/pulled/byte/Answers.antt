@@ -1,5 +1,4 @@
 use Rattle.wire_io.specs.Pulled.{place}
-use Rattle.ser_values.specs.Reading.{byte_at}
 use Rattle.ser_read.proofs.Breaking.{byte_breaks, raised}
 use Rattle.ser_read.proofs.pulled.byte.Goals as goal
 

@@ -1,4 +1,4 @@
-use Rattle.std.proofs.Common.{◌^◌, arith}
+use Rattle.std.proofs.Common.{arith}
 use Rattle.std.specs.Int.{w16}
 use Rattle.ser_read.proofs.Breaking.{raised}
 use Rattle.ser_read.proofs.Stopping.{size_stops, size_negative}

@@ -1,6 +1,4 @@
-use Rattle.std.proofs.Common.{◌≡◌, refl}
 use Rattle.wire_io.specs.Pulled.{place}
-use Rattle.ser_read.proofs.Bytes.{take_back}
 use Rattle.ser_read.proofs.Breaking.{bytes_break, raised}
 use Rattle.ser_read.proofs.pulled.piece.Goals as goal
 

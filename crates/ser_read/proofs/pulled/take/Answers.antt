@@ -1,7 +1,7 @@
-use Rattle.std.proofs.Common.{◌≡◌, ◌∙◌, arith, ap}
-use Rattle.ser_values.specs.Reading.{short, take_at}
+use Rattle.std.proofs.Common.{◌∙◌, arith}
+use Rattle.ser_values.specs.Reading.{short}
 use Rattle.ser_read.proofs.Steps.{leads_more}
-use Rattle.ser_read.proofs.Bytes.{onto, take_more, take_end}
+use Rattle.ser_read.proofs.Bytes.{take_more}
 use Rattle.ser_read.proofs.Breaking.{raised, loop_stops, breaks_two, took_then}
 use Rattle.ser_read.proofs.Stopping.{take_err}
 use Rattle.ser_read.proofs.pulled.take.Goals as goal

@@ -1,7 +1,5 @@
-use Rattle.std.proofs.Common.{◌≡◌, Err, rules}
-use Rattle.mod_utf.specs.Decoding.{decoded}
-use Rattle.ser_read.proofs.Breaking.{raised, took_then}
-use Rattle.ser_read.proofs.Stopping.{units_stop, units_bad}
+use Rattle.ser_read.proofs.Breaking.{raised}
+use Rattle.ser_read.proofs.Stopping.{units_stop}
 use Rattle.ser_read.proofs.pulled.units.Goals as goal
 
 pub returns-in_err-bytes-clause-stops : goal.returns-in_err-bytes-clause-stops

@@ -1,9 +1,9 @@
-use Rattle.std.proofs.Common.{◌≡◌, ◌+◌, ◌-◌, length, [], Err, refl, ap, arith}
+use Rattle.std.proofs.Common.{◌≡◌, ◌-◌, length, [], Err, refl, ap, arith}
 use Rattle.ser_values.specs.Reading.{slot_at, coded}
 use Rattle.ser_values.specs.declared.node.Place.TheVariants.{Reference}
 use Rattle.ser_read.specs.declared.fault.StreamKind.TheVariants.{BlockLeft}
 use Rattle.ser_read.specs.Tables.{now_of}
-use Rattle.ser_read.specs.Wants.{WantFault, block_left, reference_at, only_slot}
+use Rattle.ser_read.specs.Wants.{block_left, reference_at, only_slot}
 use Rattle.ser_read.proofs.Wants.{want_last}
 use Rattle.ser_read.proofs.Breaking.{want_raised, inside_first, inside_later, want_here, want_last_stops}
 use Rattle.ser_read.proofs.reader.reference.Goals as goal

@@ -1,9 +1,7 @@
-use Rattle.std.proofs.Common.{◌≡◌, ◌+◌, ◌-◌, length, Err, ap, arith}
-use Rattle.ser_read.specs.declared.fault.StreamKind.TheVariants.{BlockLeft}
+use Rattle.std.proofs.Common.{arith}
 use Rattle.ser_read.specs.Stands.{stand_of}
-use Rattle.ser_read.specs.Wants.{block_left}
 use Rattle.ser_read.proofs.Slots.{slot_none}
-use Rattle.ser_read.proofs.Breaking.{want_raised, want_said, want_first, want_took, want_here}
+use Rattle.ser_read.proofs.Breaking.{want_raised, want_said, want_first, want_took}
 use Rattle.ser_read.proofs.reader.slot_in.Goals as goal
 
 pub returns-in_err-slot-clause-stops : goal.returns-in_err-slot-clause-stops

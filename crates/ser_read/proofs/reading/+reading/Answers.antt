@@ -1,4 +1,4 @@
-use Rattle.std.proofs.Common.{◌≡◌, Err, ◌-◌, ◌+◌, ◌∙◌, ℕ, length, FitsSigned, suc, ◌∷◌, [], Some, None, true, false, arith, refl, rules, sym, ap, subst, nat_lt, Option, option_map}
+use Rattle.std.proofs.Common.{◌≡◌, Err, ◌-◌, ◌∙◌, FitsSigned, ◌∷◌, [], Some, None, true, false, arith, refl, rules, sym, ap, Option, option_map}
 use Rattle.std.proofs.lemmas.Bool.{ne_eqb}
 use Rattle.class_desc.specs.declared.slot.Slot.TheVariants as slots
 use Rattle.ser_values.specs.declared.node.Place.TheVariants.{Reference, Text}

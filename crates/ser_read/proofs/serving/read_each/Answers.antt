@@ -1,4 +1,3 @@
-use Rattle.std.proofs.Common.{[], ◌∷◌}
 use Rattle.ser_read.specs.Wants.{wants_at, serve_all}
 use Rattle.ser_read.proofs.InOrder.{close_reads, close_stops}
 use Rattle.ser_read.proofs.Breaking.{want_raised, want_first, inside_first, inside_later}

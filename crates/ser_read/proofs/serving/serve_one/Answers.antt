@@ -1,4 +1,3 @@
-use Rattle.ser_read.specs.Wants.{want_at}
 use Rattle.ser_read.proofs.Wants.{want_bytes, want_slot}
 use Rattle.ser_read.proofs.Breaking.{want_raised, want_said, want_first}
 use Rattle.ser_read.proofs.serving.serve_one.Goals as goal

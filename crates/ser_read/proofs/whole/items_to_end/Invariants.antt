@@ -1,4 +1,4 @@
-use Rattle.std.proofs.Common.{◌≡◌, false, ◌-◌, ◌≤◌}
+use Rattle.std.proofs.Common.{◌≡◌, false, ◌-◌}
 use Rattle.ser_values.specs.declared.node.Place.TheVariants.{Reference}
 use Rattle.wire_io.specs.Pulled.{place}
 use Rattle.ser_values.specs.Reading.{slot_at}

@@ -1,5 +1,5 @@
 use Rattle.ser_read.proofs.Steps.{reads_gives}
-use Rattle.ser_read.proofs.Breaking.{raised, reads_env, breaks_fails, breaks_caused, fails_raised, caused_raised}
+use Rattle.ser_read.proofs.Breaking.{raised, reads_env, breaks_fails, fails_raised, caused_raised}
 use Rattle.ser_read.proofs.reader.Reader.start.Goals as goal
 
 pub returns-in_err-magic-clause-stops : goal.returns-in_err-magic-clause-stops
