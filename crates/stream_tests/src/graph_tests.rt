@@ -4,7 +4,7 @@ use crate::text::{bytes_of, cut, decimal, must, slot_of};
 use graph_text::graph_text;
 use mod_utf::Kinds;
 use ser_read::read_to_end;
-use ser_values::{Graph, NodeList, same_graph};
+use ser_values::{BuildFault, Graph, NodeList, same_graph};
 use ser_write::write_stream;
 use std::alloc::{AllocError, Global};
 use std::process::Abort;
@@ -199,30 +199,33 @@ block 256 = ACED0005 7A 00000100 61 = 61 = 265 ~
 block 1024 = ACED0005 7A 00000400 61 = 61 61 61 = 1033 ~
 block 1025 = ACED0005 7A 00000400 61 = 61 77 01 61 = 1036";
 
+/// Whether a stream begins with these bytes.
+fn begins(alloc: Global, stream: &[u8], notation: &str) -> Result<bool, AllocError> {
+    let bytes = bytes_of(alloc, notation)?;
+    Ok(stream.starts_with(bytes.as_slice()))
+}
+
+/// Whether a stream ends with these bytes.
+fn ends(alloc: Global, stream: &[u8], notation: &str) -> Result<bool, AllocError> {
+    let bytes = bytes_of(alloc, notation)?;
+    Ok(stream.ends_with(bytes.as_slice()))
+}
+
+/// Whether what is written of a graph has its first bytes, its last ones, and its length.
+fn is_written(alloc: Global, graph: &Graph, parts: &str) -> Result<bool, AllocError> {
+    let (first, rest) = cut(parts, '=');
+    let (last, length) = cut(rest, '=');
+    let written = write_stream(alloc, graph)?;
+    let fits = written.len() as u64 == decimal(length);
+    Ok(fits && begins(alloc, written.as_slice(), first)? && ends(alloc, written.as_slice(), last)?)
+}
+
 #[test]
 fn lengths_are_written(rt: HostRuntime) -> Result<(), Fail> {
-    let alloc = rt.alloc();
     for block in LENGTHS.split('~') {
-        let (script, rest) = cut(block, '=');
-        let (first, rest) = cut(rest, '=');
-        let (last, length) = cut(rest, '=');
-        let graph = graph_of(&rt, alloc, script)?;
-        let written = write_stream(alloc, &graph)?;
-        must(
-            &rt,
-            written
-                .as_slice()
-                .starts_with(bytes_of(alloc, first)?.as_slice()),
-            block,
-        );
-        must(
-            &rt,
-            written
-                .as_slice()
-                .ends_with(bytes_of(alloc, last)?.as_slice()),
-            block,
-        );
-        must(&rt, written.len() as u64 == decimal(length), block);
+        let (script, parts) = cut(block, '=');
+        let graph = graph_of(&rt, rt.alloc(), script)?;
+        must(&rt, is_written(rt.alloc(), &graph, parts)?, block);
     }
     Ok(())
 }
@@ -317,18 +320,26 @@ fn nodes_are_at_most_65536(rt: HostRuntime) -> Result<(), Fail> {
     Ok(())
 }
 
-/// As many parts as there may be, and one more.
-const PARTS_OF_OBJECTS: &str = "chain 1024
+/// As many parts as there may be, and one more that nothing names.
+const MOST_PARTS: &str = "chain 1024
 fill 1024 #1023
-object #0 -/- = 2048 nodes 2048 items ~
-item #2048
+object #0 -/- = 2048 nodes 2048 items";
+
+#[test]
+fn parts_are_as_many_as_1048576(rt: HostRuntime) -> Result<(), Fail> {
+    check(&rt, rt.alloc(), MOST_PARTS)?;
+    Ok(())
+}
+
+/// The same with an item that names the one more.
+const ONE_PART_MORE: &str = "item #2048
 chain 1024
 fill 1024 #1023
 object #0 -/- = wrong shape";
 
 #[test]
-fn parts_are_at_most_1048576(rt: HostRuntime) -> Result<(), Fail> {
-    check(&rt, rt.alloc(), PARTS_OF_OBJECTS)?;
+fn parts_are_no_more_than_1048576(rt: HostRuntime) -> Result<(), Fail> {
+    check(&rt, rt.alloc(), ONE_PART_MORE)?;
     Ok(())
 }
 
@@ -396,27 +407,36 @@ item #0 ~
 null =
 item null"#;
 
+/// Whether a reference of a graph reaches what a row says, which is all of the graph for `#2` alone.
+fn is_part(alloc: Global, graph: &Graph, row: &str) -> Result<bool, BuildFault> {
+    let (slot, lines) = cut(row, '=');
+    let part = graph.part(alloc, slot_of(slot))?;
+    let is_whole = slot == "#2 ";
+    Ok(is_shown_as(alloc, &part, lines)? && same_graph(graph, &part) == is_whole)
+}
+
+/// Whether a copy of a graph is the same.
+fn is_copied(alloc: Global, graph: &Graph) -> Result<bool, AllocError> {
+    let copy = graph.copy(alloc)?;
+    Ok(same_graph(graph, &copy))
+}
+
+/// Whether a graph has three nodes and one item.
+fn is_of_three(graph: &Graph) -> bool {
+    graph.count() == 3
+        && graph.items().len() == 1
+        && graph.node(2).is_some()
+        && graph.node(3).is_none()
+}
+
 #[test]
 fn parts_are_what_a_reference_reaches(rt: HostRuntime) -> Result<(), Fail> {
-    let alloc = rt.alloc();
-    let graph = graph_of(&rt, alloc, KNOT)?;
-    must(&rt, is_shown_as(alloc, &graph, KNOT_LINES)?, "lines");
-    must(
-        &rt,
-        graph.count() == 3 && graph.items().len() == 1,
-        "counts",
-    );
-    must(
-        &rt,
-        graph.node(2).is_some() && graph.node(3).is_none(),
-        "nodes",
-    );
-    must(&rt, same_graph(&graph, &graph.copy(alloc)?), "a copy");
+    let graph = graph_of(&rt, rt.alloc(), KNOT)?;
+    must(&rt, is_shown_as(rt.alloc(), &graph, KNOT_LINES)?, "lines");
+    must(&rt, is_of_three(&graph), "counts");
+    must(&rt, is_copied(rt.alloc(), &graph)?, "a copy");
     for row in PARTS.split('~') {
-        let (slot, lines) = cut(row, '=');
-        let part = graph.part(alloc, slot_of(slot))?;
-        must(&rt, is_shown_as(alloc, &part, lines)?, row);
-        must(&rt, same_graph(&graph, &part) == (slot == "#2 "), row);
+        must(&rt, is_part(rt.alloc(), &graph, row.trim_start())?, row);
     }
     Ok(())
 }

@@ -3,6 +3,7 @@ use crate::text::{bytes_of, cut, decimal, must, repeated};
 use mod_utf::Kinds;
 use ser_read::{Reader, StreamFault, Want, read_to_end, read_wants};
 use std::alloc::{AllocError, Global};
+use std::process::Abort;
 use std::test::Fail;
 use wire_io::mem::MemSource;
 use wire_io::pull::Pull;
@@ -35,6 +36,101 @@ r : ACED0005 78 : 99 : bad stream bad code at 4
 r : ACED0005 74000100 : 99 : bad stream bad utf at 7
 r1 : ACED0005 79 770109 : 99 : bad stream reset at 4";
 
+/// The same of each kind of fault, where one place or another of the grammar can have it.
+const FAULTS: &str = "* : AC : 999999 : truncated at 1
+* : 00ED0005 : 999999 : bad stream bad magic at 0
+* : ACED0006 : 999999 : bad stream bad magic at 3
+* : ACED0005 : 3 : too large bytes at 3
+* : ACED0005 6F : 999999 : bad stream bad code at 4
+* : ACED0005 7F : 999999 : bad stream bad code at 4
+* : ACED0005 70 78 : 999999 : bad stream bad code at 5
+* : ACED0005 73 70 : 999999 : bad stream bad code at 5
+* : ACED0005 73 74 : 999999 : bad stream bad code at 5
+* : ACED0005 7E 72 'E' 0000000000000000 12 0000 78 70 70 : 999999 : bad stream bad code at 22
+* : ACED0005 73 72 'A' 0000000000000001 02 0001 4C 'a' 74 'LA;' 78 70 7700 : 999999 : bad stream bad code at 32
+* : ACED0005 73 72 'A' 0000000000000001 02 0001 4C 'a' 70 : 999999 : bad stream bad code at 24
+* : ACED0005 76 72 'A' 0000000000000001 02 0000 78 73 : 999999 : bad stream bad code at 21
+* : ACED0005 79 : 999999 : bad stream reset at 4
+* : ACED0005 73 79 : 999999 : bad stream reset at 5
+r : ACED0005 7700 79 : 999999 : bad stream reset at 6
+* : ACED0005 7B : 999999 : bad stream inner exception at 4
+* : ACED0005 73 7B : 999999 : bad stream inner exception at 5
+r : ACED0005 7B : 999999 : bad stream inner exception at 4
+* : ACED0005 76 72 'A' 0000000000000001 02 0000 7B : 999999 : bad stream inner exception at 20
+* : ACED0005 74 0000 71 007E0001 : 999999 : bad stream bad handle at 7
+* : ACED0005 74 0000 71 00000000 : 999999 : bad stream bad handle at 7
+r : ACED0005 71 80000000 : 999999 : bad stream bad handle at 4
+* : ACED0005 74 0000 71 007E0000 : 999999 : read
+* : ACED0005 74 0000 73 71 007E0000 : 999999 : bad stream wrong handle kind at 8
+* : ACED0005 76 72 'A' 0000000000000001 02 0000 78 70 76 72 'B' 0000000000000001 02 0001 4C 'a' 71 007E0000 : 999999 : bad stream wrong handle kind at 42
+* : ACED0005 76 72 'E' 0000000000000000 12 0000 78 70 7E 71 007E0000 71 007E0000 : 999999 : bad stream wrong handle kind at 28
+* : ACED0005 76 72 'A' 0000000000000000 20 0000 78 70 : 999999 : bad stream bad desc at 5
+* : ACED0005 76 72 'A' 0000000000000000 06 0000 78 70 : 999999 : bad stream bad desc at 5
+* : ACED0005 76 72 'A' 0000000000000000 0A 0000 78 70 : 999999 : bad stream bad desc at 5
+* : ACED0005 76 72 'A' 0000000000000000 01 0000 78 70 : 999999 : bad stream bad desc at 5
+* : ACED0005 76 72 'A' 0000000000000000 10 0000 78 70 : 999999 : bad stream bad desc at 5
+* : ACED0005 76 72 'A' 0000000000000000 13 0000 78 70 : 999999 : bad stream bad desc at 5
+* : ACED0005 76 72 'A' 0000000000000001 12 0000 78 70 : 999999 : bad stream bad desc at 5
+* : ACED0005 76 72 'A' 0000000000000001 02 0001 41 'a' 78 70 : 999999 : bad stream bad desc at 5
+* : ACED0005 76 72 'A' 0000000000000001 02 0002 49 'b' 49 'a' 78 70 : 999999 : bad stream bad desc at 5
+* : ACED0005 76 72 'A' 0000000000000001 02 0001 4C 'a' 74 'A' 78 70 : 999999 : bad stream bad desc at 5
+* : ACED0005 76 72 'A' 0000000000000001 02 0001 5B 'a' 74 'LA;' 78 70 : 999999 : bad stream bad desc at 5
+* : ACED0005 76 72 'A' 0000000000000001 02 0000 78 71 007E0000 : 999999 : bad stream bad desc at 21
+* : ACED0005 76 72 'A' 0000000000000001 02 0000 76 71 007E0000 : 999999 : bad stream bad desc at 21
+* : ACED0005 73 72 'A' 0000000000000001 00 0000 78 70 : 999999 : bad stream bad desc at 4
+* : ACED0005 73 72 'E' 0000000000000000 12 0000 78 70 : 999999 : bad stream bad desc at 4
+* : ACED0005 73 72 '[B' 0000000000000001 02 0000 78 70 : 999999 : bad stream bad desc at 4
+* : ACED0005 75 72 'A' 0000000000000001 02 0000 78 70 : 999999 : bad stream bad desc at 4
+* : ACED0005 75 7D 00000000 78 70 : 999999 : bad stream bad desc at 4
+* : ACED0005 7E 72 'A' 0000000000000001 02 0000 78 70 : 999999 : bad stream bad desc at 4
+* : ACED0005 73 72 'A' 0000000000000001 04 0000 78 70 : 999999 : bad stream old external at 4
+* : ACED0005 74 0003 61 C041 : 999999 : bad stream bad utf at 8
+* : ACED0005 7C 0000000000000001 00 : 999999 : bad stream bad utf at 13
+* : ACED0005 76 72 0001 80 : 999999 : bad stream bad utf at 8
+* : ACED0005 76 7D 00000001 0002 E080 : 999999 : bad stream bad utf at 12
+* : ACED0005 76 72 'A' 0000000000000001 02 0001 49 0001 FF : 999999 : bad stream bad utf at 23
+* : ACED0005 7A 80000000 : 999999 : bad stream negative length at 5
+* : ACED0005 7C FFFFFFFFFFFFFFFF : 999999 : bad stream negative length at 5
+* : ACED0005 75 72 '[B' 0000000000000001 02 0000 78 70 FFFFFFFF : 999999 : bad stream negative length at 23
+* : ACED0005 76 72 'A' 0000000000000001 02 8000 : 999999 : bad stream negative length at 18
+* : ACED0005 76 7D FFFFFFFF : 999999 : bad stream negative length at 6
+1 : ACED0005 7700 74 : 999999 : bad stream missing block at 6
+1 : ACED0005 78 : 999999 : bad stream missing block at 4
+1 : ACED0005 71 : 999999 : bad stream missing block at 4
+3r : ACED0005 77 04 000000 00 70 : 999999 : bad stream block left at 9
+0r : ACED0005 77 01 00 : 999999 : bad stream block left at 6
+1 : ACED0005 7A 00000003 00 0000 : 999999 : bad stream block left at 10
+* : ACED0005 70 70 : 5 : too large bytes at 5
+* : ACED0005 70 : 5 : read
+r : ACED0005 74 0004 6161 6161 : 9 : too large bytes at 9
+* : ACED0005 70 : 4 : too large bytes at 4
+* : ACED0005 75 72 '[LA;' 0000000000000001 02 0000 78 70 00000001 (199 * 75 71007E0000 00000001) 70 : 999999 : read
+* : ACED0005 75 72 '[LA;' 0000000000000001 02 0000 78 70 00000001 (199 * 75 71007E0000 00000001) 75 71007E0000 00000001 70 : 999999 : too large depth at 2019
+* : ACED0005 76 (199 * 72 'A' 0000000000000001 02 0000 78) 70 : 999999 : read
+* : ACED0005 76 (199 * 72 'A' 0000000000000001 02 0000 78) 72 'A' 0000000000000001 02 0000 78 70 : 999999 : too large depth at 3189
+* : ACED0005 74 : 999999 : truncated at 5
+* : ACED0005 74 00 : 999999 : truncated at 6
+* : ACED0005 74 0002 61 : 999999 : truncated at 8
+* : ACED0005 71 007E00 : 999999 : truncated at 8
+* : ACED0005 72 : 999999 : truncated at 5
+* : ACED0005 73 : 999999 : truncated at 5
+* : ACED0005 76 72 'A' 0000 : 999999 : truncated at 11
+* : ACED0005 76 72 'A' 0000000000000001 02 0000 78 : 999999 : truncated at 21
+* : ACED0005 77 02 00 : 999999 : truncated at 7
+* : ACED0005 7C 00000000 : 999999 : truncated at 9
+* : ACED0005 7E : 999999 : truncated at 5
+* : ACED0005 75 72 '[B' 0000000000000001 02 0000 78 70 00000002 01 : 999999 : truncated at 28";
+
+/// The same of 65,536 nodes, and of a further one.
+const NODES: &str = "* : ACED0005 (65536 * 740000) 70 71007E0000 : 999999 : read
+* : ACED0005 (65536 * 740000) 740000 : 999999 : too large nodes at 196612";
+
+/// The same of an object and an array whose class description is the last node. That there are too many comes before what is
+/// wrong with the class.
+const NODES_OF_CLASSES: &str =
+    "* : ACED0005 (65535 * 740000) 73 72 'A' 0000000000000001 04 0000 78 70 : 999999 : too large nodes at 196609
+* : ACED0005 (65535 * 740000) 75 72 'A' 0000000000000001 02 0000 78 70 : 999999 : too large nodes at 196609";
+
 /// Asks a reader for one thing. Its answer, or its refusal, is kept by the reader.
 fn ask(alloc: Global, pull: &mut Pull<'_, MemSource>, reader: &mut Reader, want: u8) {
     if b'0' <= want && want <= b'9' {
@@ -44,12 +140,12 @@ fn ask(alloc: Global, pull: &mut Pull<'_, MemSource>, reader: &mut Reader, want:
     }
 }
 
-/// What reading these wants answers.
-fn read(alloc: Global, pull: &mut Pull<'_, MemSource>, wants: &str) -> Result<(), StreamFault> {
-    if wants == "*" {
-        let _graph = read_to_end(alloc, pull)?;
-        return Ok(());
-    }
+/// Asks a reader for these wants, one after the other.
+fn read_asked(
+    alloc: Global,
+    pull: &mut Pull<'_, MemSource>,
+    wants: &str,
+) -> Result<(), StreamFault> {
     let mut reader = Reader::start(alloc, pull)?;
     for want in wants.as_bytes() {
         ask(alloc, pull, &mut reader, *want);
@@ -58,28 +154,72 @@ fn read(alloc: Global, pull: &mut Pull<'_, MemSource>, wants: &str) -> Result<()
     Ok(())
 }
 
-/// Whether reading answers so, of a source that gives single bytes or all that there is.
-fn is_answered(alloc: Global, line: &str, cuts: u64) -> Result<bool, AllocError> {
+/// What reading these wants answers.
+fn read(alloc: Global, pull: &mut Pull<'_, MemSource>, wants: &str) -> Result<(), StreamFault> {
+    if wants != "*" {
+        return read_asked(alloc, pull, wants);
+    }
+    let _graph = read_to_end(alloc, pull)?;
+    Ok(())
+}
+
+/// A source of these bytes, of which it gives so many one by one.
+fn source_of(alloc: Global, notation: &str, single: u64) -> Result<MemSource, AllocError> {
+    let cuts = repeated(alloc, 1, single)?;
+    let bytes = bytes_of(alloc, notation)?;
+    Ok(MemSource::new(bytes, cuts, Kinds::new(alloc)))
+}
+
+/// The words of what reading answers.
+fn words_of(alloc: Global, answer: Result<(), StreamFault>) -> Result<String, AllocError> {
+    match answer {
+        Ok(()) => format!(in alloc; "read"),
+        Err(fault) => format!(in alloc; "{fault}"),
+    }
+}
+
+/// Whether reading answers what a line says, of a source that gives so many bytes one by one.
+fn is_answered(alloc: Global, line: &str, single: u64) -> Result<bool, AllocError> {
     let (wants, rest) = cut(line, ':');
     let (bytes, rest) = cut(rest, ':');
     let (limit, expected) = cut(rest, ':');
-    let cuts = repeated(alloc, 1, cuts)?;
-    let mut source = MemSource::new(bytes_of(alloc, bytes)?, cuts, Kinds::new(alloc));
+    let mut source = source_of(alloc, bytes, single)?;
     let mut pull = Pull::new(&mut source);
     pull.mark(decimal(limit));
-    let answer = match read(alloc, &mut pull, wants.trim()) {
-        Ok(()) => format!(in alloc; "read")?,
-        Err(fault) => format!(in alloc; "{fault}")?,
-    };
-    Ok(answer.as_str() == expected.trim())
+    let answer = read(alloc, &mut pull, wants.trim());
+    Ok(words_of(alloc, answer)?.as_str() == expected.trim())
+}
+
+/// Checks each line of a table, whole and with so many bytes one by one.
+fn check(rt: &impl Abort, alloc: Global, table: &str, single: u64) -> Result<(), AllocError> {
+    for line in table.split('\n') {
+        must(rt, is_answered(alloc, line, 0)?, line);
+        must(rt, is_answered(alloc, line, single)?, line);
+    }
+    Ok(())
 }
 
 #[test]
 fn wants_are_served(rt: HostRuntime) -> Result<(), Fail> {
-    for line in CASES.split('\n') {
-        must(&rt, is_answered(rt.alloc(), line, 0)?, line);
-        must(&rt, is_answered(rt.alloc(), line, line.len() as u64)?, line);
-    }
+    check(&rt, rt.alloc(), CASES, 4000)?;
+    Ok(())
+}
+
+#[test]
+fn each_kind_of_fault_is_answered(rt: HostRuntime) -> Result<(), Fail> {
+    check(&rt, rt.alloc(), FAULTS, 4000)?;
+    Ok(())
+}
+
+#[test]
+fn nodes_are_at_most_65536(rt: HostRuntime) -> Result<(), Fail> {
+    check(&rt, rt.alloc(), NODES, 1000)?;
+    Ok(())
+}
+
+#[test]
+fn classes_and_their_objects_are_at_most_65536(rt: HostRuntime) -> Result<(), Fail> {
+    check(&rt, rt.alloc(), NODES_OF_CLASSES, 1000)?;
     Ok(())
 }
 

@@ -46,16 +46,42 @@ fn put_text(bytes: &mut ByteList, text: &[u8]) -> Result<(), AllocError> {
     bytes.append(text)
 }
 
-/// The bytes of a notation: hex digits, two for each; a text in quotes is its length in 16 bits and its bytes.
-pub fn bytes_of(alloc: Global, notation: &str) -> Result<ByteList, AllocError> {
-    let mut bytes = ByteList::new(alloc);
+/// Appends the bytes of a notation: hex digits, two for each; a text in quotes is its length in 16 bits and its bytes.
+fn put_bytes(bytes: &mut ByteList, notation: &str) -> Result<(), AllocError> {
     for (place, piece) in notation.split('\'').enumerate() {
         if place % 2 == 1 {
-            put_text(&mut bytes, piece.as_bytes())?;
+            put_text(bytes, piece.as_bytes())?;
         } else {
-            put_digits(&mut bytes, piece)?;
+            put_digits(bytes, piece)?;
         }
     }
+    Ok(())
+}
+
+/// Appends so many times what a notation names.
+fn put_group(
+    alloc: Global,
+    bytes: &mut ByteList,
+    notation: &str,
+    count: u64,
+) -> Result<(), AllocError> {
+    let mut group = ByteList::new(alloc);
+    put_bytes(&mut group, notation)?;
+    for _ in 0..count {
+        bytes.append(group.as_slice())?;
+    }
+    Ok(())
+}
+
+/// The bytes of a notation, in which `(3 * 70)` once stands for `70 70 70`.
+pub fn bytes_of(alloc: Global, notation: &str) -> Result<ByteList, AllocError> {
+    let (front, rest) = cut(notation, '(');
+    let (group, back) = cut(rest, ')');
+    let (count, group) = cut(group, '*');
+    let mut bytes = ByteList::new(alloc);
+    put_bytes(&mut bytes, front)?;
+    put_group(alloc, &mut bytes, group, decimal(count))?;
+    put_bytes(&mut bytes, back)?;
     Ok(bytes)
 }
 
