@@ -1,0 +1,120 @@
+//! Judging a space by the definitions.
+ghost use Rattle.std.specs.Prelude.{◌≤◌, ◌<◌, ◌^◌, IfOk, IsTrue};
+ghost use Rattle.space.specs.Built.{IsBuilt};
+
+use crate::defined::defined_outline;
+use history::limits::END_OF_TIME;
+use history::plain::turns::answers;
+use history::{Ask, Event, Limits, Refused, SpaceConfig, Turn};
+use mod_utf::list::Same;
+use space::{Space, outline};
+use std::alloc::{AllocError, Global};
+
+/// What a space and the definitions say of one history.
+#[derive(Clone, Copy, Debug)]
+pub(crate) enum Verdict {
+    /// The same.
+    Agree,
+    /// Other answers to the event at this place.
+    Answer(usize),
+    /// Other outlines at the end.
+    Outline,
+}
+
+/// Whether a space serves an event.
+fn is_served(event: &Event) -> bool
+    ensures moment { IsTrue result → event.now.moment < 2 ^ 62 }
+    ensures ask { IsTrue result → IsBuilt event.now.ask }
+{
+    let served = match &event.ask {
+        Ask::Bind { name: _, object: _ } => false,
+        Ask::Rebind { name: _, object: _ } => false,
+        Ask::Unbind { name: _ } => false,
+        Ask::Lookup { name: _, uid: _ } => false,
+        Ask::List => false,
+        _ => true,
+    };
+    served && event.moment < END_OF_TIME
+}
+
+/// Whether a space answers an event so. Every second abandon of a running call is made by `abandon`, which answers nothing.
+fn is_answered(
+    alloc: Global,
+    space: &mut Space,
+    event: &Event,
+    answer: &Result<Turn, Refused>,
+) -> Result<bool, AllocError> {
+    if !is_served(event) {
+        return Ok(false);
+    }
+    if let Ask::Abandon { object } = &event.ask {
+        if event.moment % 2 == 0 && space.running(event.by, *object) > 0 {
+            space.abandon(event.by, event.moment, *object);
+            return Ok(answer.is_ok());
+        }
+    }
+    let given = space.turn(event.by, event.moment, event.ask.copy(alloc)?);
+    Ok(are_same(&given, answer))
+}
+
+fn are_same(a: &Result<Turn, Refused>, b: &Result<Turn, Refused>) -> bool {
+    match (a, b) {
+        (Ok(a), Ok(b)) => a.is_same(b),
+        (Err(a), Err(b)) => *a == *b,
+        _ => false,
+    }
+}
+
+/// The place of the first of some events that a space answers otherwise, if there is one.
+fn first_difference(
+    alloc: Global,
+    space: &mut Space,
+    events: &[Event],
+    answers: &[Result<Turn, Refused>],
+) -> Result<Option<usize>, AllocError> {
+    for (place, event) in events.iter().enumerate() {
+        let same = match answers.get(place) {
+            Some(answer) => is_answered(alloc, space, event, answer)?,
+            None => false,
+        };
+        if !same {
+            return Ok(Some(place));
+        }
+    }
+    Ok(None)
+}
+
+/// Whether the outline of a space is that of these events.
+fn is_outlined(
+    alloc: Global,
+    space: &Space,
+    config: &SpaceConfig,
+    events: &[Event],
+) -> Result<bool, AllocError> {
+    let text = outline(alloc, space)?;
+    let defined = defined_outline(alloc, config, events)?;
+    Ok(text.is_same(&defined))
+}
+
+/// Makes the turns of some events in a space without events, and compares each answer and the outline that they leave with those of the
+/// definitions.
+pub(crate) fn judge(
+    alloc: Global,
+    config: &SpaceConfig,
+    events: &[Event],
+) -> Result<Verdict, AllocError>
+    requires lease { (1 ≤ config.now.lease_ms) × (config.now.lease_ms ≤ 2 ^ 40) }
+    requires ack { (1 ≤ config.now.ack_ms) × (config.now.ack_ms ≤ 2 ^ 40) }
+{
+    let limits = Limits::of_space();
+    let answers = answers(alloc, &limits, config, Vec::new(alloc), events)?;
+    let mut space = Space::fresh(alloc, config);
+    if let Some(place) = first_difference(alloc, &mut space, events, answers.as_slice())? {
+        return Ok(Verdict::Answer(place));
+    }
+    Ok(if is_outlined(alloc, &space, config, events)? {
+        Verdict::Agree
+    } else {
+        Verdict::Outline
+    })
+}
