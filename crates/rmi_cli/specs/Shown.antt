@@ -49,7 +49,7 @@ ShowEnds old new ReadFault = ⊥
 ShowEnds old new WriteFault =
     (nodes : List Node) × (items : List Item) × (sent : ℕ) × TakesGraph old.left new.left nodes items
     × (sent < length (graph_text nodes items)) × (new.held ≡ with_end old.held (take sent (graph_text nodes items)))
-ShowEnds old new OutOfMemory = (new.held ≡ old.held)
+ShowEnds old new OutOfMemory = (nodes : List Node) × (items : List Item) × TakesGraph old.left new.left nodes items × (new.held ≡ old.held)
 
 -- The input was shown to an end, which is told.
 abbrev pub ShowsInput : Halves → Halves → Told → Type 0
