@@ -1,5 +1,5 @@
 -- The written journal is one.
-use Rattle.std.proofs.Common.{ℕ, List, [], ◌∷◌, ◌++◌, refl, append_assoc, flat_map}
+use Rattle.std.proofs.Common.{List, [], ◌∷◌, refl, append_assoc, flat_map}
 use Rattle.std.specs.List.{AllByRecursion}
 use Rattle.object_ids.specs.declared.ids.Uid.{Uid}
 use Rattle.history.specs.declared.asks.SpaceConfig.{SpaceConfig}
