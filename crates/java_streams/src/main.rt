@@ -2,12 +2,6 @@
 //! whether its graph is written back as the same bytes.
 #![tactic(auto)]
 
-ghost use Rattle.std.specs.Prelude.{◌≤◌, ◌^◌, length};
-ghost use Rattle.ser_values.specs.Ranges.{NumbersFit, UnitsFit};
-ghost use Rattle.ser_values.specs.Shape.{parts_in};
-ghost use Rattle.ser_write.specs.Canonical.{canonical};
-ghost use Rattle.ser_read.specs.Whole.{AnswersGraph};
-
 use graph_text::graph_text;
 use mod_utf::list::{ByteList, Kinds};
 use ser_read::{StreamFault, read_to_end};
@@ -16,6 +10,7 @@ use ser_write::write_stream;
 use std::alloc::Global;
 use std::io::Write;
 use std::{fs, io};
+use stream_laws::read_back;
 use wire_io::mem::MemSource;
 use wire_io::pull::Pull;
 
@@ -34,17 +29,6 @@ fn read(alloc: Global, bytes: &[u8], cuts: Kinds) -> io::Result<Result<Graph, St
 /// The lengths of so many pieces of one byte.
 fn single_bytes(alloc: Global, count: usize) -> io::Result<Kinds> {
     Ok(Kinds::from_vec(vec![in alloc; 1; count]?))
-}
-
-/// A graph that is written, and read back. It is the same one, with all that is shared in it, unless memory is wanting.
-fn read_back(alloc: Global, graph: &Graph) -> Result<Graph, StreamFault>
-    ensures same { NumbersFit graph.now.nodes → UnitsFit graph.now.nodes → parts_in graph.now.nodes ≤ 1048576
-        → length (canonical graph.now.nodes graph.now.items) ≤ 2 ^ 62 → ∥ AnswersGraph graph.now.nodes graph.now.items result ∥₁ }
-{
-    let written = write_stream(alloc, graph)?;
-    let mut source = MemSource::new(written, Kinds::new(alloc), Kinds::new(alloc));
-    let mut pull = Pull::new(&mut source);
-    read_to_end(alloc, &mut pull)
 }
 
 /// How the two readings of a stream differ, whether its graph is read back, and how its bytes differ from those that are written.
