@@ -17,7 +17,7 @@ use std::io;
 use std::io::Write;
 
 /// How many histories there are.
-const HISTORIES: u64 = 500;
+const HISTORIES: u64 = 4_000;
 /// The fewest random events of a history.
 const FEWEST: u64 = 3;
 /// How many numbers of random events there are.
