@@ -21,7 +21,7 @@ use Rattle.dgc_server.specs.declared.entry.ObjectEntry.{ObjectEntry}
 use Rattle.dgc_server.specs.Numbers.{no_numbers, is_remembered}
 use Rattle.dgc_server.specs.Entry.{Entry, numbers_of, has_object, counts_lem, has_time_left, remembered_of, entry_remembers, fresh_of}
 use Rattle.dgc_server.specs.Table.{entry_of, remembered, clients_after, pairs_after}
-use Rattle.dgc_server.specs.Counts.{new_call, clients_with, pairs_with_call}
+use Rattle.dgc_server.specs.Counts.{new_call, clients_with_call, pairs_with_call}
 use Rattle.dgc_server.specs.Stands.{LeaseTable, EntryStands, StandsFor, is_in_order, each_once, top, is_dirty_for, is_clean_for, is_strong_for}
 use Rattle.dgc_server.proofs.Distinct.{Decides, turned, all_once, absent_is, not_is, any-filtered, any-distinct, once-filter, once-distinct, once-append, length-same, length-distinct, length-distinct-push}
 use Rattle.dgc_server.proofs.Highest.{remembered-top}
@@ -38,7 +38,7 @@ length-map f (x ∷ xs) = ap suc (length-map f xs)
 
 -- THE CLIENTS WITH TIME LEFT AFTER A DIRTY are counted.
 pub clients-counted : (lease m now : ℕ) (table : LeaseTable) (calls : List Call) (c : Client) → m ≤ now → StandsFor lease table m calls → is_in_order table.entries ≡ true →
-    clients_with lease now calls c ≡ clients_after table.entries c now
+    clients_with_call lease now calls c ≡ clients_after table.entries c now
 clients-counted lease m now table calls c le s order =
     let left = filter (has_time_left now) table.entries in
     ap (λ cs. length (distinct same_client (cs ++ c ∷ []))) (time-entries lease m now table calls le s order)

@@ -13,7 +13,7 @@ use Rattle.object_ids.proofs.Order.{client_cmp-equal, client_cmp-self}
 use Rattle.history.specs.declared.calls.CallKind.{CallKind}
 use Rattle.history.specs.declared.calls.CallKind.TheVariants.{Dirty, Weak, Strong}
 use Rattle.history.specs.Leases.{is_dirty_kind}
-use Rattle.dgc_server.specs.Entry.{Entry, lapsed, is_kept, tenure_forgotten, has_time_left, entry_holds, entry_without}
+use Rattle.dgc_server.specs.Entry.{Entry, lapsed, is_entry_kept, tenure_forgotten, has_time_left, entry_holds, entry_without}
 use Rattle.dgc_server.specs.Table.{no_entry, entry_of, with_entry, after_lapse, clients_after}
 use Rattle.dgc_server.specs.Stands.{is_in_order, entry_after}
 use Rattle.dgc_server.proofs.Ordered.{all_after, absent, after-absent, after-earlier, client-of}
@@ -60,7 +60,7 @@ lapsed-time now e = go (nat_lt now e.until)
 
 pub few-lapse : (m k : ℕ) (es : List Entry) (most : ℕ) → m ≤ k → length (filter (has_time_left m) es) ≤ most → length (filter (has_time_left k) (after_lapse k es)) ≤ most
 few-lapse m k es most le h =
-    let a = fewer-kept (has_time_left k) (is_kept k) (map (lapsed k) es) in
+    let a = fewer-kept (has_time_left k) (is_entry_kept k) (map (lapsed k) es) in
     let b = same-map (has_time_left k) (lapsed k) (lapsed-time k) es in
     let c = fewer (has_time_left k) (has_time_left m) (λ e x. earlier m k e.until le x) es in
     omega (arith, a, b, c, h)

@@ -20,7 +20,7 @@ use Rattle.history.proofs.ListLemmas.{AllOnce, length-fewer, or_true}
 use Rattle.dgc_server.specs.declared.numbers.Numbers.{Numbers}
 use Rattle.dgc_server.specs.declared.entry.ObjectEntry.{ObjectEntry}
 use Rattle.dgc_server.specs.Numbers.{is_remembered}
-use Rattle.dgc_server.specs.Entry.{Entry, numbers_of, is_in, counts_lem, has_strong, strong_only, tenure_forgotten, lapsed, is_kept, has_time_left, remembered_of, entry_remembers, fresh_of, entry_without}
+use Rattle.dgc_server.specs.Entry.{Entry, numbers_of, is_in, counts_lem, has_strong, strong_only, tenure_forgotten, lapsed, is_entry_kept, has_time_left, remembered_of, entry_remembers, fresh_of, entry_without}
 use Rattle.dgc_server.specs.Table.{no_entry, entry_of, with_entry, after_lapse, remembered, pairs_after}
 use Rattle.dgc_server.specs.Stands.{is_in_order, each_once, entry_after}
 use Rattle.dgc_server.proofs.Counting.{decides-object, object-turned, kept_of, any-kept, once-kept_of, fresh}
@@ -56,7 +56,7 @@ once-lapsed k e h = go (nat_lt k e.until)
     go false = once-forgotten e.objects h
 
 pub once-lapse : (k : ℕ) (es : List Entry) → all_objects_once es ≡ true → all_objects_once (after_lapse k es) ≡ true
-once-lapse k es h = once-filtered (is_kept k) (map (lapsed k) es) (once-map (lapsed k) (once-lapsed k) es h)
+once-lapse k es h = once-filtered (is_entry_kept k) (map (lapsed k) es) (once-map (lapsed k) (once-lapsed k) es h)
 
 pub once-without : (o : ObjId) (es : List Entry) → all_objects_once es ≡ true → all_objects_once (map (entry_without o) es) ≡ true
 once-without o es h = once-map (entry_without o) (λ e x. once-filter (λ y. not (same_id y.object o)) e.objects x) es h
@@ -139,7 +139,7 @@ fewer-lapsed m k e le = go (nat_lt k e.until) refl
 
 pub remembered-lapse : (m k : ℕ) (es : List Entry) → m ≤ k → remembered k (after_lapse k es) ≤ remembered m es
 remembered-lapse m k es le =
-    let a = sum-filter (remembered_of k) (is_kept k) (map (lapsed k) es) in
+    let a = sum-filter (remembered_of k) (is_entry_kept k) (map (lapsed k) es) in
     let b = sum-fewer (remembered_of k) (remembered_of m) (lapsed k) (λ e. fewer-lapsed m k e le) es in omega arith
 
 pub remembered-without : (m : ℕ) (o : ObjId) (es : List Entry) → remembered m (map (entry_without o) es) ≤ remembered m es

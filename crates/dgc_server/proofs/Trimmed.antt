@@ -8,7 +8,7 @@ use Rattle.object_ids.specs.Client.{Client}
 use Rattle.history.specs.declared.calls.CallKind.{CallKind}
 use Rattle.history.proofs.ListLemmas.{and_true}
 use Rattle.dgc_server.specs.declared.entry.ObjectEntry.{ObjectEntry}
-use Rattle.dgc_server.specs.Entry.{Entry, has_strong, strong_only, tenure_forgotten, lapsed, is_kept, is_empty, is_strong_alone, is_needed}
+use Rattle.dgc_server.specs.Entry.{Entry, has_strong, strong_only, tenure_forgotten, lapsed, is_entry_kept, is_empty, is_strong_alone, is_needed}
 use Rattle.dgc_server.specs.Table.{entry_of, with_entry, after_lapse}
 use Rattle.dgc_server.specs.Stands.{LeaseTable, IsTrimmed, entry_after, table_after}
 
@@ -21,21 +21,21 @@ strong-left (e ∷ es) = go (has_strong e) refl (strong-left es)
     go true s rest = rw (s, rest) refl
     go false s rest = rest
 
-kept-needed : (k : ℕ) (e : Entry) → is_kept k (lapsed k e) ≡ true → is_needed k (lapsed k e) ≡ true
+kept-needed : (k : ℕ) (e : Entry) → is_entry_kept k (lapsed k e) ≡ true → is_needed k (lapsed k e) ≡ true
 kept-needed k e = go (nat_lt k e.until) refl
   where
     after : Bool → Entry
     after b = if b then e else record e { objects = tenure_forgotten e.objects }
 
-    go : (b : Bool) → nat_lt k e.until ≡ b → is_kept k (after b) ≡ true → is_needed k (after b) ≡ true
+    go : (b : Bool) → nat_lt k e.until ≡ b → is_entry_kept k (after b) ≡ true → is_needed k (after b) ≡ true
     go true left kept = rw left refl
     go false left kept = rw (strong-left e.objects, and_true (not (is_empty (tenure_forgotten e.objects)))) kept
 
 pub trimmed-lapse : (k : ℕ) (es : List Entry) → list_all (is_needed k) (after_lapse k es) ≡ true
 trimmed-lapse k [] = refl
-trimmed-lapse k (e ∷ es) = go (is_kept k (lapsed k e)) refl (trimmed-lapse k es)
+trimmed-lapse k (e ∷ es) = go (is_entry_kept k (lapsed k e)) refl (trimmed-lapse k es)
   where
-    go : (b : Bool) → is_kept k (lapsed k e) ≡ b → list_all (is_needed k) (after_lapse k es) ≡ true → list_all (is_needed k) (cond b (lapsed k e ∷ after_lapse k es) (after_lapse k es)) ≡ true
+    go : (b : Bool) → is_entry_kept k (lapsed k e) ≡ b → list_all (is_needed k) (after_lapse k es) ≡ true → list_all (is_needed k) (cond b (lapsed k e ∷ after_lapse k es) (after_lapse k es)) ≡ true
     go true kept rest = and_from (is_needed k (lapsed k e)) (list_all (is_needed k) (after_lapse k es)) (kept-needed k e kept) rest
     go false kept rest = rest
 

@@ -3,7 +3,7 @@ ghost use Rattle.std.specs.Prelude.{◌≡◌, ◌&&◌, not, [], length, filter
 ghost use Rattle.object_ids.specs.Same.{same_id, same_client};
 ghost use Rattle.history.specs.Lists.{distinct};
 ghost use Rattle.dgc_server.specs.Numbers.{is_dirty_highest, is_remembered};
-ghost use Rattle.dgc_server.specs.Entry.{has_time_left, entry_holds, remembered_of, fresh_of, fresh_in, numbers_of, is_in, has_object, objects_noted, entry_noted, with_missing, tenure_forgotten, has_strong, strong_only, objects_after, lapsed, entry_without, is_kept, counts_lem};
+ghost use Rattle.dgc_server.specs.Entry.{has_time_left, entry_holds, remembered_of, fresh_of, fresh_in, numbers_of, is_in, has_object, objects_noted, entry_noted, with_missing, tenure_forgotten, has_strong, strong_only, objects_after, lapsed, entry_without, is_entry_kept, counts_lem};
 
 use crate::numbers::Numbers;
 use history::CallKind;
@@ -183,8 +183,8 @@ impl ClientEntry {
     }
 
     /// Whether there is something to keep at this moment: time left, or an object.
-    pub fn is_kept(&self, now: u64) -> bool
-        ensures { result ≡ is_kept now self.now }
+    pub fn is_entry_kept(&self, now: u64) -> bool
+        ensures { result ≡ is_entry_kept now self.now }
     {
         self.has_time_left(now) || !self.objects.is_empty()
     }

@@ -3,7 +3,7 @@ ghost use Rattle.std.specs.Prelude.{◌≡◌, ◌≢◌, ◌<◌, ◌≤◌, �
 ghost use Rattle.history.specs.declared.calls.Call.{Call};
 ghost use Rattle.history.specs.declared.limits.TheConstants.{MAX_CLIENTS, MAX_PAIRS};
 ghost use Rattle.history.specs.Leases.{is_dirty_kind, is_held, holders, pairs, lease_rows};
-ghost use Rattle.dgc_server.specs.Counts.{dirty_call, clean_call, clean_kind, without, clients_with, pairs_with_call};
+ghost use Rattle.dgc_server.specs.Counts.{dirty_call, clean_call, clean_kind, without, clients_with_call, pairs_with_call};
 ghost use Rattle.dgc_server.specs.Stands.{IsSound, IsTrimmed, StandsFor, ForEachLog, entry_after, table_after};
 ghost use Rattle.dgc_server.specs.Table.{entry_of, clients_after, pairs_after};
 
@@ -100,11 +100,11 @@ impl Leases {
 
         // Clients is tested first.
         ensures clients { ForEachLog self.old (λ lease moment calls.
-            (result ≡ Err LeaseFault.Clients) ↔ (MAX_CLIENTS < clients_with lease (max now moment) calls client.now)) }
+            (result ≡ Err LeaseFault.Clients) ↔ (MAX_CLIENTS < clients_with_call lease (max now moment) calls client.now)) }
         ensures pairs { ForEachLog self.old (λ lease moment calls.
             let x = dirty_call (max now moment) client.now number objects.now in
             (result ≡ Err LeaseFault.Pairs)
-            ↔ ((clients_with lease (max now moment) calls client.now ≤ MAX_CLIENTS) × (MAX_PAIRS < pairs_with_call lease calls x))) }
+            ↔ ((clients_with_call lease (max now moment) calls client.now ≤ MAX_CLIENTS) × (MAX_PAIRS < pairs_with_call lease calls x))) }
         ensures err { OnErr result (self.new ≡ self.old) }
     {
         let at = self.at(now);

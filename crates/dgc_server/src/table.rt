@@ -4,7 +4,7 @@ ghost use Rattle.std.specs.List.{list_any};
 ghost use Rattle.std.specs.Option.{option_copied};
 ghost use Rattle.object_ids.specs.Client.{Client};
 ghost use Rattle.dgc_server.specs.Numbers.{is_dirty_highest, is_remembered};
-ghost use Rattle.dgc_server.specs.Entry.{Entry, numbers_of, lapsed, entry_without, is_kept, has_time_left, entry_holds, remembered_of, row_of};
+ghost use Rattle.dgc_server.specs.Entry.{Entry, numbers_of, lapsed, entry_without, is_entry_kept, has_time_left, entry_holds, remembered_of, row_of};
 ghost use Rattle.dgc_server.specs.Table.{entry_of, no_entry, IsPlaceOf, with_entry, after_lapse, remembered, clients_after, fresh_pairs, pairs_after};
 
 use crate::entry::{ClientEntry, counts, fresh_count};
@@ -89,9 +89,9 @@ fn drop_from_each(entries: &mut [ClientEntry], object: &ObjId)
 
 /// Keeps the clients of which something is left.
 fn keep(entries: &mut Vec<ClientEntry>, now: u64)
-    ensures { entries.new.items ≡ filter (is_kept now) entries.old.items }
+    ensures { entries.new.items ≡ filter (is_entry_kept now) entries.old.items }
 {
-    entries.retain(|entry| entry.is_kept(now));
+    entries.retain(|entry| entry.is_entry_kept(now));
 }
 
 /// Whether some client holds an object.

@@ -12,7 +12,7 @@ use Rattle.history.specs.Places.{id_at}
 use Rattle.history.proofs.ListLemmas.{AllOnce, list_any-filter, list_any-same, or_false, and_false}
 use Rattle.export_table.specs.declared.rows.Export.{Export}
 use Rattle.export_table.specs.declared.waits.Wait.{Wait}
-use Rattle.export_table.specs.Rows.{is_of, row_of, is_exported, kind_of, running_of, pins_of, ids, is_rising, is_given, changed, begun, ended, is_kept, withdrawn}
+use Rattle.export_table.specs.Rows.{is_of, row_of, is_exported, kind_of, running_of, pins_of, ids, is_rising, is_given, changed, begun, ended, is_row_kept, withdrawn}
 use Rattle.export_table.specs.Waits.{is_wait_of, goes_on, waiting, is_waiting, until_of, listed, acknowledged}
 use Rattle.export_table.proofs.Places.{row-none, changed-none, not_below}
 
@@ -108,8 +108,8 @@ other-changed f o p k apart (x ∷ rows) = go (is_of o x) (is_of p x) refl refl 
 
 -- AN OBJECT IS EXPORTED after a withdrawal exactly where some row of it is kept.
 pub exported-kept : (t : ℕ) (held : ObjId → Bool) (waits : List Wait) (rows : List Export) (o : ObjId) →
-    is_exported (filter (is_kept t held waits) rows) o ≡ list_any (λ x. is_kept t held waits x && is_of o x) rows
-exported-kept t held waits rows o = list_any-filter (is_of o) (is_kept t held waits) rows
+    is_exported (filter (is_row_kept t held waits) rows) o ≡ list_any (λ x. is_row_kept t held waits x && is_of o x) rows
+exported-kept t held waits rows o = list_any-filter (is_of o) (is_row_kept t held waits) rows
 
 any-ids : (o : ObjId) (rows : List Export) → list_any (λ p. same_id p o) (ids rows) ≡ is_exported rows o
 any-ids o [] = refl
@@ -117,9 +117,9 @@ any-ids o (x ∷ rows) = ap (λ v. is_of o x || v) (any-ids o rows)
 
 -- AN OBJECT IS WITHDRAWN exactly where some row of it isn't kept.
 pub among-withdrawn : (t : ℕ) (held : ObjId → Bool) (waits : List Wait) (rows : List Export) (o : ObjId) →
-    list_any (λ p. same_id p o) (withdrawn t held waits rows) ≡ list_any (λ x. not (is_kept t held waits x) && is_of o x) rows
+    list_any (λ p. same_id p o) (withdrawn t held waits rows) ≡ list_any (λ x. not (is_row_kept t held waits x) && is_of o x) rows
 among-withdrawn t held waits rows o =
-    any-ids o (filter (λ x. not (is_kept t held waits x)) rows) ∙ list_any-filter (is_of o) (λ x. not (is_kept t held waits x)) rows
+    any-ids o (filter (λ x. not (is_row_kept t held waits x)) rows) ∙ list_any-filter (is_of o) (λ x. not (is_row_kept t held waits x)) rows
 
 -- ---- references that await
 

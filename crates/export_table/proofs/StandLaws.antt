@@ -196,13 +196,13 @@ return-lists config events e uid waits r s =
     let asked = ask-place_of config (places config events) e in
     let pushed = waits-push reference_of end_of (λ x n. record { object = x.object; uid = x.uid; until = n }) config events e waits (λ x n. refl) (λ x n. refl)
     (λ u. ap (is_ack_of u) asked ∙ no-ack e.ask uid u r) s in
-    let all : returned (place_of config (places config events) e) ≡ references uid (place_of config (places config events) e).lists =
-    ap (λ u. flat_map (λ x. map (λ o. record { object = o; uid = x }) (place_of config (places config events) e).lists) (option_to_list u)) (ap return_uid asked ∙ r) ∙ one_list uid (place_of config (places config events) e).lists in
-    let H : List Place → Type 0 = λ h. AreWaits config.ack_ms (max e.moment (now (places config events))) h (listed_each config.ack_ms (max e.moment (now (places config events))) uid (place_of config (places config events) e).lists waits) in
+    let all : returned (place_of config (places config events) e) ≡ references uid (place_of config (places config events) e).returned_here =
+    ap (λ u. flat_map (λ x. map (λ o. record { object = o; uid = x }) (place_of config (places config events) e).returned_here) (option_to_list u)) (ap return_uid asked ∙ r) ∙ one_list uid (place_of config (places config events) e).returned_here in
+    let H : List Place → Type 0 = λ h. AreWaits config.ack_ms (max e.moment (now (places config events))) h (listed_each config.ack_ms (max e.moment (now (places config events))) uid (place_of config (places config events) e).returned_here waits) in
     let R : List Returned → Type 0 = λ rs. AreWaits config.ack_ms (max e.moment (now (places config events))) (place_of config (places config events) e ∷ places config events)
     (listed_all reference_of end_of (λ x n. record { object = x.object; uid = x.uid; until = n }) config.ack_ms (max e.moment (now (places config events))) rs waits) in
     let W : List Wait → Type 0 = λ ws. AreWaits config.ack_ms (max e.moment (now (places config events))) (place_of config (places config events) e ∷ places config events) ws in
-    subst H (sym (places-push config events e)) (subst W (listed-each-is config.ack_ms (max e.moment (now (places config events))) uid (place_of config (places config events) e).lists waits) (subst R all pushed))
+    subst H (sym (places-push config events e)) (subst W (listed-each-is config.ack_ms (max e.moment (now (places config events))) uid (place_of config (places config events) e).returned_here waits) (subst R all pushed))
   where
     one_list : (u : Uid) (os : List ObjId) → flat_map (λ x. map (λ o. record { object = o; uid = x }) os) (u ∷ []) ≡ references u os
     one_list u os = append-nil (references u os)

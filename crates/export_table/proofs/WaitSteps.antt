@@ -252,7 +252,7 @@ waits-push-ack ref until config events e u ws asked w =
     ask = ask-place_of config (places config events) e ∙ asked
 
     silent : (s : Returned) → returns s (place_of config (places config events) e) ≡ false
-    silent s = ap (λ a. list_any (same_returned s) (flat_map (λ v. map (λ o. record { object = o; uid = v }) (place_of config (places config events) e).lists) (option_to_list (return_uid a)))) ask
+    silent s = ap (λ a. list_any (same_returned s) (flat_map (λ v. map (λ o. record { object = o; uid = v }) (place_of config (places config events) e).returned_here) (option_to_list (return_uid a)))) ask
 
     uid-turned : (a b : Uid) → same_uid a b ≡ same_uid b a
     uid-turned a b = turned (record { equal = same_uid-equal; self = same_uid-self }) a b

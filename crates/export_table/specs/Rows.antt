@@ -70,8 +70,8 @@ abbrev pub is_pinned : Export → Bool
 is_pinned x = x.pinned || nat_lt 0 x.pins || nat_lt 0 x.running
 
 -- It is kept at the moment t: it is pinned, a reference to it awaits, or it is held.
-abbrev pub is_kept : ℕ → (ObjId → Bool) → List Wait → Export → Bool
-is_kept t held waits x = is_pinned x || is_awaited t x.id waits || held x.id
+abbrev pub is_row_kept : ℕ → (ObjId → Bool) → List Wait → Export → Bool
+is_row_kept t held waits x = is_pinned x || is_awaited t x.id waits || held x.id
 
 -- Some client holds the object at the moment t.
 abbrev pub held_by : ℕ → ℕ → List Call → ObjId → Bool
@@ -79,7 +79,7 @@ held_by lease t calls o = is_held lease t calls o
 
 -- The objects that are not kept.
 abbrev pub withdrawn : ℕ → (ObjId → Bool) → List Wait → List Export → List ObjId
-withdrawn t held waits rows = ids (filter (λ x. not (is_kept t held waits x)) rows)
+withdrawn t held waits rows = ids (filter (λ x. not (is_row_kept t held waits x)) rows)
 
 -- A call as if it had named none of these objects.
 abbrev pub without_all : List ObjId → Call → Call

@@ -86,7 +86,7 @@ abbrev pub ReturnLists : Type 0
 ReturnLists = (config : SpaceConfig) (events : List Event) (e : Event) (uid : Uid) (waits : List Wait) → return_uid e.ask ≡ Some uid →
     AreWaits config.ack_ms (now (places config events)) (places config events) waits →
     AreWaits config.ack_ms (max e.moment (now (places config events))) (places config (events ++ e ∷ []))
-    (listed_each config.ack_ms (max e.moment (now (places config events))) uid (place_of config (places config events) e).lists waits)
+    (listed_each config.ack_ms (max e.moment (now (places config events))) uid (place_of config (places config events) e).returned_here waits)
 
 -- An acknowledgement ends the waits of its return.
 abbrev pub AckEnds : Type 0

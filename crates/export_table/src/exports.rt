@@ -5,7 +5,7 @@ ghost use Rattle.history.specs.Places.{id_at};
 ghost use Rattle.object_ids.specs.declared.ids.FullKind.TheVariants.{Exports as FullExports, Awaiting as FullAwaiting};
 ghost use Rattle.dgc_server.specs.Stands.{StandsFor, ForEachLog};
 ghost use Rattle.export_table.specs.Waits.{waiting, is_waiting, listed, acknowledged};
-ghost use Rattle.export_table.specs.Rows.{is_exported, kind_of, running_of, pins_of, ids, is_rising, new_row, changed, begun, ended, pinned_once, unpinned_once, is_kept, held_by, withdrawn, without_all, row_at};
+ghost use Rattle.export_table.specs.Rows.{is_exported, kind_of, running_of, pins_of, ids, is_rising, new_row, changed, begun, ended, pinned_once, unpinned_once, is_row_kept, held_by, withdrawn, without_all, row_at};
 ghost use Rattle.export_table.specs.Table.{IsSound, no_room};
 
 use crate::rows::{self, Export, RowList};
@@ -239,7 +239,7 @@ impl Exports {
         requires { vec_len gone.old + length self.old.rows ≤ vec_capacity gone.old }
         ensures kept { ForEachLog leases.old (λ lease moment calls.
             let held = held_by lease (max now moment) calls in
-            let rows = filter (is_kept now held self.old.waits) self.old.rows in
+            let rows = filter (is_row_kept now held self.old.waits) self.old.rows in
             let waits = waiting now self.old.waits in
             self.new ≡ record self.old { rows = rows; waits = waits; room = self.new.room }) }
         ensures gone { ForEachLog leases.old (λ lease moment calls.

@@ -2,7 +2,7 @@
 ghost use Rattle.std.specs.Prelude.{◌≡◌, ◌++◌, ◌∷◌, [], ◌+◌, ◌<◌, ◌≤◌, ◌^◌, max, length, map, filter, vec_len, vec_capacity, not, false, IsTrue, IfOk, MatchOption};
 ghost use Rattle.object_ids.specs.Same.{same_id};
 ghost use Rattle.dgc_server.specs.Stands.{ForEachLog};
-ghost use Rattle.export_table.specs.Rows.{is_of, is_exported, kind_of, running_of, pins_of, ids, is_rising, IsPlace, IsPart, new_row, changed, begun, ended, pinned_once, unpinned_once, is_pinned, is_kept, held_by, withdrawn, row_at};
+ghost use Rattle.export_table.specs.Rows.{is_of, is_exported, kind_of, running_of, pins_of, ids, is_rising, IsPlace, IsPart, new_row, changed, begun, ended, pinned_once, unpinned_once, is_pinned, is_row_kept, held_by, withdrawn, row_at};
 
 use crate::waits::{Wait, count_of, is_awaited};
 use dgc_server::Leases;
@@ -72,10 +72,10 @@ impl Export {
     }
 
     /// Whether it is kept: it is pinned, a reference to it awaits, or a client holds it.
-    fn is_kept(&self, waits: &[Wait], leases: &Leases, now: u64) -> bool
+    fn is_row_kept(&self, waits: &[Wait], leases: &Leases, now: u64) -> bool
         ensures { ForEachLog leases.now (λ lease moment calls.
             let held = held_by lease (max now moment) calls in
-            result ≡ is_kept now held waits.now self.now) }
+            result ≡ is_row_kept now held waits.now self.now) }
     {
         self.is_pinned() || is_awaited(waits, &self.id, now) || leases.is_held(self.id, now)
     }
@@ -210,7 +210,7 @@ pub fn keep(
     requires { vec_len gone.old + length rows.old.items ≤ vec_capacity gone.old }
     ensures items { ForEachLog leases.now (λ lease moment calls.
         let held = held_by lease (max now moment) calls in
-        rows.new.items ≡ filter (is_kept now held waits.now) rows.old.items) }
+        rows.new.items ≡ filter (is_row_kept now held waits.now) rows.old.items) }
     ensures gone { ForEachLog leases.now (λ lease moment calls.
         let held = held_by lease (max now moment) calls in
         gone.new.items ≡ gone.old.items ++ withdrawn now held waits.now rows.old.items) }
@@ -223,7 +223,7 @@ pub fn keep(
     let mut kept = 0;
     for i in 0..rows.len() {
         let row = rows[i];
-        if row.is_kept(waits, leases, now) {
+        if row.is_row_kept(waits, leases, now) {
             rows[kept] = row;
             kept += 1;
         } else {

@@ -67,7 +67,7 @@ none_after n (q ∷ h) p i a = rw (le-ltb p.index q.index (let b = i.0 in omega 
 
 begins-before : (p : Place) (h : List Place) (q : Place) → q.index < p.index →
     begins_name (p ∷ h) q ≡ (option_any (λ n. not (unbinds p n)) (name_bound q.event.ask) && begins_name h q)
-begins-before p h q l = rw (lt-ltb q.index p.index l) (go (q.effective && is_none q.stood) (name_bound q.event.ask))
+begins-before p h q l = rw (lt-ltb q.index p.index l) (go (q.effective && is_none q.name_stood_for) (name_bound q.event.ask))
   where
     go : (e : Bool) (o : Option (List ℕ)) →
         (e && option_any (λ n. not ((p.effective && is_unbind_of n p.event.ask) || is_unbound_after h n q)) o)
@@ -98,7 +98,7 @@ filter_map-filter {X} {Y} f test (x ∷ xs) = go (f x) refl (filter_map-filter f
 
 begins-here : (p : Place) (h : List Place) → IsNumbered (p ∷ h) →
     filter_map (λ (q : Place). name_bound q.event.ask) (filter (begins_name (p ∷ h)) (p ∷ [])) ≡ name_begun p
-begins-here p h i = go (p.effective && is_none p.stood) (name_bound p.event.ask) refl
+begins-here p h i = go (p.effective && is_none p.name_stood_for) (name_bound p.event.ask) refl
   where
     go : (b : Bool) (o : Option (List ℕ)) → name_bound p.event.ask ≡ o →
         filter_map (λ (q : Place). name_bound q.event.ask) (cond (b && option_any (λ n. not (is_unbound_after (p ∷ h) n p)) o) (p ∷ []) []) ≡ (if b then option_to_list o else [])

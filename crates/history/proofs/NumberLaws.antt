@@ -44,7 +44,7 @@ length-exported_from space k place pinned (kind ∷ kinds) = ap suc (length-expo
 pub next-added : (h : List Place) → NextIsCounted h
 unfolding next added
 next-added [] = refl
-next-added (p ∷ h) = ap (λ n. n + length p.adds) (next-added h) ∙ sym (length-append (added h) p.adds)
+next-added (p ∷ h) = ap (λ n. n + length p.exported_here) (next-added h) ∙ sym (length-append (added h) p.exported_here)
 
 exports-numbered : (config : SpaceConfig) (h : List Place) (a : Ask) → NumberedFrom config.uid (next h) (exports config h a)
 unfolding exports
@@ -53,7 +53,7 @@ exports-numbered config h (Finish object made listed uid) = exported_from-number
 exports-numbered config h _ = tt
 
 -- What an event exports goes on where the history ended.
-pub adds-next : (config : SpaceConfig) (h : List Place) (e : Event) → NumberedFrom config.uid (next h) (place_of config h e).adds
+pub adds-next : (config : SpaceConfig) (h : List Place) (e : Event) → NumberedFrom config.uid (next h) (place_of config h e).exported_here
 unfolding place_of
 adds-next config h e = go (place_of config h e).effective (exports-numbered config h e.ask)
   where
@@ -61,16 +61,16 @@ adds-next config h e = go (place_of config h e).effective (exports-numbered conf
     go true n = n
     go false n = tt
 
-pub adds-numbered : (config : SpaceConfig) (h : List Place) (e : Event) → NumberedFrom config.uid (length (added h)) (place_of config h e).adds
-adds-numbered config h e = let P : ℕ → Type 0 = λ n. NumberedFrom config.uid n (place_of config h e).adds in subst P (next-added h) (adds-next config h e)
+pub adds-numbered : (config : SpaceConfig) (h : List Place) (e : Event) → NumberedFrom config.uid (length (added h)) (place_of config h e).exported_here
+adds-numbered config h e = let P : ℕ → Type 0 = λ n. NumberedFrom config.uid n (place_of config h e).exported_here in subst P (next-added h) (adds-next config h e)
 
 -- ALL OBJECTS that a history exported have the numbers from 16 on, in order.
 pub added_back-numbered : (config : SpaceConfig) (es : List Event) → NumberedFrom config.uid 0 (added (places_back config es))
 unfolding added places_back
 added_back-numbered config [] = tt
 added_back-numbered config (e ∷ es) =
-    NumberedFrom-append config.uid 0 (added (places_back config es)) (place_of config (places_back config es) e).adds (added_back-numbered config es)
-    (let P : ℕ → Type 0 = λ n. NumberedFrom config.uid n (place_of config (places_back config es) e).adds in
+    NumberedFrom-append config.uid 0 (added (places_back config es)) (place_of config (places_back config es) e).exported_here (added_back-numbered config es)
+    (let P : ℕ → Type 0 = λ n. NumberedFrom config.uid n (place_of config (places_back config es) e).exported_here in
     let none : length (added (places_back config es)) ≡ 0 + length (added (places_back config es)) = omega arith in
     subst P none (adds-numbered config (places_back config es) e))
 
@@ -153,16 +153,16 @@ pub table-exported : (config : SpaceConfig) (h : List Place) (o : ObjId) → has
 unfolding table added
 table-exported config [] o t = t
 table-exported config (p ∷ h) o t =
-    list_any-append (λ (x : Exported). same_id x.id o) (added h) p.adds ∙ go (table-exported config h o) (has (table config h ++ p.adds) o) refl
+    list_any-append (λ (x : Exported). same_id x.id o) (added h) p.exported_here ∙ go (table-exported config h o) (has (table config h ++ p.exported_here) o) refl
   where
     wider : (a b c : Bool) → (a || c) ≡ true → (a ≡ true → b ≡ true) → (b || c) ≡ true
     wider true b c e f = ap (λ v. v || c) (f refl)
     wider false true c e f = refl
     wider false false c e f = e
 
-    go : (has (table config h) o ≡ true → has (added h) o ≡ true) → (b : Bool) → has (table config h ++ p.adds) o ≡ b → (has (added h) o || has p.adds o) ≡ true
-    go ih true e = wider (has (table config h) o) (has (added h) o) (has p.adds o) (sym (list_any-append (λ (x : Exported). same_id x.id o) (table config h) p.adds) ∙ e) ih
-    go ih false e = absurd (let never = has-filter (is_kept config (p ∷ h)) (table config h ++ p.adds) o e in cc)
+    go : (has (table config h) o ≡ true → has (added h) o ≡ true) → (b : Bool) → has (table config h ++ p.exported_here) o ≡ b → (has (added h) o || has p.exported_here o) ≡ true
+    go ih true e = wider (has (table config h) o) (has (added h) o) (has p.exported_here o) (sym (list_any-append (λ (x : Exported). same_id x.id o) (table config h) p.exported_here) ∙ e) ih
+    go ih false e = absurd (let never = has-filter (is_kept config (p ∷ h)) (table config h ++ p.exported_here) o e in cc)
 
 -- Each object of a list is among its objects, and has its kind there.
 pub has-self : (xs : List Exported) → Every (λ (x : Exported). has xs x.id ≡ true) xs

@@ -23,7 +23,7 @@ use Rattle.history.proofs.ListLemmas.{Every, Every-append, Every-weaker, Every-i
 -- Each place has its number, and what it exports has that number as its place.
 abbrev pub IsNumbered : List Place → Type 0
 IsNumbered [] = Unit {0}
-IsNumbered (p ∷ before) = (p.index ≡ length before) × Every (λ (x : Exported). x.place ≡ length before) p.adds × IsNumbered before
+IsNumbered (p ∷ before) = (p.index ≡ length before) × Every (λ (x : Exported). x.place ≡ length before) p.exported_here × IsNumbered before
 
 exported_from-place : (space : Uid) (k place : ℕ) (pinned : Bool) (kinds : List ℕ) → Every (λ (x : Exported). x.place ≡ place) (exported_from space k place pinned kinds)
 exported_from-place space k place pinned [] = tt
@@ -35,7 +35,7 @@ exports-place config h (Open kind pinned) = exported_from-place config.uid (next
 exports-place config h (Finish object made listed uid) = exported_from-place config.uid (next h) (length h) false made
 exports-place config h _ = tt
 
-pub adds-place : (config : SpaceConfig) (h : List Place) (e : Event) → Every (λ (x : Exported). x.place ≡ length h) (place_of config h e).adds
+pub adds-place : (config : SpaceConfig) (h : List Place) (e : Event) → Every (λ (x : Exported). x.place ≡ length h) (place_of config h e).exported_here
 unfolding place_of
 adds-place config h e = Every-if (λ (x : Exported). x.place ≡ length h) (place_of config h e).effective (exports config h e.ask) (exports-place config h e.ask)
 
@@ -86,7 +86,7 @@ moment-place_of config h e = refl
 
 -- ---- the table
 
-pub added-push : (p : Place) (h : List Place) → added (p ∷ h) ≡ added h ++ p.adds
+pub added-push : (p : Place) (h : List Place) → added (p ∷ h) ≡ added h ++ p.exported_here
 unfolding added
 added-push p h = refl
 
@@ -94,9 +94,9 @@ pub added-before : (h : List Place) → IsNumbered h → Every (λ (x : Exported
 unfolding added
 added-before [] n = tt
 added-before (p ∷ h) n =
-    Every-append (λ (x : Exported). x.place < length (p ∷ h)) (added h) p.adds
+    Every-append (λ (x : Exported). x.place < length (p ∷ h)) (added h) p.exported_here
     (Every-weaker (λ (x : Exported). x.place < length h) (λ (x : Exported). x.place < length (p ∷ h)) (λ x a. omega arith) (added h) (added-before h n.2))
-    (Every-weaker (λ (x : Exported). x.place ≡ length h) (λ (x : Exported). x.place < length (p ∷ h)) (λ x a. omega arith) p.adds n.1)
+    (Every-weaker (λ (x : Exported). x.place ≡ length h) (λ (x : Exported). x.place < length (p ∷ h)) (λ x a. omega arith) p.exported_here n.1)
 
 -- An object that is exported later has no prefix at which it has to be kept.
 later : (kept : List Place → Exported → Bool) (h : List Place) (x : Exported) → length h ≤ x.place → is_kept_since_export kept h x ≡ true
@@ -115,30 +115,30 @@ now_exported kept p h x a =
 
 -- The objects that are kept ever since their export, after one more place, whatever keeps them.
 pub survivors-push : (kept : List Place → Exported → Bool) (p : Place) (h : List Place) → IsNumbered (p ∷ h) →
-    filter (is_kept_since_export kept (p ∷ h)) (added (p ∷ h)) ≡ filter (kept (p ∷ h)) (filter (is_kept_since_export kept h) (added h) ++ p.adds)
+    filter (is_kept_since_export kept (p ∷ h)) (added (p ∷ h)) ≡ filter (kept (p ∷ h)) (filter (is_kept_since_export kept h) (added h) ++ p.exported_here)
 unfolding added
 survivors-push kept p h n =
-    filter-append (is_kept_since_export kept (p ∷ h)) (added h) p.adds
-    ∙ ap (λ l. l ++ filter (is_kept_since_export kept (p ∷ h)) p.adds)
+    filter-append (is_kept_since_export kept (p ∷ h)) (added h) p.exported_here
+    ∙ ap (λ l. l ++ filter (is_kept_since_export kept (p ∷ h)) p.exported_here)
     (filter-same (is_kept_since_export kept (p ∷ h)) (λ x. kept (p ∷ h) x && is_kept_since_export kept h x) (added h)
     (Every-weaker (λ (x : Exported). x.place < length h) (λ x. is_kept_since_export kept (p ∷ h) x ≡ (kept (p ∷ h) x && is_kept_since_export kept h x)) (λ x a. earlier kept p h x a) (added h) (added-before h n.2))
     ∙ sym (filter-filter (kept (p ∷ h)) (is_kept_since_export kept h) (added h)))
     ∙ ap (λ l. filter (kept (p ∷ h)) (filter (is_kept_since_export kept h) (added h)) ++ l)
-    (filter-same (is_kept_since_export kept (p ∷ h)) (kept (p ∷ h)) p.adds
-    (Every-weaker (λ (x : Exported). x.place ≡ length h) (λ x. is_kept_since_export kept (p ∷ h) x ≡ kept (p ∷ h) x) (λ x a. now_exported kept p h x a) p.adds n.1))
-    ∙ sym (filter-append (kept (p ∷ h)) (filter (is_kept_since_export kept h) (added h)) p.adds)
+    (filter-same (is_kept_since_export kept (p ∷ h)) (kept (p ∷ h)) p.exported_here
+    (Every-weaker (λ (x : Exported). x.place ≡ length h) (λ x. is_kept_since_export kept (p ∷ h) x ≡ kept (p ∷ h) x) (λ x a. now_exported kept p h x a) p.exported_here n.1))
+    ∙ sym (filter-append (kept (p ∷ h)) (filter (is_kept_since_export kept h) (added h)) p.exported_here)
 
 -- THE STEP: the table after one more event has those objects of the table before it, and of those that the event exports, that are
 -- kept now.
 pub table-place : (config : SpaceConfig) (h : List Place) (e : Event) → IsNumbered h →
-    table config (place_of config h e ∷ h) ≡ filter (is_kept config (place_of config h e ∷ h)) (table config h ++ (place_of config h e).adds)
+    table config (place_of config h e ∷ h) ≡ filter (is_kept config (place_of config h e ∷ h)) (table config h ++ (place_of config h e).exported_here)
 unfolding table
 table-place config h e n = refl
 
 -- The same over events.
 pub table-push : (config : SpaceConfig) (h : List Event) (e : Event) →
     table config (places config (h ++ e ∷ []))
-    ≡ filter (is_kept config (places config (h ++ e ∷ []))) (table config (places config h) ++ (place_of config (places config h) e).adds)
+    ≡ filter (is_kept config (places config (h ++ e ∷ []))) (table config (places config h) ++ (place_of config (places config h) e).exported_here)
 table-push config h e = rw places-push (table-place config (places config h) e (places-numbered config h))
 
 pub table-none : (config : SpaceConfig) → table config [] ≡ []
@@ -152,7 +152,7 @@ table_back config [] = table-none config
 table_back config (e ∷ es) =
     let h = places_back config es in
     table-place config h e (places_back-numbered config es)
-    ∙ ap (λ l. filter (is_kept config (place_of config h e ∷ h)) (l ++ (place_of config h e).adds)) (table_back config es)
+    ∙ ap (λ l. filter (is_kept config (place_of config h e ∷ h)) (l ++ (place_of config h e).exported_here)) (table_back config es)
     ∙ sym (survivors-push (is_kept config) (place_of config h e) h (places_back-numbered config (e ∷ es)))
 
 -- THE TABLE has what was kept at every prefix from its export on.
@@ -162,7 +162,7 @@ table-is-kept config events = table_back config (reverse events)
 
 -- What the event withdraws is the rest of them.
 pub withdrawn-place : (config : SpaceConfig) (h : List Place) (e : Event) →
-    withdrawn config (place_of config h e ∷ h) ≡ filter (λ x. not (is_kept config (place_of config h e ∷ h) x)) (table config h ++ (place_of config h e).adds)
+    withdrawn config (place_of config h e ∷ h) ≡ filter (λ x. not (is_kept config (place_of config h e ∷ h) x)) (table config h ++ (place_of config h e).exported_here)
 unfolding withdrawn place_of
 withdrawn-place config h e = refl
 

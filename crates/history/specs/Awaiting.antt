@@ -22,7 +22,7 @@ return_uid _ = None
 
 -- The references that a place returns.
 abbrev pub returned : Place → List Returned
-returned p = flat_map (λ u. map (λ o. record { object = o; uid = u }) p.lists) (option_to_list (return_uid p.event.ask))
+returned p = flat_map (λ u. map (λ o. record { object = o; uid = u }) p.returned_here) (option_to_list (return_uid p.event.ask))
 
 -- The place returns the reference.
 abbrev pub returns : Returned → Place → Bool

@@ -46,7 +46,7 @@ IsNeeded config h x =
 
 -- The objects of the table before an event, and those that it exports.
 abbrev pub table_and_exports : SpaceConfig → List Event → Event → List Exported
-table_and_exports config h e = table config (places config h) ++ (place_of config (places config h) e).adds
+table_and_exports config h e = table config (places config h) ++ (place_of config (places config h) e).exported_here
 
 -- After the event e, with which the history h becomes h2, the table has those of them that are kept, and the others are withdrawn; an
 -- object is kept exactly where there is a reason to.

@@ -68,7 +68,7 @@ is_unbound_after h n p = list_any (λ q. nat_lt p.index q.index && q.effective &
 -- The place p begins a name: it is an effective Bind or Rebind of a name that stands for nothing, and no effective Unbind of the
 -- name comes after it.
 abbrev pub begins_name : History → Place → Bool
-begins_name h p = p.effective && is_none p.stood && option_any (λ n. not (is_unbound_after h n p)) (name_bound p.event.ask)
+begins_name h p = p.effective && is_none p.name_stood_for && option_any (λ n. not (is_unbound_after h n p)) (name_bound p.event.ask)
 
 -- The names stand in the order of the places that begin them.
 abbrev pub NamesInOrder : SpaceConfig → List Event → Type 0

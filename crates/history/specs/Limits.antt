@@ -70,12 +70,12 @@ limits = record {
 -- ---- entries: those of a history at an event's moment, and those that the event brings, each once
 
 -- Exported objects.
-unfoldable pub exports_with : SpaceConfig → History → Event → ℕ
-exports_with config h e = length (table config h) + length (place_of config h e).adds
+unfoldable pub exports_with_event : SpaceConfig → History → Event → ℕ
+exports_with_event config h e = length (table config h) + length (place_of config h e).exported_here
 
 -- Returned references that await their acknowledgement.
-unfoldable pub awaiting_with : SpaceConfig → History → Event → ℕ
-awaiting_with config h e =
+unfoldable pub awaiting_with_event : SpaceConfig → History → Event → ℕ
+awaiting_with_event config h e =
     let p = place_of config h e in
     length (distinct same_returned (awaiting config.ack_ms p.moment h ++ returned p))
 
@@ -84,8 +84,8 @@ abbrev pub lease_call : SpaceConfig → History → Event → List Call
 lease_call config h e = call_with (has (table config h)) (max e.moment (now h)) e.ask
 
 -- Clients with time left.
-unfoldable pub clients_with : SpaceConfig → History → Event → ℕ
-clients_with config h e =
+unfoldable pub clients_with_event : SpaceConfig → History → Event → ℕ
+clients_with_event config h e =
     length (distinct same_client (
     clients_with_time_left config.lease_ms (max e.moment (now h)) (lease_calls h)
     ++ map (λ x. x.client) (filter is_dirty (lease_call config h e))))
@@ -98,8 +98,8 @@ pairs_with_event config h e =
     ++ flat_map (new_pairs config.lease_ms (lease_calls h)) (lease_call config h e)))
 
 -- Names that stand for something.
-unfoldable pub names_with : SpaceConfig → History → Event → ℕ
-names_with config h e =
+unfoldable pub names_with_event : SpaceConfig → History → Event → ℕ
+names_with_event config h e =
     length (distinct same_bytes (
     names h ++ (if (place_of config h e).effective then option_to_list (name_bound e.ask) else [])))
 
@@ -116,9 +116,9 @@ is_full limit config h e =
 unfoldable pub refusal : Limits → SpaceConfig → History → Event → Option Refused
 refusal within config h e =
     if is_full within.units config h e then Some HistoryFull
-    else if nat_lt within.exports (exports_with config h e) then Some (Full Exports)
-    else if nat_lt within.awaiting (awaiting_with config h e) then Some (Full Awaiting)
-    else if nat_lt within.clients (clients_with config h e) then Some (Full Clients)
+    else if nat_lt within.exports (exports_with_event config h e) then Some (Full Exports)
+    else if nat_lt within.awaiting (awaiting_with_event config h e) then Some (Full Awaiting)
+    else if nat_lt within.clients (clients_with_event config h e) then Some (Full Clients)
     else if nat_lt within.pairs (pairs_with_event config h e) then Some (Full Pairs)
-    else if nat_lt within.names (names_with config h e) then Some (Full Names)
+    else if nat_lt within.names (names_with_event config h e) then Some (Full Names)
     else None

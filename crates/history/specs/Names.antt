@@ -55,7 +55,7 @@ unbinds p n = p.effective && is_unbind_of n p.event.ask
 
 -- The name that a place begins, where there is one: that of an effective Bind or Rebind which stood for nothing before.
 abbrev pub name_begun : Place → List (List ℕ)
-name_begun p = if p.effective && is_none p.stood then option_to_list (name_bound p.event.ask) else []
+name_begun p = if p.effective && is_none p.name_stood_for then option_to_list (name_bound p.event.ask) else []
 
 -- The names that stand for something, in the order of the places that begin them.
 unfoldable pub names : History → List (List ℕ)

@@ -29,12 +29,12 @@ now (p ∷ before) = max p.event.moment (now before)
 -- All objects that were ever exported, in order.
 unfoldable pub added : History → List Exported
 added [] = []
-added (p ∷ before) = added before ++ p.adds
+added (p ∷ before) = added before ++ p.exported_here
 
 -- How many they are: the next object to be exported is the space's `next`-th.
 unfoldable pub next : History → ℕ
 next [] = 0
-next (p ∷ before) = next before + length p.adds
+next (p ∷ before) = next before + length p.exported_here
 
 -- The identifier of the k-th object, from 0, that a space exports. The numbers from 0 to 15 are known to all.
 abbrev pub id_at : Uid → ℕ → ObjId

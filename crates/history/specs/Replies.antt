@@ -26,7 +26,7 @@ reply_found objects (Some object) = Found object (kind_of objects object)
 abbrev pub reply_to : SpaceConfig → History → Place → Ask → Reply
 reply_to config h p (Open kind pinned) = Opened (id_at config.uid (next h))
 reply_to config h p (Begin object) = if p.effective then Started (kind_of (table config h) object) else NoObject
-reply_to config h p (Finish object made listed uid) = if p.effective then Finished (ids p.adds) else NotRunning
+reply_to config h p (Finish object made listed uid) = if p.effective then Finished (ids p.exported_here) else NotRunning
 reply_to config h p (Abandon object) = if p.effective then Done else NotRunning
 reply_to config h p (Dirty client number asked objects) = Granted config.lease_ms
 reply_to config h p (Clean client number objects strong) = Done

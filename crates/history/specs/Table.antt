@@ -26,7 +26,7 @@ is_kept config h x = is_pinned h x || is_awaited config.ack_ms (now h) h x.id ||
 -- The table: those objects of the table before the newest place, and of those that this place exports, that are kept now.
 unfoldable pub table : SpaceConfig → History → List Exported
 table config [] = []
-table config (p ∷ before) = filter (is_kept config (p ∷ before)) (table config before ++ p.adds)
+table config (p ∷ before) = filter (is_kept config (p ∷ before)) (table config before ++ p.exported_here)
 
 -- Whether an ask of a connection is effective after a history.
 unfoldable pub is_effective : SpaceConfig → History → ℕ → Ask → Bool
@@ -60,10 +60,10 @@ place_of config h e = let effective = is_effective config h e.by e.ask in record
   moment = max e.moment (now h);
   event = e;
   effective = effective;
-  before = table config h;
-  stood = option_and_then (stands_for h) (name_in e.ask);
-  adds = if effective then exports config h e.ask else [];
-  lists = if effective then lists config h e.ask else [];
+  table_before = table config h;
+  name_stood_for = option_and_then (stands_for h) (name_in e.ask);
+  exported_here = if effective then exports config h e.ask else [];
+  returned_here = if effective then lists config h e.ask else [];
 }
 
 -- The places of a history whose events are given newest first.
@@ -85,7 +85,7 @@ places config events = places_back config (reverse events)
 -- are not kept.
 unfoldable pub withdrawn : SpaceConfig → History → List Exported
 withdrawn config [] = []
-withdrawn config (p ∷ before) = filter (λ x. not (is_kept config (p ∷ before) x)) (p.before ++ p.adds)
+withdrawn config (p ∷ before) = filter (λ x. not (is_kept config (p ∷ before) x)) (p.table_before ++ p.exported_here)
 
 abbrev pub withdrawals_at_end : SpaceConfig → History → List Withdrawal
 withdrawals_at_end config [] = []

@@ -53,13 +53,13 @@ pub struct Place {
     /// Whether the event is effective.
     pub effective: bool,
     /// The objects of the table before it, by rising number.
-    pub before: ExportedList,
+    pub table_before: ExportedList,
     /// What the name in its ask stands for before it.
-    pub stood: Option<ObjId>,
+    pub name_stood_for: Option<ObjId>,
     /// The objects that it exports, by rising number.
-    pub adds: ExportedList,
+    pub exported_here: ExportedList,
     /// The objects that it returns, which await an acknowledgement.
-    pub lists: ObjIds,
+    pub returned_here: ObjIds,
 }
 
 /// A list of places.

@@ -112,19 +112,19 @@ opened-begins-none o effective _ x more config k place e = absurd (cc)
 
 -- No call of a new object runs.
 new-runs-none : (config : SpaceConfig) (events : List Event) (e : Event) → IsBuilt e.ask →
-    Every (λ (x : Exported). running_calls (place_of config (places config events) e ∷ places config events) x.id ≡ 0) (place_of config (places config events) e).adds
+    Every (λ (x : Exported). running_calls (place_of config (places config events) e ∷ places config events) x.id ≡ 0) (place_of config (places config events) e).exported_here
 unfolding one_if
 new-runs-none config events e b =
-    Every-weaker (λ (x : Exported). has (place_of config (places config events) e).adds x.id ≡ true) _
+    Every-weaker (λ (x : Exported). has (place_of config (places config events) e).exported_here x.id ≡ true) _
     (λ x there. (let old = not-there-runs-none config events x.id (not-exported-nowhere config events x.id (new-not-old config events e x.id there)) in
     let step = count-push config events e x.id in one x.id (opened e.ask refl x.id there) old step))
-    (place_of config (places config events) e).adds (has-self (place_of config (places config events) e).adds)
+    (place_of config (places config events) e).exported_here (has-self (place_of config (places config events) e).exported_here)
   where
-    opened : (a : Ask) → e.ask ≡ a → (o : ObjId) → has (place_of config (places config events) e).adds o ≡ true → is_begin_of o e.ask ≡ false
+    opened : (a : Ask) → e.ask ≡ a → (o : ObjId) → has (place_of config (places config events) e).exported_here o ≡ true → is_begin_of o e.ask ≡ false
     opened a s o there = go (opened_by config (next (places config events)) (length (places config events)) (is_effective config (places config events) e.by e.ask) e.ask) refl
       where
         go : (xs : List Exported) → opened_by config (next (places config events)) (length (places config events)) (is_effective config (places config events) e.by e.ask) e.ask ≡ xs → is_begin_of o e.ask ≡ false
-        go [] n = absurd (let never : has (place_of config (places config events) e).adds o ≡ false = ap (λ l. has l o) (adds-built config (places config events) e b ∙ n) in cc)
+        go [] n = absurd (let never : has (place_of config (places config events) e).exported_here o ≡ false = ap (λ l. has l o) (adds-built config (places config events) e b ∙ n) in cc)
         go (x ∷ more) n = opened-begins-none o (is_effective config (places config events) e.by e.ask) e.ask x more config (next (places config events)) (length (places config events)) n
 
     one : (o : ObjId) → is_begin_of o e.ask ≡ false → running_calls (places config events) o ≡ 0 →
@@ -138,9 +138,9 @@ new-runs-none config events e b =
 pub rows-act : (config : SpaceConfig) (events : List Event) (e : Event) (t : ExportTable) (at : ℕ) → IsBuilt e.ask → t.space ≡ config.uid → t.added ≡ next (places config events) →
     t.rows ≡ rows_of (places config events) (table config (places config events)) →
     (acted (is_effective config (places config events) e.by e.ask) at e.ask t).rows
-    ≡ rows_of (place_of config (places config events) e ∷ places config events) (table config (places config events) ++ (place_of config (places config events) e).adds)
+    ≡ rows_of (place_of config (places config events) e ∷ places config events) (table config (places config events) ++ (place_of config (places config events) e).exported_here)
 rows-act config events e t at b space count rows =
-    let adds : opened_by config t.added (length (places config events)) (is_effective config (places config events) e.by e.ask) e.ask ≡ (place_of config (places config events) e).adds =
+    let adds : opened_by config t.added (length (places config events)) (is_effective config (places config events) e.by e.ask) e.ask ≡ (place_of config (places config events) e).exported_here =
     ap (λ n. opened_by config n (length (places config events)) (is_effective config (places config events) e.by e.ask) e.ask) count ∙ sym (adds-built config (places config events) e b) in
     let P : List Exported → Type 0 = λ l. Every (λ (x : Exported). running_calls (place_of config (places config events) e ∷ places config events) x.id ≡ 0) l in
     acted-rows config (running_calls (places config events)) (running_calls (place_of config (places config events) e ∷ places config events)) (table config (places config events)) t (length (places config events))

@@ -45,9 +45,9 @@ runs-next config events e leases leases' x y runs runs' withdrawn withdrawn' tol
 -- The exported objects and the withdrawals after one more event: each that was exported, or is now, is one or the other.
 objects-next : (config : SpaceConfig) (events : List Event) (e : Event) (leases leases' : LeaseTable) (x y : ExportTable) (runs runs' : List Run) (withdrawn withdrawn' : List Withdrawal) (told opened used moment told' opened' used' moment' : ℕ) →
     Keeps config events leases x runs withdrawn told opened used moment → Keeps config (events ++ e ∷ []) leases' y runs' withdrawn' told' opened' used' moment' →
-    length withdrawn' + length y.rows ≡ length withdrawn + length x.rows + length (place_of config (places config events) e).adds
+    length withdrawn' + length y.rows ≡ length withdrawn + length x.rows + length (place_of config (places config events) e).exported_here
 objects-next config events e leases leases' x y runs runs' withdrawn_before withdrawn' told opened used moment told' opened' used' moment' k l =
-    let all : List Exported = table config (places config events) ++ (place_of config (places config events) e).adds in
+    let all : List Exported = table config (places config events) ++ (place_of config (places config events) e).exported_here in
     let kept : Exported → Bool = is_kept config (place_of config (places config events) e ∷ places config events) in
     let rows_before : length x.rows ≡ length (table config (places config events)) = ap length k.stands.rows_are ∙ length-map (table config (places config events)) (row_of (places config events)) in
     let rows_after : length y.rows ≡ length (filter kept all) =
@@ -62,7 +62,7 @@ objects-next config events e leases leases' x y runs runs' withdrawn_before with
     ∙ length-append (withdrawals config (places config events)) (withdrawals_at_end config (place_of config (places config events) e ∷ places config events))
     ∙ ap (λ n. length (withdrawals config (places config events)) + n) goes_now in
     let both = some-or-not kept all in
-    let sum = length-append (table config (places config events)) (place_of config (places config events) e).adds in
+    let sum = length-append (table config (places config events)) (place_of config (places config events) e).exported_here in
     omega (arith, rows_before, rows_after, goes_before, goes_after, both, sum)
 
 -- No withdrawal is forgotten.

@@ -21,7 +21,7 @@ use Rattle.history.specs.Table.{is_effective, table, places}
 use Rattle.dgc_server.specs.Stands.{LeaseTable}
 use Rattle.export_table.specs.declared.rows.Export.{Export}
 use Rattle.export_table.specs.declared.waits.Wait.{Wait}
-use Rattle.export_table.specs.Rows.{is_exported, is_kept as row_kept, running_of, new_row, changed, begun, ended, withdrawn as rows_withdrawn}
+use Rattle.export_table.specs.Rows.{is_exported, is_row_kept as row_kept, running_of, new_row, changed, begun, ended, withdrawn as rows_withdrawn}
 use Rattle.export_table.specs.Table.{ExportTable}
 use Rattle.space.specs.declared.runs.Run.{Run}
 use Rattle.space.specs.Acts.{effective_by, opens, new_rows, new_ids, returned_by, awaiting_with, acted, room_refusal, await_refusal}

@@ -15,7 +15,7 @@ use Rattle.history.specs.declared.limits.TheConstants.{MAX_AWAITING}
 use Rattle.history.specs.declared.places.Exported.{Exported}
 use Rattle.history.specs.declared.replies.Refused.TheVariants.{Full}
 use Rattle.history.specs.Awaiting.{same_returned, returned, return_uid, awaiting}
-use Rattle.history.specs.Limits.{awaiting_with as awaiting_with_event}
+use Rattle.history.specs.Limits.{awaiting_with_event}
 use Rattle.history.specs.Lists.{distinct}
 use Rattle.history.specs.Places.{has, now, exported_from, next}
 use Rattle.history.specs.Table.{is_effective, table, place_of, places}

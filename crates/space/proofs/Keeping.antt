@@ -31,7 +31,7 @@ use Rattle.history.proofs.TableLaws.{places-push, places-numbered, length-places
 use Rattle.dgc_server.specs.Stands.{LeaseTable, StandsFor}
 use Rattle.export_table.specs.declared.rows.Export.{Export}
 use Rattle.export_table.specs.declared.waits.Wait.{Wait}
-use Rattle.export_table.specs.Rows.{is_kept as row_kept, held_by, without_all, withdrawn as rows_withdrawn, is_exported}
+use Rattle.export_table.specs.Rows.{is_row_kept as row_kept, held_by, without_all, withdrawn as rows_withdrawn, is_exported}
 use Rattle.export_table.specs.Table.{ExportTable}
 use Rattle.export_table.specs.Waits.{waiting, is_awaited}
 use Rattle.space.specs.declared.runs.Run.{Run}
@@ -99,7 +99,7 @@ at-place n (x ∷ xs) = ap (λ l. withdrawal_at n x.id ∷ l) (at-place n xs)
 
 pub record IsActed (config : SpaceConfig) (events : List Event) (e : Event) (leases : LeaseTable) (exports : ExportTable) (runs : List Run) : Type 0 where
   pub leases_stand : StandsFor config.lease_ms leases (max e.moment (now (places config events))) (call_with (has (table config (places config events))) (max e.moment (now (places config events))) e.ask ++ live_calls (table config (places config events)) (lease_calls (places config events)))
-  pub rows_are : exports.rows ≡ rows_of (place_of config (places config events) e ∷ places config events) (table config (places config events) ++ (place_of config (places config events) e).adds)
+  pub rows_are : exports.rows ≡ rows_of (place_of config (places config events) e ∷ places config events) (table config (places config events) ++ (place_of config (places config events) e).exported_here)
   pub waits_stand : WaitsStand reference_of end_of config.ack_ms (max e.moment (now (places config events))) (place_of config (places config events) e ∷ places config events) exports.waits
   pub runs_stand : RunsStand caller_of object_of (place_of config (places config events) e ∷ places config events) runs
 
@@ -111,7 +111,7 @@ told_calls config events e = call_with (has (table config (places config events)
 rows-kept : (config : SpaceConfig) (events : List Event) (e : Event) (leases : LeaseTable) (exports : ExportTable) (runs : List Run) → AllBuilt (reverse events) → IsBuilt e.ask → IsActed config events e leases exports runs →
     Every (λ x. row_kept (max e.moment (now (places config events))) (held_by config.lease_ms (max e.moment (now (places config events))) (told_calls config events e)) exports.waits (row_of (place_of config (places config events) e ∷ places config events) x)
     ≡ is_kept config (place_of config (places config events) e ∷ places config events) x)
-    (table config (places config events) ++ (place_of config (places config events) e).adds)
+    (table config (places config events) ++ (place_of config (places config events) e).exported_here)
 rows-kept config events e leases exports runs all b a =
     let time : now (place_of config (places config events) e ∷ places config events) ≡ max e.moment (now (places config events)) = now-push config (places config events) e in
     let q : Every IsQuiet (place_of config (places config events) e ∷ places config events) = (quiet-place config (places config events) e b, quiet config events all) in
@@ -124,7 +124,7 @@ rows-kept config events e leases exports runs all b a =
     ∙ ap (λ v. (x.pinned || false || nat_lt 0 (running_calls (place_of config (places config events) e ∷ places config events) x.id)) || v
     || is_held config.lease_ms (max e.moment (now (places config events))) (told_calls config events e) x.id)
     (refs-awaited (max e.moment (now (places config events))) x.id exports.waits)))
-    (table config (places config events) ++ (place_of config (places config events) e).adds)
+    (table config (places config events) ++ (place_of config (places config events) e).exported_here)
     (kept-next config events e (waiting_refs reference_of end_of (max e.moment (now (places config events))) exports.waits)
     (λ r. refs-await reference_of end_of config.ack_ms (max e.moment (now (places config events))) (max e.moment (now (places config events))) (place_of config (places config events) e ∷ places config events) exports.waits (omega arith) a.waits_stand r
     ∙ ap (λ n. awaits config.ack_ms n (place_of config (places config events) e ∷ places config events) r) (sym time)))
@@ -135,11 +135,11 @@ going_now config events e exports =
     rows_withdrawn (max e.moment (now (places config events))) (held_by config.lease_ms (max e.moment (now (places config events))) (told_calls config events e)) exports.waits exports.rows
 
 pub going-is : (config : SpaceConfig) (events : List Event) (e : Event) (leases : LeaseTable) (exports : ExportTable) (runs : List Run) → AllBuilt (reverse events) → IsBuilt e.ask → IsActed config events e leases exports runs →
-    going_now config events e exports ≡ gone_of (table config (places config events) ++ (place_of config (places config events) e).adds) (is_kept config (place_of config (places config events) e ∷ places config events))
+    going_now config events e exports ≡ gone_of (table config (places config events) ++ (place_of config (places config events) e).exported_here) (is_kept config (place_of config (places config events) e ∷ places config events))
 going-is config events e leases exports runs all b a =
     ap (rows_withdrawn (max e.moment (now (places config events))) (held_by config.lease_ms (max e.moment (now (places config events))) (told_calls config events e)) exports.waits) a.rows_are
     ∙ gone-rows (place_of config (places config events) e ∷ places config events) (row_kept (max e.moment (now (places config events))) (held_by config.lease_ms (max e.moment (now (places config events))) (told_calls config events e)) exports.waits)
-    (is_kept config (place_of config (places config events) e ∷ places config events)) (table config (places config events) ++ (place_of config (places config events) e).adds) (rows-kept config events e leases exports runs all b a)
+    (is_kept config (place_of config (places config events) e ∷ places config events)) (table config (places config events) ++ (place_of config (places config events) e).exported_here) (rows-kept config events e leases exports runs all b a)
 
 -- ---- after the withdrawal
 
@@ -159,7 +159,7 @@ opened-few effective _ = omega arith
 
 withdrawn-next : (config : SpaceConfig) (events : List Event) (e : Event) →
     withdrawals config (place_of config (places config events) e ∷ places config events)
-    ≡ withdrawals config (places config events) ++ map (withdrawal_at (length events)) (gone_of (table config (places config events) ++ (place_of config (places config events) e).adds) (is_kept config (place_of config (places config events) e ∷ places config events)))
+    ≡ withdrawals config (places config events) ++ map (withdrawal_at (length events)) (gone_of (table config (places config events) ++ (place_of config (places config events) e).exported_here) (is_kept config (place_of config (places config events) e ∷ places config events)))
 withdrawn-next config events e =
     withdrawals-push config (place_of config (places config events) e) (places config events)
     ∙ ap (λ l. withdrawals config (places config events) ++ l) (
@@ -169,18 +169,18 @@ withdrawn-next config events e =
 
 -- WHAT A TURN TELLS as gone.
 pub gone-kept : (config : SpaceConfig) (events : List Event) (e : Event) (withdrawn : List Withdrawal) (told : ℕ) (os : List ObjId) → told ≤ length withdrawn → map (λ (w : Withdrawal). w.object) (drop told withdrawn) ≡ pending config (places config events) →
-    os ≡ gone_of (table config (places config events) ++ (place_of config (places config events) e).adds) (is_kept config (place_of config (places config events) e ∷ places config events)) →
+    os ≡ gone_of (table config (places config events) ++ (place_of config (places config events) e).exported_here) (is_kept config (place_of config (places config events) e ∷ places config events)) →
     map (λ (w : Withdrawal). w.object) (drop told (withdrawn ++ map (withdrawal_at (length events)) os)) ≡ gone config (places config events) e
 gone-kept config events e withdrawn told os le t o =
     ap (map (λ (w : Withdrawal). w.object)) (drop-append-le told withdrawn (map (withdrawal_at (length events)) os) le)
     ∙ map-append (λ (w : Withdrawal). w.object) (drop told withdrawn) (map (withdrawal_at (length events)) os)
     ∙ ap (λ l. map (λ (w : Withdrawal). w.object) (drop told withdrawn) ++ l) (objects-told (length events) os ∙ o)
-    ∙ ap (λ l. l ++ gone_of (table config (places config events) ++ (place_of config (places config events) e).adds) (is_kept config (place_of config (places config events) e ∷ places config events))) t
+    ∙ ap (λ l. l ++ gone_of (table config (places config events) ++ (place_of config (places config events) e).exported_here) (is_kept config (place_of config (places config events) e ∷ places config events))) t
     ∙ sym (gone-next config events e)
 
 -- What is to be told after the event.
 told-next : (config : SpaceConfig) (events : List Event) (e : Event) (withdrawn : List Withdrawal) (told : ℕ) (os : List ObjId) → told ≤ length withdrawn → map (λ (w : Withdrawal). w.object) (drop told withdrawn) ≡ pending config (places config events) →
-    os ≡ gone_of (table config (places config events) ++ (place_of config (places config events) e).adds) (is_kept config (place_of config (places config events) e ∷ places config events)) →
+    os ≡ gone_of (table config (places config events) ++ (place_of config (places config events) e).exported_here) (is_kept config (place_of config (places config events) e ∷ places config events)) →
     map (λ (w : Withdrawal). w.object) (drop (told_after told (length (withdrawn ++ map (withdrawal_at (length events)) os)) e.ask) (withdrawn ++ map (withdrawal_at (length events)) os)) ≡ pending config (place_of config (places config events) e ∷ places config events)
 told-next config events e withdrawn told os le t o = go (is_abandon e.ask) (pending-push config (places config events) e (numbered-place config events e))
   where
@@ -203,7 +203,7 @@ left config events e t = record t {
 abbrev pub withdrawn_then : SpaceConfig → List Event → Event → ExportTable → List Withdrawal → List Withdrawal
 withdrawn_then config events e t withdrawn = withdrawn ++ map (withdrawal_at (length events)) (going_now config events e t)
 
-next-push : (p : Place) (h : List Place) → next (p ∷ h) ≡ next h + length p.adds
+next-push : (p : Place) (h : List Place) → next (p ∷ h) ≡ next h + length p.exported_here
 unfolding next
 next-push p h = refl
 
@@ -214,7 +214,7 @@ stands-push : (config : SpaceConfig) (events : List Event) (e : Event) (leases l
     Stands config (place_of config (places config events) e ∷ places config events) leases2 (left config events e t) runs1 (withdrawn_then config events e t withdrawn)
     (told_after told (length (withdrawn_then config events e t withdrawn)) e.ask) (opened + opens effective e.ask) (used + units_of e.ask) (max e.moment (now (places config events)))
 stands-push config events e leases leases1 leases2 exports t runs runs1 withdrawn told opened used moment effective f k b r a sp ac ad dropped =
-    let goes : going_now config events e t ≡ gone_of (table config (places config events) ++ (place_of config (places config events) e).adds) (is_kept config (place_of config (places config events) e ∷ places config events)) = going-is config events e leases1 t runs1 k.built b a in
+    let goes : going_now config events e t ≡ gone_of (table config (places config events) ++ (place_of config (places config events) e).exported_here) (is_kept config (place_of config (places config events) e ∷ places config events)) = going-is config events e leases1 t runs1 k.built b a in
     let L : List ObjId → Type 0 = λ os. StandsFor config.lease_ms leases2 (max e.moment (now (places config events))) (map (without_all os) (told_calls config events e)) in
     let C : List Call → Type 0 = λ cs. StandsFor config.lease_ms leases2 (max e.moment (now (places config events))) cs in
     let more_units = units-push (place_of config (places config events) e) (places config events) in
@@ -232,7 +232,7 @@ stands-push config events e leases leases1 leases2 exports t runs runs1 withdraw
       rows_are = (
           ap (filter (row_kept (max e.moment (now (places config events))) (held_by config.lease_ms (max e.moment (now (places config events))) (told_calls config events e)) t.waits)) a.rows_are
           ∙ filter-rows (place_of config (places config events) e ∷ places config events) (row_kept (max e.moment (now (places config events))) (held_by config.lease_ms (max e.moment (now (places config events))) (told_calls config events e)) t.waits)
-          (is_kept config (place_of config (places config events) e ∷ places config events)) (table config (places config events) ++ (place_of config (places config events) e).adds) (rows-kept config events e leases1 t runs1 k.built b a)
+          (is_kept config (place_of config (places config events) e ∷ places config events)) (table config (places config events) ++ (place_of config (places config events) e).exported_here) (rows-kept config events e leases1 t runs1 k.built b a)
           ∙ ap (rows_of (place_of config (places config events) e ∷ places config events)) (sym (table-place config (places config events) e (places-numbered config events))));
       waits_stand = waits-going (max e.moment (now (places config events))) config.ack_ms (place_of config (places config events) e ∷ places config events) t.waits a.waits_stand;
       runs_stand = a.runs_stand;
@@ -376,7 +376,7 @@ pub turn-is : (config : SpaceConfig) (events : List Event) (e : Event) (leases l
     turn_of config events e ≡ record { place = length events; reply = reply_at config opened exports.rows effective e.ask; gone = map (λ (w : Withdrawal). w.object) (drop told withdrawn) ++ going_now config events e t }
 turn-is config events e leases leases1 exports t runs runs1 withdrawn told opened used moment effective k b f a =
     two _ _ _ _ (reply-is config (places config events) e opened exports.rows effective b k.stands.opened_is k.stands.rows_are f)
-    (gone-next config events e ∙ ap (λ l. l ++ gone_of (table config (places config events) ++ (place_of config (places config events) e).adds) (is_kept config (place_of config (places config events) e ∷ places config events))) (sym k.stands.told_are)
+    (gone-next config events e ∙ ap (λ l. l ++ gone_of (table config (places config events) ++ (place_of config (places config events) e).exported_here) (is_kept config (place_of config (places config events) e ∷ places config events))) (sym k.stands.told_are)
     ∙ ap (λ l. map (λ (w : Withdrawal). w.object) (drop told withdrawn) ++ l) (sym (going-is config events e leases1 t runs1 k.built b a)))
   where
     two : (r s : Reply) (g g' : List ObjId) → r ≡ s → g ≡ g' → ◌≡◌ {A = Turn} (record { place = length events; reply = r; gone = g }) (record { place = length events; reply = s; gone = g' })

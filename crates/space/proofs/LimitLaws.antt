@@ -21,7 +21,7 @@ use Rattle.history.specs.declared.replies.Refused.TheVariants.{HistoryFull, Full
 use Rattle.history.specs.Awaiting.{same_returned, returned, returns, is_ack_of, awaits, awaiting, until_of}
 use Rattle.history.specs.LeaseCalls.{call_with, lease_calls}
 use Rattle.history.specs.Leases.{is_dirty, calls_of, clients_with_time_left, is_remembered, same_pair, pairs_with, pairs, new_pairs}
-use Rattle.history.specs.Limits.{units_of, units, starts, ends, reserved, limits, exports_with, awaiting_with, lease_call, clients_with, pairs_with_event, names_with, is_full, refusal}
+use Rattle.history.specs.Limits.{units_of, units, starts, ends, reserved, limits, exports_with_event, awaiting_with_event, lease_call, clients_with_event, pairs_with_event, names_with_event, is_full, refusal}
 use Rattle.history.specs.Lists.{distinct}
 use Rattle.history.specs.Names.{name_bound, names}
 use Rattle.history.specs.Places.{has, now, added}
@@ -36,7 +36,7 @@ use Rattle.history.proofs.NumberLaws.{has-filter}
 use Rattle.history.proofs.Partitions.{one_if}
 use Rattle.history.proofs.RunningLaws.{reserved-push}
 use Rattle.history.proofs.TableLaws.{places-push, places-numbered, table-place, now-push, moment-place_of, ask-place_of, units-push}
-use Rattle.dgc_server.specs.Counts.{clients_with as clients_with_call, pairs_with_call}
+use Rattle.dgc_server.specs.Counts.{clients_with_call, pairs_with_call}
 use Rattle.space.specs.Kept.{live_calls, IsWithin}
 use Rattle.space.proofs.Clients.{distinct-fewer, client-equality, left-more}
 use Rattle.space.proofs.LiveLaws.{pairs-live, new_pairs-live, left-live}
@@ -50,11 +50,11 @@ use Rattle.dgc_server.proofs.Steps.{earlier}
 
 pub record IsTaken (config : SpaceConfig) (h : List Place) (e : Event) : Type 0 where
   pub history : is_full MAX_UNITS config h e ≡ false
-  pub exports : nat_lt MAX_EXPORTS (exports_with config h e) ≡ false
-  pub awaits : nat_lt MAX_AWAITING (awaiting_with config h e) ≡ false
-  pub clients : nat_lt MAX_CLIENTS (clients_with config h e) ≡ false
+  pub exports : nat_lt MAX_EXPORTS (exports_with_event config h e) ≡ false
+  pub awaits : nat_lt MAX_AWAITING (awaiting_with_event config h e) ≡ false
+  pub clients : nat_lt MAX_CLIENTS (clients_with_event config h e) ≡ false
   pub pairs : nat_lt MAX_PAIRS (pairs_with_event config h e) ≡ false
-  pub names : nat_lt MAX_NAMES (names_with config h e) ≡ false
+  pub names : nat_lt MAX_NAMES (names_with_event config h e) ≡ false
 
 unchained : (a b c d e f : Bool) →
     (if a then Some HistoryFull else if b then Some (Full Exports) else if c then Some (Full Awaiting) else if d then Some (Full Clients) else if e then Some (Full Pairs) else if f then Some (Full Names) else None) ≡ None →
@@ -70,7 +70,7 @@ unchained false false false false false false h = (refl, refl, refl, refl, refl,
 pub taken-all : (config : SpaceConfig) (h : List Place) (e : Event) → refusal limits config h e ≡ None → IsTaken config h e
 unfolding refusal
 taken-all config h e r =
-    let all = unchained (is_full MAX_UNITS config h e) (nat_lt MAX_EXPORTS (exports_with config h e)) (nat_lt MAX_AWAITING (awaiting_with config h e)) (nat_lt MAX_CLIENTS (clients_with config h e)) (nat_lt MAX_PAIRS (pairs_with_event config h e)) (nat_lt MAX_NAMES (names_with config h e)) r in
+    let all = unchained (is_full MAX_UNITS config h e) (nat_lt MAX_EXPORTS (exports_with_event config h e)) (nat_lt MAX_AWAITING (awaiting_with_event config h e)) (nat_lt MAX_CLIENTS (clients_with_event config h e)) (nat_lt MAX_PAIRS (pairs_with_event config h e)) (nat_lt MAX_NAMES (names_with_event config h e)) r in
     record { history = all.0; exports = all.1; awaits = all.2; clients = all.3; pairs = all.4; names = all.5 }
 
 -- ---- units
@@ -106,12 +106,12 @@ filter-shorter {X} test (x ∷ xs) = go (test x) (filter-shorter test xs)
     go true h = omega arith
     go false h = omega arith
 
-pub exports-next : (config : SpaceConfig) (events : List Event) (e : Event) → length (table config (place_of config (places config events) e ∷ places config events)) ≤ exports_with config (places config events) e
-unfolding exports_with
+pub exports-next : (config : SpaceConfig) (events : List Event) (e : Event) → length (table config (place_of config (places config events) e ∷ places config events)) ≤ exports_with_event config (places config events) e
+unfolding exports_with_event
 exports-next config events e =
     let next = ap length (table-place config (places config events) e (places-numbered config events)) in
-    let fewer = filter-shorter (is_kept config (place_of config (places config events) e ∷ places config events)) (table config (places config events) ++ (place_of config (places config events) e).adds) in
-    let both = length-append (table config (places config events)) (place_of config (places config events) e).adds in
+    let fewer = filter-shorter (is_kept config (place_of config (places config events) e ∷ places config events)) (table config (places config events) ++ (place_of config (places config events) e).exported_here) in
+    let both = length-append (table config (places config events)) (place_of config (places config events) e).exported_here in
     omega (arith, next, fewer, both)
 
 -- ---- references that await
@@ -121,8 +121,8 @@ distinct-longer same e xs ys once f =
     length-fewer same e xs (distinct same ys) once (λ k h. list_any-distinct same (same k) (λ a b s. ap (same k) (e.equal a b s)) ys ∙ f k h)
 
 pub awaiting-next : (config : SpaceConfig) (events : List Event) (e : Event) →
-    length (awaiting config.ack_ms (now (place_of config (places config events) e ∷ places config events)) (place_of config (places config events) e ∷ places config events)) ≤ awaiting_with config (places config events) e
-unfolding awaiting_with
+    length (awaiting config.ack_ms (now (place_of config (places config events) e ∷ places config events)) (place_of config (places config events) e ∷ places config events)) ≤ awaiting_with_event config (places config events) e
+unfolding awaiting_with_event
 awaiting-next config events e =
     distinct-longer same_returned returned-equality
     (awaiting config.ack_ms (now (place_of config (places config events) e ∷ places config events)) (place_of config (places config events) e ∷ places config events))
@@ -156,8 +156,8 @@ awaiting-later ack t u h le =
 -- ---- clients
 
 pub clients-next : (config : SpaceConfig) (h : List Place) (e : Event) →
-    length (distinct same_client (clients_with_time_left config.lease_ms (now (place_of config h e ∷ h)) (lease_calls (place_of config h e ∷ h)))) ≤ clients_with config h e
-unfolding clients_with
+    length (distinct same_client (clients_with_time_left config.lease_ms (now (place_of config h e ∷ h)) (lease_calls (place_of config h e ∷ h)))) ≤ clients_with_event config h e
+unfolding clients_with_event
 clients-next config h e =
     let fewer = distinct-fewer same_client client-equality
     (clients_with_time_left config.lease_ms (max e.moment (now h)) (call_with (has (added h)) (max e.moment (now h)) e.ask ++ lease_calls h))
@@ -172,20 +172,20 @@ clients-next config h e =
 -- For an object that was exported, what was in the table before an event and is there after it.
 was-there : (config : SpaceConfig) (events : List Event) (e : Event) (o : ObjId) → has (added (places config events)) o ≡ true → has (table config (place_of config (places config events) e ∷ places config events)) o ≡ true → has (table config (places config events)) o ≡ true
 was-there config events e o old new =
-    go (or_cases (has (table config (places config events)) o) (has (place_of config (places config events) e).adds o)
-    (sym (list_any-append (λ (x : Exported). same_id x.id o) (table config (places config events)) (place_of config (places config events) e).adds) ∙ within (has (table config (places config events) ++ (place_of config (places config events) e).adds) o) refl))
+    go (or_cases (has (table config (places config events)) o) (has (place_of config (places config events) e).exported_here o)
+    (sym (list_any-append (λ (x : Exported). same_id x.id o) (table config (places config events)) (place_of config (places config events) e).exported_here) ∙ within (has (table config (places config events) ++ (place_of config (places config events) e).exported_here) o) refl))
   where
-    is_next : has (filter (is_kept config (place_of config (places config events) e ∷ places config events)) (table config (places config events) ++ (place_of config (places config events) e).adds)) o ≡ true
+    is_next : has (filter (is_kept config (place_of config (places config events) e ∷ places config events)) (table config (places config events) ++ (place_of config (places config events) e).exported_here)) o ≡ true
     is_next = ap (λ l. has l o) (sym (table-place config (places config events) e (places-numbered config events))) ∙ new
 
     none : (test : Exported → Bool) (xs : List Exported) → has xs o ≡ false → has (filter test xs) o ≡ false
     none test xs h = has-filter test xs o h
 
-    within : (b : Bool) → has (table config (places config events) ++ (place_of config (places config events) e).adds) o ≡ b → b ≡ true
+    within : (b : Bool) → has (table config (places config events) ++ (place_of config (places config events) e).exported_here) o ≡ b → b ≡ true
     within true h = refl
-    within false h = absurd (let never = none (is_kept config (place_of config (places config events) e ∷ places config events)) (table config (places config events) ++ (place_of config (places config events) e).adds) h in let n = is_next in cc)
+    within false h = absurd (let never = none (is_kept config (place_of config (places config events) e ∷ places config events)) (table config (places config events) ++ (place_of config (places config events) e).exported_here) h in let n = is_next in cc)
 
-    go : (has (table config (places config events)) o ≡ true) ⊎ (has (place_of config (places config events) e).adds o ≡ true) → has (table config (places config events)) o ≡ true
+    go : (has (table config (places config events)) o ≡ true) ⊎ (has (place_of config (places config events) e).exported_here o ≡ true) → has (table config (places config events)) o ≡ true
     go (inl h) = h
     go (inr h) = absurd (let never = new-not-old config events e o h in cc)
 
@@ -285,8 +285,8 @@ clients-told objects lease t calls x = ap (λ cs. length (distinct same_client (
 
 -- ---- names
 
-pub names-next : (config : SpaceConfig) (events : List Event) (e : Event) → length (names (place_of config (places config events) e ∷ places config events)) ≤ names_with config (places config events) e
-unfolding names_with
+pub names-next : (config : SpaceConfig) (events : List Event) (e : Event) → length (names (place_of config (places config events) e ∷ places config events)) ≤ names_with_event config (places config events) e
+unfolding names_with_event
 names-next config events e =
     distinct-longer same_bytes bytes-equality (names (place_of config (places config events) e ∷ places config events))
     (names (places config events) ++ (if (place_of config (places config events) e).effective then option_to_list (name_bound e.ask) else []))
@@ -319,7 +319,7 @@ names-next config events e =
     go n (inl h) = or_left _ _ (filtered (λ k. not (unbinds (place_of config (places config events) e) k)) n (names (places config events)) h)
     go n (inr h) =
         or_right _ _ (ap (λ a. list_any (same_bytes n) (if (place_of config (places config events) e).effective then option_to_list (name_bound a) else [])) (sym (ask-place_of config (places config events) e))
-        ∙ begun n (place_of config (places config events) e).effective (is_none (place_of config (places config events) e).stood) (name_bound (place_of config (places config events) e).event.ask) h)
+        ∙ begun n (place_of config (places config events) e).effective (is_none (place_of config (places config events) e).name_stood_for) (name_bound (place_of config (places config events) e).event.ask) h)
 
 -- ---- ALL TABLES after an event that is not refused.
 pub within-next : (config : SpaceConfig) (events : List Event) (e : Event) → refusal limits config (places config events) e ≡ None → IsWithin config (place_of config (places config events) e ∷ places config events)
@@ -327,9 +327,9 @@ within-next config events e r =
     let t = taken-all config (places config events) e r in
     record {
       history = units-next MAX_UNITS config events e t.history;
-      exports = (let few = ltb-false MAX_EXPORTS (exports_with config (places config events) e) t.exports in omega (arith, few, exports-next config events e));
-      awaits = (let few = ltb-false MAX_AWAITING (awaiting_with config (places config events) e) t.awaits in omega (arith, few, awaiting-next config events e));
-      clients = (let few = ltb-false MAX_CLIENTS (clients_with config (places config events) e) t.clients in omega (arith, few, clients-next config (places config events) e));
+      exports = (let few = ltb-false MAX_EXPORTS (exports_with_event config (places config events) e) t.exports in omega (arith, few, exports-next config events e));
+      awaits = (let few = ltb-false MAX_AWAITING (awaiting_with_event config (places config events) e) t.awaits in omega (arith, few, awaiting-next config events e));
+      clients = (let few = ltb-false MAX_CLIENTS (clients_with_event config (places config events) e) t.clients in omega (arith, few, clients-next config (places config events) e));
       pairs = (let few = ltb-false MAX_PAIRS (pairs_with_event config (places config events) e) t.pairs in omega (arith, few, pairs-next config events e));
-      names = (let few = ltb-false MAX_NAMES (names_with config (places config events) e) t.names in omega (arith, few, names-next config events e));
+      names = (let few = ltb-false MAX_NAMES (names_with_event config (places config events) e) t.names in omega (arith, few, names-next config events e));
     }

@@ -51,9 +51,9 @@ pub calls-names : (h : List Place) → Every (NamesOnly (added h)) (lease_calls 
 unfolding added lease_calls
 calls-names [] = tt
 calls-names (p ∷ h) =
-    Every-append (NamesOnly (added h ++ p.adds)) (call_with (has (added h)) p.moment p.event.ask) (lease_calls h)
-    (names-more (added h) p.adds (call_with (has (added h)) p.moment p.event.ask) (call-names (added h) p.moment p.event.ask))
-    (names-more (added h) p.adds (lease_calls h) (calls-names h))
+    Every-append (NamesOnly (added h ++ p.exported_here)) (call_with (has (added h)) p.moment p.event.ask) (lease_calls h)
+    (names-more (added h) p.exported_here (call_with (has (added h)) p.moment p.event.ask) (call-names (added h) p.moment p.event.ask))
+    (names-more (added h) p.exported_here (lease_calls h) (calls-names h))
 
 -- An object that is named is among them.
 pub naming-has : (objects : List Exported) (o : ObjId) (calls : List Call) → Every (NamesOnly objects) calls → list_any (is_naming o) calls ≡ true → has objects o ≡ true

@@ -45,11 +45,11 @@ numbered-has space k (x ∷ xs) y n h = elim (or_cases (same_id x.id y) (has xs 
 ]
 
 -- What was exported before is not new.
-pub old-not-new : (config : SpaceConfig) (events : List Event) (e : Event) (y : ObjId) → has (added (places config events)) y ≡ true → has (place_of config (places config events) e).adds y ≡ false
+pub old-not-new : (config : SpaceConfig) (events : List Event) (e : Event) (y : ObjId) → has (added (places config events)) y ≡ true → has (place_of config (places config events) e).exported_here y ≡ false
 old-not-new config events e y h =
     let some = numbered-has config.uid 0 (added (places config events)) y (added-numbered config events) h in
-    ap (has (place_of config (places config events) e).adds) some.1
-    ∙ has-smaller config.uid some.0 (length (added (places config events))) (place_of config (places config events) e).adds (adds-numbered config (places config events) e) (let l = some.2 in omega arith)
+    ap (has (place_of config (places config events) e).exported_here) some.1
+    ∙ has-smaller config.uid some.0 (length (added (places config events))) (place_of config (places config events) e).exported_here (adds-numbered config (places config events) e) (let l = some.2 in omega arith)
 
 -- A list whose objects are apart, before another of other objects.
 apart-append : (xs ys : List Exported) → AllApart xs → AllApart ys → ((y : ObjId) → has xs y ≡ true → has ys y ≡ false) → AllApart (xs ++ ys)
@@ -59,15 +59,15 @@ apart-append (x ∷ xs) ys a b f = (
   apart-append xs ys a.1 b (λ y h. f y (or_right (same_id x.id y) (has xs y) h)),
 )
 
-pub table-all-apart : (config : SpaceConfig) (events : List Event) (e : Event) → AllApart (table config (places config events) ++ (place_of config (places config events) e).adds)
+pub table-all-apart : (config : SpaceConfig) (events : List Event) (e : Event) → AllApart (table config (places config events) ++ (place_of config (places config events) e).exported_here)
 table-all-apart config events e =
-    apart-append (table config (places config events)) (place_of config (places config events) e).adds
+    apart-append (table config (places config events)) (place_of config (places config events) e).exported_here
     (table-apart config events)
-    (NumberedFrom-apart config.uid (length (added (places config events))) (place_of config (places config events) e).adds (adds-numbered config (places config events) e))
+    (NumberedFrom-apart config.uid (length (added (places config events))) (place_of config (places config events) e).exported_here (adds-numbered config (places config events) e))
     (λ y h. old-not-new config events e y (table-exported config (places config events) y h))
 
 pub is-next : (config : SpaceConfig) (events : List Event) (e : Event) →
-    IsNext (table config (places config events)) (place_of config (places config events) e).adds (added (places config events)) (table config (place_of config (places config events) e ∷ places config events))
+    IsNext (table config (places config events)) (place_of config (places config events) e).exported_here (added (places config events)) (table config (place_of config (places config events) e ∷ places config events))
     (is_kept config (place_of config (places config events) e ∷ places config events))
 is-next config events e = record {
   apart = table-all-apart config events e;
@@ -80,13 +80,13 @@ is-next config events e = record {
 
 pub withdrawn-ids : (config : SpaceConfig) (events : List Event) (e : Event) →
     ids (withdrawn config (place_of config (places config events) e ∷ places config events))
-    ≡ gone_of (table config (places config events) ++ (place_of config (places config events) e).adds) (is_kept config (place_of config (places config events) e ∷ places config events))
+    ≡ gone_of (table config (places config events) ++ (place_of config (places config events) e).exported_here) (is_kept config (place_of config (places config events) e ∷ places config events))
 withdrawn-ids config events e = ap ids (withdrawn-place config (places config events) e)
 
 -- WHAT A TURN TELLS as gone: what was still to be told, and what goes now.
 pub gone-next : (config : SpaceConfig) (events : List Event) (e : Event) →
     gone config (places config events) e
-    ≡ pending config (places config events) ++ gone_of (table config (places config events) ++ (place_of config (places config events) e).adds) (is_kept config (place_of config (places config events) e ∷ places config events))
+    ≡ pending config (places config events) ++ gone_of (table config (places config events) ++ (place_of config (places config events) e).exported_here) (is_kept config (place_of config (places config events) e ∷ places config events))
 gone-next config events e = gone-push config (places config events) e (places-numbered config events) ∙ ap (λ l. pending config (places config events) ++ l) (withdrawn-ids config events e)
 
 -- ---- the live calls
@@ -94,16 +94,16 @@ gone-next config events e = gone-push config (places config events) e (places-nu
 -- THE LIVE CALLS after an event.
 pub live-next : (config : SpaceConfig) (events : List Event) (e : Event) →
     live_calls (table config (place_of config (places config events) e ∷ places config events)) (lease_calls (place_of config (places config events) e ∷ places config events))
-    ≡ map (without_all (gone_of (table config (places config events) ++ (place_of config (places config events) e).adds) (is_kept config (place_of config (places config events) e ∷ places config events))))
+    ≡ map (without_all (gone_of (table config (places config events) ++ (place_of config (places config events) e).exported_here) (is_kept config (place_of config (places config events) e ∷ places config events))))
     (call_with (has (table config (places config events))) (max e.moment (now (places config events))) e.ask ++ live_calls (table config (places config events)) (lease_calls (places config events)))
 live-next config events e =
     ap (live_calls (table config (place_of config (places config events) e ∷ places config events))) (lease_calls-push config (places config events) e)
-    ∙ live-push (table config (places config events)) (place_of config (places config events) e).adds (added (places config events)) (table config (place_of config (places config events) e ∷ places config events))
+    ∙ live-push (table config (places config events)) (place_of config (places config events) e).exported_here (added (places config events)) (table config (place_of config (places config events) e ∷ places config events))
     (is_kept config (place_of config (places config events) e ∷ places config events)) (is-next config events e) (max e.moment (now (places config events))) e.ask (lease_calls (places config events)) (calls-names (places config events))
 
 -- ---- new objects were nowhere before
 
-pub new-not-old : (config : SpaceConfig) (events : List Event) (e : Event) (y : ObjId) → has (place_of config (places config events) e).adds y ≡ true → has (added (places config events)) y ≡ false
+pub new-not-old : (config : SpaceConfig) (events : List Event) (e : Event) (y : ObjId) → has (place_of config (places config events) e).exported_here y ≡ true → has (added (places config events)) y ≡ false
 new-not-old config events e y h = go (has (added (places config events)) y) refl
   where
     go : (b : Bool) → has (added (places config events)) y ≡ b → b ≡ false
@@ -162,13 +162,13 @@ told-both config events e o same =
 pub held-next : (config : SpaceConfig) (events : List Event) (e : Event) (t : ℕ) →
     Every (λ x. is_held config.lease_ms t (lease_calls (place_of config (places config events) e ∷ places config events)) x.id
     ≡ is_held config.lease_ms t (call_with (has (table config (places config events))) (max e.moment (now (places config events))) e.ask ++ live_calls (table config (places config events)) (lease_calls (places config events))) x.id)
-    (table config (places config events) ++ (place_of config (places config events) e).adds)
+    (table config (places config events) ++ (place_of config (places config events) e).exported_here)
 held-next config events e t =
-    Every-append _ (table config (places config events)) (place_of config (places config events) e).adds
+    Every-append _ (table config (places config events)) (place_of config (places config events) e).exported_here
     (Every-weaker (λ (x : Exported). has (table config (places config events)) x.id ≡ true) _
     (λ x h. one x (table-exported config (places config events) x.id h ∙ sym h)) (table config (places config events)) (has-self (table config (places config events))))
-    (Every-weaker (λ (x : Exported). has (place_of config (places config events) e).adds x.id ≡ true) _
-    (λ x h. (let new = new-not-old config events e x.id h in one x (new ∙ sym (not-exported-nowhere config events x.id new)))) (place_of config (places config events) e).adds (has-self (place_of config (places config events) e).adds))
+    (Every-weaker (λ (x : Exported). has (place_of config (places config events) e).exported_here x.id ≡ true) _
+    (λ x h. (let new = new-not-old config events e x.id h in one x (new ∙ sym (not-exported-nowhere config events x.id new)))) (place_of config (places config events) e).exported_here (has-self (place_of config (places config events) e).exported_here))
   where
     one : (x : Exported) → has (added (places config events)) x.id ≡ has (table config (places config events)) x.id →
         is_held config.lease_ms t (lease_calls (place_of config (places config events) e ∷ places config events)) x.id
@@ -187,7 +187,7 @@ pub kept-next : (config : SpaceConfig) (events : List Event) (e : Event) (waits 
     || list_any (λ r. same_id r.object x.id) waits
     || is_held config.lease_ms (max e.moment (now (places config events)))
     (call_with (has (table config (places config events))) (max e.moment (now (places config events))) e.ask ++ live_calls (table config (places config events)) (lease_calls (places config events))) x.id))
-    (table config (places config events) ++ (place_of config (places config events) e).adds)
+    (table config (places config events) ++ (place_of config (places config events) e).exported_here)
 unfolding is_kept is_pinned
 kept-next config events e waits await =
     Every-weaker _ _ (λ x held.
@@ -203,5 +203,5 @@ kept-next config events e waits await =
     (now-push config (places config events) e)
     ∙ ap (λ v. (x.pinned || is_named (place_of config (places config events) e ∷ places config events) x.id || nat_lt 0 (running_calls (place_of config (places config events) e ∷ places config events) x.id))
     || list_any (λ r. same_id r.object x.id) waits || v) held)
-    (table config (places config events) ++ (place_of config (places config events) e).adds)
+    (table config (places config events) ++ (place_of config (places config events) e).exported_here)
     (held-next config events e (max e.moment (now (places config events))))

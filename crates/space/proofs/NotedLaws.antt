@@ -57,7 +57,7 @@ refused-turn config h h2 e refused (inr s) = (let same : refused ≡ OutOfMemory
 gone-few : (config : SpaceConfig) (events : List Event) (e : Event) (leases : LeaseTable) (exports : ExportTable) (runs : List Run) (withdrawn_before : List Withdrawal) (told opened used moment : ℕ) →
     Keeps config events leases exports runs withdrawn_before told opened used moment → IsBuilt e.ask → length (gone config (places config events) e) ≤ length (map (λ (w : Withdrawal). w.object) (drop told withdrawn_before)) + (length exports.rows + units_of e.ask)
 gone-few config events e leases exports runs withdrawn_before told opened used moment k b =
-    let all : List Exported = table config (places config events) ++ (place_of config (places config events) e).adds in
+    let all : List Exported = table config (places config events) ++ (place_of config (places config events) e).exported_here in
     let kept : Exported → Bool = is_kept config (place_of config (places config events) e ∷ places config events) in
     let rows : length exports.rows ≡ length (table config (places config events)) = ap length k.stands.rows_are ∙ length-map (table config (places config events)) (row_of (places config events)) in
     let told_before : length (map (λ (w : Withdrawal). w.object) (drop told withdrawn_before)) ≡ length (pending config (places config events)) = ap length k.stands.told_are in
@@ -65,7 +65,7 @@ gone-few config events e leases exports runs withdrawn_before told opened used m
     length-map (withdrawn config (place_of config (places config events) e ∷ places config events)) (λ (x : Exported). x.id) ∙ ap length (withdrawn-place config (places config events) e) in
     let told_all = ap length (gone-push config (places config events) e (places-numbered config events)) ∙ length-append (pending config (places config events)) (ids (withdrawn config (place_of config (places config events) e ∷ places config events))) in
     let both = some-or-not kept all in
-    let sum = length-append (table config (places config events)) (place_of config (places config events) e).adds in
+    let sum = length-append (table config (places config events)) (place_of config (places config events) e).exported_here in
     let adds = adds-length config (places config events) e b in
     let few = opened-few (is_effective config (places config events) e.by e.ask) e.ask in
     omega (arith, rows, told_before, goes, told_all, both, sum, adds, few)

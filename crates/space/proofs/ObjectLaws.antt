@@ -59,11 +59,11 @@ has-kept test (x ∷ xs) o k h = go (test x) (same_id x.id o) refl refl h (has-k
 -- An object of the table, or a new one, that is kept after an event is in the table then.
 pub stays : (config : SpaceConfig) (events : List Event) (e : Event) (o : ObjId) →
     ((x : Exported) → x.id ≡ o → is_kept config (place_of config (places config events) e ∷ places config events) x ≡ true) →
-    has (table config (places config events) ++ (place_of config (places config events) e).adds) o ≡ true →
+    has (table config (places config events) ++ (place_of config (places config events) e).exported_here) o ≡ true →
     has (table config (place_of config (places config events) e ∷ places config events)) o ≡ true
 stays config events e o k h =
     ap (λ l. has l o) (table-place config (places config events) e (places-numbered config events))
-    ∙ has-kept (is_kept config (place_of config (places config events) e ∷ places config events)) (table config (places config events) ++ (place_of config (places config events) e).adds) o k h
+    ∙ has-kept (is_kept config (place_of config (places config events) e ∷ places config events)) (table config (places config events) ++ (place_of config (places config events) e).exported_here) o k h
 
 in-front : (xs ys : List Exported) (o : ObjId) → has xs o ≡ true → has (xs ++ ys) o ≡ true
 in-front xs ys o h = list_any-append (λ (x : Exported). same_id x.id o) xs ys ∙ or_left (has xs o) (has ys o) h
@@ -108,7 +108,7 @@ running-there config = by-events
         (o : ObjId) → 0 < running_calls (places config (events ++ e ∷ [])) o → has (table config (places config (events ++ e ∷ []))) o ≡ true
     more events e ih o r =
         ap (λ h. has (table config h) o) (places-push config events e) ∙ stays config events e o (λ x i. kept-running config (place_of config (places config events) e ∷ places config events) x (let same = ap (running_calls (place_of config (places config events) e ∷ places config events)) i in let r = runs in omega arith))
-        (in-front (table config (places config events)) (place_of config (places config events) e).adds o (before (begins_any o (place_of config (places config events) e)) refl))
+        (in-front (table config (places config events)) (place_of config (places config events) e).exported_here o (before (begins_any o (place_of config (places config events) e)) refl))
       where
         runs : 0 < running_calls (place_of config (places config events) e ∷ places config events) o
         runs = let same = ap (λ h. running_calls h o) (places-push config events e) in omega arith
@@ -165,7 +165,7 @@ standing-there config = by-events
         (n : List ℕ) (o : ObjId) → stands_for (places config (events ++ e ∷ [])) n ≡ Some o → has (table config (places config (events ++ e ∷ []))) o ≡ true
     more events e ih n o s =
         ap (λ h. has (table config h) o) (places-push config events e) ∙ stays config events e o (λ x i. kept-named config (place_of config (places config events) e ∷ places config events) x (ap (is_named (place_of config (places config events) e ∷ places config events)) i ∙ there))
-        (in-front (table config (places config events)) (place_of config (places config events) e).adds o (before (changes_name n (place_of config (places config events) e)) refl))
+        (in-front (table config (places config events)) (place_of config (places config events) e).exported_here o (before (changes_name n (place_of config (places config events) e)) refl))
       where
         there : is_named (place_of config (places config events) e ∷ places config events) o ≡ true
         there = ap (λ h. is_named h o) (sym (places-push config events e)) ∙ named-standing config (events ++ e ∷ []) n o s
@@ -222,8 +222,8 @@ filter-there objects o (y ∷ os) h = go (has objects y) refl h (filter-there ob
     ]
 
 -- What a place returns is in the table before it, or new.
-listed-there : (config : SpaceConfig) (events : List Event) (e : Event) (o : ObjId) → list_any (same_id o) (place_of config (places config events) e).lists ≡ true →
-    has (table config (places config events) ++ (place_of config (places config events) e).adds) o ≡ true
+listed-there : (config : SpaceConfig) (events : List Event) (e : Event) (o : ObjId) → list_any (same_id o) (place_of config (places config events) e).returned_here ≡ true →
+    has (table config (places config events) ++ (place_of config (places config events) e).exported_here) o ≡ true
 unfolding place_of is_effective lists
 listed-there config events e o h = go e.ask h
   where
@@ -250,13 +250,13 @@ listed-there config events e o h = go e.ask h
       | inr never ↦ absurd (cc)
     ]
 
-    go : (a : Ask) → list_any (same_id o) (place_of config (places config events) (record e { ask = a })).lists ≡ true →
-        has (table config (places config events) ++ (place_of config (places config events) (record e { ask = a })).adds) o ≡ true
+    go : (a : Ask) → list_any (same_id o) (place_of config (places config events) (record e { ask = a })).returned_here ≡ true →
+        has (table config (places config events) ++ (place_of config (places config events) (record e { ask = a })).exported_here) o ≡ true
     go (Finish x made listed uid) t = finish (nat_lt 0 (running (places config events) e.by x)) (exports config (places config events) (Finish x made listed uid)) listed t
-    go (Lookup n uid) t = in-front (table config (places config events)) (place_of config (places config events) (record e { ask = Lookup n uid })).adds o (looked (stands_for (places config events) n) n refl t)
+    go (Lookup n uid) t = in-front (table config (places config events)) (place_of config (places config events) (record e { ask = Lookup n uid })).exported_here o (looked (stands_for (places config events) n) n refl t)
     go a t = absurd (nowhere (place_of config (places config events) (record e { ask = a })).effective t)
 
-returned-listed : (p : Place) (r : Returned) → returns r p ≡ true → list_any (same_id r.object) p.lists ≡ true
+returned-listed : (p : Place) (r : Returned) → returns r p ≡ true → list_any (same_id r.object) p.returned_here ≡ true
 returned-listed p r t = go (return_uid p.event.ask) t
   where
     one : (u : Uid) (os : List ObjId) → list_any (same_returned r) (map (λ o. record { object = o; uid = u }) os) ≡ true → list_any (same_id r.object) os ≡ true
@@ -266,9 +266,9 @@ returned-listed p r t = go (return_uid p.event.ask) t
       | inr there ↦ or_right (same_id r.object o) (list_any (same_id r.object) os) (one u os there)
     ]
 
-    go : (u : Option Uid) → list_any (same_returned r) (flat_map (λ v. map (λ o. record { object = o; uid = v }) p.lists) (option_to_list u)) ≡ true → list_any (same_id r.object) p.lists ≡ true
+    go : (u : Option Uid) → list_any (same_returned r) (flat_map (λ v. map (λ o. record { object = o; uid = v }) p.returned_here) (option_to_list u)) ≡ true → list_any (same_id r.object) p.returned_here ≡ true
     go None h = absurd (cc)
-    go (Some u) h = one u p.lists (sym (whole (map (λ o. record { object = o; uid = u }) p.lists)) ∙ h)
+    go (Some u) h = one u p.returned_here (sym (whole (map (λ o. record { object = o; uid = u }) p.returned_here)) ∙ h)
       where
         whole : (rs : List Returned) → list_any (same_returned r) (rs ++ []) ≡ list_any (same_returned r) rs
         whole rs = list_any-append (same_returned r) rs [] ∙ right (list_any (same_returned r) rs)
@@ -301,12 +301,12 @@ awaited-there config = by-events
         waits = ap (λ h. awaits config.ack_ms (now h) h r) (sym (places-push config events e)) ∙ a
 
         before : (b c : Bool) → returns r (place_of config (places config events) e) ≡ b → is_ack_of r.uid (place_of config (places config events) e).event.ask ≡ c →
-            has (table config (places config events) ++ (place_of config (places config events) e).adds) r.object ≡ true
+            has (table config (places config events) ++ (place_of config (places config events) e).exported_here) r.object ≡ true
         before true c s t = listed-there config events e r.object (returned-listed (place_of config (places config events) e) r s)
         before false true s t =
             absurd (let never = awaits-acknowledged config.ack_ms (now (place_of config (places config events) e ∷ places config events)) (place_of config (places config events) e) (places config events) r (numbered-place config events e) s t in let w = waits in cc)
         before false false s t =
-            in-front (table config (places config events)) (place_of config (places config events) e).adds r.object
+            in-front (table config (places config events)) (place_of config (places config events) e).exported_here r.object
             (ih r (awaits-earlier config.ack_ms (now (places config events)) (now (place_of config (places config events) e ∷ places config events)) (places config events) r
             (let n = now-push config (places config events) e in omega arith)
             (sym (awaits-passed config.ack_ms (now (place_of config (places config events) e ∷ places config events)) (place_of config (places config events) e) (places config events) r s t) ∙ waits)))

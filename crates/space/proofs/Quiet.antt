@@ -61,11 +61,11 @@ none-either : {X : Type 0} (b : Bool) → ◌≡◌ {A = List X} (if b then [] e
 none-either true = refl
 none-either false = refl
 
-pub adds-built : (config : SpaceConfig) (h : List Place) (e : Event) → IsBuilt e.ask → (place_of config h e).adds ≡ opened_by config (next h) (length h) (is_effective config h e.by e.ask) e.ask
+pub adds-built : (config : SpaceConfig) (h : List Place) (e : Event) → IsBuilt e.ask → (place_of config h e).exported_here ≡ opened_by config (next h) (length h) (is_effective config h e.by e.ask) e.ask
 unfolding place_of is_effective exports
 adds-built config h e b = go e.ask b
   where
-    go : (a : Ask) → IsBuilt a → (place_of config h (record e { ask = a })).adds ≡ opened_by config (next h) (length h) (is_effective config h e.by a) a
+    go : (a : Ask) → IsBuilt a → (place_of config h (record e { ask = a })).exported_here ≡ opened_by config (next h) (length h) (is_effective config h e.by a) a
     go (Open kind pinned) b = refl
     go (Dirty x y z w) b = refl
     go (Clean x y z w) b = refl
@@ -81,7 +81,7 @@ adds-built config h e b = go e.ask b
     go ListNames b = absurd b
 
 -- How many they are.
-pub adds-length : (config : SpaceConfig) (h : List Place) (e : Event) → IsBuilt e.ask → length (place_of config h e).adds ≡ opens (is_effective config h e.by e.ask) e.ask
+pub adds-length : (config : SpaceConfig) (h : List Place) (e : Event) → IsBuilt e.ask → length (place_of config h e).exported_here ≡ opens (is_effective config h e.by e.ask) e.ask
 adds-length config h e b = ap length (adds-built config h e b) ∙ opened-length config (next h) (length h) (is_effective config h e.by e.ask) e.ask
 
 -- ---- all places
@@ -96,7 +96,7 @@ unfolding places
 quiet config events b = quiet_back config (reverse events) b
 
 none-begun : (p : Place) → IsQuiet p → name_begun p ≡ []
-none-begun p q = ap (λ b. if p.effective && is_none p.stood then option_to_list b else []) q.binds ∙ none-either (p.effective && is_none p.stood)
+none-begun p q = ap (λ b. if p.effective && is_none p.name_stood_for then option_to_list b else []) q.binds ∙ none-either (p.effective && is_none p.name_stood_for)
 
 pub no-names : (h : List Place) → Every IsQuiet h → names h ≡ []
 unfolding names

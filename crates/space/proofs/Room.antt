@@ -15,7 +15,7 @@ use Rattle.history.specs.declared.replies.Refused.TheVariants.{HistoryFull, Full
 use Rattle.history.specs.Awaiting.{same_returned, returned, awaiting}
 use Rattle.history.specs.LeaseCalls.{lease_calls}
 use Rattle.history.specs.Leases.{clients_with_time_left, same_pair, pairs_with}
-use Rattle.history.specs.Limits.{units_of, units, reserved, is_begin, is_end, limits, exports_with, awaiting_with, lease_call, clients_with, pairs_with_event, names_with, is_full, refusal}
+use Rattle.history.specs.Limits.{units_of, units, reserved, is_begin, is_end, limits, exports_with_event, awaiting_with_event, lease_call, clients_with_event, pairs_with_event, names_with_event, is_full, refusal}
 use Rattle.history.specs.Lists.{distinct}
 use Rattle.history.specs.Places.{has, now}
 use Rattle.history.specs.Replies.{ids}
@@ -40,8 +40,8 @@ pub full-is : (limit : ℕ) (config : SpaceConfig) (h : List Place) (e : Event) 
 unfolding is_full place_of
 full-is limit config h e = refl
 
-pub exports-is : (config : SpaceConfig) (h : List Place) (e : Event) → IsBuilt e.ask → exports_with config h e ≡ length (table config h) + opens (is_effective config h e.by e.ask) e.ask
-unfolding exports_with
+pub exports-is : (config : SpaceConfig) (h : List Place) (e : Event) → IsBuilt e.ask → exports_with_event config h e ≡ length (table config h) + opens (is_effective config h e.by e.ask) e.ask
+unfolding exports_with_event
 exports-is config h e b = ap (λ n. length (table config h) + n) (adds-length config h e b)
 
 -- ---- what stays empty
@@ -49,8 +49,8 @@ exports-is config h e b = ap (λ n. length (table config h) + n) (adds-length co
 none-more : {X : Type 0} (xs : List X) → xs ++ [] ≡ xs
 none-more xs = rw append-nil refl
 
-pub awaiting-few : (config : SpaceConfig) (h : List Place) (e : Event) → returned (place_of config h e) ≡ [] → IsWithin config h → awaiting_with config h e ≤ MAX_AWAITING
-unfolding awaiting_with
+pub awaiting-few : (config : SpaceConfig) (h : List Place) (e : Event) → returned (place_of config h e) ≡ [] → IsWithin config h → awaiting_with_event config h e ≤ MAX_AWAITING
+unfolding awaiting_with_event
 awaiting-few config h e b w =
     let moment = moment-place_of config h e in
     let none = ap (λ rs. length (distinct same_returned (awaiting config.ack_ms (place_of config h e).moment h ++ rs))) b in
@@ -62,8 +62,8 @@ awaiting-few config h e b w =
     let few = w.awaits in
     omega (arith, none, whole, once, later, few)
 
-names-is : (config : SpaceConfig) (h : List Place) (e : Event) → Every IsQuiet h → IsBuilt e.ask → names_with config h e ≡ 0
-unfolding names_with place_of
+names-is : (config : SpaceConfig) (h : List Place) (e : Event) → Every IsQuiet h → IsBuilt e.ask → names_with_event config h e ≡ 0
+unfolding names_with_event place_of
 names-is config h e q b = rw (no-names h q, (quiet-place config h e b).binds) (go (place_of config h e).effective)
   where
     nothing : List (List ℕ)
@@ -101,16 +101,16 @@ only-pairs false b e = refl
 
 -- THE LEASE CALL is refused exactly as a table of the live calls refuses it.
 pub call-is : (config : SpaceConfig) (h : List Place) (e : Event) → IsWithin config h →
-    (if nat_lt MAX_CLIENTS (clients_with config h e) then Some (Full Clients) else if nat_lt MAX_PAIRS (pairs_with_event config h e) then Some (Full Pairs) else None)
+    (if nat_lt MAX_CLIENTS (clients_with_event config h e) then Some (Full Clients) else if nat_lt MAX_PAIRS (pairs_with_event config h e) then Some (Full Pairs) else None)
     ≡ lease_refusal config.lease_ms (max e.moment (now h)) (live_calls (table config h) (lease_calls h)) (lease_call config h e)
-unfolding clients_with pairs_with_event
+unfolding clients_with_event pairs_with_event
 call-is config h e w = go e.ask
   where
     two : (a b c d : ℕ) → a ≡ b → c ≡ d → (if nat_lt MAX_CLIENTS a then Some (Full Clients) else if nat_lt MAX_PAIRS c then Some (Full Pairs) else None) ≡ (if nat_lt MAX_CLIENTS b then Some (Full Clients) else if nat_lt MAX_PAIRS d then Some (Full Pairs) else None)
     two a b c d p q = rw (p, q) refl
 
     go : (a : Ask) →
-        (if nat_lt MAX_CLIENTS (clients_with config h (record e { ask = a })) then Some (Full Clients) else if nat_lt MAX_PAIRS (pairs_with_event config h (record e { ask = a })) then Some (Full Pairs) else None)
+        (if nat_lt MAX_CLIENTS (clients_with_event config h (record e { ask = a })) then Some (Full Clients) else if nat_lt MAX_PAIRS (pairs_with_event config h (record e { ask = a })) then Some (Full Pairs) else None)
         ≡ lease_refusal config.lease_ms (max e.moment (now h)) (live_calls (table config h) (lease_calls h)) (lease_call config h (record e { ask = a }))
     go (Dirty client number asked objects) =
         two _ _ _ _ (clients-told (table config h) config.lease_ms (max e.moment (now h)) (lease_calls h) (dirty_call (max e.moment (now h)) client number (filter (has (table config h)) objects)))
@@ -136,13 +136,13 @@ chain false false false false false false await more g h m = m ∙ ap (λ o. fir
 
 -- THE REFUSAL of an event is that for want of room, then that of the references that it returns, and then that of its lease call.
 pub refusal-is : (config : SpaceConfig) (h : List Place) (e : Event) (await : Option Refused) → Every IsQuiet h → IsBuilt e.ask → IsWithin config h →
-    (if nat_lt MAX_AWAITING (awaiting_with config h e) then Some (Full Awaiting) else None) ≡ await →
+    (if nat_lt MAX_AWAITING (awaiting_with_event config h e) then Some (Full Awaiting) else None) ≡ await →
     refusal limits config h e
     ≡ first_of_two (room_refusal (units h) (reserved h) (length (table config h)) (is_effective config h e.by e.ask) e.ask)
     (first_of_two await (lease_refusal config.lease_ms (max e.moment (now h)) (live_calls (table config h) (lease_calls h)) (lease_call config h e)))
 unfolding refusal
 refusal-is config h e await q b w g =
-    chain (is_full MAX_UNITS config h e) (nat_lt MAX_EXPORTS (exports_with config h e)) (nat_lt MAX_AWAITING (awaiting_with config h e)) (nat_lt MAX_CLIENTS (clients_with config h e)) (nat_lt MAX_PAIRS (pairs_with_event config h e)) (nat_lt MAX_NAMES (names_with config h e))
+    chain (is_full MAX_UNITS config h e) (nat_lt MAX_EXPORTS (exports_with_event config h e)) (nat_lt MAX_AWAITING (awaiting_with_event config h e)) (nat_lt MAX_CLIENTS (clients_with_event config h e)) (nat_lt MAX_PAIRS (pairs_with_event config h e)) (nat_lt MAX_NAMES (names_with_event config h e))
     await (lease_refusal config.lease_ms (max e.moment (now h)) (live_calls (table config h) (lease_calls h)) (lease_call config h e))
     g (ap (nat_lt MAX_NAMES) (names-is config h e q b)) (call-is config h e w)
     ∙ two _ _ _ _ (full-is MAX_UNITS config h e) (exports-is config h e b)

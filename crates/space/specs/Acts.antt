@@ -22,7 +22,7 @@ use Rattle.history.specs.Limits.{units_of, is_begin, is_end}
 use Rattle.history.specs.Lists.{distinct}
 use Rattle.history.specs.Places.{id_at}
 use Rattle.history.specs.Replies.{is_abandon}
-use Rattle.dgc_server.specs.Counts.{clients_with, pairs_with_call}
+use Rattle.dgc_server.specs.Counts.{clients_with_call, pairs_with_call}
 use Rattle.dgc_server.specs.Stands.{LeaseTable, ForEachLog}
 use Rattle.export_table.specs.declared.rows.Export.{Export}
 use Rattle.export_table.specs.Rows.{is_exported, kind_of, new_row, changed, begun, ended}
@@ -148,7 +148,7 @@ ForEachLogBy now table P = ForEachLog table (λ lease moment calls. moment ≤ n
 -- Whether a lease call is refused after others.
 abbrev pub call_refusal : ℕ → ℕ → List Call → Call → Option Refused
 call_refusal lease now before x =
-    if is_dirty x && nat_lt MAX_CLIENTS (clients_with lease now before x.client) then Some (Full Clients)
+    if is_dirty x && nat_lt MAX_CLIENTS (clients_with_call lease now before x.client) then Some (Full Clients)
     else if nat_lt MAX_PAIRS (pairs_with_call lease before x) then Some (Full Pairs)
     else None
 

@@ -45,7 +45,7 @@ pub fn returned(alloc: Global, p: &Place) -> Result<Vec<Returned>, AllocError>
     ensures { IfOk result (λ all. all.items ≡ words.returned p.now) }
 {
     match return_uid(&p.event.ask) {
-        Some(uid) => references(alloc, uid, p.lists.as_slice()),
+        Some(uid) => references(alloc, uid, p.returned_here.as_slice()),
         None => Ok(Vec::new(alloc)),
     }
 }

@@ -185,22 +185,22 @@ fn exported_by(
     places: &[Place],
     event: &Event,
 ) -> Result<usize, AllocError>
-    ensures value { IfOk result (λ count. count ≡ length (place_at config.now places.now event.now).adds) }
+    ensures value { IfOk result (λ count. count ≡ length (place_at config.now places.now event.now).exported_here) }
     ensures bound { IfOk result (λ count. count < 2 ^ 61) }
 {
     let p = place_of(alloc, config, places, event)?;
-    Ok(p.adds.as_slice().len())
+    Ok(p.exported_here.as_slice().len())
 }
 
 /// How many exported objects there are with those that an event adds.
-#[tactic(auto, unfolding(crate::specs::Limits::exports_with))]
-fn exports_with(
+#[tactic(auto, unfolding(crate::specs::Limits::exports_with_event))]
+fn exports_with_event(
     alloc: Global,
     config: &SpaceConfig,
     places: &[Place],
     event: &Event,
 ) -> Result<usize, AllocError>
-    ensures { IfOk result (λ count. count ≡ words.exports_with config.now places.now event.now) }
+    ensures { IfOk result (λ count. count ≡ words.exports_with_event config.now places.now event.now) }
 {
     let more = exported_by(alloc, config, places, event)?;
     let objects = table(alloc, config, places)?;
@@ -223,14 +223,14 @@ fn moment_and_returned(
 }
 
 /// How many references await with those that an event returns.
-#[tactic(auto, unfolding(crate::specs::Limits::awaiting_with))]
-fn awaiting_with(
+#[tactic(auto, unfolding(crate::specs::Limits::awaiting_with_event))]
+fn awaiting_with_event(
     alloc: Global,
     config: &SpaceConfig,
     places: &[Place],
     event: &Event,
 ) -> Result<usize, AllocError>
-    ensures { IfOk result (λ count. count ≡ words.awaiting_with config.now places.now event.now) }
+    ensures { IfOk result (λ count. count ≡ words.awaiting_with_event config.now places.now event.now) }
 {
     let (moment, mut new) = moment_and_returned(alloc, config, places, event)?;
     let mut all = awaiting(alloc, config.ack_ms, moment, places)?;
@@ -312,14 +312,14 @@ fn clients_left(
 }
 
 /// How many clients have time left with the one that an event brings.
-#[tactic(auto, unfolding(crate::specs::Limits::clients_with))]
-fn clients_with(
+#[tactic(auto, unfolding(crate::specs::Limits::clients_with_event))]
+fn clients_with_event(
     alloc: Global,
     config: &SpaceConfig,
     places: &[Place],
     event: &Event,
 ) -> Result<usize, AllocError>
-    ensures { IfOk result (λ count. count ≡ words.clients_with config.now places.now event.now) }
+    ensures { IfOk result (λ count. count ≡ words.clients_with_event config.now places.now event.now) }
 {
     let moment = event.moment.max(now(places));
     let left = clients_left(alloc, config, places, moment)?;
@@ -452,14 +452,14 @@ fn with_bound(
 }
 
 /// How many names stand for something with the one that an event binds.
-#[tactic(auto, unfolding(crate::specs::Limits::names_with, crate::specs::Table::place_of))]
-fn names_with(
+#[tactic(auto, unfolding(crate::specs::Limits::names_with_event, crate::specs::Table::place_of))]
+fn names_with_event(
     alloc: Global,
     config: &SpaceConfig,
     places: &[Place],
     event: &Event,
 ) -> Result<usize, AllocError>
-    ensures { IfOk result (λ count. count ≡ words.names_with config.now places.now event.now) }
+    ensures { IfOk result (λ count. count ≡ words.names_with_event config.now places.now event.now) }
 {
     let effective = is_effective(alloc, config, places, event.by, &event.ask)?;
     let bound = names(alloc, places)?;
@@ -489,16 +489,22 @@ pub fn refusal(
     if is_full(alloc, limits.units, config, places, event)? {
         return Ok(Some(Refused::HistoryFull));
     }
-    if is_above(exports_with(alloc, config, places, event)?, limits.exports) {
+    if is_above(
+        exports_with_event(alloc, config, places, event)?,
+        limits.exports,
+    ) {
         return Ok(Some(Refused::Full(FullKind::Exports)));
     }
     if is_above(
-        awaiting_with(alloc, config, places, event)?,
+        awaiting_with_event(alloc, config, places, event)?,
         limits.awaiting,
     ) {
         return Ok(Some(Refused::Full(FullKind::Awaiting)));
     }
-    if is_above(clients_with(alloc, config, places, event)?, limits.clients) {
+    if is_above(
+        clients_with_event(alloc, config, places, event)?,
+        limits.clients,
+    ) {
         return Ok(Some(Refused::Full(FullKind::Clients)));
     }
     if is_above(
@@ -507,7 +513,10 @@ pub fn refusal(
     ) {
         return Ok(Some(Refused::Full(FullKind::Pairs)));
     }
-    if is_above(names_with(alloc, config, places, event)?, limits.names) {
+    if is_above(
+        names_with_event(alloc, config, places, event)?,
+        limits.names,
+    ) {
         return Ok(Some(Refused::Full(FullKind::Names)));
     }
     Ok(None)

@@ -129,7 +129,7 @@ fn with_begun(alloc: Global, names: Vec<Units>, p: &Place) -> Result<Vec<Units>,
     ensures { IfOk result (λ more. more.items ≡ names.items ++ words.name_begun p.now) }
 {
     let mut more = names;
-    if p.effective && p.stood.is_none() {
+    if p.effective && p.name_stood_for.is_none() {
         if let Some(name) = name_bound(&p.event.ask) {
             more.push(name.units().copy(alloc)?)?;
         }

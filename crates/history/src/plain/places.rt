@@ -51,7 +51,7 @@ pub fn added(alloc: Global, places: &[Place]) -> Result<Vec<Exported>, AllocErro
         [] => Ok(Vec::new(alloc)),
         [p, before @ ..] => {
             let mut all = added(alloc, before)?;
-            all.extend_from_slice(p.adds.as_slice())?;
+            all.extend_from_slice(p.exported_here.as_slice())?;
             Ok(all)
         }
     }

@@ -151,7 +151,7 @@ pub fn table(
         [] => Ok(Vec::new(alloc)),
         [p, before @ ..] => {
             let mut objects = table(alloc, config, before)?;
-            objects.extend_from_slice(p.adds.as_slice())?;
+            objects.extend_from_slice(p.exported_here.as_slice())?;
             kept_of(alloc, config, places, objects.as_slice())
         }
     }
@@ -323,10 +323,10 @@ pub fn place_of(
         moment,
         event,
         effective,
-        before,
-        stood,
-        adds,
-        lists,
+        table_before: before,
+        name_stood_for: stood,
+        exported_here: adds,
+        returned_here: lists,
     })
 }
 
@@ -401,8 +401,8 @@ pub fn withdrawn(
     match places {
         [] => Ok(Vec::new(alloc)),
         [p, ..] => {
-            let mut objects = Vec::from_slice(alloc, p.before.as_slice())?;
-            objects.extend_from_slice(p.adds.as_slice())?;
+            let mut objects = Vec::from_slice(alloc, p.table_before.as_slice())?;
+            objects.extend_from_slice(p.exported_here.as_slice())?;
             let_go(alloc, config, places, objects.as_slice())
         }
     }

@@ -96,10 +96,10 @@ fn opened(alloc: Global, config: &SpaceConfig, places: &[Place]) -> Result<Reply
 }
 
 fn finished(alloc: Global, p: &Place) -> Result<Reply, AllocError>
-    ensures { IfOk result (λ reply. reply ≡ (if p.now.effective then Reply.Finished (reply_words.ids p.now.adds) else Reply.NotRunning)) }
+    ensures { IfOk result (λ reply. reply ≡ (if p.now.effective then Reply.Finished (reply_words.ids p.now.exported_here) else Reply.NotRunning)) }
 {
     if p.effective {
-        let new = ids(alloc, p.adds.as_slice())?;
+        let new = ids(alloc, p.exported_here.as_slice())?;
         Ok(Reply::Finished(ObjIds::from_vec(new)))
     } else {
         Ok(Reply::NotRunning)

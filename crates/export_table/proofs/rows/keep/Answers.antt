@@ -1,14 +1,14 @@
 use Rattle.std.proofs.Common.{◌≡◌, ◌+◌, ◌≤◌, ◌<◌, length, max, rules, refl, ap, sym, subst, ◌∙◌, arith}
 use Rattle.std.specs.Prelude.{vec_len, vec_capacity}
-use Rattle.export_table.specs.Rows.{is_kept, held_by, IsPart}
+use Rattle.export_table.specs.Rows.{is_row_kept, held_by, IsPart}
 use Rattle.export_table.proofs.Sifting.{moved-start, moved-skip, moved-take, moved-all, sifted-start, sifted-skip, sifted-take, sifted-rows, sifted-gone}
 use Rattle.export_table.proofs.rows.keep.Goals as goal
-use Rattle.export_table.proofs.rows.keep.Goals.{then-is_kept, else-is_kept}
+use Rattle.export_table.proofs.rows.keep.Goals.{then-is_row_kept, else-is_row_kept}
 
 pub loop-i-init : goal.loop-i-init
 loop-i-init c =
     let room = c.requires in record {
-      sifted = λ lease moment calls s. sifted-start (is_kept c.args.now (held_by lease (max c.args.now moment) calls) c.args.waits.now) c.args.rows.now.items c.args.gone.now.items;
+      sifted = λ lease moment calls s. sifted-start (is_row_kept c.args.now (held_by lease (max c.args.now moment) calls) c.args.waits.now) c.args.rows.now.items c.args.gone.now.items;
       moved = moved-start c.args.rows.now.items;
       long = search rules;
       capacity = refl;
@@ -38,11 +38,11 @@ loop-i-preserved c =
     let len : vec_len c.loop-i.rows ≡ length c.loop-i.rows.items = search rules in
     let there : c.loop-i.i < length c.loop-i.rows.items = omega arith in
     let room = c.loop-i.invariant.room in
-    elim c.if-is_kept.branch [
-      | then-is_kept w ↦ rw (w.rows-is, w.gone-is, w.kept-is) record {
+    elim c.if-is_row_kept.branch [
+      | then-is_row_kept w ↦ rw (w.rows-is, w.gone-is, w.kept-is) record {
         sifted = λ lease moment calls s.
-            sifted-take (is_kept c.args.now (held_by lease (max c.args.now moment) calls) c.args.waits.now) c.args.rows.now.items c.loop-i.rows.items c.loop-i.kept c.loop-i.i c.args.gone.now.items c.loop-i.gone.items c.index.result.now
-            (c.loop-i.invariant.sifted lease moment calls s) there c.index.ensures (sym (c.is_kept.ensures lease moment calls s) ∙ w.if-is_kept.true);
+            sifted-take (is_row_kept c.args.now (held_by lease (max c.args.now moment) calls) c.args.waits.now) c.args.rows.now.items c.loop-i.rows.items c.loop-i.kept c.loop-i.i c.args.gone.now.items c.loop-i.gone.items c.index.result.now
+            (c.loop-i.invariant.sifted lease moment calls s) there c.index.ensures (sym (c.is_row_kept.ensures lease moment calls s) ∙ w.if-is_row_kept.true);
         moved = moved-take c.args.rows.now.items c.loop-i.rows.items c.loop-i.kept c.loop-i.i c.index.result.now c.loop-i.invariant.moved there c.index.ensures;
         long = c.loop-i.invariant.long;
         capacity = c.loop-i.invariant.capacity;
@@ -50,12 +50,12 @@ loop-i-preserved c =
         more = c.loop-i.invariant.more;
         room = omega arith;
       }
-      | else-is_kept w ↦
+      | else-is_row_kept w ↦
           let noted = w.note_gone.ensures.len in let capacity = w.note_gone.ensures.capacity in let longer = c.loop-i.invariant.longer in let more = c.loop-i.invariant.more in
           rw (w.rows-is, w.gone-is, w.kept-is) record {
             sifted = λ lease moment calls s. rw w.note_gone.ensures.items
-                (sifted-skip (is_kept c.args.now (held_by lease (max c.args.now moment) calls) c.args.waits.now) c.args.rows.now.items c.loop-i.rows.items c.loop-i.kept c.loop-i.i c.args.gone.now.items c.loop-i.gone.items c.index.result.now
-                (c.loop-i.invariant.sifted lease moment calls s) there c.index.ensures (sym (c.is_kept.ensures lease moment calls s) ∙ w.if-is_kept.false));
+                (sifted-skip (is_row_kept c.args.now (held_by lease (max c.args.now moment) calls) c.args.waits.now) c.args.rows.now.items c.loop-i.rows.items c.loop-i.kept c.loop-i.i c.args.gone.now.items c.loop-i.gone.items c.index.result.now
+                (c.loop-i.invariant.sifted lease moment calls s) there c.index.ensures (sym (c.is_row_kept.ensures lease moment calls s) ∙ w.if-is_row_kept.false));
             moved = moved-skip c.args.rows.now.items c.loop-i.rows.items c.loop-i.kept c.loop-i.i c.index.result.now c.loop-i.invariant.moved there c.index.ensures;
             long = c.loop-i.invariant.long;
             capacity = c.loop-i.invariant.capacity;
@@ -70,13 +70,13 @@ returns-clause-items c lease moment calls s =
     let at_end = c.loop-i-test.false in let all = c.len-i-end.ensures in
     let len : vec_len c.args.rows.now ≡ length c.args.rows.now.items = search rules in let long = c.loop-i.invariant.moved.long in
     c.truncate.ensures.items
-    ∙ sifted-rows (is_kept c.args.now (held_by lease (max c.args.now moment) calls) c.args.waits.now) c.args.rows.now.items c.loop-i.rows.items c.loop-i.kept c.loop-i.i c.args.gone.now.items c.loop-i.gone.items (c.loop-i.invariant.sifted lease moment calls s) (omega arith)
+    ∙ sifted-rows (is_row_kept c.args.now (held_by lease (max c.args.now moment) calls) c.args.waits.now) c.args.rows.now.items c.loop-i.rows.items c.loop-i.kept c.loop-i.i c.args.gone.now.items c.loop-i.gone.items (c.loop-i.invariant.sifted lease moment calls s) (omega arith)
 
 pub returns-clause-gone : goal.returns-clause-gone
 returns-clause-gone c lease moment calls s =
     let at_end = c.loop-i-test.false in let all = c.len-i-end.ensures in
     let len : vec_len c.args.rows.now ≡ length c.args.rows.now.items = search rules in let long = c.loop-i.invariant.moved.long in
-    sifted-gone (is_kept c.args.now (held_by lease (max c.args.now moment) calls) c.args.waits.now) c.args.rows.now.items c.loop-i.rows.items c.loop-i.kept c.loop-i.i c.args.gone.now.items c.loop-i.gone.items (c.loop-i.invariant.sifted lease moment calls s) (omega arith)
+    sifted-gone (is_row_kept c.args.now (held_by lease (max c.args.now moment) calls) c.args.waits.now) c.args.rows.now.items c.loop-i.rows.items c.loop-i.kept c.loop-i.i c.args.gone.now.items c.loop-i.gone.items (c.loop-i.invariant.sifted lease moment calls s) (omega arith)
 
 pub returns-clause-part : goal.returns-clause-part
 returns-clause-part c =

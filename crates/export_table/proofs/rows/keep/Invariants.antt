@@ -1,7 +1,7 @@
 use Rattle.std.proofs.Common.{◌≡◌, ◌+◌, ◌≤◌, length, max}
 use Rattle.std.specs.Prelude.{vec_len, vec_capacity}
 use Rattle.dgc_server.specs.Stands.{ForEachLog}
-use Rattle.export_table.specs.Rows.{is_kept, held_by}
+use Rattle.export_table.specs.Rows.{is_row_kept, held_by}
 use Rattle.export_table.proofs.Sifting.{Sifted, Moved}
 use Rattle.export_table.proofs.rows.keep.Given as goal
 
@@ -9,7 +9,7 @@ abbrev pub invariant-loop-i : goal.invariant-loop-i
 invariant-loop-i l =
     record {
       sifted : ForEachLog l.leases (λ lease moment calls.
-          Sifted (is_kept l.now (held_by lease (max l.now moment) calls) l.waits) l.initial.rows.items l.rows.items l.kept l.i l.initial.gone.items l.gone.items);
+          Sifted (is_row_kept l.now (held_by lease (max l.now moment) calls) l.waits) l.initial.rows.items l.rows.items l.kept l.i l.initial.gone.items l.gone.items);
       moved : Moved l.initial.rows.items l.rows.items l.kept l.i;
       long : vec_len l.rows ≡ length l.initial.rows.items;
       capacity : vec_capacity l.rows ≡ vec_capacity l.initial.rows;

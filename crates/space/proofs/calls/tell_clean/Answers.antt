@@ -5,7 +5,7 @@ use Rattle.object_ids.specs.declared.ids.ObjId.{ObjId}
 use Rattle.history.specs.declared.replies.Refused.{Refused}
 use Rattle.history.specs.declared.replies.Refused.TheVariants.{OutOfMemory}
 use Rattle.export_table.specs.Rows.{is_exported}
-use Rattle.dgc_server.specs.Counts.{clean_call, clients_with}
+use Rattle.dgc_server.specs.Counts.{clean_call, clients_with_call}
 use Rattle.dgc_server.specs.Stands.{StandsFor}
 use Rattle.space.specs.Acts.{call_refusal}
 use Rattle.space.specs.Faults.{refused_for}
@@ -30,7 +30,7 @@ returns-in-Ok-clause-refusal c lease moment calls s le =
     let P : ℤ → Type 0 = λ n. told (max c.args.now moment) n c.in_ok-live.live ≡ None in
     let Q : List ObjId → Type 0 = λ os. told (max c.args.now moment) c.args.number.now os ≡ None in
     let M : ℕ → Type 0 = λ t. told t c.args.number.now (filter (is_exported c.args.exports.now.rows) c.args.named.now) ≡ None in
-    subst M time (subst Q c.in_ok-live.ensures (subst P (to_z-of_z w64 c.args.number.now fits) (clean-taken c.args.strong (clients_with lease (max c.args.now moment) calls c.args.client.now) _ _ (c.in-Ok.ensures.pairs lease moment calls s))))
+    subst M time (subst Q c.in_ok-live.ensures (subst P (to_z-of_z w64 c.args.number.now fits) (clean-taken c.args.strong (clients_with_call lease (max c.args.now moment) calls c.args.client.now) _ _ (c.in-Ok.ensures.pairs lease moment calls s))))
 
 pub returns-clause-refusal : goal.returns-clause-refusal
 returns-clause-refusal c lease moment calls s le =
@@ -43,4 +43,4 @@ returns-clause-refusal c lease moment calls s le =
     let M : ℕ → Type 0 = λ t. A t c.args.number.now (filter (is_exported c.args.exports.now.rows) c.args.named.now) (refused_for c.in-Err.fault) in
     let R : Refused → Type 0 = λ r. A c.args.now c.args.number.now (filter (is_exported c.args.exports.now.rows) c.args.named.now) r in
     subst R (sym c.refused_for.ensures) (subst M time (subst Q c.in_ok-live.ensures (subst P (to_z-of_z w64 c.args.number.now fits)
-    (clean-refused c.args.strong (clients_with lease (max c.args.now moment) calls c.args.client.now) _ c.in-Err.fault c.in-Err.ensures.clients (c.in-Err.ensures.pairs lease moment calls s)))))
+    (clean-refused c.args.strong (clients_with_call lease (max c.args.now moment) calls c.args.client.now) _ c.in-Err.fault c.in-Err.ensures.clients (c.in-Err.ensures.pairs lease moment calls s)))))

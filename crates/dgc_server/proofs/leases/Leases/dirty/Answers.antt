@@ -4,7 +4,7 @@ use Rattle.std.proofs.lemmas.Int.{to_z-of_z}
 use Rattle.history.specs.declared.calls.CallKind.TheVariants.{Dirty}
 use Rattle.history.specs.declared.limits.TheConstants.{MAX_CLIENTS, MAX_PAIRS}
 use Rattle.dgc_server.specs.declared.leases.LeaseFault.TheVariants.{Clients, Pairs}
-use Rattle.dgc_server.specs.Counts.{dirty_call, clients_with, pairs_with_call}
+use Rattle.dgc_server.specs.Counts.{dirty_call, clients_with_call, pairs_with_call}
 use Rattle.dgc_server.specs.Stands.{LeaseTable, IsTrimmed, entry_after, table_after}
 use Rattle.dgc_server.specs.Table.{entry_of, with_entry, clients_after, pairs_after}
 use Rattle.dgc_server.proofs.Trimmed.{trimmed-noted}
@@ -13,7 +13,7 @@ use Rattle.dgc_server.proofs.leases.Leases.dirty.Goals as goal
 
 pub returns-then-clients_after-gt-MAX_CLIENTS-clause-clients : goal.returns-then-clients_after-gt-MAX_CLIENTS-clause-clients
 returns-then-clients_after-gt-MAX_CLIENTS-clause-clients c lease moment calls s =
-    let counted : c.clients_after.result ≡ clients_with lease (max c.args.now moment) calls c.args.client.now =
+    let counted : c.clients_after.result ≡ clients_with_call lease (max c.args.now moment) calls c.args.client.now =
     c.clients_after.ensures ∙ ap (λ es. clients_after es c.args.client.now c.at-at.result) (c.deref.ensures.value ∙ ap (λ (t : LeaseTable). t.entries) c.self.view_is)
     ∙ sym (clients-told lease moment c.args.now c.at-at.result c.args.client.now c.args.self.now calls c.at-at.ensures.sound.ordered c.at-at.ensures.value s) in
     let P : ℕ → Type 0 = λ n. MAX_CLIENTS < n in
@@ -21,7 +21,7 @@ returns-then-clients_after-gt-MAX_CLIENTS-clause-clients c lease moment calls s 
 
 pub returns-then-clients_after-gt-MAX_CLIENTS-clause-pairs : goal.returns-then-clients_after-gt-MAX_CLIENTS-clause-pairs
 returns-then-clients_after-gt-MAX_CLIENTS-clause-pairs c lease moment calls s =
-    let counted : c.clients_after.result ≡ clients_with lease (max c.args.now moment) calls c.args.client.now =
+    let counted : c.clients_after.result ≡ clients_with_call lease (max c.args.now moment) calls c.args.client.now =
     c.clients_after.ensures ∙ ap (λ es. clients_after es c.args.client.now c.at-at.result) (c.deref.ensures.value ∙ ap (λ (t : LeaseTable). t.entries) c.self.view_is)
     ∙ sym (clients-told lease moment c.args.now c.at-at.result c.args.client.now c.args.self.now calls c.at-at.ensures.sound.ordered c.at-at.ensures.value s) in
     let many = c.if-clients_after-gt-MAX_CLIENTS.true in
@@ -29,7 +29,7 @@ returns-then-clients_after-gt-MAX_CLIENTS-clause-pairs c lease moment calls s =
 
 pub returns-in_err-note-clause-clients : goal.returns-in_err-note-clause-clients
 returns-in_err-note-clause-clients c lease moment calls s =
-    let counted : c.clients_after.result ≡ clients_with lease (max c.args.now moment) calls c.args.client.now =
+    let counted : c.clients_after.result ≡ clients_with_call lease (max c.args.now moment) calls c.args.client.now =
     c.clients_after.ensures ∙ ap (λ es. clients_after es c.args.client.now c.at-at.result) (c.deref.ensures.value ∙ ap (λ (t : LeaseTable). t.entries) c.self.view_is)
     ∙ sym (clients-told lease moment c.args.now c.at-at.result c.args.client.now c.args.self.now calls c.at-at.ensures.sound.ordered c.at-at.ensures.value s) in
     let few = c.if-clients_after-gt-MAX_CLIENTS.false in
@@ -38,7 +38,7 @@ returns-in_err-note-clause-clients c lease moment calls s =
 
 pub returns-in_err-note-clause-pairs : goal.returns-in_err-note-clause-pairs
 returns-in_err-note-clause-pairs c lease moment calls s =
-    let counted : c.clients_after.result ≡ clients_with lease (max c.args.now moment) calls c.args.client.now =
+    let counted : c.clients_after.result ≡ clients_with_call lease (max c.args.now moment) calls c.args.client.now =
     c.clients_after.ensures ∙ ap (λ es. clients_after es c.args.client.now c.at-at.result) (c.deref.ensures.value ∙ ap (λ (t : LeaseTable). t.entries) c.self.view_is)
     ∙ sym (clients-told lease moment c.args.now c.at-at.result c.args.client.now c.args.self.now calls c.at-at.ensures.sound.ordered c.at-at.ensures.value s) in
     let pairs : pairs_with_call lease calls (dirty_call (max c.args.now moment) c.args.client.now c.args.number c.args.objects.now) ≡ pairs_after c.at-at.result c.args.self.now.entries c.args.client.now Dirty c.args.objects.now =
@@ -57,7 +57,7 @@ returns-clause-ok c lease moment calls s =
 
 pub returns-clause-clients : goal.returns-clause-clients
 returns-clause-clients c lease moment calls s =
-    let counted : c.clients_after.result ≡ clients_with lease (max c.args.now moment) calls c.args.client.now =
+    let counted : c.clients_after.result ≡ clients_with_call lease (max c.args.now moment) calls c.args.client.now =
     c.clients_after.ensures ∙ ap (λ es. clients_after es c.args.client.now c.at-at.result) (c.deref.ensures.value ∙ ap (λ (t : LeaseTable). t.entries) c.self.view_is)
     ∙ sym (clients-told lease moment c.args.now c.at-at.result c.args.client.now c.args.self.now calls c.at-at.ensures.sound.ordered c.at-at.ensures.value s) in
     let few = c.if-clients_after-gt-MAX_CLIENTS.false in
