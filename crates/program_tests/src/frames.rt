@@ -5,6 +5,7 @@ use jrmp_frames::endpoint::{ack_bytes, skip_endpoint};
 use jrmp_frames::fault::FrameFault;
 use jrmp_frames::header::{Protocol, read_header};
 use mod_utf::list::Units;
+use mod_utf::utf::encoded_len;
 use std::alloc::{AllocError, Global};
 use std::process::Abort;
 use std::test::Fail;
@@ -18,6 +19,7 @@ fn check_ack(
     wanted: &[u8],
 ) -> Result<(), AllocError> {
     let host = Units::from_slice(alloc, host)?;
+    assert!(rt; encoded_len(&host) <= 255);
     let bytes = ack_bytes(alloc, &host, port)?;
     must(rt, bytes.as_slice() == wanted, "acknowledgement");
     Ok(())

@@ -374,13 +374,13 @@ fn check_whole(
     rt: &impl Abort,
     alloc: Global,
     len: usize,
-    limit: usize,
+    limit: u32,
     whole: bool,
 ) -> Result<(), AllocError> {
     let bytes = ByteList::from_vec(vec![in alloc; 7; len]?);
     let cuts = Kinds::from_slice(alloc, &[3, 0, 4096])?;
     let mut source = MemSource::new(bytes, cuts, Kinds::new(alloc));
-    match take_whole(alloc, &mut source, limit) {
+    match take_whole(alloc, &mut source, limit as usize) {
         Ok(taken) => must(rt, whole && taken.len() == len, "taken"),
         Err(_) => must(rt, !whole, "too large"),
     }
@@ -391,7 +391,7 @@ fn check_whole(
 fn takes_all_or_passes_the_limit(rt: HostRuntime) -> Result<(), Fail> {
     // how many bytes there are, the limit, and whether they are taken
     for (len, limit, whole) in [
-        (0usize, 0usize, true),
+        (0usize, 0u32, true),
         (1, 0, false),
         (5000, 5000, true),
         (5001, 5000, false),
