@@ -10,6 +10,9 @@ use Rattle.ser_values.specs.Node.{has}
 use Rattle.ser_values.specs.Shape.{parts_in}
 use Rattle.ser_values.specs.Spelled.{joined, One, IsBlock, Spells, SpellsBlocks}
 use Rattle.ser_values.specs.Reading.{Progress, byte_at}
+use Rattle.std.proofs.lemmas.List.Elements.{All-nil}
+use Rattle.ser_values.specs.Ranges.{InRange}
+use Rattle.ser_values.proofs.Ranged.{numbers_of, units_of}
 use Rattle.ser_values.proofs.PlainSound.{AreBytes, chosen}
 use Rattle.ser_values.proofs.Solid.{Solid, Got, got_none, got_map, got_two}
 use Rattle.ser_read.specs.declared.block.Head.{Head}
@@ -326,7 +329,7 @@ asked_sound end ws bs y e bytes =
           let N = now.progress.nodes in
           let one : (N, now.items) ≡ c.0 = given_is (N, now.items) c.0 p.1 in
           let two : (a.0.0, N, now.items, a.0.2) ≡ y = ap (λ (g : List Node × List Item). (a.0.0, g.0, g.1, a.0.2)) one ∙ given_is (a.0.0, c.0.0, c.0.1, a.0.2) y c.2 in
-          let solid : Solid [] start = record { above = λ k i gone is desc. absurd cc; good = λ k i gone is. absurd cc; below = λ k h. absurd cc; few = omega arith } in
+          let solid : Solid [] start = record { above = λ k i gone is desc. absurd cc; good = λ k i gone is. absurd cc; below = λ k h. absurd cc; few = omega arith; ranged = All-nil InRange } in
           let h = serve_sound end ws nothing_read bs a.0 a.1 (eqb-true now.block 0 p.0) solid bytes in
           let none : h.left ≡ [] = nil_of h.left h.len in
           let mid : bs ≡ h.mid = h.parts ∙ ap (λ (l : List ℕ). l ++ h.mid) none in
@@ -342,6 +345,8 @@ asked_sound end ws bs y e bytes =
               spelled = subst (λ (l : List ℕ). SpellsBlocks (Spells N 200 []) h.blocks 0 l a.0.2 (length N)) (sym mid) spelled;
               full = h.full;
               same = joined_by a.0.0 h.blocks (sym flats);
+              numbers = numbers_of N h.got.solid.ranged;
+              units = units_of N h.got.solid.ranged;
             },
             serve_items end ws nothing_read bs a.0 a.1 [] refl,
             omega arith,

@@ -4,17 +4,19 @@ use Rattle.class_desc.specs.declared.slot.Slot.{Slot}
 use Rattle.class_desc.specs.declared.slot.Item.{Item}
 use Rattle.class_desc.specs.declared.slot.Item.TheVariants as items
 use Rattle.wire_io.specs.Pulled.{Place, Takes}
-use Rattle.ser_values.specs.Reading.{◌>>=◌, Fault, Progress, Plain, Step, take_at, size_at, byte_at, blocks_at, items_at}
+use Rattle.ser_values.specs.Reading.{◌>>=◌, Fault, short, Progress, Plain, Step, take_at, size_at, byte_at, blocks_at, items_at}
 use Rattle.ser_values.specs.Spelled.{joined}
 use Rattle.std.proofs.lemmas.List.{append-nil}
 use Rattle.std.specs.Int.{w32}
 use Rattle.wire_io.proofs.Pulling.{takes_nothing, takes_more}
-use Rattle.ser_read.specs.declared.fault.StreamFault.{StreamFault}
-use Rattle.ser_read.specs.Here.{Fails, AreBytes, Reads}
-use Rattle.ser_read.proofs.Steps.{Leads, bytes_more, fails_then, fails_of}
-use Rattle.ser_read.proofs.Bytes.{ok_is, none}
+use Rattle.ser_read.specs.Here.{AreBytes, Reads}
+use Rattle.ser_read.proofs.Steps.{Leads, leads_two, leads_read, bytes_more}
+use Rattle.ser_read.proofs.Bytes.{ok_is}
 use Rattle.ser_read.specs.Named.{item_at, added}
 use Rattle.ser_read.proofs.Joins.{added_is}
+
+abbrev fault_in : {Y : Type 0} → Fault → Result Y Fault
+fault_in f = Err f
 
 abbrev pub Items : Type 0
 Items = Result (List Item × Progress × List ℕ) Fault
@@ -133,7 +135,7 @@ block_step end inner within most c is now bs ref i later rest other same h =
 
 -- ---- the loop
 
-one_byte : (taken : List ℕ) (c : ℕ) → ((rest : List ℕ) → byte_at (taken ++ rest) ≡ Ok (c, rest)) → taken ≡ c ∷ []
+pub one_byte : (taken : List ℕ) (c : ℕ) → ((rest : List ℕ) → byte_at (taken ++ rest) ≡ Ok (c, rest)) → taken ≡ c ∷ []
 one_byte [] c h = absurd (let e = h [] in cc)
 one_byte (b ∷ taken) c h =
     let e : (b, taken ++ []) ≡ (c, []) = ok_is _ _ (byte_at ((b ∷ taken) ++ [])) refl (h []) in
@@ -190,49 +192,52 @@ slack_end {p} {q} {m} {inner} {first} {now} {is} {c} s a h =
           rw whole (first_is ∙ rw h refl);
     }
 
--- where the code is wanting
-pub code_fails : (after e : StreamFault) (end : ℕ) (inner : Step Slot) (most : ℕ) (now : Progress) (is : List Item) (bs : List ℕ) → Fails after e (byte_at bs) → Fails after e (after_all is (blocks_at end inner true (suc most) now bs))
-unfolding blocks_at
-code_fails after e end inner most now is [] h = fails_then after e (byte_at []) (λ (x : ℕ × List ℕ). Ok ([], now, x.1)) h
-code_fails after e end inner most now is (b ∷ bs) h = none after e (byte_at (b ∷ bs)) (b, bs) _ refl h
-
--- where an item is wanting
-pub item_fails_in : (after e : StreamFault) (end : ℕ) (inner : Step Slot) (within : Bool) (most c : ℕ) (is : List Item) (now : Progress) (bs : List ℕ) (ref : Step Slot)
-    → (within && nat_eq c 0x78) ≡ false → inner now (c ∷ bs) ≡ ref now bs → Fails after e (item_at end ref c now bs) → Fails after e (after_all is (blocks_at end inner within (suc most) now (c ∷ bs)))
-item_fails_in after e end inner within most c is now bs ref other same h =
-    subst (λ r. Fails after e (after_all is r)) (sym (blocks_is end inner within most c now bs other ∙ ap (λ (r : Result (Slot × Progress × List ℕ) Fault). if nat_eq c 0x77 then sized_more more now (byte_at bs) else (if nat_eq c 0x7A then sized_more more now (size_at end w32 (2 ^ 31) bs) else ref_more more r)) same))
-    (behind _ (go (nat_eq c 0x77) (nat_eq c 0x7A) (subst (λ r. Fails after e r) (item_is end ref c now bs) h)))
-  where
-    more : Progress → List ℕ → Items
-    more = blocks_at end inner within most
-
-    behind : (r : Items) → Fails after e r → Fails after e (after_all is r)
-    behind r f = fails_then after e r (λ x. Ok (added_all is x.0, x.1, x.2)) f
-
-    block : (r : Plain (List ℕ)) → Fails after e (block_item now r) → Fails after e (block_more more now r)
-    block (Ok p) f = none after e (block_item now (Ok p)) (items.Bytes p.0, now, p.1) _ refl f
-    block (Err g) f = fails_of after e g (block_item now (Err g)) (block_more more now (Err g)) refl refl f
-
-    two : (r : Plain ℕ) → Fails after e (sized_item now r) → Fails after e (sized_more more now r)
-    two (Ok n) f = block (take_at n.0 n.1) f
-    two (Err g) f = fails_of after e g (sized_item now (Err g)) (sized_more more now (Err g)) refl refl f
-
-    one : (r : Result (Slot × Progress × List ℕ) Fault) → Fails after e (ref_item r) → Fails after e (ref_more more r)
-    one (Ok s) f = none after e (ref_item (Ok s)) (items.Ref s.0, s.1, s.2) _ refl f
-    one (Err g) f = fails_of after e g (ref_item (Err g)) (ref_more more (Err g)) refl refl f
-
-    go : (a b : Bool) → Fails after e (if a then sized_item now (byte_at bs) else (if b then sized_item now (size_at end w32 (2 ^ 31) bs) else ref_item (ref now bs)))
-        → Fails after e (if a then sized_more more now (byte_at bs) else (if b then sized_more more now (size_at end w32 (2 ^ 31) bs) else ref_more more (ref now bs)))
-    go true b f = two (byte_at bs) f
-    go false true f = two (size_at end w32 (2 ^ 31) bs) f
-    go false false f = one (ref now bs) f
-
-pub item_fails : (after e : StreamFault) (end : ℕ) (inner : Step Slot) (most c : ℕ) (is : List Item) (now : Progress) (bs : List ℕ) (ref : Step Slot)
-    → nat_eq c 0x78 ≡ false → inner now (c ∷ bs) ≡ ref now bs → Fails after e (item_at end ref c now bs) → Fails after e (after_all is (blocks_at end inner true (suc most) now (c ∷ bs)))
-item_fails after e end inner most c is now bs ref other same h = item_fails_in after e end inner true most c is now bs ref other same h
-
 pub byte_cons : (bs : List ℕ) (c : ℕ) (rest : List ℕ) → byte_at bs ≡ Ok (c, rest) → bs ≡ c ∷ rest
 byte_cons [] c rest h = absurd cc
 byte_cons (b ∷ bs) c rest h =
     let e : (b, bs) ≡ (c, rest) = ok_is _ _ (byte_at (b ∷ bs)) refl h in
     ap (λ (x : ℕ × List ℕ). x.0 ∷ x.1) e
+
+-- ---- where an item or a code is wanting
+
+err_as : {X Y : Type 0} (g f : Fault) (r : Result X Fault) → r ≡ Err g → r ≡ Err f → fault_in {Y = Y} g ≡ fault_in f
+err_as {X} {Y} g f r a b = let s : g ≡ f = cc in ap (λ (x : Fault). fault_in {Y = Y} x) s
+
+pub item_err : (end : ℕ) (inner : Step Slot) (within : Bool) (most c : ℕ) (is : List Item) (now : Progress) (bs : List ℕ) (ref : Step Slot) (f : Fault)
+    → (within && nat_eq c 0x78) ≡ false → inner now (c ∷ bs) ≡ ref now bs → item_at end ref c now bs ≡ Err f → after_all is (blocks_at end inner within (suc most) now (c ∷ bs)) ≡ Err f
+item_err end inner within most c is now bs ref f other same h =
+    ap (after_all is) (blocks_is end inner within most c now bs other ∙ ap (λ (r : Result (Slot × Progress × List ℕ) Fault). if nat_eq c 0x77 then sized_more more now (byte_at bs) else (if nat_eq c 0x7A then sized_more more now (size_at end w32 (2 ^ 31) bs) else ref_more more r)) same)
+    ∙ go (nat_eq c 0x77) (nat_eq c 0x7A) (sym (item_is end ref c now bs) ∙ h)
+  where
+    more : Progress → List ℕ → Items
+    more = blocks_at end inner within most
+
+    block : (r : Plain (List ℕ)) → block_item now r ≡ Err f → after_all is (block_more more now r) ≡ Err f
+    block (Ok p) e = absurd cc
+    block (Err g) e = err_as g f (block_item now (Err g)) refl e
+
+    two : (r : Plain ℕ) → sized_item now r ≡ Err f → after_all is (sized_more more now r) ≡ Err f
+    two (Ok n) e = block (take_at n.0 n.1) e
+    two (Err g) e = err_as g f (sized_item now (Err g)) refl e
+
+    one : (r : Result (Slot × Progress × List ℕ) Fault) → ref_item r ≡ Err f → after_all is (ref_more more r) ≡ Err f
+    one (Ok s) e = absurd cc
+    one (Err g) e = err_as g f (ref_item (Err g)) refl e
+
+    go : (a b : Bool) → (if a then sized_item now (byte_at bs) else (if b then sized_item now (size_at end w32 (2 ^ 31) bs) else ref_item (ref now bs))) ≡ Err f
+        → after_all is (if a then sized_more more now (byte_at bs) else (if b then sized_more more now (size_at end w32 (2 ^ 31) bs) else ref_more more (ref now bs))) ≡ Err f
+    go true b e = two (byte_at bs) e
+    go false true e = two (size_at end w32 (2 ^ 31) bs) e
+    go false false e = one (ref now bs) e
+
+pub code_err : (end : ℕ) (inner : Step Slot) (most : ℕ) (now : Progress) (is : List Item) (bs : List ℕ) (f : Fault) → byte_at bs ≡ Err f → after_all is (blocks_at end inner true (suc most) now bs) ≡ Err f
+unfolding blocks_at
+code_err end inner most now is [] f h = err_as short f (byte_at []) refl h
+code_err end inner most now is (b ∷ bs) f h = absurd cc
+
+-- and then a code was read
+pub slack_byte : {p q m : Place} {inner : ℕ → Step Slot} {within : Bool} {first now : Progress} {is : List Item} {c : ℕ} (s : Slack p q inner within first now is) → Reads q m (λ end. byte_at) (λ rest. (c, rest))
+    → Leads p m (λ end. items_at end (inner end) within first) (λ end bs. after_all is (blocks_at end (inner end) within (suc (s.spare + suc (length bs))) now (c ∷ bs)))
+slack_byte {p} {q} {m} {inner} {within} {first} {now} {is} {c} s a =
+    leads_two (slack_leads s) (leads_read (λ end bs. after_all is (blocks_at end (inner end) within (suc (s.spare + suc (length bs))) now (c ∷ bs))) a
+    (λ end bs rest here h. ap (λ (l : List ℕ). after_all is (blocks_at end (inner end) within (suc (s.spare + length l)) now l)) (byte_cons bs c rest h)))

@@ -91,11 +91,5 @@ take_more front left more bs piece rest le h =
     let e : left ≡ length piece + (left - more) = omega (arith, s.1) in
     ap (λ bs. onto front (take_at left bs)) s.0 ∙ ap (λ n. onto front (take_at n (piece ++ rest))) e ∙ split piece rest front (left - more)
 
-pub take_stops : (after e : StreamFault) (left more : ℕ) (bs : List ℕ) → more ≤ left → Fails after e (take_at more bs) → Fails after e (take_at left bs)
-take_stops after e left more bs le h = elim (cases_lt (length bs) more) [
-  | inl lt ↦ subst (λ r. Fails after e r) (takes_short more bs lt ∙ sym (takes_short left bs (omega arith))) h
-  | inr long ↦ none after e (take_at more bs) _ (take_at left bs) (takes_all more bs long) h
-]
-
 pub take_end : (front bs : List ℕ) → onto front (take_at 0 bs) ≡ Ok (front, bs)
 take_end front bs = rw (takes_all 0 bs (omega arith)) (ap (λ (xs : List ℕ). Ok (xs, bs)) (append-nil front))

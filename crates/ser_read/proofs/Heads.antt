@@ -1,15 +1,15 @@
 -- Heads of blocks, empty ones passed over.
-use Rattle.std.proofs.Common.{◌≡◌, ℕ, zero, suc, ◌+◌, ◌-◌, ◌^◌, ◌≤◌, ◌<◌, Bool, true, false, cond, eqb, List, [], ◌∷◌, length, length-drop, Result, Ok, Err, refl, sym, ap, subst, ◌∙◌, arith, inl, inr}
+use Rattle.std.proofs.Common.{◌≡◌, ℕ, zero, suc, ◌+◌, ◌-◌, ◌^◌, ◌≤◌, ◌<◌, Bool, true, false, cond, eqb, if◌then◌else◌, nat_eq, List, [], ◌∷◌, ◌++◌, length, length-append, length-drop, Result, Ok, Err, refl, sym, ap, subst, ◌∙◌, arith, inl, inr}
 use Rattle.std.proofs.lemmas.Bool.{cases_lt}
 use Rattle.std.proofs.Math.Path.{fun_ext}
 use Rattle.std.specs.Int.{Width, w32, byte_len}
 use Rattle.ser_values.specs.Reading.{◌>>=◌, Fault, Plain, bad, bad_magic, byte_at, take_at, number_at, size_at, magic_at}
 use Rattle.ser_values.proofs.PlainSound.{bind_ok, chosen, passed, ok_is}
 use Rattle.ser_read.specs.declared.block.Head.{Head}
-use Rattle.ser_read.specs.declared.fault.StreamFault.{StreamFault}
-use Rattle.ser_read.specs.Here.{Fails}
+use Rattle.wire_io.specs.Pulled.{Place}
+use Rattle.ser_read.specs.declared.block.Head.TheVariants.{Block}
+use Rattle.ser_read.specs.Here.{Reads}
 use Rattle.ser_read.specs.Heads.{one_head, any_head, is_empty, head_within, head_at}
-use Rattle.ser_read.proofs.Steps.{fails_then}
 use Rattle.ser_read.proofs.Bytes.{takes_all, takes_short}
 
 abbrev Found : Type 0
@@ -100,8 +100,22 @@ head_goes end bs h rest o empty = heads_from end bs ∙ rw o (rw empty refl)
 pub head_stops : (end : ℕ) (bs : List ℕ) (h : Head) (rest : List ℕ) → any_head end bs ≡ Ok (h, rest) → is_empty h ≡ false → head_at end bs ≡ Ok (h, rest)
 head_stops end bs h rest o full = heads_from end bs ∙ rw o (rw full refl)
 
-pub head_fails : (after e : StreamFault) (end : ℕ) (bs : List ℕ) → Fails after e (any_head end bs) → Fails after e (head_at end bs)
-head_fails after e end bs h = subst (λ r. Fails after e r) (sym (heads_from end bs)) (fails_then after e (any_head end bs) (λ h. cond (is_empty h.0) (head_at end h.1) (Ok h)) h)
+pub head_err : (end : ℕ) (bs : List ℕ) (f : Fault) → any_head end bs ≡ Err f → head_at end bs ≡ Err f
+head_err end bs f h = heads_from end bs ∙ rw h refl
+
+-- a head takes a byte at least
+pub head_nearer : {p q : Place} {h : Head} → Reads p q any_head (λ rest. (h, rest)) → q.at ≤ q.stop → q.stop - q.at < p.stop - p.at
+head_nearer {p} {q} {h} r le =
+    let some = any_less (q.at + 0) (r.taken ++ []) (h, []) (r.is []) in
+    omega (arith, some, length-append r.taken [], r.takes.at, r.takes.stop)
+
+pub head_block : (end code at : ℕ) (bs : List ℕ) → code ≡ 0x77 → one_head end code at bs ≡ (byte_at bs >>= λ n. Ok (Block n.0, n.1))
+unfolding one_head
+head_block end code at bs h = rw h refl
+
+pub head_long : (end code at : ℕ) (bs : List ℕ) → code ≡ 0x7A → one_head end code at bs ≡ (size_at end w32 (2 ^ 31) bs >>= λ n. Ok (Block n.0, n.1))
+unfolding one_head
+head_long end code at bs h = rw h refl
 
 -- what is found is no empty block
 pub head_full : (end most : ℕ) (bs : List ℕ) (h : Head × List ℕ) → head_within end most bs ≡ Ok h → is_empty h.0 ≡ false
@@ -129,3 +143,7 @@ pub magic_four : (end : ℕ) (bs : List ℕ) → magic_at end (0xAC ∷ 0xED ∷
     ≡ (magic_at end (0xAC ∷ []) bs >>= λ a. magic_at end (0xED ∷ []) a >>= λ b. magic_at end (0x00 ∷ []) b >>= λ c. magic_at end (0x05 ∷ []) c)
 magic_four end bs = magic_cons end 0xAC (0xED ∷ 0x00 ∷ 0x05 ∷ []) bs ∙ ap (λ (f : List ℕ → Result (List ℕ) Fault). magic_at end (0xAC ∷ []) bs >>= f) (fun_ext (λ a.
     magic_cons end 0xED (0x00 ∷ 0x05 ∷ []) a ∙ ap (λ (f : List ℕ → Result (List ℕ) Fault). magic_at end (0xED ∷ []) a >>= f) (fun_ext (λ b. magic_cons end 0x00 (0x05 ∷ []) b))))
+
+pub magic_here : (end w at : ℕ) (bs : List ℕ) → end ≡ at + length bs → magic_at end (w ∷ []) bs ≡ (byte_at bs >>= λ b. if nat_eq b.0 w then Ok b.1 else Err (bad bad_magic at))
+unfolding magic_at
+magic_here end w at bs e = let h : end - length bs ≡ at = omega arith in ap (λ a. byte_at bs >>= λ b. if nat_eq b.0 w then Ok b.1 else Err (bad bad_magic a)) h

@@ -1,7 +1,7 @@
 -- Wants in their order.
-use Rattle.std.proofs.Common.{◌≡◌, ℕ, ◌+◌, ◌-◌, ◌<◌, ◌≤◌, cond, eqb, List, [], ◌∷◌, ◌++◌, length, drop, get_or, Result, Ok, Err, IfOk, refl, sym, ap, subst, ◌∙◌, append_assoc, arith, drop-cons, add-one, length-drop}
+use Rattle.std.proofs.Common.{◌≡◌, ◌≢◌, false, ℕ, ◌+◌, ◌-◌, ◌<◌, ◌≤◌, cond, eqb, List, [], ◌∷◌, ◌++◌, length, drop, get_or, Result, Ok, Err, IfOk, refl, sym, ap, subst, ◌∙◌, append_assoc, arith, drop-cons, add-one, length-drop}
 use Rattle.std.proofs.lemmas.List.{append-nil, nil_from_length}
-use Rattle.std.proofs.lemmas.Bool.{eqb-true}
+use Rattle.std.proofs.lemmas.Bool.{eqb-true, ne_eqb}
 use Rattle.wire_io.specs.Pulled.{Place, Takes}
 use Rattle.class_desc.specs.declared.slot.Item.{Item}
 use Rattle.ser_values.specs.declared.node.Node.{Node}
@@ -13,12 +13,15 @@ use Rattle.ser_values.proofs.PlainSound.{bind_ok, passed, ok_is}
 use Rattle.ser_values.proofs.Complete as complete
 use Rattle.ser_read.specs.declared.fault.StreamFault.{StreamFault}
 use Rattle.ser_read.specs.declared.serving.Want.{Want}
+use Rattle.ser_read.specs.declared.fault.StreamFault.TheVariants as faults
+use Rattle.ser_read.specs.declared.fault.StreamKind.TheVariants as kinds
+use Rattle.ser_read.proofs.Breaking.{inside_later, want_later, want_here}
 use Rattle.ser_read.specs.Here.{Reads}
-use Rattle.ser_read.specs.Wants.{WantFault, inside, ◌▸◌, Stand, nothing_read, close_at, want_at, serve, serve_all, wants_at, WantIsBad, WantFails, WantGives}
+use Rattle.ser_read.specs.Wants.{WantFault, inside, block_left, WantBreaks, ◌▸◌, Stand, nothing_read, close_at, want_at, serve, serve_all, wants_at, WantIsBad, WantFails, WantGives}
 use Rattle.ser_read.specs.Asked.{IsAsked, TakesAsked, InLimits, AnswersAsked}
 use Rattle.ser_read.proofs.Heads.{byte_is}
 use Rattle.ser_read.proofs.Steps.{fails_outside}
-use Rattle.ser_read.proofs.Wants.{wants_fail, want_then}
+use Rattle.ser_read.proofs.Wants.{want_then}
 use Rattle.ser_read.proofs.Served.{lifted_ok, given_is, are}
 use Rattle.ser_read.proofs.Asked.{asked_sound}
 use Rattle.ser_read.proofs.Given.{asked_complete}
@@ -41,11 +44,11 @@ serve_next end front ws i d s bs x later rest lt h =
     let k : drop i ws ≡ get_or ws i d ∷ drop (i + 1) ws = rw (add-one, drop-cons ws i d) refl in
     rw (k, h) (regroup front x (serve end (drop (i + 1) ws) later rest))
 
-pub serve_stops : (after e : StreamFault) (end : ℕ) (front : List Item) (ws : List Want) (i : ℕ) (d : Want) (s : Stand) (bs : List ℕ) → i < length ws → WantFails after e (want_at end (get_or ws i d) s bs) → WantFails after e (given_before front (serve end (drop i ws) s bs))
+pub serve_err : (end : ℕ) (front : List Item) (ws : List Want) (i : ℕ) (d : Want) (s : Stand) (bs : List ℕ) (f : WantFault) → i < length ws → want_at end (get_or ws i d) s bs ≡ Err f → given_before front (serve end (drop i ws) s bs) ≡ Err f
 unfolding serve
-serve_stops after e end front ws i d s bs lt h =
+serve_err end front ws i d s bs f lt h =
     let k : drop i ws ≡ get_or ws i d ∷ drop (i + 1) ws = rw (add-one, drop-cons ws i d) refl in
-    subst (λ ws. WantFails after e (given_before front (serve end ws s bs))) (sym k) (wants_fail after e _ _ (wants_fail after e (want_at end (get_or ws i d) s bs) _ h))
+    rw (k, h) refl
 
 pub serve_end : (end : ℕ) (front : List Item) (ws : List Want) (i : ℕ) (s : Stand) (bs : List ℕ) → length ws ≤ i → given_before front (serve end (drop i ws) s bs) ≡ Ok (front, s, bs)
 unfolding serve
@@ -63,6 +66,15 @@ close_reads {p} {q} {r} ws answers s nodes is a b closed = want_then (λ end. se
   takes = b.takes;
   is = λ rest. let k : r.at + length rest - length rest ≡ r.at = omega arith in rw (b.is rest) (rw k (rw closed refl));
 })
+
+-- a block is left where the end is wanted
+pub close_stops : {p q r : Place} (ws : List Want) (answers : List Item) (s : Stand) (e : StreamFault) → Reads p q (λ end bs. magic_at end (0xAC ∷ 0xED ∷ 0x00 ∷ 0x05 ∷ []) bs) (λ rest. rest)
+    → Reads q r (λ end. serve end ws nothing_read) (λ rest. (answers, s, rest)) → e ≡ faults.Bad kinds.BlockLeft r.at → s.block ≢ 0 → WantBreaks p r e (λ end. wants_at end ws)
+unfolding wants_at serve_all close_at
+close_stops {p} {q} {r} ws answers s e a b is some =
+    let open_block : eqb s.block 0 ≡ false = ne_eqb s.block 0 some in
+    rw is (inside_later (λ end. serve_all end ws) a (want_later _ b (want_here kinds.BlockLeft r.at (λ end bs here.
+    let k : end - length bs ≡ r.at = omega (arith, here) in rw open_block (ap (λ n. Err (block_left n)) k)))))
 
 magic_is : (end : ℕ) (ws bs rest : List ℕ) → magic_at end ws bs ≡ Ok rest → bs ≡ ws ++ rest
 unfolding magic_at
@@ -93,7 +105,7 @@ pub gives_asked : (after : StreamFault) (end : ℕ) (ws : List Want) (answers : 
     → WantGives {Y = Whole} after (λ x. (x.0, x.1.nodes, x.1.items, now)) result (wants_at end ws coming) → coming ≡ 0xAC ∷ 0xED ∷ 0x00 ∷ 0x05 ∷ bytes → InLimits nodes → IsAsked ws answers nodes bytes rest → AnswersAsked answers nodes rest now result
 unfolding wants_at magic_at
 gives_asked after end ws answers nodes bytes rest now coming result h here limits asked =
-    let given : complete.Given nodes = record { few = limits.few; parts = limits.parts; numbers = limits.numbers; units = limits.units } in
+    let given : complete.Given nodes = record { few = limits.few; parts = limits.parts; numbers = asked.numbers; units = asked.units } in
     let read : wants_at end ws coming ≡ Ok (answers, nodes, joined answers, rest) = ap (λ (l : List ℕ). wants_at end ws l) here ∙ asked_complete end ws answers nodes bytes rest given asked in
     go result h read
   where

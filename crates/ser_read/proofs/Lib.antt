@@ -7,8 +7,10 @@ pub mod Links
 pub mod Slots
 pub mod Blocks
 pub mod Joins
+pub mod Stopping
 pub mod Parts
 pub mod Bytes
+pub mod Breaking
 pub mod Wants
 pub mod Heads
 pub mod Runs

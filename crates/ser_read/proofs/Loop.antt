@@ -2,10 +2,7 @@
 use Rattle.std.proofs.Common.{◌≡◌, ℕ, zero, suc, inl, inr, ◌+◌, ◌-◌, ◌<◌, ◌≤◌, List, [], ◌∷◌, ◌++◌, length, drop, get_or, Result, Ok, Err, refl, sym, ap, subst, append_assoc, arith, drop-cons, add-one, length-drop}
 use Rattle.std.proofs.lemmas.List.{append-nil, nil_from_length}
 use Rattle.ser_values.specs.Reading.{◌>>=◌, Fault, Progress, Step, many_at, plain, byte_at, take_at}
-use Rattle.ser_read.specs.declared.fault.StreamFault.{StreamFault}
-use Rattle.ser_read.specs.Here.{Fails}
 use Rattle.ser_read.specs.Lists.{all_at}
-use Rattle.ser_read.proofs.Steps.{fails_then}
 use Rattle.ser_read.proofs.Bytes.{takes_all, takes_short}
 use Rattle.std.proofs.lemmas.Bool.{cases_lt}
 
@@ -29,13 +26,6 @@ many_next step front n i now bs x later rest lt h =
     let k : n - i ≡ suc (n - (i + 1)) = omega arith in
     rw (k, h) (regroup front x (many_at step (n - (i + 1)) later rest))
 
-pub many_stops : {A : Type 0} (after e : StreamFault) (step : Step A) (front : List A) (n i : ℕ) (now : Progress) (bs : List ℕ) → i < n → Fails after e (step now bs) → Fails after e (front_of front (many_at step (n - i) now bs))
-unfolding many_at
-many_stops {A} after e step front n i now bs lt h =
-    let k : n - i ≡ suc (n - (i + 1)) = omega arith in
-    let one : Fails after e (front_of front (many_at step (suc (n - (i + 1))) now bs)) = fails_then after e (step now bs >>= λ x. many_at step (n - (i + 1)) x.1 x.2 >>= λ xs. Ok (x.0 ∷ xs.0, xs.1, xs.2)) _ (fails_then after e (step now bs) _ h) in
-    subst (λ k. Fails after e (front_of front (many_at step k now bs))) (sym k) one
-
 pub many_end : {A : Type 0} (step : Step A) (front : List A) (n i : ℕ) (now : Progress) (bs : List ℕ) → n ≤ i → front_of front (many_at step (n - i) now bs) ≡ Ok (front, now, bs)
 unfolding many_at
 many_end {A} step front n i now bs le = let k : n - i ≡ 0 = omega arith in rw k (ap (λ (xs : List A). Ok (xs, now, bs)) (append-nil front))
@@ -55,15 +45,6 @@ unfolding all_at
 all_next step front cs i d now bs x later rest lt h =
     let k : drop i cs ≡ get_or cs i d ∷ drop (i + 1) cs = rw (add-one, drop-cons cs i d) refl in
     rw (k, h) (regroup front x (all_at step (drop (i + 1) cs) later rest))
-
-pub all_stops : {A B : Type 0} (after e : StreamFault) (step : B → Step A) (front : List A) (cs : List B) (i : ℕ) (d : B) (now : Progress) (bs : List ℕ) → i < length cs → Fails after e (step (get_or cs i d) now bs) → Fails after e (front_of front (all_at step (drop i cs) now bs))
-unfolding all_at
-all_stops {A} {B} after e step front cs i d now bs lt h =
-    let k : drop i cs ≡ get_or cs i d ∷ drop (i + 1) cs = rw (add-one, drop-cons cs i d) refl in
-    let c = get_or cs i d in
-    let more = drop (i + 1) cs in
-    let one : Fails after e (front_of front (all_at step (c ∷ more) now bs)) = fails_then after e (step c now bs >>= λ x. all_at step more x.1 x.2 >>= λ xs. Ok (x.0 ∷ xs.0, xs.1, xs.2)) _ (fails_then after e (step c now bs) _ h) in
-    subst (λ cs. Fails after e (front_of front (all_at step cs now bs))) (sym k) one
 
 pub all_end : {A B : Type 0} (step : B → Step A) (front : List A) (cs : List B) (i : ℕ) (now : Progress) (bs : List ℕ) → length cs ≤ i → front_of front (all_at step (drop i cs) now bs) ≡ Ok (front, now, bs)
 unfolding all_at
@@ -92,6 +73,3 @@ many_bytes (suc n) now (b ∷ bs) = rw (many_bytes n now bs) (elim (cases_lt (le
 pub all_next_item : {A B : Type 0} (step : B → Step A) (front : List A) (cs : List B) (i : ℕ) (c : B) (now : Progress) (bs : List ℕ) (x : A) (later : Progress) (rest : List ℕ) → i < length cs → c ≡ get_or cs i c → step c now bs ≡ Ok (x, later, rest)
     → front_of front (all_at step (drop i cs) now bs) ≡ front_of (front ++ x ∷ []) (all_at step (drop (i + 1) cs) later rest)
 all_next_item {A} step front cs i c now bs x later rest lt is h = all_next step front cs i c now bs x later rest lt (subst (λ c. step c now bs ≡ Ok (x, later, rest)) is h)
-
-pub all_stops_item : {A B : Type 0} (after e : StreamFault) (step : B → Step A) (front : List A) (cs : List B) (i : ℕ) (c : B) (now : Progress) (bs : List ℕ) → i < length cs → c ≡ get_or cs i c → Fails after e (step c now bs) → Fails after e (front_of front (all_at step (drop i cs) now bs))
-all_stops_item after e step front cs i c now bs lt is h = all_stops after e step front cs i c now bs lt (subst (λ c. Fails after e (step c now bs)) is h)

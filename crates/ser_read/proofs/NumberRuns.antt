@@ -3,13 +3,11 @@ use Rattle.std.proofs.Common.{◌≡◌, ℕ, zero, suc, inl, inr, ◌+◌, ◌-
 use Rattle.std.proofs.lemmas.Bool.{cases_lt}
 use Rattle.std.proofs.lemmas.List.{append-nil, nil_from_length, take-append-le, drop-append-le, drop-drop}
 use Rattle.ser_values.specs.Reading.{Fault, Progress, Step, many_at, take_at, short}
-use Rattle.ser_read.specs.declared.fault.StreamFault.{StreamFault}
 use Rattle.wire_io.specs.Pulled.{Place}
-use Rattle.ser_read.specs.Here.{Fails, Reads}
+use Rattle.ser_read.specs.Here.{Reads}
 use Rattle.ser_read.specs.NumberRuns.{of_front, run_of}
-use Rattle.ser_read.proofs.Steps.{fails_of}
 use Rattle.ser_read.proofs.Loop.{front_of, regroup}
-use Rattle.ser_read.proofs.Bytes.{takes_all, takes_short, taken_is, none}
+use Rattle.ser_read.proofs.Bytes.{takes_all, takes_short, taken_is}
 
 -- Reading takes so many bytes, and is what they spell.
 abbrev pub Fixed : {A : Type 0} → Step A → ℕ → (List ℕ → A) → Type 0
@@ -37,12 +35,11 @@ many_short step width value is (suc more) (suc left) now bs le few = elim (cases
   | inr there ↦ rw (one_there step width value is now bs there) (rw (many_short step width value is more left now (drop width bs) (omega arith) (omega (arith, suc_times more width, length-drop width bs))) refl)
 ]
 
-pub run_stops : {A : Type 0} (after e : StreamFault) (step : Step A) (width : ℕ) (value : List ℕ → A) → Fixed step width value → (front : List A) (left more : ℕ) (now : Progress) (bs : List ℕ) → more ≤ left
-    → Fails after e (take_at (more * width) bs) → Fails after e (front_of front (many_at step left now bs))
-run_stops after e step width value is front left more now bs le h = elim (cases_lt (length bs) (more * width)) [
-  | inl lt ↦ (let s : front_of front (many_at step left now bs) ≡ Err short = rw (many_short step width value is more left now bs le lt) refl in
-      fails_of after e short (take_at (more * width) bs) _ (takes_short (more * width) bs lt) s h)
-  | inr there ↦ none after e (take_at (more * width) bs) _ _ (takes_all (more * width) bs there) h
+pub run_err : {A : Type 0} (step : Step A) (width : ℕ) (value : List ℕ → A) → Fixed step width value → (front : List A) (left more : ℕ) (now : Progress) (bs : List ℕ) (f : Fault) → more ≤ left
+    → take_at (more * width) bs ≡ Err f → front_of front (many_at step left now bs) ≡ Err f
+run_err step width value is front left more now bs f le h = elim (cases_lt (length bs) (more * width)) [
+  | inl lt ↦ rw (many_short step width value is more left now bs le lt) (let same : short ≡ f = (let e = sym (takes_short (more * width) bs lt) ∙ h in cc) in ap (λ (x : Fault). Err x) same)
+  | inr there ↦ absurd (let e = sym (takes_all (more * width) bs there) ∙ h in cc)
 ]
 
 -- ---- the bytes of some of them

@@ -6,12 +6,9 @@ use Rattle.std.proofs.lemmas.List.{length-take, take-append-drop, append-nil}
 use Rattle.ser_values.specs.Reading.{Fault, take_at, short}
 use Rattle.ser_read.specs.declared.block.Head.{Head}
 use Rattle.ser_read.specs.declared.block.Head.TheVariants.{Block, Code}
-use Rattle.ser_read.specs.declared.fault.StreamFault.{StreamFault}
-use Rattle.ser_read.specs.Here.{Fails}
 use Rattle.ser_read.specs.Heads.{head_at}
-use Rattle.ser_read.specs.Wants.{WantFault, inside, ◌▸◌, lifted, only_block, opened_at, run_at, WantFails}
+use Rattle.ser_read.specs.Wants.{WantFault, inside, ◌▸◌, lifted, only_block, opened_at, run_at}
 use Rattle.ser_read.proofs.Heads.{head_full}
-use Rattle.ser_read.proofs.Wants.{lifted_fails, wants_fail}
 use Rattle.ser_read.proofs.Bytes.{takes_all, takes_short}
 
 abbrev pub Run : Type 0
@@ -59,10 +56,14 @@ unfolding run_at
 run_opens end zero block bs k rest lt e = absurd (omega arith)
 run_opens end (suc n) block bs k rest lt e = rw (e, opened_here end k rest (opened_some end block bs k rest e)) refl
 
-pub run_unopened : (after e : StreamFault) (end n block : ℕ) (bs : List ℕ) → 0 < n → WantFails after e (opened_at end block bs) → WantFails after e (run_at end n block bs)
+pub run_unopened : (front : List ℕ) (end n block : ℕ) (bs : List ℕ) (f : WantFault) → 0 < n → opened_at end block bs ≡ Err f → behind front (run_at end n block bs) ≡ Err f
 unfolding run_at
-run_unopened after e end zero block bs lt h = absurd (omega arith)
-run_unopened after e end (suc n) block bs lt h = wants_fail after e (opened_at end block bs) _ h
+run_unopened front end zero block bs f lt h = absurd (omega arith)
+run_unopened front end (suc n) block bs f lt h = rw h refl
+
+pub opened_none : (end block : ℕ) (bs : List ℕ) → block ≡ 0 → opened_at end block bs ≡ (lifted (head_at end bs) ▸ only_block)
+unfolding opened_at
+opened_none end block bs h = rw h refl
 
 -- ---- a piece of it
 
@@ -108,9 +109,8 @@ pub piece_next : (front : List ℕ) (end more n k : ℕ) (bs piece rest : List �
     → behind front (run_at end n k bs) ≡ behind (front ++ piece) (run_at end (n - more) (k - more) rest)
 piece_next front end more n k bs piece rest a b h = ap (behind front) (run_split end more n k bs a b ∙ rw h refl) ∙ behind_two front piece (run_at end (n - more) (k - more) rest)
 
-pub piece_stops : (after e : StreamFault) (front : List ℕ) (end more n k : ℕ) (bs : List ℕ) → more ≤ n → more ≤ k → Fails after e (take_at more bs) → WantFails after e (behind front (run_at end n k bs))
-piece_stops after e front end more n k bs a b h =
-    wants_fail after e (run_at end n k bs) _ (subst (λ r. WantFails after e r) (sym (run_split end more n k bs a b)) (lifted_fails after e (take_at more bs) _ h))
+pub piece_err : (front : List ℕ) (end more n k : ℕ) (bs : List ℕ) (f : Fault) → more ≤ n → more ≤ k → take_at more bs ≡ Err f → behind front (run_at end n k bs) ≡ Err (inside f)
+piece_err front end more n k bs f a b h = let e : run_at end n k bs ≡ Err (inside f) = run_split end more n k bs a b ∙ rw h refl in ap (behind front) e
 
 pub run_end : (front : List ℕ) (end k : ℕ) (bs : List ℕ) → behind front (run_at end 0 k bs) ≡ Ok (front, k, bs)
 unfolding run_at

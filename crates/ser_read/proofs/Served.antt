@@ -11,6 +11,9 @@ use Rattle.ser_values.specs.Shape.{is_joined, parts_in}
 use Rattle.ser_values.specs.Numbered.{NumberAll, Numbered, IsGraph}
 use Rattle.ser_values.specs.Spelled.{joined, Spells}
 use Rattle.ser_values.specs.Reading.{Fault, Progress, slot_at, coded}
+use Rattle.std.proofs.lemmas.List.Elements.{All-nil}
+use Rattle.ser_values.specs.Ranges.{InRange}
+use Rattle.ser_values.proofs.Ranged.{numbers_of, units_of}
 use Rattle.ser_values.proofs.PlainSound as plain
 use Rattle.ser_values.proofs.Solid.{Solid, Got, got_none, got_map, got_two}
 use Rattle.ser_values.proofs.Sound.{slots_sound}
@@ -122,7 +125,7 @@ unfolding has item_wants
 at_start = record {
   raw = [];
   same = refl;
-  got = got_none [] start [] _ (record { above = λ k i gone is desc. absurd cc; good = λ k i gone is. absurd cc; below = λ k h. absurd cc; few = omega arith }) tt (λ F sees. refl);
+  got = got_none [] start [] _ (record { above = λ k i gone is desc. absurd cc; good = λ k i gone is. absurd cc; below = λ k h. absurd cc; few = omega arith; ranged = All-nil InRange }) tt (λ F sees. refl);
 }
 
 bytes_so_far : (end n : ℕ) (before after : Stand) (bs x rest : List ℕ) → bytes_at end n before bs ≡ Ok (x, after, rest) → SoFar before → SoFar after
@@ -190,6 +193,8 @@ served_graph s h few =
       joined = ap is_joined f.same ∙ joined_joined f.raw;
       few_nodes = few;
       few_parts = omega arith;
+      numbers = numbers_of N f.got.solid.ranged;
+      units = units_of N f.got.solid.ranged;
     }
 
 -- ---- one want more

@@ -1,5 +1,5 @@
 -- References, and what is read in one way whatever stands inside.
-use Rattle.std.proofs.Common.{◌≡◌, if◌then◌else◌, ℕ, zero, suc, ◌+◌, ◌-◌, ◌^◌, Bool, true, false, List, length, Result, Ok, Err, IfOk, refl, sym, ap, subst, ◌∙◌, arith}
+use Rattle.std.proofs.Common.{◌≡◌, if◌then◌else◌, ℕ, zero, suc, ◌+◌, ◌-◌, ◌^◌, Bool, true, false, List, [], ◌∷◌, ◌++◌, length, Result, Ok, Err, IfOk, refl, sym, ap, subst, ◌∙◌, arith}
 use Rattle.class_desc.specs.declared.slot.Slot.{Slot}
 use Rattle.class_desc.specs.declared.slot.Slot.TheVariants as slots
 use Rattle.class_desc.specs.declared.field.TypeCode.{TypeCode}
@@ -11,11 +11,16 @@ use Rattle.wire_io.specs.Pulled as pulled
 use Rattle.ser_values.specs.Reading.{◌>>=◌, Fault, Progress, Step, Slots, fill, byte_at, take_at, size_at, value_at, elements_at, null_at, coded, slot_at}
 use Rattle.ser_read.specs.declared.fault.StreamFault.{StreamFault}
 use Rattle.ser_read.specs.declared.fault.StreamFault.TheVariants as faults
-use Rattle.ser_read.specs.Here.{Fails, Gives, Reads}
+use Rattle.ser_read.specs.declared.fault.Large.TheVariants as larges
+use Rattle.std.specs.Prelude.{IfErr}
+use Rattle.ser_read.specs.Here.{Caused, Gives, Reads, Breaks}
 use Rattle.std.specs.Int.{w32}
 use Rattle.class_desc.specs.declared.slot.Item.TheVariants as items
+use Rattle.ser_read.specs.Wants.{Stand, ◌▸◌, reference_at, slot_next}
 use Rattle.ser_read.specs.Named.{item_at}
-use Rattle.ser_read.proofs.Steps.{done, fails_then}
+use Rattle.ser_read.proofs.Steps.{done}
+use Rattle.wire_io.proofs.Pulling.{takes_nothing}
+use Rattle.ser_read.proofs.Breaking.{breaks_as, bad_here, many_here, deep_here, no_memory}
 
 pub slot_is : (end left : ℕ) (p : Place) (unread : List ℕ) (now : Progress) (bs : List ℕ) → slot_at end left p unread now bs ≡ (byte_at bs >>= λ c. coded end left (slot_at end (left - 1)) p unread (end - length bs) c.0 now c.1)
 unfolding slot_at coded
@@ -28,9 +33,6 @@ slot_here end left p unread now bs at e = let h : end - length bs ≡ at = omega
 pub slot_gives : (end left : ℕ) (p : Place) (unread : List ℕ) (now : Progress) (bs : List ℕ) (at code : ℕ) (rest : List ℕ) → end ≡ at + length bs → byte_at bs ≡ Ok (code, rest)
     → slot_at end left p unread now bs ≡ coded end left (slot_at end (left - 1)) p unread at code now rest
 slot_gives end left p unread now bs at code rest e h = slot_here end left p unread now bs at e ∙ rw h refl
-
-pub slot_fails : (after e : StreamFault) (end left : ℕ) (p : Place) (unread : List ℕ) (now : Progress) (bs : List ℕ) → Fails after e (byte_at bs) → Fails after e (slot_at end left p unread now bs)
-slot_fails after e end left p unread now bs h = subst (λ r. Fails after e r) (sym (slot_is end left p unread now bs)) (fails_then after e (byte_at bs) (λ c. coded end left (slot_at end (left - 1)) p unread (end - length bs) c.0 now c.1) h)
 
 -- a node that was written over
 pub made : (k n : ℕ) (now later : Progress) (i : Node) (bs : List ℕ) (r : Result (Slot × Progress × List ℕ) Fault) → r ≡ Ok (slots.Node k, fill now k i, bs) → n ≡ k → later ≡ fill now n i → r ≡ Ok (slots.Node n, later, bs)
@@ -45,6 +47,17 @@ pub null_reads : (q : pulled.Place) (left : ℕ) (inner : ℕ → Slots) (p : Pl
     → ((after : StreamFault) (now : Progress) (bs : List ℕ) → Gives {Y = Slot × Progress × List ℕ} after (λ slot. (slot, now, bs)) result (null_at p at now bs)) → IfOk result (λ x. Reads {Y = Slot × Progress × List ℕ} q q (λ end. coded end left (inner end) p unread at code now) (λ rest. (x, now, rest)))
 null_reads q left inner p unread at code now (Ok x) h g = done (λ end bs. coded_null end left (inner end) p unread at code now bs h ∙ g faults.ReadFault now bs)
 null_reads q left inner p unread at code now (Err e) h g = tt
+
+pub null_stops : (q : pulled.Place) (left : ℕ) (inner : ℕ → Slots) (p : Place) (unread : List ℕ) (at code : ℕ) (now : Progress) (result : Result Slot StreamFault) → code ≡ 0x70
+    → ((after : StreamFault) (now : Progress) (bs : List ℕ) → Gives {Y = Slot × Progress × List ℕ} after (λ slot. (slot, now, bs)) result (null_at p at now bs)) → ((n : ℕ) → Caused n n result) → IfErr result (λ e. Breaks {Y = Slot × Progress × List ℕ} q q e (λ end. coded end left (inner end) p unread at code now))
+null_stops q left inner p unread at code now (Ok x) h g cause = tt
+null_stops q left inner p unread at code now (Err (faults.Bad kind a)) h g cause = bad_here kind a (g faults.ReadFault now []).1 (λ end bs here. coded_null end left (inner end) p unread at code now bs h ∙ (g faults.ReadFault now bs).0)
+null_stops q left inner p unread at code now (Err (faults.TooLarge larges.Nodes a)) h g cause = many_here a (λ end bs here. coded_null end left (inner end) p unread at code now bs h ∙ g faults.ReadFault now bs)
+null_stops q left inner p unread at code now (Err (faults.TooLarge larges.Depth a)) h g cause = deep_here a (λ end bs here. coded_null end left (inner end) p unread at code now bs h ∙ g faults.ReadFault now bs)
+null_stops q left inner p unread at code now (Err (faults.TooLarge larges.Bytes a)) h g cause = absurd (let e = (g faults.ReadFault now []).1 in cc)
+null_stops q left inner p unread at code now (Err (faults.Truncated a)) h g cause = absurd (let e = (g faults.ReadFault now []).1 in cc)
+null_stops q left inner p unread at code now (Err faults.ReadFault) h g cause = record { is = (([], takes_nothing q), cause q.faults) }
+null_stops q left inner p unread at code now (Err faults.OutOfMemory) h g cause = no_memory
 
 -- values and elements of primitive types have no references
 pub value_any : (code : TypeCode) (a b : Step Slot) (now : Progress) (bs : List ℕ) → is_primitive code ≡ true → value_at a code now bs ≡ value_at b code now bs
@@ -87,3 +100,14 @@ when y h r = record { taken = r.taken; bytes = r.bytes; takes = r.takes; is = λ
 
 pub otherwise : {Y : Type 0} {p q : pulled.Place} {b : Bool} (x : ℕ → List ℕ → Result Y Fault) {y : ℕ → List ℕ → Result Y Fault} {out : List ℕ → Y} → b ≡ false → Reads p q y out → Reads p q (λ end bs. if b then x end bs else y end bs) out
 otherwise x h r = record { taken = r.taken; bytes = r.bytes; takes = r.takes; is = λ rest. rw h (r.is rest) }
+
+pub stops_when : {Y : Type 0} {p q : pulled.Place} {e : StreamFault} {b : Bool} {x : ℕ → List ℕ → Result Y Fault} (y : ℕ → List ℕ → Result Y Fault) → b ≡ true → Breaks p q e x → Breaks p q e (λ end bs. if b then x end bs else y end bs)
+stops_when y h r = breaks_as (λ end bs f here is. rw h is) r
+
+pub stops_otherwise : {Y : Type 0} {p q : pulled.Place} {e : StreamFault} {b : Bool} (x : ℕ → List ℕ → Result Y Fault) {y : ℕ → List ℕ → Result Y Fault} → b ≡ false → Breaks p q e y → Breaks p q e (λ end bs. if b then x end bs else y end bs)
+stops_otherwise x h r = breaks_as (λ end bs f here is. rw h is) r
+
+-- a reference where block data is left, and where none is
+pub slot_none : (end : ℕ) (s : Stand) (bs : List ℕ) → s.block ≡ 0 → slot_next end s bs ≡ (reference_at end s.progress bs ▸ λ x. Ok (x.0, record { progress = x.1; items = s.items ++ items.Ref x.0 ∷ []; block = 0 }, x.2))
+unfolding slot_next
+slot_none end s bs h = rw h refl

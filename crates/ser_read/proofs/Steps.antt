@@ -89,7 +89,7 @@ said_last p q out (Err e) same h = tt
 
 -- ---- where the bytes are told
 
-end_is : (o : Option (List ℕ)) (at stop : ℕ) → (env_at o at stop).told ≡ true → (env_at o at stop).end ≡ at + length (coming_at o at stop)
+pub end_is : (o : Option (List ℕ)) (at stop : ℕ) → (env_at o at stop).told ≡ true → (env_at o at stop).end ≡ at + length (coming_at o at stop)
 end_is Option.None at stop known = absurd cc
 end_is (Option.Some bs) at stop known = refl
 

@@ -6,7 +6,9 @@ use Rattle.ser_values.specs.declared.node.Node.{Node}
 use Rattle.ser_values.specs.declared.node.Place.TheVariants as places
 use Rattle.ser_values.specs.Node.{has}
 use Rattle.ser_values.specs.Numbered.{IsGraph}
-use Rattle.ser_values.specs.Ranges.{NumbersFit, UnitsFit}
+use Rattle.std.proofs.lemmas.List.Elements.{All-nil}
+use Rattle.ser_values.specs.Ranges.{InRange}
+use Rattle.ser_values.proofs.Ranged.{numbers_of, units_of}
 use Rattle.ser_values.specs.Shape.{parts_in}
 use Rattle.ser_values.specs.Spelled.{Spells, SpellsItems, IsStream}
 use Rattle.ser_values.specs.Reading.{◌>>=◌, Fault, bad, bad_magic, byte_at, magic_at, items_at, slot_at, stream_of}
@@ -52,15 +54,15 @@ magic_sound end (w ∷ ws) bs rest e bytes =
     let more = magic_sound end ws a.0.1 rest p.1 s.0 in
     record { parts = s.1 ∙ (ap (λ z. z ∷ a.0.1) (eqb-true a.0.0 w p.0) ∙ ap (λ (l : List ℕ). w ∷ l) more.parts); left = more.left }
 
--- Bytes that are read are a stream of the nodes and items that are answered, whose objects have at most 2^20 parts.
-pub stream_at_sound : (end : ℕ) (bytes : List ℕ) (x : Answer) → AreBytes bytes → stream_at end bytes ≡ Ok x → IsStream x.0 x.1 bytes × (parts_in x.0 ≤ 1048576)
+-- Bytes that are read are a stream of the nodes and items that are answered.
+pub stream_at_sound : (end : ℕ) (bytes : List ℕ) (x : Answer) → AreBytes bytes → stream_at end bytes ≡ Ok x → IsStream x.0 x.1 bytes
 unfolding stream_at has parts_in
 stream_at_sound end bytes x are e =
     let a = bind_ok (magic_at end (0xAC ∷ 0xED ∷ 0x00 ∷ 0x05 ∷ []) bytes) (λ bs. items_at end (slot_at end 200 places.Reference []) false nothing_read bs >>= λ x. Ok (x.1.nodes, x.0)) x e in
     let b = bind_ok (items_at end (slot_at end 200 places.Reference []) false nothing_read a.0) (λ x. Ok (x.1.nodes, x.0)) x a.2 in
     let y = b.0 in
     let m = magic_sound end (0xAC ∷ 0xED ∷ 0x00 ∷ 0x05 ∷ []) bytes a.0 a.1 (same_bytes bytes are) in
-    let solid : Solid [] nothing_read = record { above = λ k i gone is desc. absurd cc; good = λ k i gone is. absurd cc; below = λ k h. absurd cc; few = omega arith } in
+    let solid : Solid [] nothing_read = record { above = λ k i gone is desc. absurd cc; good = λ k i gone is. absurd cc; below = λ k h. absurd cc; few = omega arith; ranged = All-nil InRange } in
     let g = items_sound (λ F. Spells F 200) (slot_at end 200) (slots_sound end 200) [] end false nothing_read a.0 y b.1 solid m.left in
     let F = y.1.nodes in
     let spelled : SpellsItems (Spells F 200 []) y.0 0 a.0 g.stop (length F) = g.got.spelled F (record { descs = λ k i gone is desc. is; texts = λ k i is t. is; long = omega arith }) (λ k low lt. refl) in
@@ -68,11 +70,12 @@ stream_at_sound end bytes x are e =
     let all : parts_in F ≡ parts_in g.got.added = ap parts_in g.got.grown in
     let p = g.got.parts in
     let few = g.got.solid.few in
-    subst (λ (x : Answer). IsStream x.0 x.1 bytes × (parts_in x.0 ≤ 1048576)) (ok_is (F, y.0) x b.2) (record { contents = a.0; headed = m.parts; spelled = ended }, omega arith)
+    let ranged = g.got.solid.ranged in
+    subst (λ (x : Answer). IsStream x.0 x.1 bytes) (ok_is (F, y.0) x b.2) (record { contents = a.0; headed = m.parts; spelled = ended; numbers = numbers_of F ranged; units = units_of F ranged; few_parts = omega arith })
 
 -- What is read is a graph.
 pub graph_at : (end : ℕ) (bytes : List ℕ) (x : Answer) → AreBytes bytes → stream_at end bytes ≡ Ok x → IsGraph x.0 x.1
-graph_at end bytes x are e = let s = stream_at_sound end bytes x are e in stream_graph x.0 x.1 bytes s.0 (stream_few x.0 x.1 bytes s.0) s.1
+graph_at end bytes x are e = let s = stream_at_sound end bytes x are e in stream_graph x.0 x.1 bytes s (stream_few x.0 x.1 bytes s)
 
 abbrev answer : List Node → List Item → Result (List Node × List Item) Fault
 answer nodes is = Ok (nodes, is)
@@ -81,11 +84,11 @@ magic_read : (end : ℕ) (contents : List ℕ) → magic_at end (0xAC ∷ 0xED �
 unfolding magic_at
 magic_read end contents = refl
 
--- Each stream whose numbers and units are in range, and whose objects have at most 2^20 parts, is read.
-pub stream_at_complete : (end : ℕ) (nodes : List Node) (items : List Item) (bytes : List ℕ) → NumbersFit nodes → UnitsFit nodes → parts_in nodes ≤ 1048576 → IsStream nodes items bytes → stream_at end bytes ≡ Ok (nodes, items)
+-- Each stream is read.
+pub stream_at_complete : (end : ℕ) (nodes : List Node) (items : List Item) (bytes : List ℕ) → IsStream nodes items bytes → stream_at end bytes ≡ Ok (nodes, items)
 unfolding stream_at has parts_in
-stream_at_complete end F is bytes numbers units parts h =
-    let given : Given F = record { few = stream_few F is bytes h; parts = parts; numbers = numbers; units = units } in
+stream_at_complete end F is bytes h =
+    let given : Given F = record { few = stream_few F is bytes h; parts = h.few_parts; numbers = h.numbers; units = h.units } in
     let ready : Ready F [] nothing_read = record { parts = refl; below = λ k e. absurd cc; known = λ k i lt e is d. absurd (omega arith); texts = λ k i lt is t. absurd (omega arith) } in
     let magic : magic_at end (0xAC ∷ 0xED ∷ 0x00 ∷ 0x05 ∷ []) bytes ≡ Ok h.contents = ap (magic_at end (0xAC ∷ 0xED ∷ 0x00 ∷ 0x05 ∷ [])) h.headed ∙ magic_read end h.contents in
     let r = items_reads F (Spells F 200) (slot_at end 200) (slots_complete F given end 200) (spells_begin F 200) [] (spells_shrink F 200 []) end false is nothing_read h.contents [] [] (length F) h.spelled (refl, refl) ready in

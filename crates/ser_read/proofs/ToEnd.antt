@@ -1,41 +1,42 @@
 -- Reading to the end of the input.
 use Rattle.std.proofs.Common.{◌≡◌, ℕ, suc, ◌+◌, ◌-◌, ◌≤◌, ◌<◌, true, false, List, [], ◌∷◌, ◌++◌, length, take, drop, Option, None, Some, Result, Ok, Err, IfOk, refl, sym, ap, subst, ◌∙◌, arith, append-nil}
-use Rattle.std.specs.Prelude.{IsErrAnd}
+use Rattle.std.specs.Prelude.{IsErrAnd, IfErr}
 use Rattle.std.proofs.lemmas.List.{take_all, drop_all, length-take-le, length-drop}
 use Rattle.class_desc.specs.declared.slot.Slot.{Slot}
 use Rattle.class_desc.specs.declared.slot.Item.{Item}
 use Rattle.wire_io.specs.Wire.{NothingLeft}
-use Rattle.wire_io.specs.Pulled.{Place, Takes, GivesByte}
+use Rattle.wire_io.specs.Pulled.{Place, place, Takes, GivesByte}
 use Rattle.wire_io.specs.declared.pull.PullEnd.{PullEnd}
-use Rattle.wire_io.specs.declared.pull.PullEnd.TheVariants.{End}
-use Rattle.wire_io.proofs.Pulling.{takes_more, takes_stop}
+use Rattle.wire_io.specs.declared.pull.PullEnd.TheVariants.{End, Limit}
+use Rattle.wire_io.specs.declared.pull.PullEnd.TheVariants as ends
+use Rattle.wire_io.proofs.Pulling.{takes_nothing, takes_more, takes_stop}
 use Rattle.ser_values.specs.declared.graph.Graph.{Graph}
 use Rattle.ser_values.specs.declared.node.Node.{Node}
 use Rattle.ser_values.specs.declared.node.Place.TheVariants as places
 use Rattle.ser_values.specs.Numbered.{IsGraph}
-use Rattle.ser_values.specs.Reading.{◌>>=◌, Fault, short, Progress, Step, byte_at, magic_at, blocks_at, items_at, slot_at}
+use Rattle.ser_values.specs.Reading.{◌>>=◌, Fault, Kind, short, bad, too_many, too_deep, Progress, Step, byte_at, magic_at, blocks_at, items_at, slot_at}
 use Rattle.ser_read.specs.declared.fault.StreamFault.{StreamFault}
 use Rattle.ser_read.specs.declared.fault.StreamFault.TheVariants.{Bad, TooLarge, Truncated, ReadFault}
 use Rattle.ser_read.specs.declared.fault.StreamFault.TheVariants as faults
-use Rattle.ser_read.specs.declared.fault.Large.TheVariants.{Bytes}
+use Rattle.ser_read.specs.declared.fault.Large.TheVariants.{Bytes, Nodes, Depth}
 use Rattle.wire_io.specs.declared.pull.Pull.{Pull}
-use Rattle.ser_read.specs.Here.{IsBad, Fails, Gives, Reads, fault_after, env_at, coming_at, env, coming, IsTold}
-use Rattle.ser_read.specs.Whole.{nothing_read, stream_at, going_on, to_end, code_at, ReadsAll, TakesStream, AnswersGraph}
-use Rattle.ser_read.proofs.Pulling.{takes_told, told_end}
-use Rattle.ser_read.proofs.Bytes.{none, ok_is}
-use Rattle.ser_read.proofs.Steps.{bytes_more, fails_then, fails_of, fails_outside}
-use Rattle.ser_read.proofs.Blocks.{Items, Slack, added_all, after_all, byte_cons}
+use Rattle.ser_read.specs.Here.{kind_of, fault_of, Caused, IsBad, Fails, Gives, Reads, Breaks, fault_after, env_at, coming_at, env, coming, IsTold}
+use Rattle.ser_read.specs.Whole.{nothing_read, stream_at, going_on, to_end, ReadsAll, BreaksWhole, NoCode, TakesStream, AnswersGraph}
+use Rattle.ser_read.proofs.Pulling.{byte_ends}
+use Rattle.ser_read.proofs.Bytes.{ok_is}
+use Rattle.ser_read.proofs.Steps.{bytes_more, leads_read, fails_outside}
+use Rattle.ser_read.proofs.Breaking.{breaks_as, breaks_two, first, all_told, breaks_told, breaks_caused}
+use Rattle.ser_read.proofs.Blocks.{Items, Slack, slack_leads, added_all, after_all}
 use Rattle.ser_read.proofs.Streams.{Answer, stream_at_sound, graph_at}
 
 -- ---- up to the end
 
-pub to_end_fails : {Y : Type 0} (after e : StreamFault) (r : Result Y Fault) → Fails after e r → Fails after e (to_end after r)
-to_end_fails after e (Ok x) h = none after e (Ok x) x (to_end after (Ok x)) refl h
-to_end_fails (Bad kind at) e (Err f) h = h
-to_end_fails (TooLarge what at) e (Err f) h = h
-to_end_fails (Truncated at) e (Err f) h = h
-to_end_fails ReadFault e (Err f) h = h
-to_end_fails faults.OutOfMemory e (Err f) h = h
+pub to_end_err : {Y : Type 0} (e : StreamFault) (r : Result Y Fault) (f : Fault) → r ≡ Err f → to_end e r ≡ Err f
+to_end_err (Bad kind at) r f h = rw h refl
+to_end_err (TooLarge what at) r f h = rw h refl
+to_end_err (Truncated at) r f h = h
+to_end_err ReadFault r f h = rw h refl
+to_end_err faults.OutOfMemory r f h = rw h refl
 
 to_end_map : {X Y : Type 0} (after : StreamFault) (r : Result X Fault) (f : X → Y) → to_end after (r >>= λ x. Ok (f x)) ≡ (to_end after r >>= λ x. Ok (f x))
 to_end_map (Bad kind at) (Ok x) f = refl
@@ -52,73 +53,52 @@ to_end_map faults.OutOfMemory (Err e) f = refl
 abbrev given : {Y : Type 0} → Y → Result Y Fault
 given y = Ok y
 
--- Where the input ends, all was read.
-all_read : {Y : Type 0} (after : StreamFault) (rest : List ℕ) (y : Y) → code_at after [] ≡ Ok (None, rest) → to_end after (Ok y) ≡ Ok y
-all_read (Truncated at) rest y h = refl
-all_read (Bad kind at) rest y h = absurd cc
-all_read (TooLarge what at) rest y h = absurd cc
-all_read ReadFault rest y h = absurd cc
-all_read faults.OutOfMemory rest y h = absurd cc
+-- a fault that is said of the bytes
+wrong : {Y : Type 0} (r : Result Y Fault) (kind : Kind) (at : ℕ) → going_on r ≡ Err (bad kind at) → r ≡ Err (bad kind at)
+wrong (Ok x) kind at h = absurd cc
+wrong (Err f) kind at h = h
 
--- Where a code is wanting, so is what is read.
-wanting : {X Y : Type 0} (after e : StreamFault) (x : X) (y : Y) → Fails after e (to_end after (Ok x)) → Fails after e (to_end after (Ok y))
-wanting (Truncated at) e x y h = none (Truncated at) e (Ok x) x (Ok y) refl h
-wanting {X} {Y} (Bad kind at) e x y h = fails_of (Bad kind at) e short (to_end {Y = X} (Bad kind at) (Ok x)) (to_end {Y = Y} (Bad kind at) (Ok y)) refl refl h
-wanting {X} {Y} (TooLarge what at) e x y h = fails_of (TooLarge what at) e short (to_end {Y = X} (TooLarge what at) (Ok x)) (to_end {Y = Y} (TooLarge what at) (Ok y)) refl refl h
-wanting {X} {Y} ReadFault e x y h = fails_of ReadFault e short (to_end {Y = X} ReadFault (Ok x)) (to_end {Y = Y} ReadFault (Ok y)) refl refl h
-wanting {X} {Y} faults.OutOfMemory e x y h = fails_of faults.OutOfMemory e short (to_end {Y = X} faults.OutOfMemory (Ok x)) (to_end {Y = Y} faults.OutOfMemory (Ok y)) refl refl h
+many : {Y : Type 0} (r : Result Y Fault) (at : ℕ) → going_on r ≡ Err (too_many at) → r ≡ Err (too_many at)
+many (Ok x) at h = absurd cc
+many (Err f) at h = h
 
-some_none : {b : ℕ} → Some b ≡ None → ⊥
-some_none e = absurd cc
+deep : {Y : Type 0} (r : Result Y Fault) (at : ℕ) → going_on r ≡ Err (too_deep at) → r ≡ Err (too_deep at)
+deep (Ok x) at h = absurd cc
+deep (Err f) at h = h
 
-pub end_gives : (after : StreamFault) (end : ℕ) (inner : Step Slot) (most : ℕ) (now : Progress) (is : List Item) (bs rest : List ℕ) → code_at after bs ≡ Ok (None, rest) → to_end after (after_all is (blocks_at end inner false (suc most) now bs)) ≡ Ok (is, now, [])
+fails_to_end : {Y : Type 0} (after e : StreamFault) (r : Result Y Fault) → Fails after e (to_end e r) → Fails after e (to_end after r)
+fails_to_end after (Bad kind at) r h = (to_end_err after r _ (wrong r (kind_of kind) at h.0), h.1)
+fails_to_end after (TooLarge Nodes at) r h = to_end_err after r _ (many r at h)
+fails_to_end after (TooLarge Depth at) r h = to_end_err after r _ (deep r at h)
+fails_to_end after (TooLarge Bytes at) r h = (subst (λ a. to_end a r ≡ Err short) (sym h.1) h.0, h.1)
+fails_to_end after (Truncated at) r h = (subst (λ a. to_end a r ≡ Err short) (sym h.1) h.0, h.1)
+fails_to_end after ReadFault r h = tt
+fails_to_end after faults.OutOfMemory r h = tt
+
+-- ---- where reading ends at a fault
+
+pub breaks_whole : {Y : Type 0} {p q : Place} {e : StreamFault} {read : ℕ → List ℕ → Result Y Fault} → Breaks p q e read → BreaksWhole p q e read
+breaks_whole {Y} {p} {q} {e} {read} h = record { is = breaks_as (λ end bs f here is. to_end_err e (read end bs) f is) h }
+
+pub no_code : {p q m : Place} {inner : ℕ → Step Slot} {first now : Progress} {is : List Item} (e : StreamFault) → Slack p q inner false first now is → NoCode q m e → BreaksWhole p m e (λ end. items_at end (inner end) false first)
 unfolding blocks_at added_all
-end_gives after end inner most now is [] rest h = all_read after rest (is, now, []) h
-end_gives after end inner most now is (b ∷ bs) rest h = absurd (some_none (ap (λ (x : Option ℕ × List ℕ). x.0) (ok_is (Some b, bs) (None, rest) (code_at after (b ∷ bs)) refl h)))
+no_code {p} {q} {m} {inner} {first} (TooLarge Bytes at) s h =
+    let k : q.at + 0 ≡ q.at = omega arith in
+    let all = rw (append-nil, k) at (s.reads []) in
+    record { is = record { is = (q, record { taken = s.taken; takes = s.takes; here = h.0; is = rw all refl }, h.1) } }
+no_code ReadFault s h = breaks_whole (breaks_two (slack_leads s) (record { is = (([], h.0), h.1) }))
+no_code (TooLarge Nodes at) s h = absurd h
+no_code (TooLarge Depth at) s h = absurd h
+no_code (Bad kind at) s h = absurd h
+no_code (Truncated at) s h = absurd h
+no_code faults.OutOfMemory s h = absurd h
 
-pub end_fails : (after e : StreamFault) (end : ℕ) (inner : Step Slot) (most : ℕ) (now : Progress) (is : List Item) (bs : List ℕ) → Fails after e (code_at after bs) → Fails after e (to_end after (after_all is (blocks_at end inner false (suc most) now bs)))
-unfolding blocks_at added_all
-end_fails after e end inner most now is [] h = wanting after e _ _ h
-end_fails after e end inner most now is (b ∷ bs) h = none after e (code_at after (b ∷ bs)) (Some b, bs) _ refl h
-
--- ---- a code, or the end
-
-pub code_back : (after : StreamFault) (bs : List ℕ) (c : ℕ) (rest : List ℕ) → byte_at bs ≡ Ok (c, rest) → code_at after bs ≡ Ok (Some c, rest)
-code_back after bs c rest h = rw (byte_cons bs c rest h) refl
-
-no_byte : (bs : List ℕ) → byte_at bs ≡ Err short → bs ≡ []
-no_byte [] h = refl
-no_byte (b ∷ bs) h = absurd cc
-
-nothing_taken : (old new : Place) (e : PullEnd) (at : ℕ) → e ≡ End at → GivesByte old new (Err e) → Takes old new []
-nothing_taken old new e at is h = go (subst (λ e. GivesByte old new (Err e)) is h)
-  where
-    go : GivesByte old new (Err (End at)) → Takes old new []
-    go h = h.1
-
-pub code_ends : (old new : Place) (e : PullEnd) (at : ℕ) → e ≡ End at → GivesByte old new (Err e) → new.at ≤ new.stop → (env_at old.left old.at old.stop).told ≡ true
-    → code_at (env_at old.left old.at old.stop).after (coming_at old.left old.at old.stop) ≡ Ok (None, coming_at new.left new.at new.stop)
-code_ends old new e at is h le told =
-    let wants = told_end old new e at is h told in
-    let nothing = no_byte (coming_at old.left old.at old.stop) wants.0 in
-    let same = takes_told old new [] (nothing_taken old new e at is h) le told in
-    rw (wants.1, nothing) (ap (λ (rest : List ℕ). Ok (None, rest)) (sym nothing ∙ same))
-
-pub code_wants : (after : StreamFault) (at : ℕ) (bs : List ℕ) → Fails after (TooLarge Bytes at) (byte_at bs) → Fails after (TooLarge Bytes at) (code_at after bs)
-code_wants after at [] h = (rw h.1 refl, h.1)
-code_wants after at (b ∷ bs) h = none after (TooLarge Bytes at) (byte_at (b ∷ bs)) (b, bs) (code_at after (b ∷ bs)) refl h
-
-pub code_cons : (after : StreamFault) (bs : List ℕ) (c : ℕ) (rest : List ℕ) → code_at after bs ≡ Ok (Some c, rest) → bs ≡ c ∷ rest
-code_cons (Bad kind at) [] c rest h = absurd cc
-code_cons (TooLarge what at) [] c rest h = absurd cc
-code_cons (Truncated at) [] c rest h = absurd (some_none (ap (λ (x : Option ℕ × List ℕ). x.0) (ok_is (Some c, rest) (None, []) (code_at (Truncated at) []) h refl)))
-code_cons ReadFault [] c rest h = absurd cc
-code_cons faults.OutOfMemory [] c rest h = absurd cc
-code_cons after (b ∷ bs) c rest h = let e : (Some b, bs) ≡ (Some c, rest) = ok_is (Some b, bs) (Some c, rest) (code_at after (b ∷ bs)) refl h in
-    let same : Some b ≡ Some c = ap (λ (x : Option ℕ × List ℕ). x.0) e in
-    let left : bs ≡ rest = ap (λ (x : Option ℕ × List ℕ). x.1) e in
-    let one : b ≡ c = cc in
-    rw (one, left) refl
+-- why no code came
+pub no_code_by : (old new : Place) (e : PullEnd) → GivesByte old new (Err e) → ((at : ℕ) → e ≡ End at → ⊥) → NoCode old new (fault_of e)
+no_code_by old new (End at) h other = absurd (other at refl)
+no_code_by old new (Limit at) h other = h
+no_code_by old new ends.ReadFault h other = h
+no_code_by old new ends.OutOfMemory h other = h
 
 -- ---- what was taken
 
@@ -154,21 +134,17 @@ contents end bs = items_at end (slot_at end 200 places.Reference []) false nothi
 abbrev graph_in : Items → Result Answer Fault
 graph_in r = r >>= λ x. Ok (x.1.nodes, x.0)
 
-pub magic_fails : (after e : StreamFault) (end : ℕ) (bs : List ℕ) → Fails after e (magic_at end (0xAC ∷ 0xED ∷ 0x00 ∷ 0x05 ∷ []) bs) → Fails after e (to_end after (stream_at end bs))
-unfolding stream_at
-magic_fails after e end bs h = to_end_fails after e _ (fails_then after e (magic_at end (0xAC ∷ 0xED ∷ 0x00 ∷ 0x05 ∷ []) bs) (λ bs. graph_in (contents end bs)) h)
-
 stream_is : (after : StreamFault) (end : ℕ) (bs rest : List ℕ) → magic_at end (0xAC ∷ 0xED ∷ 0x00 ∷ 0x05 ∷ []) bs ≡ Ok rest → to_end after (stream_at end bs) ≡ graph_in (to_end after (contents end rest))
 unfolding stream_at
 stream_is after end bs rest h = rw h (to_end_map after (contents end rest) (λ x. (x.1.nodes, x.0)))
 
-pub items_fail : (after e : StreamFault) (end : ℕ) (bs rest : List ℕ) → magic_at end (0xAC ∷ 0xED ∷ 0x00 ∷ 0x05 ∷ []) bs ≡ Ok rest
-    → Fails after e (to_end after (items_at end (slot_at end 200 places.Reference []) false nothing_read rest)) → Fails after e (to_end after (stream_at end bs))
-items_fail after e end bs rest h f = subst (λ r. Fails after e r) (sym (stream_is after end bs rest h)) (fails_then after e (to_end after (contents end rest)) (λ x. Ok (x.1.nodes, x.0)) f)
+pub magic_breaks : {p q : Place} {e : StreamFault} → Breaks p q e (λ end. magic_at end (0xAC ∷ 0xED ∷ 0x00 ∷ 0x05 ∷ [])) → BreaksWhole p q e stream_at
+unfolding stream_at
+magic_breaks h = breaks_whole (first (λ end bs. graph_in (contents end bs)) h)
 
-pub stream_gives : (after : StreamFault) (end : ℕ) (bs rest : List ℕ) (is : List Item) (later : Progress) → magic_at end (0xAC ∷ 0xED ∷ 0x00 ∷ 0x05 ∷ []) bs ≡ Ok rest
-    → to_end after (items_at end (slot_at end 200 places.Reference []) false nothing_read rest) ≡ Ok (is, later, []) → to_end after (stream_at end bs) ≡ Ok (later.nodes, is)
-stream_gives after end bs rest is later h g = stream_is after end bs rest h ∙ ap graph_in g
+pub items_break : {p q r : Place} {e : StreamFault} → Reads p q (λ end. magic_at end (0xAC ∷ 0xED ∷ 0x00 ∷ 0x05 ∷ [])) (λ rest. rest)
+    → BreaksWhole q r e (λ end. items_at end (slot_at end 200 places.Reference []) false nothing_read) → BreaksWhole p r e stream_at
+items_break {p} {q} {r} {e} a b = record { is = breaks_two (leads_read (λ end bs. graph_in (to_end e (contents end bs))) a (λ end bs rest here is. stream_is e end bs rest is)) (first (λ end x. Ok (x.1.nodes, x.0)) b.is) }
 
 pub stream_reads : {p q r : Place} (is : List Item) (later : Progress) → Reads p q (λ end. magic_at end (0xAC ∷ 0xED ∷ 0x00 ∷ 0x05 ∷ [])) (λ rest. rest)
     → ReadsAll q r (λ end. items_at end (slot_at end 200 places.Reference []) false nothing_read) (is, later, []) → ReadsAll p r stream_at (later.nodes, is)
@@ -180,6 +156,25 @@ stream_reads is later a b = then_all (λ end bs. graph_in (contents end bs)) a (
 -- what is answered of the bytes before a Pull
 abbrev pub Whole : {X : Type 0} → Option (List ℕ) → ℕ → ℕ → (X → Answer) → Result X StreamFault → Type 0
 Whole o at stop view result = (env_at o at stop).told ≡ true → Gives (env_at o at stop).after view result (to_end (env_at o at stop).after (stream_at (env_at o at stop).end (coming_at o at stop)))
+
+-- from what a call took
+pub whole_of : {S X : Type 0} (left : S → Option (List ℕ)) (faults : S → ℕ) (p q : Pull S) (view : X → Answer) (result : Result X StreamFault) → q.at ≤ q.stop
+    → IfOk result (λ x. ReadsAll (place left faults p) (place left faults q) stream_at (view x)) → IfErr result (λ e. BreaksWhole (place left faults p) (place left faults q) e stream_at)
+    → IsTold left p → Gives (env left p).after view result (to_end (env left p).after (stream_at (env left p).end (coming left p)))
+unfolding env coming
+whole_of left faults p q view (Ok x) le a b told =
+    let old = place left faults p in
+    let new = place left faults q in
+    let t = all_told old new a.taken (Truncated q.at) a.takes le told (λ known. byte_ends new new (takes_nothing new) a.nothing known) in
+    ap (λ e. to_end e (stream_at (env_at old.left old.at old.stop).end (coming_at old.left old.at old.stop))) t.after
+    ∙ ap (λ n. stream_at n (coming_at old.left old.at old.stop)) t.end ∙ ap (λ bs. stream_at q.at bs) t.all ∙ a.is
+whole_of left faults p q view (Err e) le a b told =
+    let old = place left faults p in
+    fails_to_end (env_at old.left old.at old.stop).after e (stream_at (env_at old.left old.at old.stop).end (coming_at old.left old.at old.stop)) (breaks_told b.is le told)
+
+pub whole_caused : {X : Type 0} (p q : Place) (view : X → Answer) (result : Result X StreamFault) → IfOk result (λ x. ReadsAll p q stream_at (view x)) → IfErr result (λ e. BreaksWhole p q e stream_at) → Caused p.faults q.faults result
+whole_caused p q view (Ok x) a b = a.takes.faults
+whole_caused {X} p q view (Err e) a b = breaks_caused X b.is
 
 -- told to their end before the stop
 within : {X : Type 0} (o : Option (List ℕ)) (at stop : ℕ) (bytes : List ℕ) (view : X → Answer) (result : Result X StreamFault) → o ≡ Some bytes → length bytes ≤ stop - at → Whole o at stop view result
@@ -219,7 +214,7 @@ gives_past left p bytes view result h le more g = past (left p.source.now) p.at 
 pub takes_stream : {p q : Place} {nodes : List Node} {items : List Item} → ReadsAll p q stream_at (nodes, items) → TakesStream p q nodes items
 takes_stream {p} {q} {nodes} {items} a =
     let s = stream_at_sound q.at a.taken (nodes, items) a.bytes a.is in
-    record { taken = a.taken; takes = a.takes; nothing = a.nothing; read = a.is; stream = s.0; parts = s.1 }
+    record { taken = a.taken; takes = a.takes; nothing = a.nothing; read = a.is; stream = s; parts = s.few_parts }
 
 pub graph_of : {p q : Place} {nodes : List Node} {items : List Item} → ReadsAll p q stream_at (nodes, items) → IsGraph nodes items
 graph_of {p} {q} {nodes} {items} a = graph_at q.at a.taken (nodes, items) a.bytes a.is
@@ -242,3 +237,7 @@ is_read after end bytes nodes items (Err e) is h = fails_outside (λ f. f) IsBad
 pub taken_streams : (p q : Place) (result : Result Graph StreamFault) → IfOk result (λ graph. ReadsAll p q stream_at (graph.nodes, graph.items)) → IfOk result (λ graph. TakesStream p q graph.nodes graph.items)
 taken_streams p q (Ok graph) h = takes_stream h
 taken_streams p q (Err e) h = tt
+
+pub whole_raised : {X Y : Type 0} {p q : Place} {e : StreamFault} {read : ℕ → List ℕ → Result Y Fault} (result : Result X StreamFault) → IsErrAnd result (λ f. f ≡ e) → BreaksWhole p q e read → IfErr result (λ e. BreaksWhole p q e read)
+whole_raised (Ok x) is h = absurd is
+whole_raised {X} {Y} {p} {q} {e} {read} (Err f) is h = subst (λ g. BreaksWhole p q g read) (sym is) h

@@ -5,6 +5,7 @@ use Rattle.class_desc.specs.declared.slot.Item.{Item}
 use Rattle.class_desc.specs.declared.slot.Item.TheVariants as items
 use Rattle.ser_values.specs.declared.node.Node.{Node}
 use Rattle.ser_values.specs.declared.graph.Graph.{Graph}
+use Rattle.ser_values.specs.declared.limits.TheConstants.{LEVELS, NODES, PARTS}
 use Rattle.ser_values.specs.Ranges.{NumbersFit, UnitsFit}
 use Rattle.ser_values.specs.Shape.{parts_in}
 use Rattle.ser_read.specs.declared.fault.StreamFault.{StreamFault}
@@ -32,13 +33,15 @@ EndsFull (i ∷ []) = IsSome i
 EndsFull (i ∷ j ∷ is) = EndsFull (j ∷ is)
 
 -- A front of the bytes spells the answers to these wants, as blocks in whatever partition and references, which give these nodes their
--- handles in order. It ends with no empty block.
+-- handles in order. It ends with no empty block. The nodes' numbers are in range.
 pub record IsAsked (wants : List Want) (answers : List Item) (nodes : List Node) (bytes rest : List ℕ) : Type 0 where
   pub fits : Fits wants answers
   pub blocks : List Item
-  pub spelled : SpellsBlocks (Spells nodes 200 []) blocks 0 bytes rest (length nodes)
+  pub spelled : SpellsBlocks (Spells nodes LEVELS []) blocks 0 bytes rest (length nodes)
   pub full : EndsFull blocks
   pub same : joined answers ≡ joined blocks
+  pub numbers : NumbersFit nodes
+  pub units : UnitsFit nodes
 
 -- A front of the bytes was taken, which is a stream of what these wants ask for.
 pub record TakesAsked (old new : Place) (wants : List Want) (answers : List Item) (nodes : List Node) (contents : List Item) : Type 0 where
@@ -47,12 +50,10 @@ pub record TakesAsked (old new : Place) (wants : List Want) (answers : List Item
   pub asked : IsAsked wants answers nodes bytes []
   pub contents_are : contents ≡ joined answers
 
--- nodes within the limits, whose numbers and units are in range
+-- nodes within the limits
 pub record InLimits (nodes : List Node) : Type 0 where
-  pub few : length nodes ≤ 65536
-  pub parts : parts_in nodes ≤ 1048576
-  pub numbers : NumbersFit nodes
-  pub units : UnitsFit nodes
+  pub few : length nodes ≤ NODES
+  pub parts : parts_in nodes ≤ PARTS
 
 -- these answers and nodes, with these bytes to come; or a fault of the outside
 abbrev pub AnswersAsked : List Item → List Node → List ℕ → List ℕ → Result (List Item × Graph) StreamFault → Type 0

@@ -1,9 +1,11 @@
 -- What a call that reads from a Pull answers, beside reading as a function on lists.
-use Rattle.std.specs.Prelude.{◌≡◌, ℕ, ◌+◌, ◌-◌, ◌≤◌, ◌<◌, Bool, true, false, List, [], ◌∷◌, ◌++◌, length, take, drop, Option, None, Some, Result, Ok, Err, IfOk}
+use Rattle.std.specs.Prelude.{◌≡◌, ℕ, ◌+◌, ◌-◌, ◌≤◌, ◌<◌, Bool, true, false, List, [], ◌∷◌, ◌++◌, length, take, drop, Option, None, Some, Result, Ok, Err, IfOk, IfErr}
 use Rattle.std.specs.List.{AllByRecursion}
-use Rattle.wire_io.specs.Wire.{Rose}
-use Rattle.wire_io.specs.Pulled.{Place, place, Takes}
+use Rattle.wire_io.specs.Wire.{Rose, NothingLeft}
+use Rattle.wire_io.specs.Pulled.{Place, place, Takes, Passes}
 use Rattle.wire_io.specs.declared.pull.Pull.{Pull}
+use Rattle.wire_io.specs.declared.pull.PullEnd.{PullEnd}
+use Rattle.wire_io.specs.declared.pull.PullEnd.TheVariants as ends
 use Rattle.ser_read.specs.declared.fault.StreamKind.{StreamKind}
 use Rattle.ser_read.specs.declared.fault.StreamKind.TheVariants as kinds
 use Rattle.ser_read.specs.declared.fault.StreamFault.{StreamFault}
@@ -41,6 +43,13 @@ env left p = env_at (left p.source.now) p.at p.stop
 
 abbrev pub IsTold : {S : Type 0} → (S → Option (List ℕ)) → Pull S → Type 0
 IsTold left p = (env left p).told ≡ true
+
+-- the fault of a Pull that gave no byte
+abbrev pub fault_of : PullEnd → StreamFault
+fault_of (ends.End at) = Truncated at
+fault_of (ends.Limit at) = TooLarge Bytes at
+fault_of ends.ReadFault = ReadFault
+fault_of ends.OutOfMemory = OutOfMemory
 
 -- ---- what is answered
 
@@ -125,3 +134,43 @@ pub record Reads {Y F : Type 0} (old new : Place) (read : ℕ → List ℕ → R
 -- Whether the bytes are told or not, what a call answers is read from those that it took.
 abbrev pub ReadsTaken : {S X Y F : Type 0} → (S → Option (List ℕ)) → (S → ℕ) → Pull S → Pull S → Result X StreamFault → (ℕ → List ℕ → Result Y F) → (X → List ℕ → Y) → Type 0
 ReadsTaken left faults old new result read out = IfOk result (λ x. Reads (place left faults old) (place left faults new) read (out x))
+
+-- ---- what was taken on a fault, and why reading ends there
+
+-- Bytes were taken, and whatever comes after them, reading gives the fault of which this is said.
+pub record Decides {Y F : Type 0} (old new : Place) (read : ℕ → List ℕ → Result Y F) (is_fault : Result Y F → Type 0) : Type 0 where
+  pub taken : List ℕ
+  pub bytes : AreBytes taken
+  pub takes : Takes old new taken
+  pub is : (rest : List ℕ) → is_fault (read (new.at + length rest) (taken ++ rest))
+
+-- Bytes were taken up to this place, at which the fault stands, and reading wants more of them.
+pub record FallsShort {Y F : Type 0} (old new : Place) (at : ℕ) (read : ℕ → List ℕ → Result Y F) (fault : F) : Type 0 where
+  pub taken : List ℕ
+  pub takes : Takes old new taken
+  pub here : at ≡ new.at
+  pub is : read new.at taken ≡ Err fault
+
+-- Some bytes were taken.
+abbrev pub TakesSome : Place → Place → Type 0
+TakesSome old new = (taken : List ℕ) × Takes old new taken
+
+-- What was taken where this fault is answered, and why reading ends there. `said` says a fault of what is read, and `of_kind` whether reading
+-- gives the fault of a kind at a position. What is wrong, or too deep, or one node too many, is decided by the bytes taken, whatever comes
+-- after them. The input ends behind the bytes taken, or goes on there past the limit, and reading them wants more.
+abbrev pub BreaksBy : {Y F : Type 0} → (Fault → F) → (Result Y F → StreamKind → ℕ → Type 0) → Place → Place → StreamFault → (ℕ → List ℕ → Result Y F) → Type 0
+BreaksBy said of_kind old new (Bad kind at) read = Decides old new read (λ r. of_kind r kind at)
+BreaksBy said of_kind old new (TooLarge Nodes at) read = Decides old new read (λ r. r ≡ Err (said (too_many at)))
+BreaksBy said of_kind old new (TooLarge Depth at) read = Decides old new read (λ r. r ≡ Err (said (too_deep at)))
+BreaksBy said of_kind old new (TooLarge Bytes at) read = (mid : Place) × FallsShort old mid at read (said short) × Passes mid new
+BreaksBy said of_kind old new (Truncated at) read = FallsShort old new at read (said short) × NothingLeft new.left
+BreaksBy said of_kind old new ReadFault read = TakesSome old new × Rose old.faults new.faults
+BreaksBy said of_kind old new OutOfMemory read = TakesSome old new
+
+-- the same where a stream is read whole
+pub record Breaks {Y : Type 0} (old new : Place) (fault : StreamFault) (read : ℕ → List ℕ → Result Y Fault) : Type 0 where
+  pub is : BreaksBy (λ f. f) IsBad old new fault read
+
+-- Whether the bytes are told or not, a fault that a call answers is what the bytes that it took come to.
+abbrev pub StopsTaken : {S X Y : Type 0} → (S → Option (List ℕ)) → (S → ℕ) → Pull S → Pull S → Result X StreamFault → (ℕ → List ℕ → Result Y Fault) → Type 0
+StopsTaken left faults old new result read = IfErr result (λ e. Breaks (place left faults old) (place left faults new) e read)

@@ -1,11 +1,12 @@
 -- Reading a stream want by want: bytes of block data and references, as its reader asks for them.
-use Rattle.std.specs.Prelude.{◌≡◌, ℕ, zero, suc, ◌-◌, ◌&&◌, nat_eq, nat_le, List, [], ◌∷◌, ◌++◌, length, Option, Result, Ok, Err, if◌then◌else◌}
+use Rattle.std.specs.Prelude.{◌≡◌, ℕ, zero, suc, ◌-◌, ◌&&◌, nat_eq, nat_le, List, [], ◌∷◌, ◌++◌, length, Option, Result, Ok, Err, IfErr, if◌then◌else◌}
 use Rattle.class_desc.specs.declared.slot.Slot.{Slot}
 use Rattle.class_desc.specs.declared.slot.Item.{Item}
 use Rattle.class_desc.specs.declared.slot.Item.TheVariants as items
 use Rattle.ser_values.specs.declared.node.Node.{Node}
 use Rattle.ser_values.specs.declared.node.Place.TheVariants as places
 use Rattle.ser_values.specs.Reading.{Fault, bad, bad_code, reset, inner_exception, Progress, byte_at, slot_at, coded, magic_at}
+use Rattle.wire_io.specs.Pulled.{Place, place}
 use Rattle.wire_io.specs.declared.pull.Pull.{Pull}
 use Rattle.ser_read.specs.declared.fault.StreamKind.{StreamKind}
 use Rattle.ser_read.specs.declared.fault.StreamKind.TheVariants as kinds
@@ -14,7 +15,7 @@ use Rattle.ser_read.specs.declared.block.Head.{Head}
 use Rattle.ser_read.specs.declared.block.Head.TheVariants.{Block, Code}
 use Rattle.ser_read.specs.declared.serving.Want.{Want}
 use Rattle.ser_read.specs.declared.serving.Want.TheVariants as wanted
-use Rattle.ser_read.specs.Here.{AreBytes, kind_of, FailsBy, GivesBy, GivesToldBy}
+use Rattle.ser_read.specs.Here.{AreBytes, kind_of, FailsBy, GivesBy, GivesToldBy, BreaksBy}
 use Rattle.ser_read.specs.Heads.{head_at}
 use Rattle.ser_read.specs.Named.{add_bytes}
 
@@ -136,6 +137,14 @@ WantGives after view result read = GivesBy (WantFails after) view result read
 -- Where the bytes are told, a call answers what reading gives of those to come.
 abbrev pub GivesWant : {S X Y : Type 0} → (S → Option (List ℕ)) → Pull S → Pull S → Result X StreamFault → (ℕ → List ℕ → Result Y WantFault) → (X → List ℕ → Y) → Type 0
 GivesWant left old new result read out = GivesToldBy WantFails left old new result read out
+
+-- What was taken where a call answers this fault, and why reading ends there.
+pub record WantBreaks {Y : Type 0} (old new : Place) (fault : StreamFault) (read : ℕ → List ℕ → Result Y WantFault) : Type 0 where
+  pub is : BreaksBy inside WantIsBad old new fault read
+
+-- Whether the bytes are told or not, a fault that a call answers is what the bytes that it took come to.
+abbrev pub StopsWant : {S X Y : Type 0} → (S → Option (List ℕ)) → (S → ℕ) → Pull S → Pull S → Result X StreamFault → (ℕ → List ℕ → Result Y WantFault) → Type 0
+StopsWant left faults old new result read = IfErr result (λ e. WantBreaks (place left faults old) (place left faults new) e read)
 
 -- ---- lists of wants
 

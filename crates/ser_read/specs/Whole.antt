@@ -1,17 +1,19 @@
 -- Reading a stream to the end of the input.
 use Rattle.std.specs.Prelude.{◌≡◌, ℕ, ◌≤◌, false, List, [], ◌∷◌, Option, None, Some, Result, Ok, Err}
 use Rattle.class_desc.specs.declared.slot.Item.{Item}
-use Rattle.wire_io.specs.Wire.{NothingLeft}
-use Rattle.wire_io.specs.Pulled.{Place, Takes}
+use Rattle.wire_io.specs.Wire.{NothingLeft, Rose}
+use Rattle.wire_io.specs.Pulled.{Place, Takes, Passes}
 use Rattle.ser_values.specs.declared.graph.Graph.{Graph}
 use Rattle.ser_values.specs.declared.node.Node.{Node}
 use Rattle.ser_values.specs.declared.node.Place.TheVariants as places
+use Rattle.ser_values.specs.declared.limits.TheConstants.{LEVELS, PARTS}
 use Rattle.ser_values.specs.Shape.{parts_in}
 use Rattle.ser_values.specs.Spelled.{IsStream}
 use Rattle.ser_values.specs.Reading.{◌>>=◌, Fault, short, Progress, magic_at, items_at, slot_at}
 use Rattle.ser_read.specs.declared.fault.StreamFault.{StreamFault}
-use Rattle.ser_read.specs.declared.fault.StreamFault.TheVariants.{Truncated}
-use Rattle.ser_read.specs.Here.{AreBytes, IsOutside}
+use Rattle.ser_read.specs.declared.fault.StreamFault.TheVariants.{Truncated, TooLarge, ReadFault}
+use Rattle.ser_read.specs.declared.fault.Large.TheVariants.{Bytes}
+use Rattle.ser_read.specs.Here.{AreBytes, IsOutside, Breaks}
 
 -- nothing was read yet
 abbrev pub nothing_read : Progress
@@ -21,7 +23,7 @@ nothing_read = record { nodes = []; parts = 0 }
 unfoldable pub stream_at : ℕ → List ℕ → Result (List Node × List Item) Fault
 stream_at end bytes =
     magic_at end (0xAC ∷ 0xED ∷ 0x00 ∷ 0x05 ∷ []) bytes >>= λ bs.
-    items_at end (slot_at end 200 places.Reference []) false nothing_read bs >>= λ x.
+    items_at end (slot_at end LEVELS places.Reference []) false nothing_read bs >>= λ x.
     Ok (x.1.nodes, x.0)
 
 -- what is read of bytes behind which the input goes on: they can't be all
@@ -34,11 +36,6 @@ abbrev pub to_end : {Y : Type 0} → StreamFault → Result Y Fault → Result Y
 to_end (Truncated at) read = read
 to_end after read = going_on read
 
--- a code, or none at the end
-abbrev pub code_at : StreamFault → List ℕ → Result (Option ℕ × List ℕ) Fault
-code_at after [] = to_end after (Ok (None, []))
-code_at after (b ∷ bs) = Ok (Some b, bs)
-
 -- The bytes to the end of the input were taken, and reading gives `y` of them.
 pub record ReadsAll {Y : Type 0} (old new : Place) (read : ℕ → List ℕ → Result Y Fault) (y : Y) : Type 0 where
   pub taken : List ℕ
@@ -47,6 +44,17 @@ pub record ReadsAll {Y : Type 0} (old new : Place) (read : ℕ → List ℕ → 
   pub nothing : NothingLeft new.left
   pub is : read new.at taken ≡ Ok y
 
+-- What was taken where a fault is answered and what is read goes on to the end of the input: behind the bytes that could be all, the input goes
+-- on past the limit.
+pub record BreaksWhole {Y : Type 0} (old new : Place) (fault : StreamFault) (read : ℕ → List ℕ → Result Y Fault) : Type 0 where
+  pub is : Breaks old new fault (λ end bs. to_end fault (read end bs))
+
+-- No code came here, and the input does not end here.
+abbrev pub NoCode : Place → Place → StreamFault → Type 0
+NoCode old new (TooLarge Bytes at) = (at ≡ old.at) × Passes old new
+NoCode old new ReadFault = Takes old new [] × Rose old.faults new.faults
+NoCode old new _ = ⊥
+
 -- The bytes to the end of the input were taken, and they are a stream of these nodes and items, within the limit of parts.
 pub record TakesStream (old new : Place) (nodes : List Node) (items : List Item) : Type 0 where
   pub taken : List ℕ
@@ -54,7 +62,7 @@ pub record TakesStream (old new : Place) (nodes : List Node) (items : List Item)
   pub nothing : NothingLeft new.left
   pub read : stream_at new.at taken ≡ Ok (nodes, items)
   pub stream : IsStream nodes items taken
-  pub parts : parts_in nodes ≤ 1048576
+  pub parts : parts_in nodes ≤ PARTS
 
 -- a graph of these nodes and items, unless the outside failed
 abbrev pub AnswersGraph : List Node → List Item → Result Graph StreamFault → Type 0

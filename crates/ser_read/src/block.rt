@@ -1,8 +1,8 @@
 //! Block data in the outermost place.
-ghost use Rattle.std.specs.Prelude.{◌≡◌, ◌-◌, ◌≤◌, ◌<◌, ℕ, OnOk};
-ghost use Rattle.ser_read.specs.Here.{env, Caused, GivesTold, ReadsTaken};
+ghost use Rattle.std.specs.Prelude.{◌≡◌, ℕ};
+ghost use Rattle.ser_read.specs.Here.{ReadsTaken, StopsTaken};
 ghost use Rattle.ser_read.specs.Heads.{one_head, any_head, is_empty, head_at};
-ghost use Rattle.ser_read.specs.Wants.{GivesWant, fault_at, no_block, opened_at, run_at};
+ghost use Rattle.ser_read.specs.Wants.{StopsWant, fault_at, no_block, opened_at, run_at};
 
 use crate::fault::{StreamFault, StreamKind};
 use crate::pieces::bad;
@@ -25,11 +25,8 @@ pub(crate) enum Head {
 #[tactic(auto, unfolding(crate::specs::Heads::one_head))]
 fn one_head<S: Source>(pull: &mut Pull<'_, S>, code: u8, at: u64) -> Result<Head, StreamFault>
     ensures lent { pull.new.source.ghost_name ≡ pull.old.source.ghost_name }
-    ensures cause { Caused (S.faults pull.old.source.now) (S.faults pull.new.source.now) result }
-    ensures nears { OnOk result (pull.new.stop - pull.new.at ≤ pull.old.stop - pull.old.at) }
-    ensures env { OnOk result (env S.left pull.new ≡ env S.left pull.old) }
-    ensures gives { GivesTold S.left pull.old pull.new result (λ end. one_head end code at) (λ x rest. (x, rest)) }
     ensures reads { ReadsTaken S.left S.faults pull.old pull.new result (λ end. one_head end code at) (λ x rest. (x, rest)) }
+    ensures stops { StopsTaken S.left S.faults pull.old pull.new result (λ end. one_head end code at) }
 {
     if code == 0x77 {
         let n = byte(pull)?;
@@ -43,14 +40,11 @@ fn one_head<S: Source>(pull: &mut Pull<'_, S>, code: u8, at: u64) -> Result<Head
 }
 
 /// What the next code begins.
-#[tactic(auto, unfolding(crate::specs::Heads::any_head), using(crate::proofs::Pulling::here_is))]
+#[tactic(auto, unfolding(crate::specs::Heads::any_head))]
 fn any_head<S: Source>(pull: &mut Pull<'_, S>) -> Result<Head, StreamFault>
     ensures lent { pull.new.source.ghost_name ≡ pull.old.source.ghost_name }
-    ensures cause { Caused (S.faults pull.old.source.now) (S.faults pull.new.source.now) result }
-    ensures nears { OnOk result (pull.new.stop - pull.new.at < pull.old.stop - pull.old.at) }
-    ensures env { OnOk result (env S.left pull.new ≡ env S.left pull.old) }
-    ensures gives { GivesTold S.left pull.old pull.new result (λ end. any_head end) (λ x rest. (x, rest)) }
     ensures reads { ReadsTaken S.left S.faults pull.old pull.new result (λ end. any_head end) (λ x rest. (x, rest)) }
+    ensures stops { StopsTaken S.left S.faults pull.old pull.new result (λ end. any_head end) }
 {
     let at = pull.at;
     let code = byte(pull)?;
@@ -70,10 +64,8 @@ fn is_empty(head: Head) -> bool
 /// What comes next, empty blocks passed over.
 pub(crate) fn next_head<S: Source>(pull: &mut Pull<'_, S>) -> Result<Head, StreamFault>
     ensures lent { pull.new.source.ghost_name ≡ pull.old.source.ghost_name }
-    ensures cause { Caused (S.faults pull.old.source.now) (S.faults pull.new.source.now) result }
-    ensures env { OnOk result (env S.left pull.new ≡ env S.left pull.old) }
-    ensures gives { GivesTold S.left pull.old pull.new result (λ end. head_at end) (λ x rest. (x, rest)) }
     ensures reads { ReadsTaken S.left S.faults pull.old pull.new result (λ end. head_at end) (λ x rest. (x, rest)) }
+    ensures stops { StopsTaken S.left S.faults pull.old pull.new result (λ end. head_at end) }
 {
     loop {
         let head = any_head(pull)?;
@@ -100,13 +92,11 @@ fn no_block(code: u8) -> StreamKind
 }
 
 /// How many bytes of a block are next, at least one, where so many of the present block are left.
-#[tactic(auto, unfolding(crate::specs::Wants::opened_at), using(crate::proofs::Wants::lifted_fails))]
+#[tactic(auto, unfolding(crate::specs::Wants::opened_at))]
 fn opened<S: Source>(pull: &mut Pull<'_, S>, block: u32) -> Result<u32, StreamFault>
     ensures lent { pull.new.source.ghost_name ≡ pull.old.source.ghost_name }
-    ensures cause { Caused (S.faults pull.old.source.now) (S.faults pull.new.source.now) result }
-    ensures env { OnOk result (env S.left pull.new ≡ env S.left pull.old) }
-    ensures gives { GivesWant S.left pull.old pull.new result (λ end. opened_at end block) (λ x rest. (x, rest)) }
     ensures reads { ReadsTaken S.left S.faults pull.old pull.new result (λ end. opened_at end block) (λ x rest. (x, rest)) }
+    ensures stops { StopsWant S.left S.faults pull.old pull.new result (λ end. opened_at end block) }
 {
     if block > 0 {
         return Ok(block);
@@ -125,10 +115,8 @@ pub(crate) fn run<S: Source>(
     n: u32,
 ) -> Result<ByteList, StreamFault>
     ensures lent { pull.new.source.ghost_name ≡ pull.old.source.ghost_name }
-    ensures cause { Caused (S.faults pull.old.source.now) (S.faults pull.new.source.now) result }
-    ensures env { OnOk result (env S.left pull.new ≡ env S.left pull.old) }
-    ensures gives { GivesWant S.left pull.old pull.new result (λ end. run_at end n block.old) (λ x rest. (x, block.new, rest)) }
     ensures reads { ReadsTaken S.left S.faults pull.old pull.new result (λ end. run_at end n block.old) (λ x rest. (x, block.new, rest)) }
+    ensures stops { StopsWant S.left S.faults pull.old pull.new result (λ end. run_at end n block.old) }
 {
     let mut bytes = ByteList::new(alloc);
     let mut left = n;

@@ -3,6 +3,7 @@ ghost use Rattle.std.specs.Prelude.{◌≡◌};
 ghost use Rattle.ser_read.specs.declared.fault.StreamFault.TheVariants.{OutOfMemory};
 
 use std::alloc::{AllocError, AllocFailed};
+use wire_io::pull::PullEnd;
 
 /// How bytes break the grammar of streams (Java Object Serialization Specification, 6.4).
 #[derive(Clone, Copy, Debug, PartialEq, Eq)]
@@ -73,5 +74,25 @@ impl<T: Drop> From<AllocFailed<T>> for StreamFault {
 
     fn from(_error: AllocFailed<T>) -> StreamFault {
         StreamFault::OutOfMemory
+    }
+}
+
+/// Why a Pull gave no byte: the input ends, the message has as many bytes as it may have, the source failed, or there was no memory.
+impl From<PullEnd> for StreamFault {
+    ghost use Rattle.std.specs.Prelude.{◌≡◌};
+    ghost use Rattle.ser_read.specs.Here.{fault_of};
+
+    ghost from_gives = { λ end fault. fault ≡ fault_of end };
+
+    fn from(end: PullEnd) -> StreamFault {
+        match end {
+            PullEnd::End { at } => StreamFault::Truncated { at },
+            PullEnd::Limit { at } => StreamFault::TooLarge {
+                what: Large::Bytes,
+                at,
+            },
+            PullEnd::ReadFault => StreamFault::ReadFault,
+            PullEnd::OutOfMemory => StreamFault::OutOfMemory,
+        }
     }
 }

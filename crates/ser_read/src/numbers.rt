@@ -5,7 +5,7 @@ ghost use Rattle.class_desc.specs.declared.slot.Slot.{Slot};
 ghost use Rattle.class_desc.specs.TypeCode.{is_primitive};
 ghost use Rattle.ser_values.specs.Reading.{Progress, Step, plain, byte_at, number_at, many_at, value_at, elements_at};
 ghost use Rattle.ser_read.specs.Signed.{signed_at, truth_at};
-ghost use Rattle.ser_read.specs.Here.{env, Caused, GivesTold, ReadsTaken};
+ghost use Rattle.ser_read.specs.Here.{ReadsTaken, StopsTaken};
 ghost use Rattle.std.proofs.Common.{rules};
 ghost use Rattle.ser_read.specs.NumberRuns.{byte_of, truth_of, number_of, signed_of, of_front, run_of, byte_is, truth_is, number_is, signed_is};
 
@@ -36,11 +36,8 @@ pub(crate) trait Number: Drop {
     /// The next one.
     fn pull<S: Source>(pull: &mut Pull<'_, S>) -> Result<Self, StreamFault>
         ensures lent { pull.new.source.ghost_name ≡ pull.old.source.ghost_name }
-        ensures cause { Caused (S.faults pull.old.source.now) (S.faults pull.new.source.now) result }
-        ensures nears { OnOk result (pull.new.stop - pull.new.at < pull.old.stop - pull.old.at) }
-        ensures env { OnOk result (env S.left pull.new ≡ env S.left pull.old) }
-        ensures gives { (now : Progress) → GivesTold S.left pull.old pull.new result (λ end. read now) (λ x rest. (x, now, rest)) }
-        ensures reads { (now : Progress) → ReadsTaken S.left S.faults pull.old pull.new result (λ end. read now) (λ x rest. (x, now, rest)) };
+        ensures reads { (now : Progress) → ReadsTaken S.left S.faults pull.old pull.new result (λ end. read now) (λ x rest. (x, now, rest)) }
+        ensures stops { (now : Progress) → StopsTaken S.left S.faults pull.old pull.new result (λ end. read now) };
 
     /// The one that these bytes spell.
     fn of(bytes: &[u8]) -> Self
@@ -240,11 +237,8 @@ fn numbers<T: Number, S: Source>(
     n: u32,
 ) -> Result<Sequence<T>, StreamFault>
     ensures lent { pull.new.source.ghost_name ≡ pull.old.source.ghost_name }
-    ensures cause { Caused (S.faults pull.old.source.now) (S.faults pull.new.source.now) result }
-    ensures nears { OnOk result (pull.new.stop - pull.new.at ≤ pull.old.stop - pull.old.at) }
-    ensures env { OnOk result (env S.left pull.new ≡ env S.left pull.old) }
-    ensures gives { (now : Progress) → GivesTold S.left pull.old pull.new result (λ end. many_at T.read n now) (λ x rest. (x, now, rest)) }
     ensures reads { (now : Progress) → ReadsTaken S.left S.faults pull.old pull.new result (λ end. many_at T.read n now) (λ x rest. (x, now, rest)) }
+    ensures stops { (now : Progress) → StopsTaken S.left S.faults pull.old pull.new result (λ end. many_at T.read n now) }
 {
     let mut numbers = Sequence::new(alloc);
     let mut left = n;
@@ -277,11 +271,8 @@ fn append_run<T: Number>(
 /// The next `n` bytes, as elements.
 fn bytes<S: Source>(alloc: Global, pull: &mut Pull<'_, S>, n: u32) -> Result<ByteList, StreamFault>
     ensures lent { pull.new.source.ghost_name ≡ pull.old.source.ghost_name }
-    ensures cause { Caused (S.faults pull.old.source.now) (S.faults pull.new.source.now) result }
-    ensures nears { OnOk result (pull.new.stop - pull.new.at ≤ pull.old.stop - pull.old.at) }
-    ensures env { OnOk result (env S.left pull.new ≡ env S.left pull.old) }
-    ensures gives { (now : Progress) → GivesTold S.left pull.old pull.new result (λ end. many_at (plain byte_at) n now) (λ x rest. (x, now, rest)) }
     ensures reads { (now : Progress) → ReadsTaken S.left S.faults pull.old pull.new result (λ end. many_at (plain byte_at) n now) (λ x rest. (x, now, rest)) }
+    ensures stops { (now : Progress) → StopsTaken S.left S.faults pull.old pull.new result (λ end. many_at (plain byte_at) n now) }
 {
     let bytes = take(alloc, pull, u64::from(n))?;
     Ok(bytes)
@@ -295,11 +286,8 @@ pub(crate) fn primitive<S: Source>(
 ) -> Result<Value, StreamFault>
     requires { is_primitive code ≡ true }
     ensures lent { pull.new.source.ghost_name ≡ pull.old.source.ghost_name }
-    ensures cause { Caused (S.faults pull.old.source.now) (S.faults pull.new.source.now) result }
-    ensures nears { OnOk result (pull.new.stop - pull.new.at ≤ pull.old.stop - pull.old.at) }
-    ensures env { OnOk result (env S.left pull.new ≡ env S.left pull.old) }
-    ensures gives { (inner : Step Slot) (now : Progress) → GivesTold S.left pull.old pull.new result (λ end. value_at inner code now) (λ x rest. (x, now, rest)) }
     ensures reads { (inner : Step Slot) (now : Progress) → ReadsTaken S.left S.faults pull.old pull.new result (λ end. value_at inner code now) (λ x rest. (x, now, rest)) }
+    ensures stops { (inner : Step Slot) (now : Progress) → StopsTaken S.left S.faults pull.old pull.new result (λ end. value_at inner code now) }
 {
     match code {
         TypeCode::B => Ok(Value::B(u8::pull(pull)?)),
@@ -325,11 +313,8 @@ pub(crate) fn primitives<S: Source>(
 ) -> Result<Values, StreamFault>
     requires { is_primitive code ≡ true }
     ensures lent { pull.new.source.ghost_name ≡ pull.old.source.ghost_name }
-    ensures cause { Caused (S.faults pull.old.source.now) (S.faults pull.new.source.now) result }
-    ensures nears { OnOk result (pull.new.stop - pull.new.at ≤ pull.old.stop - pull.old.at) }
-    ensures env { OnOk result (env S.left pull.new ≡ env S.left pull.old) }
-    ensures gives { (inner : Step Slot) (now : Progress) → GivesTold S.left pull.old pull.new result (λ end. elements_at inner code n now) (λ x rest. (x, now, rest)) }
     ensures reads { (inner : Step Slot) (now : Progress) → ReadsTaken S.left S.faults pull.old pull.new result (λ end. elements_at inner code n now) (λ x rest. (x, now, rest)) }
+    ensures stops { (inner : Step Slot) (now : Progress) → StopsTaken S.left S.faults pull.old pull.new result (λ end. elements_at inner code n now) }
 {
     match code {
         TypeCode::B => Ok(Values::Bytes(bytes(alloc, pull, n)?)),

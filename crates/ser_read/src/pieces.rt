@@ -8,7 +8,7 @@ ghost use Rattle.ser_read.specs.Named.{add_bytes, added};
 ghost use Rattle.ser_read.specs.Tables.{now_of};
 ghost use Rattle.ser_read.specs.declared.fault.StreamFault.{StreamFault};
 ghost use Rattle.ser_read.specs.declared.fault.StreamFault.TheVariants.{Bad};
-ghost use Rattle.ser_read.specs.Here.{env, Caused, Gives, GivesTold, ReadsTaken, kind_of, IsInBytes};
+ghost use Rattle.ser_read.specs.Here.{Caused, Gives, ReadsTaken, StopsTaken, kind_of, IsInBytes};
 
 use crate::fault::{StreamFault, StreamKind};
 use crate::pulled::{four, short_text};
@@ -96,11 +96,8 @@ pub(crate) fn handle<S: Source>(
 ) -> Result<Slot, StreamFault>
     ensures some { IfOk result (λ slot. slot ≢ Null) }
     ensures lent { pull.new.source.ghost_name ≡ pull.old.source.ghost_name }
-    ensures cause { Caused (S.faults pull.old.source.now) (S.faults pull.new.source.now) result }
-    ensures nears { OnOk result (pull.new.stop - pull.new.at ≤ pull.old.stop - pull.old.at) }
-    ensures env { OnOk result (env S.left pull.new ≡ env S.left pull.old) }
-    ensures gives { GivesTold S.left pull.old pull.new result (λ end. handle_at place table.now.unread.items at (now_of table.now)) (λ x rest. (x, now_of table.now, rest)) }
     ensures reads { ReadsTaken S.left S.faults pull.old pull.new result (λ end. handle_at place table.now.unread.items at (now_of table.now)) (λ x rest. (x, now_of table.now, rest)) }
+    ensures stops { StopsTaken S.left S.faults pull.old pull.new result (λ end. handle_at place table.now.unread.items at (now_of table.now)) }
 {
     let handle = four(pull)?;
     if handle < FIRST_HANDLE {
@@ -120,11 +117,8 @@ pub(crate) fn names<S: Source>(
     n: u32,
 ) -> Result<NameList, StreamFault>
     ensures lent { pull.new.source.ghost_name ≡ pull.old.source.ghost_name }
-    ensures cause { Caused (S.faults pull.old.source.now) (S.faults pull.new.source.now) result }
-    ensures nears { OnOk result (pull.new.stop - pull.new.at ≤ pull.old.stop - pull.old.at) }
-    ensures env { OnOk result (env S.left pull.new ≡ env S.left pull.old) }
-    ensures gives { (now : Progress) → GivesTold S.left pull.old pull.new result (λ end. many_at (plain (short_at end)) n now) (λ x rest. (x, now, rest)) }
     ensures reads { (now : Progress) → ReadsTaken S.left S.faults pull.old pull.new result (λ end. many_at (plain (short_at end)) n now) (λ x rest. (x, now, rest)) }
+    ensures stops { (now : Progress) → StopsTaken S.left S.faults pull.old pull.new result (λ end. many_at (plain (short_at end)) n now) }
 {
     let mut names = NameList::new(alloc);
     for _ in 0..n {

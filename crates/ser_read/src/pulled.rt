@@ -1,16 +1,16 @@
 //! Bytes, numbers and texts from a Pull.
-ghost use Rattle.std.specs.Prelude.{◌≡◌, ◌-◌, ◌≤◌, ◌<◌, ◌^◌, OnOk};
+ghost use Rattle.std.specs.Prelude.{◌≡◌, ◌^◌};
 ghost use Rattle.std.specs.Int.{w16, w32, w64};
 ghost use Rattle.ser_values.specs.Reading.{byte_at, take_at, number_at, size_at, units_at, short_at, long_at};
 ghost use Rattle.ser_read.specs.declared.fault.StreamFault.TheVariants.{Bad};
 ghost use Rattle.ser_read.specs.declared.fault.StreamKind.TheVariants.{NegativeLength};
-ghost use Rattle.ser_read.specs.Here.{env, AreBytes, Caused, GivesTold, ReadsTaken};
+ghost use Rattle.ser_read.specs.Here.{AreBytes, ReadsTaken, StopsTaken};
 
-use crate::fault::{Large, StreamFault, StreamKind};
+use crate::fault::{StreamFault, StreamKind};
 use mod_utf::decode::{UtfFault, decode};
 use mod_utf::list::{ByteList, Units};
 use std::alloc::Global;
-use wire_io::pull::{Pull, PullEnd};
+use wire_io::pull::Pull;
 use wire_io::source::Source;
 
 /// How many bytes are asked for at once at most.
@@ -19,34 +19,17 @@ const PIECE: u64 = 0x1_0000;
 /// The next byte.
 pub(crate) fn byte<S: Source>(pull: &mut Pull<'_, S>) -> Result<u8, StreamFault>
     ensures lent { pull.new.source.ghost_name ≡ pull.old.source.ghost_name }
-    ensures cause { Caused (S.faults pull.old.source.now) (S.faults pull.new.source.now) result }
-    ensures nears { OnOk result (pull.new.stop - pull.new.at < pull.old.stop - pull.old.at) }
-    ensures env { OnOk result (env S.left pull.new ≡ env S.left pull.old) }
-    ensures gives { GivesTold S.left pull.old pull.new result (λ end. byte_at) (λ x rest. (x, rest)) }
     ensures reads { ReadsTaken S.left S.faults pull.old pull.new result (λ end. byte_at) (λ x rest. (x, rest)) }
+    ensures stops { StopsTaken S.left S.faults pull.old pull.new result (λ end. byte_at) }
 {
-    match pull.byte() {
-        Ok(b) => Ok(b),
-        Err(end) => match end {
-            PullEnd::End { at } => Err(StreamFault::Truncated { at }),
-            PullEnd::Limit { at } => Err(StreamFault::TooLarge {
-                what: Large::Bytes,
-                at,
-            }),
-            PullEnd::ReadFault => Err(StreamFault::ReadFault),
-            PullEnd::OutOfMemory => Err(StreamFault::OutOfMemory),
-        },
-    }
+    Ok(pull.byte()?)
 }
 
 /// The next two bytes as a number, the highest first.
 pub(crate) fn two<S: Source>(pull: &mut Pull<'_, S>) -> Result<u16, StreamFault>
     ensures lent { pull.new.source.ghost_name ≡ pull.old.source.ghost_name }
-    ensures cause { Caused (S.faults pull.old.source.now) (S.faults pull.new.source.now) result }
-    ensures nears { OnOk result (pull.new.stop - pull.new.at < pull.old.stop - pull.old.at) }
-    ensures env { OnOk result (env S.left pull.new ≡ env S.left pull.old) }
-    ensures gives { GivesTold S.left pull.old pull.new result (λ end. number_at w16) (λ x rest. (x, rest)) }
     ensures reads { ReadsTaken S.left S.faults pull.old pull.new result (λ end. number_at w16) (λ x rest. (x, rest)) }
+    ensures stops { StopsTaken S.left S.faults pull.old pull.new result (λ end. number_at w16) }
 {
     let a = byte(pull)?;
     let b = byte(pull)?;
@@ -56,11 +39,8 @@ pub(crate) fn two<S: Source>(pull: &mut Pull<'_, S>) -> Result<u16, StreamFault>
 /// The next four bytes as a number, the highest first.
 pub(crate) fn four<S: Source>(pull: &mut Pull<'_, S>) -> Result<u32, StreamFault>
     ensures lent { pull.new.source.ghost_name ≡ pull.old.source.ghost_name }
-    ensures cause { Caused (S.faults pull.old.source.now) (S.faults pull.new.source.now) result }
-    ensures nears { OnOk result (pull.new.stop - pull.new.at < pull.old.stop - pull.old.at) }
-    ensures env { OnOk result (env S.left pull.new ≡ env S.left pull.old) }
-    ensures gives { GivesTold S.left pull.old pull.new result (λ end. number_at w32) (λ x rest. (x, rest)) }
     ensures reads { ReadsTaken S.left S.faults pull.old pull.new result (λ end. number_at w32) (λ x rest. (x, rest)) }
+    ensures stops { StopsTaken S.left S.faults pull.old pull.new result (λ end. number_at w32) }
 {
     let a = byte(pull)?;
     let b = byte(pull)?;
@@ -72,11 +52,8 @@ pub(crate) fn four<S: Source>(pull: &mut Pull<'_, S>) -> Result<u32, StreamFault
 /// The next eight bytes as a number, the highest first.
 pub(crate) fn eight<S: Source>(pull: &mut Pull<'_, S>) -> Result<u64, StreamFault>
     ensures lent { pull.new.source.ghost_name ≡ pull.old.source.ghost_name }
-    ensures cause { Caused (S.faults pull.old.source.now) (S.faults pull.new.source.now) result }
-    ensures nears { OnOk result (pull.new.stop - pull.new.at < pull.old.stop - pull.old.at) }
-    ensures env { OnOk result (env S.left pull.new ≡ env S.left pull.old) }
-    ensures gives { GivesTold S.left pull.old pull.new result (λ end. number_at w64) (λ x rest. (x, rest)) }
     ensures reads { ReadsTaken S.left S.faults pull.old pull.new result (λ end. number_at w64) (λ x rest. (x, rest)) }
+    ensures stops { StopsTaken S.left S.faults pull.old pull.new result (λ end. number_at w64) }
 {
     let high = four(pull)?;
     let low = four(pull)?;
@@ -84,14 +61,11 @@ pub(crate) fn eight<S: Source>(pull: &mut Pull<'_, S>) -> Result<u64, StreamFaul
 }
 
 /// A count of fields: below 2^15, or `NegativeLength` at its first byte.
-#[tactic(auto, unfolding(ser_values::specs::Reading::size_at), using(crate::proofs::Pulling::here_is))]
+#[tactic(auto, unfolding(ser_values::specs::Reading::size_at))]
 pub(crate) fn field_count<S: Source>(pull: &mut Pull<'_, S>) -> Result<u16, StreamFault>
     ensures lent { pull.new.source.ghost_name ≡ pull.old.source.ghost_name }
-    ensures cause { Caused (S.faults pull.old.source.now) (S.faults pull.new.source.now) result }
-    ensures nears { OnOk result (pull.new.stop - pull.new.at < pull.old.stop - pull.old.at) }
-    ensures env { OnOk result (env S.left pull.new ≡ env S.left pull.old) }
-    ensures gives { GivesTold S.left pull.old pull.new result (λ end. size_at end w16 32768) (λ x rest. (x, rest)) }
     ensures reads { ReadsTaken S.left S.faults pull.old pull.new result (λ end. size_at end w16 32768) (λ x rest. (x, rest)) }
+    ensures stops { StopsTaken S.left S.faults pull.old pull.new result (λ end. size_at end w16 32768) }
 {
     let at = pull.at;
     let count = two(pull)?;
@@ -103,14 +77,11 @@ pub(crate) fn field_count<S: Source>(pull: &mut Pull<'_, S>) -> Result<u16, Stre
 }
 
 /// A length or a count: below 2^31, or `NegativeLength` at its first byte.
-#[tactic(auto, unfolding(ser_values::specs::Reading::size_at), using(crate::proofs::Pulling::here_is))]
+#[tactic(auto, unfolding(ser_values::specs::Reading::size_at))]
 pub(crate) fn count<S: Source>(pull: &mut Pull<'_, S>) -> Result<u32, StreamFault>
     ensures lent { pull.new.source.ghost_name ≡ pull.old.source.ghost_name }
-    ensures cause { Caused (S.faults pull.old.source.now) (S.faults pull.new.source.now) result }
-    ensures nears { OnOk result (pull.new.stop - pull.new.at < pull.old.stop - pull.old.at) }
-    ensures env { OnOk result (env S.left pull.new ≡ env S.left pull.old) }
-    ensures gives { GivesTold S.left pull.old pull.new result (λ end. size_at end w32 (2 ^ 31)) (λ x rest. (x, rest)) }
     ensures reads { ReadsTaken S.left S.faults pull.old pull.new result (λ end. size_at end w32 (2 ^ 31)) (λ x rest. (x, rest)) }
+    ensures stops { StopsTaken S.left S.faults pull.old pull.new result (λ end. size_at end w32 (2 ^ 31)) }
 {
     let at = pull.at;
     let count = four(pull)?;
@@ -122,14 +93,11 @@ pub(crate) fn count<S: Source>(pull: &mut Pull<'_, S>) -> Result<u32, StreamFaul
 }
 
 /// A long length: below 2^63, or `NegativeLength` at its first byte.
-#[tactic(auto, unfolding(ser_values::specs::Reading::size_at), using(crate::proofs::Pulling::here_is))]
+#[tactic(auto, unfolding(ser_values::specs::Reading::size_at))]
 fn long_length<S: Source>(pull: &mut Pull<'_, S>) -> Result<u64, StreamFault>
     ensures lent { pull.new.source.ghost_name ≡ pull.old.source.ghost_name }
-    ensures cause { Caused (S.faults pull.old.source.now) (S.faults pull.new.source.now) result }
-    ensures nears { OnOk result (pull.new.stop - pull.new.at < pull.old.stop - pull.old.at) }
-    ensures env { OnOk result (env S.left pull.new ≡ env S.left pull.old) }
-    ensures gives { GivesTold S.left pull.old pull.new result (λ end. size_at end w64 (2 ^ 63)) (λ x rest. (x, rest)) }
     ensures reads { ReadsTaken S.left S.faults pull.old pull.new result (λ end. size_at end w64 (2 ^ 63)) (λ x rest. (x, rest)) }
+    ensures stops { StopsTaken S.left S.faults pull.old pull.new result (λ end. size_at end w64 (2 ^ 63)) }
 {
     let at = pull.at;
     let length = eight(pull)?;
@@ -166,27 +134,12 @@ pub(crate) fn piece<S: Source>(
     n: u32,
 ) -> Result<ByteList, StreamFault>
     ensures lent { pull.new.source.ghost_name ≡ pull.old.source.ghost_name }
-    ensures cause { Caused (S.faults pull.old.source.now) (S.faults pull.new.source.now) result }
-    ensures nears { OnOk result (pull.new.stop - pull.new.at ≤ pull.old.stop - pull.old.at) }
-    ensures env { OnOk result (env S.left pull.new ≡ env S.left pull.old) }
-    ensures gives { GivesTold S.left pull.old pull.new result (λ end. take_at n) (λ x rest. (x, rest)) }
     ensures reads { ReadsTaken S.left S.faults pull.old pull.new result (λ end. take_at n) (λ x rest. (x, rest)) }
+    ensures stops { StopsTaken S.left S.faults pull.old pull.new result (λ end. take_at n) }
 {
-    match pull.take(alloc, n) {
-        Ok(bytes) => {
-            see(bytes.as_slice());
-            Ok(bytes)
-        }
-        Err(end) => match end {
-            PullEnd::End { at } => Err(StreamFault::Truncated { at }),
-            PullEnd::Limit { at } => Err(StreamFault::TooLarge {
-                what: Large::Bytes,
-                at,
-            }),
-            PullEnd::ReadFault => Err(StreamFault::ReadFault),
-            PullEnd::OutOfMemory => Err(StreamFault::OutOfMemory),
-        },
-    }
+    let bytes = pull.take(alloc, n)?;
+    see(bytes.as_slice());
+    Ok(bytes)
 }
 
 /// The next `n` bytes. There is room for at most one piece ahead of what was read.
@@ -196,11 +149,8 @@ pub(crate) fn take<S: Source>(
     n: u64,
 ) -> Result<ByteList, StreamFault>
     ensures lent { pull.new.source.ghost_name ≡ pull.old.source.ghost_name }
-    ensures cause { Caused (S.faults pull.old.source.now) (S.faults pull.new.source.now) result }
-    ensures nears { OnOk result (pull.new.stop - pull.new.at ≤ pull.old.stop - pull.old.at) }
-    ensures env { OnOk result (env S.left pull.new ≡ env S.left pull.old) }
-    ensures gives { GivesTold S.left pull.old pull.new result (λ end. take_at n) (λ x rest. (x, rest)) }
     ensures reads { ReadsTaken S.left S.faults pull.old pull.new result (λ end. take_at n) (λ x rest. (x, rest)) }
+    ensures stops { StopsTaken S.left S.faults pull.old pull.new result (λ end. take_at n) }
 {
     let mut bytes = ByteList::new(alloc);
     let mut left = n;
@@ -215,14 +165,11 @@ pub(crate) fn take<S: Source>(
 
 /// A text of so many bytes of modified UTF, which are all there before they are judged. `BadUtf` comes at the first byte of
 /// the spelling that is none.
-#[tactic(auto, unfolding(ser_values::specs::Reading::units_at), using(crate::proofs::Pulling::here_is))]
+#[tactic(auto, unfolding(ser_values::specs::Reading::units_at))]
 fn units<S: Source>(alloc: Global, pull: &mut Pull<'_, S>, n: u64) -> Result<Units, StreamFault>
     ensures lent { pull.new.source.ghost_name ≡ pull.old.source.ghost_name }
-    ensures cause { Caused (S.faults pull.old.source.now) (S.faults pull.new.source.now) result }
-    ensures nears { OnOk result (pull.new.stop - pull.new.at ≤ pull.old.stop - pull.old.at) }
-    ensures env { OnOk result (env S.left pull.new ≡ env S.left pull.old) }
-    ensures gives { GivesTold S.left pull.old pull.new result (λ end. units_at end n) (λ x rest. (x, rest)) }
     ensures reads { ReadsTaken S.left S.faults pull.old pull.new result (λ end. units_at end n) (λ x rest. (x, rest)) }
+    ensures stops { StopsTaken S.left S.faults pull.old pull.new result (λ end. units_at end n) }
 {
     let start = pull.at;
     let bytes = take(alloc, pull, n)?;
@@ -243,11 +190,8 @@ pub(crate) fn short_text<S: Source>(
     pull: &mut Pull<'_, S>,
 ) -> Result<Units, StreamFault>
     ensures lent { pull.new.source.ghost_name ≡ pull.old.source.ghost_name }
-    ensures cause { Caused (S.faults pull.old.source.now) (S.faults pull.new.source.now) result }
-    ensures nears { OnOk result (pull.new.stop - pull.new.at ≤ pull.old.stop - pull.old.at) }
-    ensures env { OnOk result (env S.left pull.new ≡ env S.left pull.old) }
-    ensures gives { GivesTold S.left pull.old pull.new result (λ end. short_at end) (λ x rest. (x, rest)) }
     ensures reads { ReadsTaken S.left S.faults pull.old pull.new result (λ end. short_at end) (λ x rest. (x, rest)) }
+    ensures stops { StopsTaken S.left S.faults pull.old pull.new result (λ end. short_at end) }
 {
     let n = two(pull)?;
     units(alloc, pull, u64::from(n))
@@ -260,11 +204,8 @@ pub(crate) fn long_text<S: Source>(
     pull: &mut Pull<'_, S>,
 ) -> Result<Units, StreamFault>
     ensures lent { pull.new.source.ghost_name ≡ pull.old.source.ghost_name }
-    ensures cause { Caused (S.faults pull.old.source.now) (S.faults pull.new.source.now) result }
-    ensures nears { OnOk result (pull.new.stop - pull.new.at ≤ pull.old.stop - pull.old.at) }
-    ensures env { OnOk result (env S.left pull.new ≡ env S.left pull.old) }
-    ensures gives { GivesTold S.left pull.old pull.new result (λ end. long_at end) (λ x rest. (x, rest)) }
     ensures reads { ReadsTaken S.left S.faults pull.old pull.new result (λ end. long_at end) (λ x rest. (x, rest)) }
+    ensures stops { StopsTaken S.left S.faults pull.old pull.new result (λ end. long_at end) }
 {
     let n = long_length(pull)?;
     units(alloc, pull, n)

@@ -1,9 +1,11 @@
 //! Reading a stream want by want.
-ghost use Rattle.std.specs.Prelude.{◌≡◌, [], ◌∷◌, OnOk, IfOk, IfErr, Some, None, Err};
+ghost use Rattle.std.specs.Prelude.{◌≡◌, ◌≢◌, [], ◌∷◌, OnOk, IfOk, IfErr, Some, None, Err};
 ghost use Rattle.ser_values.specs.Reading.{magic_at};
 ghost use Rattle.ser_read.specs.declared.fault.StreamFault.{StreamFault};
-ghost use Rattle.ser_read.specs.Here.{env, Caused, GivesTold, ReadsTaken};
-ghost use Rattle.ser_read.specs.Wants.{GivesWant, WantGives, bytes_at, reference_at, slot_next, close_at, nothing_read};
+ghost use Rattle.ser_read.specs.declared.fault.StreamFault.TheVariants.{Bad};
+ghost use Rattle.ser_read.specs.declared.fault.StreamKind.TheVariants.{BlockLeft};
+ghost use Rattle.ser_read.specs.Here.{env, Caused, GivesTold, ReadsTaken, StopsTaken};
+ghost use Rattle.ser_read.specs.Wants.{GivesWant, WantGives, StopsWant, bytes_at, reference_at, slot_next, close_at, nothing_read};
 ghost use Rattle.ser_read.specs.Tables.{now_of};
 ghost use Rattle.ser_read.specs.Stands.{stand_of};
 
@@ -15,14 +17,12 @@ use crate::reading::coded;
 use crate::table::Table;
 use class_desc::{Item, Items, Slot};
 use mod_utf::list::{ByteList, TryCopy};
+use ser_values::limits::LEVELS;
 use ser_values::{Graph, Node, Place};
 use std::alloc::Global;
 use std::marker::Model;
 use wire_io::pull::Pull;
 use wire_io::source::Source;
-
-/// The greatest number of levels.
-const LEVELS: u32 = 200;
 
 /// How far a reader has come.
 #[derive(Drop)]
@@ -36,7 +36,7 @@ pub(crate) struct Stand {
 }
 
 /// The next bytes of block data, across blocks.
-#[tactic(auto, unfolding(crate::specs::Wants::bytes_at), using(crate::proofs::Wants::wants_fail))]
+#[tactic(auto, unfolding(crate::specs::Wants::bytes_at))]
 fn bytes_in<S: Source>(
     alloc: Global,
     pull: &mut Pull<'_, S>,
@@ -44,11 +44,9 @@ fn bytes_in<S: Source>(
     n: u32,
 ) -> Result<ByteList, StreamFault>
     ensures lent { pull.new.source.ghost_name ≡ pull.old.source.ghost_name }
-    ensures cause { Caused (S.faults pull.old.source.now) (S.faults pull.new.source.now) result }
-    ensures env { OnOk result (env S.left pull.new ≡ env S.left pull.old) }
     ensures table { stand.new.table ≡ stand.old.table }
-    ensures gives { GivesWant S.left pull.old pull.new result (λ end. bytes_at end n (stand_of stand.old)) (λ x rest. (x, stand_of stand.new, rest)) }
     ensures reads { ReadsTaken S.left S.faults pull.old pull.new result (λ end. bytes_at end n (stand_of stand.old)) (λ x rest. (x, stand_of stand.new, rest)) }
+    ensures stops { StopsWant S.left S.faults pull.old pull.new result (λ end. bytes_at end n (stand_of stand.old)) }
 {
     let bytes = run(alloc, pull, &mut stand.block, n)?;
     let copy = bytes.copy(alloc)?;
@@ -57,7 +55,7 @@ fn bytes_in<S: Source>(
 }
 
 /// The next reference, once no block data is left.
-#[tactic(auto, unfolding(crate::specs::Wants::reference_at), using(crate::proofs::Wants::lifted_fails, crate::proofs::Pulling::here_is))]
+#[tactic(auto, unfolding(crate::specs::Wants::reference_at))]
 fn reference<S: Source>(
     alloc: Global,
     pull: &mut Pull<'_, S>,
@@ -65,11 +63,9 @@ fn reference<S: Source>(
 ) -> Result<Slot, StreamFault>
     requires read { table.old.unread.items ≡ [] }
     ensures lent { pull.new.source.ghost_name ≡ pull.old.source.ghost_name }
-    ensures cause { Caused (S.faults pull.old.source.now) (S.faults pull.new.source.now) result }
-    ensures env { OnOk result (env S.left pull.new ≡ env S.left pull.old) }
     ensures read { OnOk result (table.new.unread.items ≡ []) }
-    ensures gives { GivesWant S.left pull.old pull.new result (λ end. reference_at end (now_of table.old)) (λ x rest. (x, now_of table.new, rest)) }
     ensures reads { ReadsTaken S.left S.faults pull.old pull.new result (λ end. reference_at end (now_of table.old)) (λ x rest. (x, now_of table.new, rest)) }
+    ensures stops { StopsWant S.left S.faults pull.old pull.new result (λ end. reference_at end (now_of table.old)) }
 {
     match next_head(pull)? {
         Head::Block(_) => Err(bad(StreamKind::BlockLeft, pull.at)),
@@ -78,7 +74,7 @@ fn reference<S: Source>(
 }
 
 /// The next reference or null.
-#[tactic(auto, unfolding(crate::specs::Wants::slot_next), using(crate::proofs::Wants::wants_fail, crate::proofs::Pulling::here_is))]
+#[tactic(auto, unfolding(crate::specs::Wants::slot_next))]
 fn slot_in<S: Source>(
     alloc: Global,
     pull: &mut Pull<'_, S>,
@@ -86,11 +82,9 @@ fn slot_in<S: Source>(
 ) -> Result<Slot, StreamFault>
     requires read { stand.old.table.unread.items ≡ [] }
     ensures lent { pull.new.source.ghost_name ≡ pull.old.source.ghost_name }
-    ensures cause { Caused (S.faults pull.old.source.now) (S.faults pull.new.source.now) result }
-    ensures env { OnOk result (env S.left pull.new ≡ env S.left pull.old) }
     ensures read { OnOk result (stand.new.table.unread.items ≡ []) }
-    ensures gives { GivesWant S.left pull.old pull.new result (λ end. slot_next end (stand_of stand.old)) (λ x rest. (x, stand_of stand.new, rest)) }
     ensures reads { ReadsTaken S.left S.faults pull.old pull.new result (λ end. slot_next end (stand_of stand.old)) (λ x rest. (x, stand_of stand.new, rest)) }
+    ensures stops { StopsWant S.left S.faults pull.old pull.new result (λ end. slot_next end (stand_of stand.old)) }
 {
     if stand.block > 0 {
         return Err(bad(StreamKind::BlockLeft, pull.at));
@@ -131,6 +125,7 @@ impl Reader {
         ensures env { OnOk result (env S.left pull.new ≡ env S.left pull.old) }
         ensures gives { GivesTold S.left pull.old pull.new result (λ end. magic_at end (0xAC ∷ 0xED ∷ 0x00 ∷ 0x05 ∷ [])) (λ x rest. rest) }
         ensures reads { ReadsTaken S.left S.faults pull.old pull.new result (λ end. magic_at end (0xAC ∷ 0xED ∷ 0x00 ∷ 0x05 ∷ [])) (λ x rest. rest) }
+        ensures stops { StopsTaken S.left S.faults pull.old pull.new result (λ end. magic_at end (0xAC ∷ 0xED ∷ 0x00 ∷ 0x05 ∷ [])) }
     {
         magic(pull)?;
         Ok(Reader {
@@ -160,6 +155,7 @@ impl Reader {
         ensures env { OnOk result (env S.left pull.new ≡ env S.left pull.old) }
         ensures gives { self.old.refused ≡ None → GivesWant S.left pull.old pull.new result (λ end. bytes_at end n self.old.stand) (λ x rest. (x, self.new.stand, rest)) }
         ensures reads { ReadsTaken S.left S.faults pull.old pull.new result (λ end. bytes_at end n self.old.stand) (λ x rest. (x, self.new.stand, rest)) }
+        ensures stops { self.old.refused ≡ None → StopsWant S.left S.faults pull.old pull.new result (λ end. bytes_at end n self.old.stand) }
     {
         if let Some(earlier) = self.refused {
             return Err(earlier);
@@ -189,6 +185,7 @@ impl Reader {
         ensures env { OnOk result (env S.left pull.new ≡ env S.left pull.old) }
         ensures gives { self.old.refused ≡ None → GivesWant S.left pull.old pull.new result (λ end. slot_next end self.old.stand) (λ x rest. (x, self.new.stand, rest)) }
         ensures reads { ReadsTaken S.left S.faults pull.old pull.new result (λ end. slot_next end self.old.stand) (λ x rest. (x, self.new.stand, rest)) }
+        ensures stops { self.old.refused ≡ None → StopsWant S.left S.faults pull.old pull.new result (λ end. slot_next end self.old.stand) }
     {
         if let Some(fault) = self.refused {
             return Err(fault);
@@ -216,12 +213,14 @@ impl Reader {
         self.stand.items.as_slice()
     }
 
-    /// All that was read. It takes no byte. `BlockLeft` comes at the first byte that is left of the present block.
+    /// All that was read. It takes no byte and no memory. `BlockLeft` comes at the first byte that is left of the present block, and no
+    /// other fault comes.
     #[tactic(auto, unfolding(crate::specs::Wants::close_at))]
     pub fn close<S: Source>(self, pull: &Pull<'_, S>) -> Result<Graph, StreamFault>
         ensures again { (fault : StreamFault) → self.refused ≡ Some fault → result ≡ Err fault }
         ensures kept { OnOk result (self.refused ≡ None) }
         ensures cause { self.refused ≡ None → Caused (S.faults pull.now.source.now) (S.faults pull.now.source.now) result }
+        ensures left { self.refused ≡ None → IfErr result (λ fault. (fault ≡ Bad BlockLeft pull.now.at) × (self.stand.block ≢ 0)) }
         ensures gives { self.refused ≡ None → WantGives (env S.left pull.now).after (λ graph. (graph.nodes, graph.items)) result (close_at pull.now.at self.stand) }
     {
         if let Some(fault) = self.refused {

@@ -6,7 +6,7 @@ ghost use Rattle.ser_values.specs.Reading.{slot_at, coded, fresh_at, text_at, sh
 ghost use Rattle.ser_read.specs.Rows.{values_by, part_by, parts_by, object_by};
 ghost use Rattle.ser_read.specs.Named.{class_named, item_at};
 ghost use Rattle.ser_read.specs.Tables.{now_of};
-ghost use Rattle.ser_read.specs.Here.{env, Caused, GivesTold, ReadsTaken};
+ghost use Rattle.ser_read.specs.Here.{ReadsTaken, StopsTaken};
 
 use crate::fault::{Large, StreamFault, StreamKind};
 use crate::numbers::{primitive, primitives};
@@ -36,14 +36,11 @@ fn slot<S: Source>(
 ) -> Result<Slot, StreamFault>
     requires left { left ≤ 200 }
     ensures lent { pull.new.source.ghost_name ≡ pull.old.source.ghost_name }
-    ensures cause { Caused (S.faults pull.old.source.now) (S.faults pull.new.source.now) result }
-    ensures nears { OnOk result (pull.new.stop - pull.new.at < pull.old.stop - pull.old.at) }
-    ensures env { OnOk result (env S.left pull.new ≡ env S.left pull.old) }
     ensures grows { length table.old.nodes.items ≤ length table.new.nodes.items }
     ensures unread { OnOk result (table.new.unread.items ≡ table.old.unread.items) }
     ensures some { place ≡ Text → IfOk result (λ slot. slot ≢ Null) }
-    ensures gives { GivesTold S.left pull.old pull.new result (λ end. slot_at end left place table.old.unread.items (now_of table.old)) (λ x rest. (x, now_of table.new, rest)) }
     ensures reads { ReadsTaken S.left S.faults pull.old pull.new result (λ end. slot_at end left place table.old.unread.items (now_of table.old)) (λ x rest. (x, now_of table.new, rest)) }
+    ensures stops { StopsTaken S.left S.faults pull.old pull.new result (λ end. slot_at end left place table.old.unread.items (now_of table.old)) }
 {
     let at = pull.at;
     let code = byte(pull)?;
@@ -64,14 +61,11 @@ pub(crate) fn coded<S: Source>(
 ) -> Result<Slot, StreamFault>
     requires left { left ≤ 200 }
     ensures lent { pull.new.source.ghost_name ≡ pull.old.source.ghost_name }
-    ensures cause { Caused (S.faults pull.old.source.now) (S.faults pull.new.source.now) result }
-    ensures nears { OnOk result (pull.new.stop - pull.new.at ≤ pull.old.stop - pull.old.at) }
-    ensures env { OnOk result (env S.left pull.new ≡ env S.left pull.old) }
     ensures grows { length table.old.nodes.items ≤ length table.new.nodes.items }
     ensures unread { OnOk result (table.new.unread.items ≡ table.old.unread.items) }
     ensures some { place ≡ Text → IfOk result (λ slot. slot ≢ Null) }
-    ensures gives { GivesTold S.left pull.old pull.new result (λ end. coded end left (slot_at end (left - 1)) place table.old.unread.items at code (now_of table.old)) (λ x rest. (x, now_of table.new, rest)) }
     ensures reads { ReadsTaken S.left S.faults pull.old pull.new result (λ end. coded end left (slot_at end (left - 1)) place table.old.unread.items at code (now_of table.old)) (λ x rest. (x, now_of table.new, rest)) }
+    ensures stops { StopsTaken S.left S.faults pull.old pull.new result (λ end. coded end left (slot_at end (left - 1)) place table.old.unread.items at code (now_of table.old)) }
 {
     if code == 0x70 {
         null(place, at)
@@ -108,14 +102,11 @@ fn fresh<S: Source>(
     requires room { length table.old.nodes.items < 65536 }
     requires left { left ≤ 200 }
     ensures lent { pull.new.source.ghost_name ≡ pull.old.source.ghost_name }
-    ensures cause { Caused (S.faults pull.old.source.now) (S.faults pull.new.source.now) result }
-    ensures nears { OnOk result (pull.new.stop - pull.new.at ≤ pull.old.stop - pull.old.at) }
-    ensures env { OnOk result (env S.left pull.new ≡ env S.left pull.old) }
     ensures grows { length table.old.nodes.items ≤ length table.new.nodes.items }
     ensures unread { OnOk result (table.new.unread.items ≡ table.old.unread.items) }
     ensures some { IfOk result (λ slot. slot ≢ Null) }
-    ensures gives { GivesTold S.left pull.old pull.new result (λ end. fresh_at end at (slot_at end left) table.old.unread.items code (now_of table.old)) (λ x rest. (x, now_of table.new, rest)) }
     ensures reads { ReadsTaken S.left S.faults pull.old pull.new result (λ end. fresh_at end at (slot_at end left) table.old.unread.items code (now_of table.old)) (λ x rest. (x, now_of table.new, rest)) }
+    ensures stops { StopsTaken S.left S.faults pull.old pull.new result (λ end. fresh_at end at (slot_at end left) table.old.unread.items code (now_of table.old)) }
 {
     match code {
         0x72 => desc(alloc, pull, table, at, left),
@@ -139,14 +130,11 @@ fn text<S: Source>(
 ) -> Result<Slot, StreamFault>
     requires room { length table.old.nodes.items < 65536 }
     ensures lent { pull.new.source.ghost_name ≡ pull.old.source.ghost_name }
-    ensures cause { Caused (S.faults pull.old.source.now) (S.faults pull.new.source.now) result }
-    ensures nears { OnOk result (pull.new.stop - pull.new.at ≤ pull.old.stop - pull.old.at) }
-    ensures env { OnOk result (env S.left pull.new ≡ env S.left pull.old) }
     ensures grows { length table.old.nodes.items ≤ length table.new.nodes.items }
     ensures unread { OnOk result (table.new.unread.items ≡ table.old.unread.items) }
     ensures some { IfOk result (λ slot. slot ≢ Null) }
-    ensures gives { GivesTold S.left pull.old pull.new result (λ end. text_at (short_at end) (now_of table.old)) (λ x rest. (x, now_of table.new, rest)) }
     ensures reads { ReadsTaken S.left S.faults pull.old pull.new result (λ end. text_at (short_at end) (now_of table.old)) (λ x rest. (x, now_of table.new, rest)) }
+    ensures stops { StopsTaken S.left S.faults pull.old pull.new result (λ end. text_at (short_at end) (now_of table.old)) }
 {
     let text = short_text(alloc, pull)?;
     let number = table.begin(Node::Text(text))?;
@@ -162,14 +150,11 @@ fn very_long_text<S: Source>(
 ) -> Result<Slot, StreamFault>
     requires room { length table.old.nodes.items < 65536 }
     ensures lent { pull.new.source.ghost_name ≡ pull.old.source.ghost_name }
-    ensures cause { Caused (S.faults pull.old.source.now) (S.faults pull.new.source.now) result }
-    ensures nears { OnOk result (pull.new.stop - pull.new.at ≤ pull.old.stop - pull.old.at) }
-    ensures env { OnOk result (env S.left pull.new ≡ env S.left pull.old) }
     ensures grows { length table.old.nodes.items ≤ length table.new.nodes.items }
     ensures unread { OnOk result (table.new.unread.items ≡ table.old.unread.items) }
     ensures some { IfOk result (λ slot. slot ≢ Null) }
-    ensures gives { GivesTold S.left pull.old pull.new result (λ end. text_at (long_at end) (now_of table.old)) (λ x rest. (x, now_of table.new, rest)) }
     ensures reads { ReadsTaken S.left S.faults pull.old pull.new result (λ end. text_at (long_at end) (now_of table.old)) (λ x rest. (x, now_of table.new, rest)) }
+    ensures stops { StopsTaken S.left S.faults pull.old pull.new result (λ end. text_at (long_at end) (now_of table.old)) }
 {
     let text = long_text(alloc, pull)?;
     let number = table.begin(Node::Text(text))?;
@@ -189,14 +174,11 @@ fn desc<S: Source>(
     requires room { length table.old.nodes.items < 65536 }
     requires left { left ≤ 200 }
     ensures lent { pull.new.source.ghost_name ≡ pull.old.source.ghost_name }
-    ensures cause { Caused (S.faults pull.old.source.now) (S.faults pull.new.source.now) result }
-    ensures nears { OnOk result (pull.new.stop - pull.new.at ≤ pull.old.stop - pull.old.at) }
-    ensures env { OnOk result (env S.left pull.new ≡ env S.left pull.old) }
     ensures grows { length table.old.nodes.items ≤ length table.new.nodes.items }
     ensures unread { OnOk result (table.new.unread.items ≡ table.old.unread.items) }
     ensures some { IfOk result (λ slot. slot ≢ Null) }
-    ensures gives { GivesTold S.left pull.old pull.new result (λ end. desc_at end at (slot_at end left) table.old.unread.items (now_of table.old)) (λ x rest. (x, now_of table.new, rest)) }
     ensures reads { ReadsTaken S.left S.faults pull.old pull.new result (λ end. desc_at end at (slot_at end left) table.old.unread.items (now_of table.old)) (λ x rest. (x, now_of table.new, rest)) }
+    ensures stops { StopsTaken S.left S.faults pull.old pull.new result (λ end. desc_at end at (slot_at end left) table.old.unread.items (now_of table.old)) }
 {
     let name = short_text(alloc, pull)?;
     let suid = eight(pull)?;
@@ -224,13 +206,10 @@ fn desc_after<S: Source>(
 ) -> Result<ClassDesc, StreamFault>
     requires left { left ≤ 200 }
     ensures lent { pull.new.source.ghost_name ≡ pull.old.source.ghost_name }
-    ensures cause { Caused (S.faults pull.old.source.now) (S.faults pull.new.source.now) result }
-    ensures nears { OnOk result (pull.new.stop - pull.new.at ≤ pull.old.stop - pull.old.at) }
-    ensures env { OnOk result (env S.left pull.new ≡ env S.left pull.old) }
     ensures grows { length table.old.nodes.items ≤ length table.new.nodes.items }
     ensures unread { OnOk result (table.new.unread.items ≡ table.old.unread.items) }
-    ensures gives { GivesTold S.left pull.old pull.new result (λ end. desc_after end at (slot_at end left) table.old.unread.items name suid flags (now_of table.old)) (λ x rest. (x, now_of table.new, rest)) }
     ensures reads { ReadsTaken S.left S.faults pull.old pull.new result (λ end. desc_after end at (slot_at end left) table.old.unread.items name suid flags (now_of table.old)) (λ x rest. (x, now_of table.new, rest)) }
+    ensures stops { StopsTaken S.left S.faults pull.old pull.new result (λ end. desc_after end at (slot_at end left) table.old.unread.items name suid flags (now_of table.old)) }
 {
     let n = field_count(pull)?;
     let fields = fields(alloc, pull, table, at, n, left)?;
@@ -262,14 +241,11 @@ fn proxy<S: Source>(
     requires room { length table.old.nodes.items < 65536 }
     requires left { left ≤ 200 }
     ensures lent { pull.new.source.ghost_name ≡ pull.old.source.ghost_name }
-    ensures cause { Caused (S.faults pull.old.source.now) (S.faults pull.new.source.now) result }
-    ensures nears { OnOk result (pull.new.stop - pull.new.at ≤ pull.old.stop - pull.old.at) }
-    ensures env { OnOk result (env S.left pull.new ≡ env S.left pull.old) }
     ensures grows { length table.old.nodes.items ≤ length table.new.nodes.items }
     ensures unread { OnOk result (table.new.unread.items ≡ table.old.unread.items) }
     ensures some { IfOk result (λ slot. slot ≢ Null) }
-    ensures gives { GivesTold S.left pull.old pull.new result (λ end. proxy_at end (slot_at end left) table.old.unread.items (now_of table.old)) (λ x rest. (x, now_of table.new, rest)) }
     ensures reads { ReadsTaken S.left S.faults pull.old pull.new result (λ end. proxy_at end (slot_at end left) table.old.unread.items (now_of table.old)) (λ x rest. (x, now_of table.new, rest)) }
+    ensures stops { StopsTaken S.left S.faults pull.old pull.new result (λ end. proxy_at end (slot_at end left) table.old.unread.items (now_of table.old)) }
 {
     let n = count(pull)?;
     let number = table.begin(blank(alloc))?;
@@ -301,14 +277,11 @@ fn class<S: Source>(
 ) -> Result<u32, StreamFault>
     requires left { left ≤ 200 }
     ensures lent { pull.new.source.ghost_name ≡ pull.old.source.ghost_name }
-    ensures cause { Caused (S.faults pull.old.source.now) (S.faults pull.new.source.now) result }
-    ensures nears { OnOk result (pull.new.stop - pull.new.at ≤ pull.old.stop - pull.old.at) }
-    ensures env { OnOk result (env S.left pull.new ≡ env S.left pull.old) }
     ensures grows { length table.old.nodes.items ≤ length table.new.nodes.items }
     ensures unread { OnOk result (table.new.unread.items ≡ table.old.unread.items) }
     ensures room { OnOk result (length table.new.nodes.items < 65536) }
-    ensures gives { GivesTold S.left pull.old pull.new result (λ end. class_named (slot_at end left) table.old.unread.items at (now_of table.old)) (λ x rest. (x, now_of table.new, rest)) }
     ensures reads { ReadsTaken S.left S.faults pull.old pull.new result (λ end. class_named (slot_at end left) table.old.unread.items at (now_of table.old)) (λ x rest. (x, now_of table.new, rest)) }
+    ensures stops { StopsTaken S.left S.faults pull.old pull.new result (λ end. class_named (slot_at end left) table.old.unread.items at (now_of table.old)) }
 {
     match slot(alloc, pull, table, Place::Class, left)? {
         Slot::Null => Err(bad(StreamKind::BadCode, at)),
@@ -337,14 +310,11 @@ fn object<S: Source>(
 ) -> Result<Slot, StreamFault>
     requires left { left ≤ 200 }
     ensures lent { pull.new.source.ghost_name ≡ pull.old.source.ghost_name }
-    ensures cause { Caused (S.faults pull.old.source.now) (S.faults pull.new.source.now) result }
-    ensures nears { OnOk result (pull.new.stop - pull.new.at ≤ pull.old.stop - pull.old.at) }
-    ensures env { OnOk result (env S.left pull.new ≡ env S.left pull.old) }
     ensures grows { length table.old.nodes.items ≤ length table.new.nodes.items }
     ensures unread { OnOk result (table.new.unread.items ≡ table.old.unread.items) }
     ensures some { IfOk result (λ slot. slot ≢ Null) }
-    ensures gives { GivesTold S.left pull.old pull.new result (λ end. with_class (slot_at end left) table.old.unread.items at (object_at end at (slot_at end left Reference table.old.unread.items)) (now_of table.old)) (λ x rest. (x, now_of table.new, rest)) }
     ensures reads { ReadsTaken S.left S.faults pull.old pull.new result (λ end. with_class (slot_at end left) table.old.unread.items at (object_at end at (slot_at end left Reference table.old.unread.items)) (now_of table.old)) (λ x rest. (x, now_of table.new, rest)) }
+    ensures stops { StopsTaken S.left S.faults pull.old pull.new result (λ end. with_class (slot_at end left) table.old.unread.items at (object_at end at (slot_at end left Reference table.old.unread.items)) (now_of table.old)) }
 {
     let class = class(alloc, pull, table, at, left)?;
     object_in(alloc, pull, table, at, class, left)
@@ -362,14 +332,11 @@ fn array<S: Source>(
 ) -> Result<Slot, StreamFault>
     requires left { left ≤ 200 }
     ensures lent { pull.new.source.ghost_name ≡ pull.old.source.ghost_name }
-    ensures cause { Caused (S.faults pull.old.source.now) (S.faults pull.new.source.now) result }
-    ensures nears { OnOk result (pull.new.stop - pull.new.at ≤ pull.old.stop - pull.old.at) }
-    ensures env { OnOk result (env S.left pull.new ≡ env S.left pull.old) }
     ensures grows { length table.old.nodes.items ≤ length table.new.nodes.items }
     ensures unread { OnOk result (table.new.unread.items ≡ table.old.unread.items) }
     ensures some { IfOk result (λ slot. slot ≢ Null) }
-    ensures gives { GivesTold S.left pull.old pull.new result (λ end. with_class (slot_at end left) table.old.unread.items at (array_at end at (slot_at end left Reference table.old.unread.items)) (now_of table.old)) (λ x rest. (x, now_of table.new, rest)) }
     ensures reads { ReadsTaken S.left S.faults pull.old pull.new result (λ end. with_class (slot_at end left) table.old.unread.items at (array_at end at (slot_at end left Reference table.old.unread.items)) (now_of table.old)) (λ x rest. (x, now_of table.new, rest)) }
+    ensures stops { StopsTaken S.left S.faults pull.old pull.new result (λ end. with_class (slot_at end left) table.old.unread.items at (array_at end at (slot_at end left Reference table.old.unread.items)) (now_of table.old)) }
 {
     let class = class(alloc, pull, table, at, left)?;
     array_in(alloc, pull, table, at, class, left)
@@ -387,14 +354,11 @@ fn constant<S: Source>(
 ) -> Result<Slot, StreamFault>
     requires left { left ≤ 200 }
     ensures lent { pull.new.source.ghost_name ≡ pull.old.source.ghost_name }
-    ensures cause { Caused (S.faults pull.old.source.now) (S.faults pull.new.source.now) result }
-    ensures nears { OnOk result (pull.new.stop - pull.new.at ≤ pull.old.stop - pull.old.at) }
-    ensures env { OnOk result (env S.left pull.new ≡ env S.left pull.old) }
     ensures grows { length table.old.nodes.items ≤ length table.new.nodes.items }
     ensures unread { OnOk result (table.new.unread.items ≡ table.old.unread.items) }
     ensures some { IfOk result (λ slot. slot ≢ Null) }
-    ensures gives { GivesTold S.left pull.old pull.new result (λ end. with_class (slot_at end left) table.old.unread.items at (enum_at at (slot_at end left Text table.old.unread.items)) (now_of table.old)) (λ x rest. (x, now_of table.new, rest)) }
     ensures reads { ReadsTaken S.left S.faults pull.old pull.new result (λ end. with_class (slot_at end left) table.old.unread.items at (enum_at at (slot_at end left Text table.old.unread.items)) (now_of table.old)) (λ x rest. (x, now_of table.new, rest)) }
+    ensures stops { StopsTaken S.left S.faults pull.old pull.new result (λ end. with_class (slot_at end left) table.old.unread.items at (enum_at at (slot_at end left Text table.old.unread.items)) (now_of table.old)) }
 {
     let class = class(alloc, pull, table, at, left)?;
     constant_in(alloc, pull, table, at, class, left)
@@ -412,14 +376,11 @@ fn class_value<S: Source>(
 ) -> Result<Slot, StreamFault>
     requires left { left ≤ 200 }
     ensures lent { pull.new.source.ghost_name ≡ pull.old.source.ghost_name }
-    ensures cause { Caused (S.faults pull.old.source.now) (S.faults pull.new.source.now) result }
-    ensures nears { OnOk result (pull.new.stop - pull.new.at ≤ pull.old.stop - pull.old.at) }
-    ensures env { OnOk result (env S.left pull.new ≡ env S.left pull.old) }
     ensures grows { length table.old.nodes.items ≤ length table.new.nodes.items }
     ensures unread { OnOk result (table.new.unread.items ≡ table.old.unread.items) }
     ensures some { IfOk result (λ slot. slot ≢ Null) }
-    ensures gives { GivesTold S.left pull.old pull.new result (λ end. with_class (slot_at end left) table.old.unread.items at class_at (now_of table.old)) (λ x rest. (x, now_of table.new, rest)) }
     ensures reads { ReadsTaken S.left S.faults pull.old pull.new result (λ end. with_class (slot_at end left) table.old.unread.items at class_at (now_of table.old)) (λ x rest. (x, now_of table.new, rest)) }
+    ensures stops { StopsTaken S.left S.faults pull.old pull.new result (λ end. with_class (slot_at end left) table.old.unread.items at class_at (now_of table.old)) }
 {
     let class = class(alloc, pull, table, at, left)?;
     let number = table.begin(Node::Class { class })?;
@@ -440,17 +401,15 @@ fn object_in<S: Source>(
     requires room { length table.old.nodes.items < 65536 }
     requires left { left ≤ 200 }
     ensures lent { pull.new.source.ghost_name ≡ pull.old.source.ghost_name }
-    ensures cause { Caused (S.faults pull.old.source.now) (S.faults pull.new.source.now) result }
-    ensures nears { OnOk result (pull.new.stop - pull.new.at ≤ pull.old.stop - pull.old.at) }
-    ensures env { OnOk result (env S.left pull.new ≡ env S.left pull.old) }
     ensures grows { length table.old.nodes.items ≤ length table.new.nodes.items }
     ensures unread { OnOk result (table.new.unread.items ≡ table.old.unread.items) }
     ensures some { IfOk result (λ slot. slot ≢ Null) }
-    ensures gives { GivesTold S.left pull.old pull.new result (λ end. object_at end at (slot_at end left Reference table.old.unread.items) class (now_of table.old)) (λ x rest. (x, now_of table.new, rest)) }
     ensures reads { ReadsTaken S.left S.faults pull.old pull.new result (λ end. object_at end at (slot_at end left Reference table.old.unread.items) class (now_of table.old)) (λ x rest. (x, now_of table.new, rest)) }
+    ensures stops { StopsTaken S.left S.faults pull.old pull.new result (λ end. object_at end at (slot_at end left Reference table.old.unread.items) class (now_of table.old)) }
 {
     let shape = shape_of(alloc, table, class)?;
-    if table.lacks_parts(shape.rows.len()) {
+    let rows = shape.rows.as_slice();
+    if table.lacks_parts(rows.len()) {
         return Err(StreamFault::TooLarge {
             what: Large::Nodes,
             at,
@@ -458,7 +417,7 @@ fn object_in<S: Source>(
     }
     match shape.fault {
         Some(kind) => Err(bad(kind, at)),
-        None => object_after(alloc, pull, table, class, shape.rows.as_slice(), left),
+        None => object_after(alloc, pull, table, class, rows, left),
     }
 }
 
@@ -477,14 +436,11 @@ fn object_after<S: Source>(
     requires parts { table.old.parts + length rows.now ≤ 1048576 }
     requires left { left ≤ 200 }
     ensures lent { pull.new.source.ghost_name ≡ pull.old.source.ghost_name }
-    ensures cause { Caused (S.faults pull.old.source.now) (S.faults pull.new.source.now) result }
-    ensures nears { OnOk result (pull.new.stop - pull.new.at ≤ pull.old.stop - pull.old.at) }
-    ensures env { OnOk result (env S.left pull.new ≡ env S.left pull.old) }
     ensures grows { length table.old.nodes.items ≤ length table.new.nodes.items }
     ensures unread { OnOk result (table.new.unread.items ≡ table.old.unread.items) }
     ensures some { IfOk result (λ slot. slot ≢ Null) }
-    ensures gives { GivesTold S.left pull.old pull.new result (λ end. object_by end (slot_at end left Reference table.old.unread.items) class rows.now (now_of table.old)) (λ x rest. (x, now_of table.new, rest)) }
     ensures reads { ReadsTaken S.left S.faults pull.old pull.new result (λ end. object_by end (slot_at end left Reference table.old.unread.items) class rows.now (now_of table.old)) (λ x rest. (x, now_of table.new, rest)) }
+    ensures stops { StopsTaken S.left S.faults pull.old pull.new result (λ end. object_by end (slot_at end left Reference table.old.unread.items) class rows.now (now_of table.old)) }
 {
     table.add_parts(rows.len());
     let number = table.begin(Node::Object {
@@ -510,14 +466,11 @@ fn array_in<S: Source>(
     requires room { length table.old.nodes.items < 65536 }
     requires left { left ≤ 200 }
     ensures lent { pull.new.source.ghost_name ≡ pull.old.source.ghost_name }
-    ensures cause { Caused (S.faults pull.old.source.now) (S.faults pull.new.source.now) result }
-    ensures nears { OnOk result (pull.new.stop - pull.new.at ≤ pull.old.stop - pull.old.at) }
-    ensures env { OnOk result (env S.left pull.new ≡ env S.left pull.old) }
     ensures grows { length table.old.nodes.items ≤ length table.new.nodes.items }
     ensures unread { OnOk result (table.new.unread.items ≡ table.old.unread.items) }
     ensures some { IfOk result (λ slot. slot ≢ Null) }
-    ensures gives { GivesTold S.left pull.old pull.new result (λ end. array_at end at (slot_at end left Reference table.old.unread.items) class (now_of table.old)) (λ x rest. (x, now_of table.new, rest)) }
     ensures reads { ReadsTaken S.left S.faults pull.old pull.new result (λ end. array_at end at (slot_at end left Reference table.old.unread.items) class (now_of table.old)) (λ x rest. (x, now_of table.new, rest)) }
+    ensures stops { StopsTaken S.left S.faults pull.old pull.new result (λ end. array_at end at (slot_at end left Reference table.old.unread.items) class (now_of table.old)) }
 {
     match table.element_type(class) {
         None => Err(bad(StreamKind::BadDesc, at)),
@@ -539,14 +492,11 @@ fn array_of<S: Source>(
     requires room { length table.old.nodes.items < 65536 }
     requires left { left ≤ 200 }
     ensures lent { pull.new.source.ghost_name ≡ pull.old.source.ghost_name }
-    ensures cause { Caused (S.faults pull.old.source.now) (S.faults pull.new.source.now) result }
-    ensures nears { OnOk result (pull.new.stop - pull.new.at ≤ pull.old.stop - pull.old.at) }
-    ensures env { OnOk result (env S.left pull.new ≡ env S.left pull.old) }
     ensures grows { length table.old.nodes.items ≤ length table.new.nodes.items }
     ensures unread { OnOk result (table.new.unread.items ≡ table.old.unread.items) }
     ensures some { IfOk result (λ slot. slot ≢ Null) }
-    ensures gives { GivesTold S.left pull.old pull.new result (λ end. array_of end 0 (slot_at end left Reference table.old.unread.items) class (Some code) (now_of table.old)) (λ x rest. (x, now_of table.new, rest)) }
     ensures reads { ReadsTaken S.left S.faults pull.old pull.new result (λ end. array_of end 0 (slot_at end left Reference table.old.unread.items) class (Some code) (now_of table.old)) (λ x rest. (x, now_of table.new, rest)) }
+    ensures stops { StopsTaken S.left S.faults pull.old pull.new result (λ end. array_of end 0 (slot_at end left Reference table.old.unread.items) class (Some code) (now_of table.old)) }
 {
     let n = count(pull)?;
     let number = table.begin(Node::Array {
@@ -571,13 +521,10 @@ fn elements<S: Source>(
 ) -> Result<Values, StreamFault>
     requires left { left ≤ 200 }
     ensures lent { pull.new.source.ghost_name ≡ pull.old.source.ghost_name }
-    ensures cause { Caused (S.faults pull.old.source.now) (S.faults pull.new.source.now) result }
-    ensures nears { OnOk result (pull.new.stop - pull.new.at ≤ pull.old.stop - pull.old.at) }
-    ensures env { OnOk result (env S.left pull.new ≡ env S.left pull.old) }
     ensures grows { length table.old.nodes.items ≤ length table.new.nodes.items }
     ensures unread { OnOk result (table.new.unread.items ≡ table.old.unread.items) }
-    ensures gives { GivesTold S.left pull.old pull.new result (λ end. elements_at (slot_at end left Reference table.old.unread.items) code n (now_of table.old)) (λ x rest. (x, now_of table.new, rest)) }
     ensures reads { ReadsTaken S.left S.faults pull.old pull.new result (λ end. elements_at (slot_at end left Reference table.old.unread.items) code n (now_of table.old)) (λ x rest. (x, now_of table.new, rest)) }
+    ensures stops { StopsTaken S.left S.faults pull.old pull.new result (λ end. elements_at (slot_at end left Reference table.old.unread.items) code n (now_of table.old)) }
 {
     if is_primitive(code) {
         primitives(alloc, pull, code, n)
@@ -598,13 +545,10 @@ fn slots<S: Source>(
 ) -> Result<SlotList, StreamFault>
     requires left { left ≤ 200 }
     ensures lent { pull.new.source.ghost_name ≡ pull.old.source.ghost_name }
-    ensures cause { Caused (S.faults pull.old.source.now) (S.faults pull.new.source.now) result }
-    ensures nears { OnOk result (pull.new.stop - pull.new.at ≤ pull.old.stop - pull.old.at) }
-    ensures env { OnOk result (env S.left pull.new ≡ env S.left pull.old) }
     ensures grows { length table.old.nodes.items ≤ length table.new.nodes.items }
     ensures unread { OnOk result (table.new.unread.items ≡ table.old.unread.items) }
-    ensures gives { GivesTold S.left pull.old pull.new result (λ end. many_at (slot_at end left Reference table.old.unread.items) n (now_of table.old)) (λ x rest. (x, now_of table.new, rest)) }
     ensures reads { ReadsTaken S.left S.faults pull.old pull.new result (λ end. many_at (slot_at end left Reference table.old.unread.items) n (now_of table.old)) (λ x rest. (x, now_of table.new, rest)) }
+    ensures stops { StopsTaken S.left S.faults pull.old pull.new result (λ end. many_at (slot_at end left Reference table.old.unread.items) n (now_of table.old)) }
 {
     let mut slots = SlotList::new(alloc);
     for _ in 0..n {
@@ -628,14 +572,11 @@ fn constant_in<S: Source>(
     requires room { length table.old.nodes.items < 65536 }
     requires left { left ≤ 200 }
     ensures lent { pull.new.source.ghost_name ≡ pull.old.source.ghost_name }
-    ensures cause { Caused (S.faults pull.old.source.now) (S.faults pull.new.source.now) result }
-    ensures nears { OnOk result (pull.new.stop - pull.new.at ≤ pull.old.stop - pull.old.at) }
-    ensures env { OnOk result (env S.left pull.new ≡ env S.left pull.old) }
     ensures grows { length table.old.nodes.items ≤ length table.new.nodes.items }
     ensures unread { OnOk result (table.new.unread.items ≡ table.old.unread.items) }
     ensures some { IfOk result (λ slot. slot ≢ Null) }
-    ensures gives { GivesTold S.left pull.old pull.new result (λ end. enum_at at (slot_at end left Text table.old.unread.items) class (now_of table.old)) (λ x rest. (x, now_of table.new, rest)) }
     ensures reads { ReadsTaken S.left S.faults pull.old pull.new result (λ end. enum_at at (slot_at end left Text table.old.unread.items) class (now_of table.old)) (λ x rest. (x, now_of table.new, rest)) }
+    ensures stops { StopsTaken S.left S.faults pull.old pull.new result (λ end. enum_at at (slot_at end left Text table.old.unread.items) class (now_of table.old)) }
 {
     if !table.is_enum(class) {
         return Err(bad(StreamKind::BadDesc, at));
@@ -662,13 +603,10 @@ fn fields<S: Source>(
 ) -> Result<FieldList, StreamFault>
     requires left { left ≤ 200 }
     ensures lent { pull.new.source.ghost_name ≡ pull.old.source.ghost_name }
-    ensures cause { Caused (S.faults pull.old.source.now) (S.faults pull.new.source.now) result }
-    ensures nears { OnOk result (pull.new.stop - pull.new.at ≤ pull.old.stop - pull.old.at) }
-    ensures env { OnOk result (env S.left pull.new ≡ env S.left pull.old) }
     ensures grows { length table.old.nodes.items ≤ length table.new.nodes.items }
     ensures unread { OnOk result (table.new.unread.items ≡ table.old.unread.items) }
-    ensures gives { GivesTold S.left pull.old pull.new result (λ end. many_at (field_at end at (slot_at end left Text table.old.unread.items)) n (now_of table.old)) (λ x rest. (x, now_of table.new, rest)) }
     ensures reads { ReadsTaken S.left S.faults pull.old pull.new result (λ end. many_at (field_at end at (slot_at end left Text table.old.unread.items)) n (now_of table.old)) (λ x rest. (x, now_of table.new, rest)) }
+    ensures stops { StopsTaken S.left S.faults pull.old pull.new result (λ end. many_at (field_at end at (slot_at end left Text table.old.unread.items)) n (now_of table.old)) }
 {
     let mut fields = FieldList::new(alloc);
     for _ in 0..n {
@@ -690,13 +628,10 @@ fn field<S: Source>(
 ) -> Result<FieldDesc, StreamFault>
     requires left { left ≤ 200 }
     ensures lent { pull.new.source.ghost_name ≡ pull.old.source.ghost_name }
-    ensures cause { Caused (S.faults pull.old.source.now) (S.faults pull.new.source.now) result }
-    ensures nears { OnOk result (pull.new.stop - pull.new.at ≤ pull.old.stop - pull.old.at) }
-    ensures env { OnOk result (env S.left pull.new ≡ env S.left pull.old) }
     ensures grows { length table.old.nodes.items ≤ length table.new.nodes.items }
     ensures unread { OnOk result (table.new.unread.items ≡ table.old.unread.items) }
-    ensures gives { GivesTold S.left pull.old pull.new result (λ end. field_at end at (slot_at end left Text table.old.unread.items) (now_of table.old)) (λ x rest. (x, now_of table.new, rest)) }
     ensures reads { ReadsTaken S.left S.faults pull.old pull.new result (λ end. field_at end at (slot_at end left Text table.old.unread.items) (now_of table.old)) (λ x rest. (x, now_of table.new, rest)) }
+    ensures stops { StopsTaken S.left S.faults pull.old pull.new result (λ end. field_at end at (slot_at end left Text table.old.unread.items) (now_of table.old)) }
 {
     let letter = byte(pull)?;
     match TypeCode::from_letter(letter) {
@@ -718,13 +653,10 @@ fn field_of<S: Source>(
 ) -> Result<FieldDesc, StreamFault>
     requires left { left ≤ 200 }
     ensures lent { pull.new.source.ghost_name ≡ pull.old.source.ghost_name }
-    ensures cause { Caused (S.faults pull.old.source.now) (S.faults pull.new.source.now) result }
-    ensures nears { OnOk result (pull.new.stop - pull.new.at ≤ pull.old.stop - pull.old.at) }
-    ensures env { OnOk result (env S.left pull.new ≡ env S.left pull.old) }
     ensures grows { length table.old.nodes.items ≤ length table.new.nodes.items }
     ensures unread { OnOk result (table.new.unread.items ≡ table.old.unread.items) }
-    ensures gives { GivesTold S.left pull.old pull.new result (λ end. field_of end at (slot_at end left Text table.old.unread.items) (Some code) (now_of table.old)) (λ x rest. (x, now_of table.new, rest)) }
     ensures reads { ReadsTaken S.left S.faults pull.old pull.new result (λ end. field_of end at (slot_at end left Text table.old.unread.items) (Some code) (now_of table.old)) (λ x rest. (x, now_of table.new, rest)) }
+    ensures stops { StopsTaken S.left S.faults pull.old pull.new result (λ end. field_of end at (slot_at end left Text table.old.unread.items) (Some code) (now_of table.old)) }
 {
     let name = short_text(alloc, pull)?;
     if is_primitive(code) {
@@ -757,13 +689,10 @@ fn value<S: Source>(
 ) -> Result<Value, StreamFault>
     requires left { left ≤ 200 }
     ensures lent { pull.new.source.ghost_name ≡ pull.old.source.ghost_name }
-    ensures cause { Caused (S.faults pull.old.source.now) (S.faults pull.new.source.now) result }
-    ensures nears { OnOk result (pull.new.stop - pull.new.at ≤ pull.old.stop - pull.old.at) }
-    ensures env { OnOk result (env S.left pull.new ≡ env S.left pull.old) }
     ensures grows { length table.old.nodes.items ≤ length table.new.nodes.items }
     ensures unread { OnOk result (table.new.unread.items ≡ table.old.unread.items) }
-    ensures gives { GivesTold S.left pull.old pull.new result (λ end. value_at (slot_at end left Reference table.old.unread.items) code (now_of table.old)) (λ x rest. (x, now_of table.new, rest)) }
     ensures reads { ReadsTaken S.left S.faults pull.old pull.new result (λ end. value_at (slot_at end left Reference table.old.unread.items) code (now_of table.old)) (λ x rest. (x, now_of table.new, rest)) }
+    ensures stops { StopsTaken S.left S.faults pull.old pull.new result (λ end. value_at (slot_at end left Reference table.old.unread.items) code (now_of table.old)) }
 {
     if is_primitive(code) {
         primitive(pull, code)
@@ -784,13 +713,10 @@ fn values<S: Source>(
 ) -> Result<ValueList, StreamFault>
     requires left { left ≤ 200 }
     ensures lent { pull.new.source.ghost_name ≡ pull.old.source.ghost_name }
-    ensures cause { Caused (S.faults pull.old.source.now) (S.faults pull.new.source.now) result }
-    ensures nears { OnOk result (pull.new.stop - pull.new.at ≤ pull.old.stop - pull.old.at) }
-    ensures env { OnOk result (env S.left pull.new ≡ env S.left pull.old) }
     ensures grows { length table.old.nodes.items ≤ length table.new.nodes.items }
     ensures unread { OnOk result (table.new.unread.items ≡ table.old.unread.items) }
-    ensures gives { GivesTold S.left pull.old pull.new result (λ end. values_by (slot_at end left Reference table.old.unread.items) codes.now (now_of table.old)) (λ x rest. (x, now_of table.new, rest)) }
     ensures reads { ReadsTaken S.left S.faults pull.old pull.new result (λ end. values_by (slot_at end left Reference table.old.unread.items) codes.now (now_of table.old)) (λ x rest. (x, now_of table.new, rest)) }
+    ensures stops { StopsTaken S.left S.faults pull.old pull.new result (λ end. values_by (slot_at end left Reference table.old.unread.items) codes.now (now_of table.old)) }
 {
     let mut values = ValueList::new(alloc);
     for code in codes {
@@ -812,13 +738,10 @@ fn part<S: Source>(
 ) -> Result<Part, StreamFault>
     requires left { left ≤ 200 }
     ensures lent { pull.new.source.ghost_name ≡ pull.old.source.ghost_name }
-    ensures cause { Caused (S.faults pull.old.source.now) (S.faults pull.new.source.now) result }
-    ensures nears { OnOk result (pull.new.stop - pull.new.at ≤ pull.old.stop - pull.old.at) }
-    ensures env { OnOk result (env S.left pull.new ≡ env S.left pull.old) }
     ensures grows { length table.old.nodes.items ≤ length table.new.nodes.items }
     ensures unread { OnOk result (table.new.unread.items ≡ table.old.unread.items) }
-    ensures gives { GivesTold S.left pull.old pull.new result (λ end. part_by end (slot_at end left Reference table.old.unread.items) row.now (now_of table.old)) (λ x rest. (x, now_of table.new, rest)) }
     ensures reads { ReadsTaken S.left S.faults pull.old pull.new result (λ end. part_by end (slot_at end left Reference table.old.unread.items) row.now (now_of table.old)) (λ x rest. (x, now_of table.new, rest)) }
+    ensures stops { StopsTaken S.left S.faults pull.old pull.new result (λ end. part_by end (slot_at end left Reference table.old.unread.items) row.now (now_of table.old)) }
 {
     let values = values(alloc, pull, table, row.codes.as_slice(), left)?;
     let note = note(alloc, pull, table, row.note, left)?;
@@ -836,13 +759,10 @@ fn parts<S: Source>(
 ) -> Result<PartList, StreamFault>
     requires left { left ≤ 200 }
     ensures lent { pull.new.source.ghost_name ≡ pull.old.source.ghost_name }
-    ensures cause { Caused (S.faults pull.old.source.now) (S.faults pull.new.source.now) result }
-    ensures nears { OnOk result (pull.new.stop - pull.new.at ≤ pull.old.stop - pull.old.at) }
-    ensures env { OnOk result (env S.left pull.new ≡ env S.left pull.old) }
     ensures grows { length table.old.nodes.items ≤ length table.new.nodes.items }
     ensures unread { OnOk result (table.new.unread.items ≡ table.old.unread.items) }
-    ensures gives { GivesTold S.left pull.old pull.new result (λ end. parts_by end (slot_at end left Reference table.old.unread.items) rows.now (now_of table.old)) (λ x rest. (x, now_of table.new, rest)) }
     ensures reads { ReadsTaken S.left S.faults pull.old pull.new result (λ end. parts_by end (slot_at end left Reference table.old.unread.items) rows.now (now_of table.old)) (λ x rest. (x, now_of table.new, rest)) }
+    ensures stops { StopsTaken S.left S.faults pull.old pull.new result (λ end. parts_by end (slot_at end left Reference table.old.unread.items) rows.now (now_of table.old)) }
 {
     let mut parts = PartList::new(alloc);
     for row in rows {
@@ -864,13 +784,10 @@ fn note<S: Source>(
 ) -> Result<Items, StreamFault>
     requires left { left ≤ 200 }
     ensures lent { pull.new.source.ghost_name ≡ pull.old.source.ghost_name }
-    ensures cause { Caused (S.faults pull.old.source.now) (S.faults pull.new.source.now) result }
-    ensures nears { OnOk result (pull.new.stop - pull.new.at ≤ pull.old.stop - pull.old.at) }
-    ensures env { OnOk result (env S.left pull.new ≡ env S.left pull.old) }
     ensures grows { length table.old.nodes.items ≤ length table.new.nodes.items }
     ensures unread { OnOk result (table.new.unread.items ≡ table.old.unread.items) }
-    ensures gives { GivesTold S.left pull.old pull.new result (λ end. note_at end (slot_at end left Reference table.old.unread.items) writes (now_of table.old)) (λ x rest. (x, now_of table.new, rest)) }
     ensures reads { ReadsTaken S.left S.faults pull.old pull.new result (λ end. note_at end (slot_at end left Reference table.old.unread.items) writes (now_of table.old)) (λ x rest. (x, now_of table.new, rest)) }
+    ensures stops { StopsTaken S.left S.faults pull.old pull.new result (λ end. note_at end (slot_at end left Reference table.old.unread.items) writes (now_of table.old)) }
 {
     if writes {
         items(alloc, pull, table, left)
@@ -889,13 +806,10 @@ fn items<S: Source>(
 ) -> Result<Items, StreamFault>
     requires left { left ≤ 200 }
     ensures lent { pull.new.source.ghost_name ≡ pull.old.source.ghost_name }
-    ensures cause { Caused (S.faults pull.old.source.now) (S.faults pull.new.source.now) result }
-    ensures nears { OnOk result (pull.new.stop - pull.new.at ≤ pull.old.stop - pull.old.at) }
-    ensures env { OnOk result (env S.left pull.new ≡ env S.left pull.old) }
     ensures grows { length table.old.nodes.items ≤ length table.new.nodes.items }
     ensures unread { OnOk result (table.new.unread.items ≡ table.old.unread.items) }
-    ensures gives { GivesTold S.left pull.old pull.new result (λ end. items_at end (slot_at end left Reference table.old.unread.items) true (now_of table.old)) (λ x rest. (x, now_of table.new, rest)) }
     ensures reads { ReadsTaken S.left S.faults pull.old pull.new result (λ end. items_at end (slot_at end left Reference table.old.unread.items) true (now_of table.old)) (λ x rest. (x, now_of table.new, rest)) }
+    ensures stops { StopsTaken S.left S.faults pull.old pull.new result (λ end. items_at end (slot_at end left Reference table.old.unread.items) true (now_of table.old)) }
 {
     let mut items = Vec::new(alloc);
     loop {
@@ -922,13 +836,10 @@ pub(crate) fn item<S: Source>(
 ) -> Result<Item, StreamFault>
     requires left { left ≤ 200 }
     ensures lent { pull.new.source.ghost_name ≡ pull.old.source.ghost_name }
-    ensures cause { Caused (S.faults pull.old.source.now) (S.faults pull.new.source.now) result }
-    ensures nears { OnOk result (pull.new.stop - pull.new.at ≤ pull.old.stop - pull.old.at) }
-    ensures env { OnOk result (env S.left pull.new ≡ env S.left pull.old) }
     ensures grows { length table.old.nodes.items ≤ length table.new.nodes.items }
     ensures unread { OnOk result (table.new.unread.items ≡ table.old.unread.items) }
-    ensures gives { GivesTold S.left pull.old pull.new result (λ end. item_at end (coded end left (slot_at end (left - 1)) Reference table.old.unread.items at code) code (now_of table.old)) (λ x rest. (x, now_of table.new, rest)) }
     ensures reads { ReadsTaken S.left S.faults pull.old pull.new result (λ end. item_at end (coded end left (slot_at end (left - 1)) Reference table.old.unread.items at code) code (now_of table.old)) (λ x rest. (x, now_of table.new, rest)) }
+    ensures stops { StopsTaken S.left S.faults pull.old pull.new result (λ end. item_at end (coded end left (slot_at end (left - 1)) Reference table.old.unread.items at code) code (now_of table.old)) }
 {
     if code == 0x77 {
         let n = byte(pull)?;

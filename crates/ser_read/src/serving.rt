@@ -3,8 +3,8 @@ ghost use Rattle.std.specs.Prelude.{◌≡◌, ◌∷◌, List, ℕ, OnOk, IfOk,
 ghost use Rattle.wire_io.specs.Pulled.{place};
 ghost use Rattle.class_desc.specs.declared.slot.Item.{Item};
 ghost use Rattle.ser_values.specs.declared.node.Node.{Node};
-ghost use Rattle.ser_read.specs.Here.{env, coming, IsTold, Caused, ReadsTaken};
-ghost use Rattle.ser_read.specs.Wants.{GivesWant, want_at, serve, wants_at};
+ghost use Rattle.ser_read.specs.Here.{coming, IsTold, Caused, ReadsTaken};
+ghost use Rattle.ser_read.specs.Wants.{GivesWant, StopsWant, want_at, serve, wants_at};
 ghost use Rattle.ser_read.specs.Asked.{IsAsked, TakesAsked, InLimits, AnswersAsked};
 
 use crate::fault::StreamFault;
@@ -25,7 +25,7 @@ pub enum Want {
 }
 
 /// What a reader gives for a want.
-#[tactic(auto, unfolding(crate::specs::Wants::want_at), using(crate::proofs::Wants::wants_fail))]
+#[tactic(auto, unfolding(crate::specs::Wants::want_at))]
 fn serve_one<S: Source>(
     alloc: Global,
     pull: &mut Pull<'_, S>,
@@ -35,10 +35,8 @@ fn serve_one<S: Source>(
     requires kept { reader.old.refused ≡ None }
     ensures kept { OnOk result (reader.new.refused ≡ None) }
     ensures lent { pull.new.source.ghost_name ≡ pull.old.source.ghost_name }
-    ensures cause { Caused (S.faults pull.old.source.now) (S.faults pull.new.source.now) result }
-    ensures env { OnOk result (env S.left pull.new ≡ env S.left pull.old) }
-    ensures gives { GivesWant S.left pull.old pull.new result (λ end. want_at end want reader.old.stand) (λ x rest. (x, reader.new.stand, rest)) }
     ensures reads { ReadsTaken S.left S.faults pull.old pull.new result (λ end. want_at end want reader.old.stand) (λ x rest. (x, reader.new.stand, rest)) }
+    ensures stops { StopsWant S.left S.faults pull.old pull.new result (λ end. want_at end want reader.old.stand) }
 {
     match want {
         Want::Bytes(n) => {
@@ -62,10 +60,8 @@ fn serve<S: Source>(
     requires kept { reader.old.refused ≡ None }
     ensures kept { OnOk result (reader.new.refused ≡ None) }
     ensures lent { pull.new.source.ghost_name ≡ pull.old.source.ghost_name }
-    ensures cause { Caused (S.faults pull.old.source.now) (S.faults pull.new.source.now) result }
-    ensures env { OnOk result (env S.left pull.new ≡ env S.left pull.old) }
-    ensures gives { GivesWant S.left pull.old pull.new result (λ end. serve end wants.now reader.old.stand) (λ x rest. (x, reader.new.stand, rest)) }
     ensures reads { ReadsTaken S.left S.faults pull.old pull.new result (λ end. serve end wants.now reader.old.stand) (λ x rest. (x, reader.new.stand, rest)) }
+    ensures stops { StopsWant S.left S.faults pull.old pull.new result (λ end. serve end wants.now reader.old.stand) }
 {
     let mut answers = Items::new(alloc);
     for want in wants {
@@ -76,17 +72,15 @@ fn serve<S: Source>(
 }
 
 /// Reads a stream of which this is asked.
-#[tactic(auto, unfolding(crate::specs::Wants::wants_at, crate::specs::Wants::serve_all), using(crate::proofs::Wants::lifted_fails, crate::proofs::Wants::wants_fail, crate::proofs::Pulling::here_is))]
+#[tactic(auto, unfolding(crate::specs::Wants::wants_at, crate::specs::Wants::serve_all))]
 fn read_each<S: Source>(
     alloc: Global,
     pull: &mut Pull<'_, S>,
     wants: &[Want],
 ) -> Result<(Items, Graph), StreamFault>
     ensures lent { pull.new.source.ghost_name ≡ pull.old.source.ghost_name }
-    ensures cause { Caused (S.faults pull.old.source.now) (S.faults pull.new.source.now) result }
-    ensures env { OnOk result (env S.left pull.new ≡ env S.left pull.old) }
-    ensures gives { GivesWant S.left pull.old pull.new result (λ end. wants_at end wants.now) (λ x rest. (x.0, x.1.nodes, x.1.items, rest)) }
     ensures reads { ReadsTaken S.left S.faults pull.old pull.new result (λ end. wants_at end wants.now) (λ x rest. (x.0, x.1.nodes, x.1.items, rest)) }
+    ensures stops { StopsWant S.left S.faults pull.old pull.new result (λ end. wants_at end wants.now) }
 {
     let mut reader = Reader::start(alloc, pull)?;
     let answers = serve(alloc, pull, &mut reader, wants)?;
@@ -105,6 +99,7 @@ pub fn read_wants<S: Source>(
     ensures lent { pull.new.source.ghost_name ≡ pull.old.source.ghost_name }
     ensures cause { Caused (S.faults pull.old.source.now) (S.faults pull.new.source.now) result }
     ensures gives { GivesWant S.left pull.old pull.new result (λ end. wants_at end wants.now) (λ x rest. (x.0, x.1.nodes, x.1.items, rest)) }
+    ensures stops { StopsWant S.left S.faults pull.old pull.new result (λ end. wants_at end wants.now) }
     ensures spelled { IfOk result (λ x. TakesAsked (place S.left S.faults pull.old) (place S.left S.faults pull.new) wants.now x.0 x.1.nodes x.1.items) }
     ensures complete { (answers : List Item) (nodes : List Node) (bytes rest : List ℕ) → IsTold S.left pull.old → coming S.left pull.old ≡ 0xAC ∷ 0xED ∷ 0x00 ∷ 0x05 ∷ bytes → InLimits nodes → IsAsked wants.now answers nodes bytes rest → AnswersAsked answers nodes rest (coming S.left pull.new) result }
 {

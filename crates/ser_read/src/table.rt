@@ -5,13 +5,9 @@ ghost use Rattle.ser_values.specs.Node.{has, is_desc, is_text};
 
 use crate::fault::StreamKind;
 use class_desc::{ENUM, Slot, TypeCode, check_type_text, element_code, is_primitive};
+use ser_values::limits::{NODES, PARTS};
 use ser_values::{Node, NodeList, Place};
 use std::alloc::{AllocError, Global};
-
-/// The greatest number of nodes.
-const NODES: usize = 0x1_0000;
-/// The greatest number of parts of all objects.
-const PARTS: usize = 0x10_0000;
 
 /// The nodes so far. One that is still being read stands there empty, and is written over when it was read.
 #[derive(Drop)]

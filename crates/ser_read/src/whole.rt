@@ -1,19 +1,17 @@
 //! Streams that are read to the end of the input.
-ghost use Rattle.std.specs.Prelude.{◌≡◌, ◌≤◌, ◌<◌, ◌+◌, ◌-◌, [], length, take, false, List, ℕ, Some, IfOk, IfSome, IsErrAnd};
+ghost use Rattle.std.specs.Prelude.{◌≡◌, ◌≤◌, ◌<◌, ◌+◌, ◌-◌, [], length, take, false, List, ℕ, Some, IfOk, IfErr, IfSome, IsErrAnd};
 ghost use Rattle.class_desc.specs.declared.slot.Item.{Item as OneItem};
 ghost use Rattle.wire_io.specs.Wire.{NothingLeft};
 ghost use Rattle.wire_io.specs.Pulled.{place, Takes};
 ghost use Rattle.ser_values.specs.declared.node.Node.{Node};
 ghost use Rattle.ser_values.specs.declared.node.Place.TheVariants.{Reference};
 ghost use Rattle.ser_values.specs.Reading.{byte_at, items_at, slot_at};
-ghost use Rattle.ser_values.specs.Ranges.{NumbersFit, UnitsFit};
-ghost use Rattle.ser_values.specs.Shape.{parts_in};
 ghost use Rattle.ser_values.specs.Spelled.{IsStream};
 ghost use Rattle.ser_read.specs.declared.fault.StreamFault.TheVariants.{Truncated, TooLarge};
 ghost use Rattle.ser_read.specs.declared.fault.Large.TheVariants.{Bytes};
 ghost use Rattle.ser_read.specs.Tables.{now_of};
-ghost use Rattle.ser_read.specs.Here.{coming, env, IsTold, Caused, Fails, Gives, Reads};
-ghost use Rattle.ser_read.specs.Whole.{stream_at, going_on, to_end, code_at, ReadsAll, TakesStream, AnswersGraph};
+ghost use Rattle.ser_read.specs.Here.{Caused, Fails, Gives, Reads};
+ghost use Rattle.ser_read.specs.Whole.{stream_at, going_on, ReadsAll, BreaksWhole, NoCode, TakesStream, AnswersGraph};
 
 use crate::fault::{Large, StreamFault};
 use crate::header::magic;
@@ -22,22 +20,17 @@ use crate::reading::item;
 use crate::table::Table;
 use class_desc::Items;
 use ser_values::Graph;
+use ser_values::limits::LEVELS;
 use std::alloc::Global;
 use wire_io::pull::{Pull, PullEnd};
 use wire_io::source::Source;
 
-/// How many levels deep a stream's values are at most.
-const LEVELS: u32 = 200;
-
 /// The next code, or none where the input ends.
 fn next_code<S: Source>(pull: &mut Pull<'_, S>) -> Result<Option<u8>, StreamFault>
     ensures lent { pull.new.source.ghost_name ≡ pull.old.source.ghost_name }
-    ensures cause { Caused (S.faults pull.old.source.now) (S.faults pull.new.source.now) result }
-    ensures nears { IfOk result (λ code. IfSome code (λ b. pull.new.stop - pull.new.at < pull.old.stop - pull.old.at)) }
-    ensures env { IfOk result (λ code. IfSome code (λ b. env S.left pull.new ≡ env S.left pull.old)) }
-    ensures gives { IsTold S.left pull.old → Gives (env S.left pull.old).after (λ code. (code, coming S.left pull.new)) result (code_at (env S.left pull.old).after (coming S.left pull.old)) }
     ensures reads { IfOk result (λ code. IfSome code (λ b. Reads (place S.left S.faults pull.old) (place S.left S.faults pull.new) (λ end. byte_at) (λ rest. (b, rest)))) }
     ensures ends { IfOk result (λ code. code ≡ None → Takes (place S.left S.faults pull.old) (place S.left S.faults pull.new) [] × NothingLeft (S.left pull.new.source.now)) }
+    ensures stops { IfErr result (λ e. NoCode (place S.left S.faults pull.old) (place S.left S.faults pull.new) e) }
 {
     match pull.byte() {
         Ok(code) => Ok(Some(code)),
@@ -60,9 +53,8 @@ fn items_to_end<S: Source>(
     table: &mut Table,
 ) -> Result<Items, StreamFault>
     ensures lent { pull.new.source.ghost_name ≡ pull.old.source.ghost_name }
-    ensures cause { Caused (S.faults pull.old.source.now) (S.faults pull.new.source.now) result }
-    ensures gives { IsTold S.left pull.old → Gives (env S.left pull.old).after (λ items. (items, now_of table.new, [])) result (to_end (env S.left pull.old).after (items_at (env S.left pull.old).end (slot_at (env S.left pull.old).end 200 Reference table.old.unread.items) false (now_of table.old) (coming S.left pull.old))) }
     ensures reads { IfOk result (λ items. ReadsAll (place S.left S.faults pull.old) (place S.left S.faults pull.new) (λ end. items_at end (slot_at end 200 Reference table.old.unread.items) false (now_of table.old)) (items, now_of table.new, [])) }
+    ensures stops { IfErr result (λ e. BreaksWhole (place S.left S.faults pull.old) (place S.left S.faults pull.new) e (λ end. items_at end (slot_at end 200 Reference table.old.unread.items) false (now_of table.old))) }
 {
     let mut items = Vec::new(alloc);
     loop {
@@ -80,9 +72,8 @@ fn items_to_end<S: Source>(
 /// The graph of a stream.
 fn graph<S: Source>(alloc: Global, pull: &mut Pull<'_, S>) -> Result<Graph, StreamFault>
     ensures lent { pull.new.source.ghost_name ≡ pull.old.source.ghost_name }
-    ensures cause { Caused (S.faults pull.old.source.now) (S.faults pull.new.source.now) result }
-    ensures gives { IsTold S.left pull.old → Gives (env S.left pull.old).after (λ graph. (graph.nodes, graph.items)) result (to_end (env S.left pull.old).after (stream_at (env S.left pull.old).end (coming S.left pull.old))) }
     ensures reads { IfOk result (λ graph. ReadsAll (place S.left S.faults pull.old) (place S.left S.faults pull.new) stream_at (graph.nodes, graph.items)) }
+    ensures stops { IfErr result (λ e. BreaksWhole (place S.left S.faults pull.old) (place S.left S.faults pull.new) e stream_at) }
 {
     magic(pull)?;
     let mut table = Table::new(alloc);
@@ -104,11 +95,12 @@ pub fn read_to_end<S: Source>(alloc: Global, pull: &mut Pull<'_, S>) -> Result<G
     // Of told bytes that go on past the stop, it is the first fault before it, or that there are too many.
     ensures limited { (bytes : List ℕ) → S.left pull.old.source.now ≡ Some bytes → pull.old.stop - pull.old.at < length bytes
         → IsErrAnd result (λ e. Fails (TooLarge Bytes pull.old.stop) e (going_on (stream_at pull.old.stop (take (pull.old.stop - pull.old.at) bytes)))) }
-    // What was taken is a stream of the graph, told or not.
+    // What was taken is a stream of the graph, told or not, or comes to the fault.
     ensures taken { IfOk result (λ graph. TakesStream (place S.left S.faults pull.old) (place S.left S.faults pull.new) graph.nodes graph.items) }
+    ensures stops { IfErr result (λ e. BreaksWhole (place S.left S.faults pull.old) (place S.left S.faults pull.new) e stream_at) }
     // Each stream that is told to its end before the stop is read, unless the outside fails.
     ensures complete { (bytes : List ℕ) (nodes : List Node) (items : List OneItem) → S.left pull.old.source.now ≡ Some bytes → length bytes ≤ pull.old.stop - pull.old.at
-        → NumbersFit nodes → UnitsFit nodes → parts_in nodes ≤ 1048576 → IsStream nodes items bytes → AnswersGraph nodes items result }
+        → IsStream nodes items bytes → AnswersGraph nodes items result }
 {
     graph(alloc, pull)
 }

@@ -1,4 +1,4 @@
--- What is spelled is read: reading answers the nodes and the items of each stream within the limits.
+-- What is spelled is read: reading answers the nodes and the items of each stream.
 use Rattle.std.proofs.Common.{◌≡◌, not, ℕ, zero, suc, ◌+◌, ◌-◌, ◌<◌, ◌≤◌, Bool, true, false, eqb, ltb, List, [], ◌∷◌, ◌++◌, length, Some, None, Result, Ok, slice_get, refl, sym, ap, subst, ◌∙◌, arith}
 use Rattle.std.proofs.lemmas.Bool.{lt-ltb, le-ltb}
 use Rattle.std.proofs.lemmas.Option.{slice_get_within}
@@ -270,11 +270,11 @@ magic_read : (end : ℕ) (contents : List ℕ) → magic_at end (0xAC ∷ 0xED �
 unfolding magic_at
 magic_read end contents = refl
 
--- Each stream whose numbers and units are in range, and whose objects have at most 2^20 parts, is read.
-pub stream_complete : (nodes : List Node) (items : List Item) (bytes : List ℕ) → NumbersFit nodes → UnitsFit nodes → parts_in nodes ≤ 1048576 → IsStream nodes items bytes → stream_of bytes ≡ Ok (nodes, items)
+-- Each stream is read.
+pub stream_complete : (nodes : List Node) (items : List Item) (bytes : List ℕ) → IsStream nodes items bytes → stream_of bytes ≡ Ok (nodes, items)
 unfolding stream_of has parts_in
-stream_complete F is bytes numbers units parts h =
-    let given : Given F = record { few = stream_few F is bytes h; parts = parts; numbers = numbers; units = units } in
+stream_complete F is bytes h =
+    let given : Given F = record { few = stream_few F is bytes h; parts = h.few_parts; numbers = h.numbers; units = h.units } in
     let end = length bytes in
     let start : Progress = record { nodes = []; parts = 0 } in
     let ready : Ready F [] start = record { parts = refl; below = λ k e. absurd cc; known = λ k i lt e is d. absurd (omega arith); texts = λ k i lt is t. absurd (omega arith) } in

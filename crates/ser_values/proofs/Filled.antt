@@ -2,12 +2,14 @@
 use Rattle.std.proofs.Common.{◌≡◌, ◌≢◌, ℕ, suc, ◌+◌, ◌<◌, Bool, true, false, List, [], ◌∷◌, ◌++◌, length, Some, slice_get, refl, sym, ap, subst, ◌∙◌, append_assoc, arith, inl, inr}
 use Rattle.std.proofs.lemmas.Bool.{cases_eq}
 use Rattle.std.proofs.lemmas.List.{length-set}
+use Rattle.std.proofs.lemmas.List.Elements.{All-set}
 use Rattle.std.proofs.lemmas.Option.{slice_get_within}
 use Rattle.class_desc.specs.declared.slot.Slot.{Slot}
 use Rattle.class_desc.specs.declared.slot.Slot.TheVariants as slots
 use Rattle.ser_values.specs.declared.node.Node.{Node}
 use Rattle.ser_values.specs.Node.{is_desc, is_text}
 use Rattle.ser_values.specs.Shape.{parts_of, parts_in}
+use Rattle.ser_values.specs.Ranges.{InRange}
 use Rattle.ser_values.specs.Reading.{Progress, push, fill}
 use Rattle.ser_values.proofs.Lists.{slice_get-append_seam, slice_get-set_other, length_push, fills, some_same, still_not}
 use Rattle.ser_values.proofs.Chains.{parent_of}
@@ -48,10 +50,10 @@ carry unread now last i j added d kind f (slots.Node q) w =
     record { read = was_no unread (length now.nodes) q d w.read; node = w.node; is = f.same q ne ∙ w.is; desc = w.desc }
 
 pub got_filled : (unread : List ℕ) (now mid last : Progress) (rest : List ℕ) (P Q : List Node → Type 0) (i j : Node) (d : Bool) → Solid unread now → is_desc i ≡ d → is_text j ≡ false → Free unread now mid j d → Got (Within unread (length now.nodes) d) mid last rest P
-    → (is_desc i ≡ true → WholeSlot last.nodes (Within unread (length now.nodes) d) (parent_of (Some i))) → IsGood i → mid.parts ≡ now.parts + parts_of i
+    → (is_desc i ≡ true → WholeSlot last.nodes (Within unread (length now.nodes) d) (parent_of (Some i))) → IsGood i → InRange i → mid.parts ≡ now.parts + parts_of i
     → ((F : List Node) → Sees F last.nodes (Within unread (length now.nodes) d) → slice_get F (length now.nodes) ≡ Some i → P F → Q F) → Got unread now (fill last (length now.nodes) i) rest Q
 unfolding parts_in
-got_filled unread now mid last rest P Q i j d solid kind blank_text free g up good parts f =
+got_filled unread now mid last rest P Q i j d solid kind blank_text free g up good ranged parts f =
     let n = length now.nodes in
     let made = fill last n i in
     let fl = filled_is now mid last i j g.added free.grown g.grown in
@@ -74,6 +76,7 @@ got_filled unread now mid last rest P Q i j d solid kind blank_text free g up go
         ];
         below = λ z h. (let lt : z < n = solid.below z h in let r = fl.room in let l = fl.len in omega arith);
         few = solid2.few;
+        ranged = All-set InRange last.nodes n i ranged solid2.ranged;
       };
       left = g.left;
       spelled = λ F sees agrees. (
@@ -93,9 +96,9 @@ got_filled unread now mid last rest P Q i j d solid kind blank_text free g up go
     }
 
 -- a node that is whole with its handle
-pub got_pushed : (unread : List ℕ) (now : Progress) (rest : List ℕ) (Q : List Node → Type 0) (i : Node) → Solid unread now → is_desc i ≡ false → parts_of i ≡ 0 → AreBytes rest → ((F : List Node) → Sees F (push now i).nodes unread → slice_get F (length now.nodes) ≡ Some i → Q F) → Got unread now (push now i) rest Q
+pub got_pushed : (unread : List ℕ) (now : Progress) (rest : List ℕ) (Q : List Node → Type 0) (i : Node) → Solid unread now → is_desc i ≡ false → parts_of i ≡ 0 → InRange i → AreBytes rest → ((F : List Node) → Sees F (push now i).nodes unread → slice_get F (length now.nodes) ≡ Some i → Q F) → Got unread now (push now i) rest Q
 unfolding parts_in
-got_pushed unread now rest Q i solid kind none bytes f =
+got_pushed unread now rest Q i solid kind none ranged bytes f =
     let n = length now.nodes in
     let made = push now i in
     let len : length made.nodes ≡ suc n = length_push now.nodes i in
@@ -104,10 +107,10 @@ got_pushed unread now rest Q i solid kind none bytes f =
       added = i ∷ [];
       grown = refl;
       parts = omega arith;
-      solid = pushed_solid unread now i solid kind len here;
+      solid = pushed_solid unread now i solid kind ranged len here;
       left = bytes;
       spelled = λ F sees agrees. f F sees (agrees n (omega arith) (omega arith) ∙ here);
     }
   where
-    pushed_solid : (unread : List ℕ) (now : Progress) (i : Node) → Solid unread now → is_desc i ≡ false → length (push now i).nodes ≡ suc (length now.nodes) → slice_get (push now i).nodes (length now.nodes) ≡ Some i → Solid unread (push now i)
-    pushed_solid unread now i solid kind len here = free_solid unread now (push now i) i false solid (record { grown = refl; kind = kind; few = solid.few })
+    pushed_solid : (unread : List ℕ) (now : Progress) (i : Node) → Solid unread now → is_desc i ≡ false → InRange i → length (push now i).nodes ≡ suc (length now.nodes) → slice_get (push now i).nodes (length now.nodes) ≡ Some i → Solid unread (push now i)
+    pushed_solid unread now i solid kind ranged len here = free_solid unread now (push now i) i false solid (record { grown = refl; kind = kind; few = solid.few; ranged = ranged })

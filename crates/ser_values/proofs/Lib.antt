@@ -1,4 +1,5 @@
 pub mod Lists
+pub mod Ranged
 pub mod Shapes
 pub mod Keeps
 pub mod Runs

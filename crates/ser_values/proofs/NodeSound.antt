@@ -1,7 +1,9 @@
--- Texts and descriptions that are read are spelled.
+-- Texts and descriptions that are read are spelled, and are in range.
 use Rattle.std.proofs.Common.{◌≡◌, ◌||◌, ℕ, suc, ◌<◌, ◌≤◌, ◌^◌, true, false, eqb, ltb, List, [], ◌∷◌, ◌++◌, length, Some, Ok, slice_get, refl, sym, ap, subst, ◌∙◌, arith}
 use Rattle.std.proofs.lemmas.Bool.{lt-ltb}
+use Rattle.std.specs.Prelude.{All, FitsSigned}
 use Rattle.std.proofs.lemmas.Int.{of_z-to_z}
+use borrow.Author.Gap.{read_sfits}
 use Rattle.std.specs.Int.{w16, w64, to_be_bytes, cast_unsigned, cast_signed}
 use Rattle.mod_utf.specs.Utf.{utf}
 use Rattle.class_desc.specs.declared.slot.Slot.{Slot}
@@ -15,15 +17,18 @@ use Rattle.ser_values.specs.declared.node.Node.TheVariants.{Text, Desc}
 use Rattle.ser_values.specs.declared.node.Place.TheVariants as places
 use Rattle.ser_values.specs.Node.{is_desc, is_text, inside}
 use Rattle.ser_values.specs.Shape.{is_short, are_typed, is_joined, is_shaped}
+use Rattle.ser_values.specs.Ranges.{TextFits, NameFits, InRange}
 use Rattle.ser_values.specs.Spelled.{Token, want, note, number, short_text, long_text, field_tokens, Form, a_text, a_long_text, a_desc, One, SpellsItems, SpellsToken, SpellsAll, Spelling}
 use Rattle.ser_values.specs.Reading.{◌>>=◌, byte_at, number_at, size_at, short_at, long_at, Progress, Slots, many_at, push, fill, blank, items_at, field_at, text_at, desc_after, desc_at}
 use Rattle.ser_values.proofs.Lists.{length_push, slice_get-append_seam}
 use Rattle.std.proofs.lemmas.List.{length-set}
+use Rattle.std.proofs.lemmas.List.Elements.{All-nil, All-cons}
 use Rattle.ser_values.proofs.Steps.{field_toks, fields_flat}
 use Rattle.ser_values.proofs.Forms.{desc_tokens}
 use Rattle.ser_values.proofs.Constructs.{set_here}
 use Rattle.ser_values.proofs.PlainSound.{AreBytes, bind_ok, passed, ok_is, number_sound_16, number_sound_64, size_sound, short_sound, long_sound}
-use Rattle.ser_values.proofs.Solid.{WholeSlot, Solid, Got, got_two, got_map, grown_length, Free, free_solid}
+use Rattle.ser_values.proofs.Solid.{WholeSlot, Solid, Got, got_two, got_map, got_self, grown_length, Free, free_solid}
+use Rattle.ser_values.proofs.Ranged.{units_all}
 use Rattle.ser_values.proofs.Filled.{got_filled, got_pushed}
 use Rattle.ser_values.proofs.StepSound.{IsSound, spells_join, spells_last, Each, many_sound, byte_spells, back, FieldOk}
 use Rattle.ser_values.proofs.FieldSound.{field_sound}
@@ -53,6 +58,10 @@ pub record GotNode (S : List Node → Spelling) (unread : List ℕ) (now : Progr
   pub text : is_text node ≡ (eqb code 0x74 || eqb code 0x7C)
   pub got : Got unread now y.1 y.2 (λ F. FreshAs F (S F) unread (length now.nodes) code bs y.2 (length y.1.nodes) k node)
 
+-- the node that keeps a place free is in range
+pub blank_ranged : InRange (Desc blank)
+blank_ranged = (read_sfits w64 0, (All-nil _, All-nil NameFits))
+
 -- the node in its place
 pub filled_here : (now mid last : Progress) (added : List Node) (i j : Node) → mid.nodes ≡ now.nodes ++ j ∷ [] → last.nodes ≡ mid.nodes ++ added → slice_get (fill last (length now.nodes) i).nodes (length now.nodes) ≡ Some i
 filled_here now mid last added i j e f =
@@ -62,10 +71,10 @@ filled_here now mid last added i j e f =
 
 -- ---- texts
 
-text_node : (S : List Node → Spelling) (unread : List ℕ) (now : Progress) (code : ℕ) (t bs rest : List ℕ) (tok : Token) → Solid unread now → length now.nodes < 65536 → length (utf t) < 2 ^ 63 → false ≡ (eqb code 0x72 || eqb code 0x7D) → true ≡ (eqb code 0x74 || eqb code 0x7C)
+text_node : (S : List Node → Spelling) (unread : List ℕ) (now : Progress) (code : ℕ) (t bs rest : List ℕ) (tok : Token) → Solid unread now → length now.nodes < 65536 → length (utf t) < 2 ^ 63 → TextFits t → false ≡ (eqb code 0x72 || eqb code 0x7D) → true ≡ (eqb code 0x74 || eqb code 0x7C)
     → ((F : List Node) → Form F (Text t) code [] (tok ∷ [])) → ((S : One) (n m : ℕ) → m ≡ n → SpellsToken S tok n bs rest m) → AreBytes rest → GotNode S unread now code bs (slots.Node (length now.nodes), push now (Text t), rest)
 unfolding is_desc is_text is_shaped
-text_node S unread now code t bs rest tok solid room fits d tx form spelled bytes = record {
+text_node S unread now code t bs rest tok solid room fits units d tx form spelled bytes = record {
   k = length now.nodes;
   node = Text t;
   what = refl;
@@ -74,7 +83,7 @@ text_node S unread now code t bs rest tok solid room fits d tx form spelled byte
   here = here_of;
   desc = d;
   text = tx;
-  got = got_pushed unread now rest _ (Text t) solid refl refl bytes (λ F sees is. record {
+  got = got_pushed unread now rest _ (Text t) solid refl refl (tt, units) bytes (λ F sees is. record {
     is = is;
     shaped = lt-ltb _ _ fits;
     befores = [];
@@ -96,7 +105,7 @@ short_node S unread end now bs y e solid bytes room =
     let t = short_sound end bs a.0 a.1 bytes in
     let below = t.below in
     subst (λ (y : Slot × Progress × List ℕ). GotNode S unread now 0x74 bs y) (ok_is (slots.Node (length now.nodes), push now (Text a.0.0), a.0.1) y a.2)
-    (text_node S unread now 0x74 a.0.0 bs a.0.1 (short_text a.0.0) solid room (omega arith) refl refl (λ F. a_text a.0.0 t.below) (λ S n m same. (t.parts, same)) t.left)
+    (text_node S unread now 0x74 a.0.0 bs a.0.1 (short_text a.0.0) solid room (omega arith) (units_all a.0.0 t.units) refl refl (λ F. a_text a.0.0 t.below) (λ S n m same. (t.parts, same)) t.left)
 
 pub long_node : (S : List Node → Spelling) (unread : List ℕ) (end : ℕ) (now : Progress) (bs : List ℕ) (y : Slot × Progress × List ℕ) → text_at (long_at end) now bs ≡ Ok y → Solid unread now → AreBytes bs → length now.nodes < 65536 → GotNode S unread now 0x7C bs y
 unfolding text_at
@@ -104,7 +113,7 @@ long_node S unread end now bs y e solid bytes room =
     let a = bind_ok (long_at end bs) (λ t. Ok (slots.Node (length now.nodes), push now (Text t.0), t.1)) y e in
     let t = long_sound end bs a.0 a.1 bytes in
     subst (λ (y : Slot × Progress × List ℕ). GotNode S unread now 0x7C bs y) (ok_is (slots.Node (length now.nodes), push now (Text a.0.0), a.0.1) y a.2)
-    (text_node S unread now 0x7C a.0.0 bs a.0.1 (long_text a.0.0) solid room t.below refl refl (λ F. a_long_text a.0.0 t.below) (λ S n m same. (t.parts, same)) t.left)
+    (text_node S unread now 0x7C a.0.0 bs a.0.1 (long_text a.0.0) solid room t.below (units_all a.0.0 t.units) refl refl (λ F. a_long_text a.0.0 t.below) (λ S n m same. (t.parts, same)) t.left)
 
 -- ---- descriptions
 
@@ -113,6 +122,10 @@ unfolding are_typed
 each_typed F [] h = refl
 each_typed F (f ∷ fs) h = rw (h.0.0) (rw (h.0.1) (each_typed F fs h.1))
 
+each_named : (F : List Node) (fs : List FieldDesc) → Each (FieldOk F) fs → All NameFits fs
+each_named F [] h = All-nil NameFits
+each_named F (f ∷ fs) h = All-cons NameFits f fs h.0.2 (each_named F fs h.1)
+
 record GotDesc (S : List Node → Spelling) (unread name : List ℕ) (suid flags : ℕ) (now : Progress) (bs : List ℕ) (y : ClassDesc × Progress × List ℕ) : Type 0 where
   name_is : y.0.name ≡ name
   suid_is : y.0.suid ≡ cast_signed w64 suid
@@ -120,6 +133,7 @@ record GotDesc (S : List Node → Spelling) (unread name : List ℕ) (suid flags
   few : length y.0.fields < 32768
   good : is_good_desc y.0 ≡ true
   joined : is_joined y.0.note ≡ true
+  names : All NameFits y.0.fields
   parent : WholeSlot y.1.nodes unread y.0.parent
   got : Got unread now y.1 y.2 (λ F. SpellsAll (S F unread) (number w16 (length y.0.fields) ∷ (field_tokens y.0.fields ++ (note y.0.note ∷ want (places.Parent, y.0.parent) ∷ []))) (length now.nodes) bs y.2 (length y.1.nodes) × (are_typed F y.0.fields ≡ true))
 
@@ -171,6 +185,7 @@ desc_after_sound S inner sound unread end at name suid flags now bs y e solid by
       few = rw g.len below;
       good = sym (good_with name suid flags fs.0 is.0 p.0) ∙ c.0;
       joined = h.fine;
+      names = each_named fs.1.nodes fs.0 (got_self unread now fs.1 fs.2 _ g.got).1;
       parent = k.whole;
       got = whole;
     })
@@ -189,7 +204,7 @@ desc_node S inner sound unread end at now bs y e solid bytes room =
     let t = short_sound end bs a.0 a.1 bytes in
     let u = number_sound_64 a.0.1 b.0 b.1 t.left in
     let v = byte_spells b.0.1 u.left c.0 c.1 in
-    let free : Free unread now mid (Desc blank) true = record { grown = refl; kind = refl; few = solid.few } in
+    let free : Free unread now mid (Desc blank) true = record { grown = refl; kind = refl; few = solid.few; ranged = blank_ranged } in
     let g = desc_after_sound S inner sound within end at a.0.0 b.0.0 c.0.0 mid c.0.1 d f.1 (free_solid unread now mid (Desc blank) true solid free) v.0 in
     let below = t.below in
     let name : is_short d.0.name ≡ true = rw g.name_is (lt-ltb _ _ below) in
@@ -201,6 +216,9 @@ desc_node S inner sound unread end at now bs y e solid bytes room =
     let suid : a.0.1 ≡ to_be_bytes w64 (cast_unsigned w64 d.0.suid) ++ b.0.1 = rw g.suid_is (back w64 (2 ^ 64) a.0.1 b.0 (of_z-to_z w64) u) in
     let flags : b.0.1 ≡ d.0.flags ∷ c.0.1 = rw g.flags_are v.1 in
     let len : length (fill d.1 n (Desc d.0)).nodes ≡ length d.1.nodes = length-set d.1.nodes n (Desc d.0) in
+    let number_fits : FitsSigned w64 d.0.suid = subst (FitsSigned w64) (sym g.suid_is) (read_sfits w64 b.0.0) in
+    let name_fits : TextFits d.0.name = subst TextFits (sym g.name_is) (units_all a.0.0 t.units) in
+    let ranged : InRange (Desc d.0) = (number_fits, (name_fits, g.names)) in
     subst (λ (y : Slot × Progress × List ℕ). GotNode S unread now 0x72 bs y) (ok_is (slots.Node n, fill d.1 n (Desc d.0), d.2) y f.2) (record {
       k = n;
       node = Desc d.0;
@@ -210,7 +228,7 @@ desc_node S inner sound unread end at now bs y e solid bytes room =
       here = filled_here now mid d.1 g.got.added (Desc d.0) (Desc blank) refl g.got.grown;
       desc = refl;
       text = refl;
-      got = got_filled unread now mid d.1 d.2 _ _ (Desc d.0) (Desc blank) true solid refl refl free g.got (λ yes. g.parent) g.good (omega arith) (λ F sees is q. record {
+      got = got_filled unread now mid d.1 d.2 _ _ (Desc d.0) (Desc blank) true solid refl refl free g.got (λ yes. g.parent) g.good ranged (omega arith) (λ F sees is q. record {
         is = is;
         shaped = (let typed = q.1 in rw name (rw few (rw good (rw typed joined))));
         befores = short_text d.0.name ∷ number w64 (cast_unsigned w64 d.0.suid) ∷ [];

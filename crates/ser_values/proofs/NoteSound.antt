@@ -1,6 +1,8 @@
--- Annotations and parts that are read are spelled.
+-- Annotations and parts that are read are spelled, and are in range.
 use Rattle.std.proofs.Common.{◌≡◌, ◌&&◌, ℕ, zero, suc, ◌<◌, ◌^◌, Bool, true, false, eqb, List, [], ◌∷◌, ◌++◌, map, length, Some, Ok, refl, sym, ap, subst, ◌∙◌, append_assoc, inl, inr}
+use Rattle.std.specs.Prelude.{All}
 use Rattle.std.proofs.lemmas.Bool.{eqb-true}
+use Rattle.std.proofs.lemmas.List.Elements.{All-nil, All-cons}
 use Rattle.std.specs.Int.{w32, to_be_bytes}
 use Rattle.class_desc.specs.declared.slot.Slot.{Slot}
 use Rattle.class_desc.specs.declared.slot.Item.{Item}
@@ -9,6 +11,7 @@ use Rattle.ser_values.specs.declared.value.Part.{Part}
 use Rattle.ser_values.specs.declared.node.Node.{Node}
 use Rattle.ser_values.specs.declared.node.Place.TheVariants as places
 use Rattle.ser_values.specs.Shape.{joined_from, is_joined, fits_part}
+use Rattle.ser_values.specs.Ranges.{PartFits}
 use Rattle.ser_values.specs.Spelled.{note, value_token, part_tokens, IsBlock, joined, SpellsBlocks, SpellsItems, SpellsAll, Spelling}
 use Rattle.ser_values.specs.Reading.{◌>>=◌, byte_at, take_at, size_at, Progress, Slots, blocks_at, items_at, note_at, part, parts_at, values_at}
 use Rattle.ser_values.proofs.Spelling.{joined_joined}
@@ -123,12 +126,13 @@ FitRows (r ∷ rs) (p ∷ ps) = (fits_part r.0 r.1 (Some p) ≡ true) × FitRows
 
 pub record GotParts (S : List Node → Spelling) (unread : List ℕ) (rs : List Row) (now : Progress) (bs : List ℕ) (y : List Part × Progress × List ℕ) : Type 0 where
   pub fit : FitRows rs y.0
+  pub ranged : All PartFits y.0
   pub got : Got unread now y.1 y.2 (λ F. SpellsAll (S F unread) (part_tokens (writes rs) y.0) (length now.nodes) bs y.2 (length y.1.nodes))
 
 pub parts_sound : (S : List Node → Spelling) (inner : Slots) → IsSound S inner → (unread : List ℕ) (end : ℕ) (rs : List Row) (now : Progress) (bs : List ℕ) (y : List Part × Progress × List ℕ) → parts_at end (inner places.Reference unread) rs now bs ≡ Ok y → Solid unread now → AreBytes bs → GotParts S unread rs now bs y
 unfolding parts_at note_at part_tokens joined_from
 parts_sound S inner sound unread end [] now bs y e solid bytes =
-    subst (λ (y : List Part × Progress × List ℕ). GotParts S unread [] now bs y) (ok_is ([], now, bs) y e) (record { fit = tt; got = got_none unread now bs _ solid bytes (λ F sees. (refl, refl)) })
+    subst (λ (y : List Part × Progress × List ℕ). GotParts S unread [] now bs y) (ok_is ([], now, bs) y e) (record { fit = tt; ranged = All-nil PartFits; got = got_none unread now bs _ solid bytes (λ F sees. (refl, refl)) })
 parts_sound S inner sound unread end ((fs, true) ∷ rs) now bs y e solid bytes =
     let one = inner places.Reference unread in
     let a = bind_ok (values_at one fs now bs) (λ vs. items_at end one true vs.1 vs.2 >>= λ is. parts_at end one rs is.1 is.2 >>= λ ps. Ok (part vs.0 is.0 ∷ ps.0, ps.1, ps.2)) y e in
@@ -144,6 +148,7 @@ parts_sound S inner sound unread end ((fs, true) ∷ rs) now bs y e solid bytes 
     let later = got_two unread vs.1 is.1 ps.1 is.2 ps.2 _ _ (λ F. SpellsAll (S F unread) (note is.0 ∷ part_tokens (writes rs) ps.0) (length vs.1.nodes) vs.2 ps.2 (length ps.1.nodes)) noted k.got (λ F sees p q. (is.2, length is.1.nodes, p, q)) in
     subst (λ (y : List Part × Progress × List ℕ). GotParts S unread ((fs, true) ∷ rs) now bs y) (ok_is (part vs.0 is.0 ∷ ps.0, ps.1, ps.2) y d.2) (record {
       fit = (rw g.fit h.fine, k.fit);
+      ranged = All-cons PartFits (part vs.0 is.0) ps.0 g.ranged k.ranged;
       got = got_two unread now vs.1 ps.1 vs.2 ps.2 _ _ (λ F. SpellsAll (S F unread) (map value_token vs.0 ++ (note is.0 ∷ part_tokens (writes rs) ps.0)) (length now.nodes) bs ps.2 (length ps.1.nodes)) g.got later
           (λ F sees p q. spells_join (S F unread) (map value_token vs.0) (note is.0 ∷ part_tokens (writes rs) ps.0) (length now.nodes) bs vs.2 ps.2 (length vs.1.nodes) (length ps.1.nodes) p q);
     })
@@ -157,6 +162,7 @@ parts_sound S inner sound unread end ((fs, false) ∷ rs) now bs y e solid bytes
     let k = parts_sound S inner sound unread end rs vs.1 vs.2 ps d.1 g.got.solid g.got.left in
     subst (λ (y : List Part × Progress × List ℕ). GotParts S unread ((fs, false) ∷ rs) now bs y) (ok_is (part vs.0 [] ∷ ps.0, ps.1, ps.2) y d.2) (record {
       fit = (rw g.fit refl, k.fit);
+      ranged = All-cons PartFits (part vs.0 []) ps.0 g.ranged k.ranged;
       got = got_two unread now vs.1 ps.1 vs.2 ps.2 _ _ (λ F. SpellsAll (S F unread) (map value_token vs.0 ++ part_tokens (writes rs) ps.0) (length now.nodes) bs ps.2 (length ps.1.nodes)) g.got k.got
           (λ F sees p q. spells_join (S F unread) (map value_token vs.0) (part_tokens (writes rs) ps.0) (length now.nodes) bs vs.2 ps.2 (length vs.1.nodes) (length ps.1.nodes) p q);
     })

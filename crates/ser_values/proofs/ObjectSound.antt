@@ -2,6 +2,7 @@
 use Rattle.std.proofs.Common.{◌≡◌, ◌||◌, ℕ, zero, suc, ◌+◌, ◌<◌, ◌≤◌, ◌^◌, Bool, true, false, eqb, ltb, List, [], ◌∷◌, ◌++◌, map, length, Some, None, Option, Ok, slice_get, refl, sym, ap, subst, ◌∙◌, arith}
 use Rattle.std.proofs.lemmas.Bool.{lt-ltb, ltb-true, ltb-false}
 use Rattle.std.proofs.lemmas.List.{length-set}
+use Rattle.std.proofs.lemmas.List.Elements.{All-nil}
 use Rattle.std.specs.Int.{w32, to_be_bytes}
 use Rattle.class_desc.specs.declared.slot.Slot.{Slot}
 use Rattle.class_desc.specs.declared.slot.Slot.TheVariants as slots
@@ -17,6 +18,7 @@ use Rattle.ser_values.specs.declared.node.Node.TheVariants.{Text, Desc, Proxy, O
 use Rattle.ser_values.specs.declared.node.Place.TheVariants as places
 use Rattle.ser_values.specs.Node.{is_desc, is_text, inside}
 use Rattle.ser_values.specs.Shape.{is_joined, is_shaped, fits_chain, fits_object, fit_values, fits_array, fit_elements, count_of, is_enum}
+use Rattle.ser_values.specs.Ranges.{PartFits}
 use Rattle.ser_values.specs.Spelled.{Token, want, note, number, value_token, element_tokens, part_tokens, writers, Form, an_object, an_external, an_array, a_class, an_enum, SpellsAll, Spelling}
 use Rattle.ser_values.specs.Reading.{too_many, ◌>>=◌, size_at, Progress, Step, Slots, push, fill, elements_at, parts_at, Row, chain_of, rows_of, class_fault, on_class, with_class, object_after, object_at, type_in, array_of, array_at, class_at, named, enum_at}
 use Rattle.ser_values.proofs.Lists.{length_push, slice_get-append_seam}
@@ -158,7 +160,7 @@ object_node S inner sound unread end at c now bs y e class solid bytes =
     let d = bind_ok (parts_at end one rs mid bs) (λ ps. Ok (slots.Node n, fill ps.1 n (Object c ps.0), ps.2)) y b.1 in
     let ps = d.0 in
     let room : now.parts + length rs ≤ 1048576 = ltb-false 1048576 (now.parts + length rs) a.0 in
-    let free : Free unread now mid (Object c []) false = record { grown = refl; kind = refl; few = room } in
+    let free : Free unread now mid (Object c []) false = record { grown = refl; kind = refl; few = room; ranged = (All-nil PartFits, tt) } in
     let g = parts_sound S inner sound unread end rs mid bs ps d.1 (free_solid unread now mid (Object c []) false solid free) bytes in
     let len_ps : length ps.0 ≡ length rs = fit_len rs ps.0 g.fit in
     let mid_len : length mid.nodes ≡ suc n = length_push now.nodes (Object c []) in
@@ -170,7 +172,7 @@ object_node S inner sound unread end at c now bs y e class solid bytes =
       here = filled_here now mid ps.1 g.got.added (Object c ps.0) (Object c []) refl g.got.grown;
       desc = refl;
       text = refl;
-      got = got_filled unread now mid ps.1 ps.2 _ _ (Object c ps.0) (Object c []) false solid refl refl free g.got (λ no. absurd cc) tt (ap (λ k. now.parts + k) (sym len_ps)) (λ F sees is q. (
+      got = got_filled unread now mid ps.1 ps.2 _ _ (Object c ps.0) (Object c []) false solid refl refl free g.got (λ no. absurd cc) tt (g.ranged, tt) (ap (λ k. now.parts + k) (sym len_ps)) (λ F sees is q. (
           let up = whole_same F unread now solid (seen_before F unread now mid ps.1 (Object c []) g.got.added refl g.got.grown sees) (slots.Node c) class in
           let o = object_as F now.nodes c ps.0 up (omega arith) fine g.fit in
           record { is = is; shaped = o.shaped; afters = part_tokens (writes rs) ps.0; form = o.form; second = rw len (rw (sym mid_len) q) }));
@@ -199,7 +201,7 @@ array_by S inner sound unread end at c (Some code) now bs y is_type e class soli
     let b = bind_ok (elements_at (inner places.Reference unread) code a.0.0 mid a.0.1) (λ vs. Ok (slots.Node n, fill vs.1 n (Array c vs.0), vs.2)) y a.2 in
     let vs = b.0 in
     let size = size_sound end w32 (2 ^ 31) (2 ^ 32) number_sound_32 bs a.0 a.1 bytes in
-    let free : Free unread now mid (Array c (kinds.Bytes [])) false = record { grown = refl; kind = refl; few = solid.few } in
+    let free : Free unread now mid (Array c (kinds.Bytes [])) false = record { grown = refl; kind = refl; few = solid.few; ranged = (All-nil _, tt) } in
     let g = elements_sound S inner sound unread code a.0.0 mid a.0.1 vs b.1 (free_solid unread now mid (Array c (kinds.Bytes [])) false solid free) size.left in
     let below = size.below in
     let few : count_of vs.0 < 2 ^ 31 = rw g.count below in
@@ -212,7 +214,7 @@ array_by S inner sound unread end at c (Some code) now bs y is_type e class soli
       here = filled_here now mid vs.1 g.got.added (Array c vs.0) (Array c (kinds.Bytes [])) refl g.got.grown;
       desc = refl;
       text = refl;
-      got = got_filled unread now mid vs.1 vs.2 _ _ (Array c vs.0) (Array c (kinds.Bytes [])) false solid refl refl free g.got (λ no. absurd cc) tt (omega arith) (λ F sees is q. (
+      got = got_filled unread now mid vs.1 vs.2 _ _ (Array c vs.0) (Array c (kinds.Bytes [])) false solid refl refl free g.got (λ no. absurd cc) tt (g.ranged, tt) (omega arith) (λ F sees is q. (
           let up = whole_same F unread now solid (seen_before F unread now mid vs.1 (Array c (kinds.Bytes [])) g.got.added refl g.got.grown sees) (slots.Node c) class in
           record {
             is = is;
@@ -236,7 +238,7 @@ class_of_node S unread c now bs y e class solid bytes =
       here = slice_get-append_seam now.nodes (Class c) [];
       desc = refl;
       text = refl;
-      got = got_pushed unread now bs _ (Class c) solid refl refl bytes (λ F sees is. record { is = is; shaped = refl; afters = []; form = a_class c; second = (refl, length_push now.nodes (Class c)) });
+      got = got_pushed unread now bs _ (Class c) solid refl refl (tt, tt) bytes (λ F sees is. record { is = is; shaped = refl; afters = []; form = a_class c; second = (refl, length_push now.nodes (Class c)) });
     })
 
 named_ok : (c n : ℕ) (v : Slot × Progress × List ℕ) (y : Slot × Progress × List ℕ) → named c n v ≡ Ok y → (t : ℕ) × (v.0 ≡ slots.Node t) × ((slots.Node n, fill v.1 n (Enum c t), v.2) ≡ y)
@@ -251,7 +253,7 @@ enum_node S inner sound unread at c now bs y e class solid bytes =
     let a = passed (is_enum (slice_get now.nodes c)) (inner places.Text unread mid bs >>= named c n) _ y e in
     let b = bind_ok (inner places.Text unread mid bs) (named c n) y a.1 in
     let t = named_ok c n b.0 y b.2 in
-    let free : Free unread now mid (Enum c 0) false = record { grown = refl; kind = refl; few = solid.few } in
+    let free : Free unread now mid (Enum c 0) false = record { grown = refl; kind = refl; few = solid.few; ranged = (tt, tt) } in
     let g = sound unread places.Text mid bs b.0 b.1 (free_solid unread now mid (Enum c 0) false solid free) bytes in
     let mid_len : length mid.nodes ≡ suc n = length_push now.nodes (Enum c 0) in
     let last = b.0.1 in
@@ -262,7 +264,7 @@ enum_node S inner sound unread at c now bs y e class solid bytes =
       here = filled_here now mid last g.got.added (Enum c t.0) (Enum c 0) refl g.got.grown;
       desc = refl;
       text = refl;
-      got = got_filled unread now mid last b.0.2 _ _ (Enum c t.0) (Enum c 0) false solid refl refl free g.got (λ no. absurd cc) tt (omega arith) (λ F sees is q. (
+      got = got_filled unread now mid last b.0.2 _ _ (Enum c t.0) (Enum c 0) false solid refl refl free g.got (λ no. absurd cc) tt (tt, tt) (omega arith) (λ F sees is q. (
           let up = whole_same F unread now solid (seen_before F unread now mid last (Enum c 0) g.got.added refl g.got.grown sees) (slots.Node c) class in
           record {
             is = is;

@@ -93,13 +93,13 @@ same_list (x ∷ xs) (y ∷ ys) e h =
     let others : xs ≡ ys = same_list xs ys (omega arith) (λ k lt. h (suc k) (omega arith)) in
     cc
 
--- Bytes are a stream of at most one graph whose numbers are in range.
-pub one_reading : (nodes1 nodes2 : List Node) (items1 items2 : List Item) (bytes : List ℕ) → NumbersFit nodes1 → NumbersFit nodes2 → IsStream nodes1 items1 bytes → IsStream nodes2 items2 bytes → (nodes1 ≡ nodes2) × (items1 ≡ items2)
+-- Bytes are a stream of at most one graph.
+pub one_reading : (nodes1 nodes2 : List Node) (items1 items2 : List Item) (bytes : List ℕ) → IsStream nodes1 items1 bytes → IsStream nodes2 items2 bytes → (nodes1 ≡ nodes2) × (items1 ≡ items2)
 unfolding has
-one_reading A B is js bytes fits_a fits_b a b =
+one_reading A B is js bytes a b =
     let contents : a.contents ≡ b.contents = ap (drop 4) (sym a.headed ∙ b.headed) in
     let st : IsState A B [] 0 = record { few = omega arith; below = λ k h. absurd cc; known = λ k i lt h is d. absurd (omega arith) } in
     let second = subst (λ (z : List ℕ). SpellsItems (Spells B 200 []) js 0 z [] (length B)) (sym contents) b.spelled in
-    let r = items_same A B (Spells A 200) (Spells B 200) (spells_same A B fits_a fits_b 200) (spells_begin A 200) (spells_begin B 200) [] is js 0 a.contents [] [] (length A) (length B) a.spelled second (inl refl) (inl refl) st in
+    let r = items_same A B (Spells A 200) (Spells B 200) (spells_same A B a.numbers b.numbers 200) (spells_begin A 200) (spells_begin B 200) [] is js 0 a.contents [] [] (length A) (length B) a.spelled second (inl refl) (inl refl) st in
     let g = r.1 in
     (same_list A B g.counts (λ k lt. g.agrees k (omega arith) lt), r.0)

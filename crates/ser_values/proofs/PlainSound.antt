@@ -7,6 +7,7 @@ use Rattle.std.specs.Int.{Width, w16, w32, w64, to_be_bytes, from_be_bytes, byte
 use Rattle.mod_utf.specs.Utf.{utf}
 use Rattle.mod_utf.specs.Decoding.{decoded}
 use Rattle.mod_utf.proofs.Decoded.{decoded_sound}
+use Rattle.mod_utf.proofs.Fronts.{AreUnits}
 use Rattle.ser_values.specs.Reading.{Fault, ◌>>=◌, byte_at, take_at, number_at, size_at, units_of, units_at, short_at, long_at, Kind, unless}
 
 -- ---- bytes are numbers of 8 bits
@@ -143,6 +144,7 @@ units_ok start (Err at) us e = absurd cc
 pub record IsUnits (n : ℕ) (bs : List ℕ) (y : List ℕ × List ℕ) : Type 0 where
   pub parts : bs ≡ utf y.0 ++ y.1
   pub len : length (utf y.0) ≡ n
+  pub units : AreUnits y.0
   pub left : AreBytes y.1
 
 units_sound : (end n : ℕ) (bs : List ℕ) (y : List ℕ × List ℕ) → units_at end n bs ≡ Ok y → AreBytes bs → IsUnits n bs y
@@ -155,12 +157,14 @@ units_sound end n bs y e bytes =
     subst (λ (y : List ℕ × List ℕ). IsUnits n bs y) (ok_is (b.0, a.0.1) y b.2) (record {
       parts = s.0 ∙ ap (λ (l : List ℕ). l ++ a.0.1) d.1;
       len = ap (λ (l : List ℕ). length l) (sym d.1) ∙ s.1;
+      units = d.0;
       left = bytes_left bs a.0.0 a.0.1 s.0 bytes;
     })
 
 pub record IsText (w : Width) (bound : ℕ) (bs : List ℕ) (y : List ℕ × List ℕ) : Type 0 where
   pub parts : bs ≡ (to_be_bytes w (length (utf y.0)) ++ utf y.0) ++ y.1
   pub below : length (utf y.0) < bound
+  pub units : AreUnits y.0
   pub left : AreBytes y.1
 
 text_is : (end : ℕ) (w : Width) (bound : ℕ) (bs : List ℕ) (n : ℕ × List ℕ) (y : List ℕ × List ℕ) → IsNumber w bound bs n → units_at end n.0 n.1 ≡ Ok y → IsText w bound bs y
@@ -171,6 +175,7 @@ text_is end w bound bs n y number e =
     record {
       parts = number.parts ∙ (ap (λ (l : List ℕ). to_be_bytes w n.0 ++ l) u.parts ∙ (sym (append_assoc (to_be_bytes w n.0) (utf y.0) y.1) ∙ ap (λ k. (to_be_bytes w k ++ utf y.0) ++ y.1) (sym u.len)));
       below = subst (λ k. k < bound) (sym u.len) below;
+      units = u.units;
       left = u.left;
     }
 

@@ -2,6 +2,8 @@
 use Rattle.std.proofs.Common.{◌≡◌, ℕ, suc, ◌<◌, ◌^◌, true, ltb, List, [], ◌∷◌, ◌++◌, map, length, Ok, refl, sym, ap, subst, ◌∙◌, arith}
 use Rattle.std.proofs.lemmas.Bool.{lt-ltb}
 use Rattle.std.proofs.lemmas.List.{length-set}
+use Rattle.std.proofs.lemmas.List.Elements.{All-nil, All-cons}
+use Rattle.std.specs.Prelude.{All}
 use Rattle.std.specs.Int.{w32, to_be_bytes}
 use Rattle.class_desc.specs.declared.slot.Slot.{Slot}
 use Rattle.class_desc.specs.declared.slot.Slot.TheVariants as slots
@@ -11,20 +13,22 @@ use Rattle.ser_values.specs.declared.node.Node.TheVariants.{Desc, Proxy}
 use Rattle.ser_values.specs.declared.node.Place.TheVariants as places
 use Rattle.ser_values.specs.Node.{is_desc, is_text}
 use Rattle.ser_values.specs.Shape.{is_short, are_short, is_shaped}
+use Rattle.ser_values.specs.Ranges.{TextFits}
 use Rattle.ser_values.specs.Spelled.{Token, want, note, short_text, a_proxy, SpellsItems, SpellsAll, Spelling}
 use Rattle.ser_values.specs.Reading.{size_at, short_at, Progress, Slots, plain, many_at, push, fill, blank, items_at, proxy_at}
 use Rattle.ser_values.proofs.Lists.{length_push}
 use Rattle.ser_values.proofs.Forms.{proxy_tokens}
 use Rattle.ser_values.proofs.Steps.{map_flat}
 use Rattle.ser_values.proofs.PlainSound.{AreBytes, bind_ok, ok_is, number_sound_32, size_sound, short_sound}
-use Rattle.ser_values.proofs.Solid.{Solid, Got, got_none, got_two, got_map, Free, free_solid}
+use Rattle.ser_values.proofs.Solid.{Solid, Got, got_none, got_two, got_map, got_self, Free, free_solid}
+use Rattle.ser_values.proofs.Ranged.{units_all}
 use Rattle.ser_values.proofs.Filled.{got_filled}
 use Rattle.ser_values.proofs.StepSound.{IsSound, spells_join, spells_last, plain_ok, StepSound, Each, many_sound}
 use Rattle.ser_values.proofs.NoteSound.{items_sound}
-use Rattle.ser_values.proofs.NodeSound.{GotNode, filled_here}
+use Rattle.ser_values.proofs.NodeSound.{GotNode, filled_here, blank_ranged}
 
 ShortName : List Node → List ℕ → Type 0
-ShortName F t = is_short t ≡ true
+ShortName F t = (is_short t ≡ true) × TextFits t
 
 name_step : (S : List Node → Spelling) (unread : List ℕ) (end : ℕ) → StepSound S unread (plain (short_at end)) (λ t. short_text t ∷ []) ShortName
 unfolding ShortName
@@ -32,13 +36,18 @@ name_step S unread end now bs y e solid bytes =
     let b = plain_ok (short_at end) now bs y e in
     let v = b.0 in
     let t = short_sound end bs v b.1 bytes in
-    subst (λ (y : List ℕ × Progress × List ℕ). Got unread now y.1 y.2 (λ F. SpellsAll (S F unread) (short_text y.0 ∷ []) (length now.nodes) bs y.2 (length y.1.nodes) × (is_short y.0 ≡ true))) b.2
-    (got_none unread now v.1 _ solid t.left (λ F sees. (spells_last (S F unread) (short_text v.0) (length now.nodes) bs v.1 (length now.nodes) (t.parts, refl), lt-ltb _ _ t.below)))
+    subst (λ (y : List ℕ × Progress × List ℕ). Got unread now y.1 y.2 (λ F. SpellsAll (S F unread) (short_text y.0 ∷ []) (length now.nodes) bs y.2 (length y.1.nodes) × ((is_short y.0 ≡ true) × TextFits y.0))) b.2
+    (got_none unread now v.1 _ solid t.left (λ F sees. (spells_last (S F unread) (short_text v.0) (length now.nodes) bs v.1 (length now.nodes) (t.parts, refl), (lt-ltb _ _ t.below, units_all v.0 t.units))))
 
 each_short : (F : List Node) (ns : List (List ℕ)) → Each (ShortName F) ns → are_short ns ≡ true
 unfolding are_short ShortName
 each_short F [] h = refl
-each_short F (n ∷ ns) h = rw (h.0) (each_short F ns h.1)
+each_short F (n ∷ ns) h = rw (h.0.0) (each_short F ns h.1)
+
+each_units : (F : List Node) (ns : List (List ℕ)) → Each (ShortName F) ns → All TextFits ns
+unfolding ShortName
+each_units F [] h = All-nil TextFits
+each_units F (n ∷ ns) h = All-cons TextFits n ns h.0.1 (each_units F ns h.1)
 
 pub proxy_node : (S : List Node → Spelling) (inner : Slots) → IsSound S inner → (unread : List ℕ) (end : ℕ) (now : Progress) (bs : List ℕ) (y : Slot × Progress × List ℕ) → proxy_at end inner unread now bs ≡ Ok y → Solid unread now → AreBytes bs → length now.nodes < 65536 → GotNode S unread now 0x7D bs y
 unfolding proxy_at is_desc is_text is_shaped
@@ -56,7 +65,7 @@ proxy_node S inner sound unread end now bs y e solid bytes room =
     let p = f.0 in
     let q : ProxyDesc = record { names = ns.0; note = is.0; parent = p.0 } in
     let size = size_sound end w32 (2 ^ 31) (2 ^ 32) number_sound_32 bs a.0 a.1 bytes in
-    let free : Free unread now mid (Desc blank) true = record { grown = refl; kind = refl; few = solid.few } in
+    let free : Free unread now mid (Desc blank) true = record { grown = refl; kind = refl; few = solid.few; ranged = blank_ranged } in
     let g = many_sound S within (plain (short_at end)) (λ t. short_text t ∷ []) ShortName (name_step S within end) a.0.0 mid a.0.1 ns b.1 (free_solid unread now mid (Desc blank) true solid free) size.left in
     let h = items_sound S inner sound within end true ns.1 ns.2 is d.1 g.got.solid g.got.left in
     let k = sound within places.Parent is.1 is.2 p f.1 h.got.solid h.got.left in
@@ -89,7 +98,7 @@ proxy_node S inner sound unread end now bs y e solid bytes room =
       here = filled_here now mid p.1 whole.added (Proxy q) (Desc blank) refl whole.grown;
       desc = refl;
       text = refl;
-      got = got_filled unread now mid p.1 p.2 _ _ (Proxy q) (Desc blank) true solid refl refl free whole (λ yes. k.whole) tt (omega arith) (λ F sees is q. record {
+      got = got_filled unread now mid p.1 p.2 _ _ (Proxy q) (Desc blank) true solid refl refl free whole (λ yes. k.whole) tt (tt, each_units ns.1.nodes ns.0 (got_self within mid ns.1 ns.2 _ g.got).1) (omega arith) (λ F sees is q. record {
         is = is;
         shaped = (let short = q.1 in rw few (rw short joined));
         befores = [];

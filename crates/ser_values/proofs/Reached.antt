@@ -5,6 +5,7 @@ use Rattle.std.proofs.lemmas.Option.{slice_get_within}
 use Rattle.std.proofs.lemmas.Map.Steps.{length-le_from_distinct_below}
 use Rattle.std.proofs.Math.Logic.{∥∥₁_elim}
 use Rattle.std.proofs.Math.Bridge.{le_prop}
+use Rattle.std.specs.Prelude.{All}
 use Rattle.std.specs.List.{IsDistinct, list_any, AllByRecursion}
 use Rattle.class_desc.specs.declared.slot.Slot.{Slot}
 use Rattle.class_desc.specs.declared.slot.Slot.TheVariants as slots
@@ -22,6 +23,7 @@ use Rattle.ser_values.specs.declared.node.Node.TheVariants.{Text, Desc, Proxy, O
 use Rattle.ser_values.specs.declared.node.Place.TheVariants as places
 use Rattle.ser_values.specs.Node.{has, Want, item_wants, value_wants, part_wants, field_wants, slot_wants, element_wants, before, after}
 use Rattle.ser_values.specs.Shape.{is_joined, parts_of, parts_in}
+use Rattle.ser_values.specs.Ranges.{InRange}
 use Rattle.ser_values.specs.Visits.{VisitAll, Visits}
 use Rattle.ser_values.specs.Walk.{end_of, all, visit_at}
 use Rattle.ser_values.specs.Numbered.{NumberAll, Numbered, IsGraph}
@@ -31,6 +33,7 @@ use Rattle.ser_values.specs.Seen.{Once}
 use Rattle.ser_values.proofs.Orders.{sound, complete, all_sound, all_complete}
 use Rattle.ser_values.proofs.Depths.{deeper, bounded, all_bounded, all_more}
 use Rattle.ser_values.proofs.Places.{get_or-some}
+use Rattle.ser_values.proofs.Ranged.{numbers_of, units_of, both_of, reordered_kept}
 use Rattle.ser_values.proofs.Added.{Names, NamesAll, Wants, Adds, visits_add, all_adds, has-seam}
 use Rattle.ser_values.proofs.Renumbered.{map_len, want_by, split_named, item_wants-map, is_joined-map}
 use Rattle.ser_values.proofs.Numbering.{is_numbered, length-reordered}
@@ -273,18 +276,21 @@ graph_of loose items order places nodes to h p n t = record {
   items_are = t ∙ same_items order (place_at places) (place_in order) (agrees order places p) items (adds loose (item_wants items) 200 order h.visits).1;
 }
 
-pub is_graph : (loose : List Node) (items : List Item) (nodes : List Node) (to : List Item) → length loose ≤ 65536 → IsGraphOf loose items nodes to → IsGraph nodes to
-is_graph loose items nodes to small g =
+pub is_graph : (loose : List Node) (items : List Item) (nodes : List Node) (to : List Item) → length loose ≤ 65536 → All InRange loose → IsGraphOf loose items nodes to → IsGraph nodes to
+is_graph loose items nodes to small ranged g =
     let n = is_numbered loose (item_wants items) 200 g.order g.is_order.visits in
     let wants : item_wants to ≡ map (want_by (place_in g.order)) (item_wants items) = ap item_wants g.items_are ∙ item_wants-map (place_in g.order) items in
     let numbered : NumberAll (Numbered nodes 200 []) (map (want_by (place_in g.order)) (item_wants items)) 0 (length nodes) = subst (λ (ns : List Node). NumberAll (Numbered ns 200 []) (map (want_by (place_in g.order)) (item_wants items)) 0 (length ns)) (sym g.nodes_are) n in
     let len : length nodes ≡ length g.order = ap (λ (l : List Node). length l) g.nodes_are ∙ length-reordered loose g.order in
     let most = at_most loose (item_wants items) 200 g.order g.is_order.visits in
+    let kept : All InRange nodes = subst (λ (ns : List Node). All InRange ns) (sym g.nodes_are) (reordered_kept loose g.order ranged) in
     record {
       numbered = subst (λ ws. NumberAll (Numbered nodes 200 []) ws 0 (length nodes)) (sym wants) numbered;
       joined = ap is_joined g.items_are ∙ (is_joined-map (place_in g.order) items ∙ g.is_order.joined);
       few_nodes = omega arith;
       few_parts = rw g.nodes_are g.is_order.few_parts;
+      numbers = numbers_of nodes kept;
+      units = units_of nodes kept;
     }
 
 -- the same, where each list is seen more than once
@@ -299,3 +305,6 @@ graph_by loose l2 nodes items to order o1 o2 places p1 p2 h p e1 e2 e3 e4 e5 n t
 
 pub few_nodes : (nodes : List Node) (items : List Item) → ∥ IsGraph nodes items ∥₁ → length nodes ≤ 65536
 few_nodes nodes items h = ∥∥₁_elim h le_prop (λ g. g.few_nodes)
+
+pub in_range : (nodes : List Node) (items : List Item) → IsGraph nodes items → All InRange nodes
+in_range nodes items g = both_of nodes g.numbers g.units

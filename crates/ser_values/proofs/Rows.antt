@@ -1,5 +1,5 @@
 -- Streams and what reading answers, computed: texts, shared nodes, blocks that join, and the first faults with their positions.
-use Rattle.std.proofs.Common.{◌≡◌, ℕ, List, [], ◌∷◌, Result, Ok, Err, refl}
+use Rattle.std.proofs.Common.{◌≡◌, ◌<◌, ℕ, List, [], ◌∷◌, Result, Ok, Err, refl, arith}
 use Rattle.std.specs.Int.{w64, cast_signed}
 use Rattle.mod_utf.specs.Decoding.{decoded_at, front}
 use Rattle.class_desc.specs.declared.slot.Slot.TheVariants as slots
@@ -16,6 +16,7 @@ use Rattle.ser_values.specs.declared.value.Values.TheVariants.{Refs}
 use Rattle.ser_values.specs.declared.node.Node.{Node}
 use Rattle.ser_values.specs.declared.node.Node.TheVariants.{Text, Desc, Object, Array}
 use Rattle.ser_values.specs.Node.{has, is_desc}
+use Rattle.ser_values.specs.Spelled.{IsStream}
 use Rattle.ser_values.specs.Reading.{Fault, short, bad, bad_magic, bad_code, bad_handle, wrong_handle_kind, bad_desc, bad_utf, negative_length, reset, old_external, size_at, units_at, short_at, long_at, many_at, blocks_at, items_at, field_of, field_at, elements_at, chain_of, note_at, parts_at, values_at, value_at, text_at, desc_after, desc_at, with_class, object_after, object_at, array_of, array_at, fresh_at, handle_at, coded, slot_at, magic_at, stream_of}
 
 abbrev Answer : Type 0
@@ -119,3 +120,7 @@ bad_flags = refl
 a_class_in_itself : after_head (0x72 ∷ 0x00 ∷ 0x01 ∷ 0x4E ∷ 0x00 ∷ 0x00 ∷ 0x00 ∷ 0x00 ∷ 0x00 ∷ 0x00 ∷ 0x00 ∷ 0x00 ∷ 0x02 ∷ 0x00 ∷ 0x00 ∷ 0x78 ∷ 0x71 ∷ 0x00 ∷ 0x7E ∷ 0x00 ∷ 0x00 ∷ []) ≡ fails (bad bad_desc 20)
 unfolding stream_of magic_at items_at blocks_at slot_at coded fresh_at desc_at desc_after short_at units_at decoded_at front size_at many_at is_good_desc fit_flags are_ordered handle_at has
 a_class_in_itself = refl
+
+-- A unit is a number of 16 bits: no bytes are a stream of a text with a unit past 65,535.
+no_wide_text : (contents : List Item) (bytes : List ℕ) → IsStream (Text (65536 ∷ []) ∷ []) contents bytes → ⊥
+no_wide_text contents bytes h = absurd (let small : 65536 < 65536 = h.units 0 (Text []) (omega arith) 0 0 (omega arith) in omega arith)

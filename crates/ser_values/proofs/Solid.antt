@@ -1,7 +1,9 @@
 -- Nodes that were read, and graphs that have them.
 use Rattle.std.proofs.Common.{◌≡◌, ◌≢◌, ℕ, zero, suc, ◌+◌, ◌<◌, ◌≤◌, Bool, true, false, cond, List, [], ◌∷◌, ◌++◌, length, Some, Option, slice_get, refl, sym, ap, subst, ◌∙◌, append_assoc, append-nil, arith, inl, inr}
 use Rattle.std.proofs.lemmas.Bool.{cases_eq}
+use Rattle.std.specs.Prelude.{All}
 use Rattle.std.proofs.lemmas.List.{length-append}
+use Rattle.std.proofs.lemmas.List.Elements.{All-push}
 use Rattle.std.proofs.lemmas.Option.{slice_get_within}
 use Rattle.class_desc.specs.declared.slot.Slot.{Slot}
 use Rattle.class_desc.specs.declared.slot.Slot.TheVariants as slots
@@ -12,6 +14,7 @@ use Rattle.ser_values.specs.declared.node.Place.{Place}
 use Rattle.ser_values.specs.declared.node.Place.TheVariants as places
 use Rattle.ser_values.specs.Node.{has, is_desc, is_text}
 use Rattle.ser_values.specs.Shape.{parts_in}
+use Rattle.ser_values.specs.Ranges.{InRange}
 use Rattle.ser_values.specs.Reading.{Progress}
 use Rattle.ser_values.proofs.Lists.{slice_get-append_left, slice_get-append_seam, has-append_no, has-append_other, length_push, some_same, still_not}
 use Rattle.ser_values.proofs.Leading.{SameAbove, SameChain, SameUp}
@@ -48,12 +51,13 @@ abbrev pub IsGood : Node → Type 0
 IsGood (Desc d) = is_good_desc d ≡ true
 IsGood _ = Unit {0}
 
--- What was read whole names what was read whole; unread descriptions have handles; there are not too many parts.
+-- What was read whole names what was read whole; unread descriptions have handles; there are not too many parts; numbers are in range.
 pub record Solid (unread : List ℕ) (now : Progress) : Type 0 where
   pub above : (k : ℕ) (i : Node) → has unread k ≡ false → slice_get now.nodes k ≡ Some i → is_desc i ≡ true → WholeSlot now.nodes unread (parent_of (Some i))
   pub good : (k : ℕ) (i : Node) → has unread k ≡ false → slice_get now.nodes k ≡ Some i → IsGood i
   pub below : (k : ℕ) → has unread k ≡ true → k < length now.nodes
   pub few : now.parts ≤ 1048576
+  pub ranged : All InRange now.nodes
 
 -- ---- graphs
 
@@ -136,6 +140,10 @@ got_two unread a b c y z P Q R g h f =
       spelled = λ F sees agrees. f F sees (g.spelled F (sees_front F b.nodes h.added c.nodes unread h.grown sees) (agrees_front F b.nodes h.added c.nodes (length a.nodes) h.grown agrees)) (h.spelled F sees (λ k low lt. agrees k (omega arith) lt));
     }
 
+-- what holds in each graph that has what was read, holds of the nodes that were read
+pub got_self : (unread : List ℕ) (now later : Progress) (rest : List ℕ) (P : List Node → Type 0) → Got unread now later rest P → P later.nodes
+got_self unread now later rest P g = g.spelled later.nodes (record { descs = λ k i gone is desc. is; texts = λ k i is t. is; long = omega arith }) (λ k low lt. refl)
+
 pub got_map : (unread : List ℕ) (now later : Progress) (rest : List ℕ) (P Q : List Node → Type 0) → Got unread now later rest P → ((F : List Node) → Sees F later.nodes unread → P F → Q F) → Got unread now later rest Q
 got_map unread now later rest P Q g f = record { added = g.added; grown = g.grown; parts = g.parts; solid = g.solid; left = g.left; spelled = λ F sees agrees. f F sees (g.spelled F sees agrees) }
 
@@ -153,6 +161,7 @@ pub record Free (unread : List ℕ) (now mid : Progress) (j : Node) (d : Bool) :
   pub grown : mid.nodes ≡ now.nodes ++ j ∷ []
   pub kind : is_desc j ≡ d
   pub few : mid.parts ≤ 1048576
+  pub ranged : InRange j
 
 abbrev pub Within : List ℕ → ℕ → Bool → List ℕ
 Within unread k d = cond d (unread ++ k ∷ []) unread
@@ -192,6 +201,7 @@ free_solid unread now mid j d solid f =
       good = λ z i gone is. good_at n z i (was_no unread n z d gone) is gone old at;
       below = λ z h. below_at n z len d h;
       few = f.few;
+      ranged = subst (λ (l : List Node). All InRange l) (sym f.grown) (All-push InRange now.nodes j solid.ranged f.ranged);
     }
   where
     carried : (n : ℕ) → slice_get mid.nodes (length now.nodes) ≡ Some j → ((z : ℕ) (i : Node) → slice_get mid.nodes z ≡ Some i → z ≢ n → slice_get now.nodes z ≡ Some i) → (s : Slot) → WholeSlot now.nodes unread s → WholeSlot mid.nodes (Within unread (length now.nodes) d) s

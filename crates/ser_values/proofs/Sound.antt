@@ -1,6 +1,7 @@
 -- What is read is spelled: bytes are a stream of the nodes and items that reading answers.
 use Rattle.std.proofs.Common.{◌≡◌, ◌&&◌, ◌||◌, not, ℕ, zero, suc, ◌+◌, ◌-◌, ◌<◌, ◌≤◌, Bool, true, false, cond, eqb, ltb, List, [], ◌∷◌, ◌++◌, length, Some, None, Option, Result, Ok, Err, slice_get, refl, sym, ap, subst, ◌∙◌, arith, inl, inr}
 use Rattle.std.proofs.lemmas.Bool.{eqb-true, ltb-true, ltb-false}
+use Rattle.std.proofs.lemmas.List.Elements.{All-nil}
 use Rattle.std.proofs.lemmas.Option.{slice_get_within}
 use Rattle.std.specs.Int.{w32, to_be_bytes}
 use Rattle.class_desc.specs.declared.slot.Slot.{Slot}
@@ -11,9 +12,11 @@ use Rattle.ser_values.specs.declared.node.Place.{Place}
 use Rattle.ser_values.specs.declared.node.Place.TheVariants as places
 use Rattle.ser_values.specs.Node.{has, is_desc, is_text, admits, admits_null, takes}
 use Rattle.ser_values.specs.Shape.{parts_in}
+use Rattle.ser_values.specs.Ranges.{InRange}
 use Rattle.ser_values.specs.Spelled.{Spelling, Spell, a_null, again, fresh, never, Spells, SpellsItems, IsStream}
 use Rattle.ser_values.specs.Reading.{Fault, bad, bad_code, bad_handle, bad_desc, wrong_handle_kind, bad_magic, too_many, ◌>>=◌, byte_at, number_at, Progress, Slots, roomy, with_class, object_at, array_at, class_at, enum_at, admits_code, code_fault, fresh_at, null_at, handle_fault, handle_at, deep, coded, no_slots, slot_at, magic_at, items_at, stream_of}
 use Rattle.ser_values.proofs.Lists.{has_not, found_at}
+use Rattle.ser_values.proofs.Ranged.{numbers_of, units_of}
 use Rattle.ser_values.proofs.PlainSound.{AreBytes, bind_ok, passed, guarded, chosen, ok_is, number_sound_32, unless_ok}
 use Rattle.ser_values.proofs.Solid.{IsWhole, WholeIn, Solid, Sees, got_none, got_map}
 use Rattle.ser_values.proofs.StepSound.{GotSlot, IsSound, byte_spells}
@@ -206,8 +209,8 @@ magic_sound end (w ∷ ws) bs rest e bytes =
 abbrev pub Answer : Type 0
 Answer = List Node × List Item
 
--- Bytes that are read are a stream of the nodes and items that are answered, whose objects have at most 2^20 parts.
-pub stream_sound : (bytes : List ℕ) (x : Answer) → AreBytes bytes → stream_of bytes ≡ Ok x → IsStream x.0 x.1 bytes × (parts_in x.0 ≤ 1048576)
+-- Bytes that are read are a stream of the nodes and items that are answered.
+pub stream_sound : (bytes : List ℕ) (x : Answer) → AreBytes bytes → stream_of bytes ≡ Ok x → IsStream x.0 x.1 bytes
 unfolding stream_of has parts_in
 stream_sound bytes x are e =
     let end = length bytes in
@@ -216,7 +219,7 @@ stream_sound bytes x are e =
     let b = bind_ok (items_at end (slot_at end 200 places.Reference []) false start a.0) (λ x. Ok (x.1.nodes, x.0)) x a.2 in
     let y = b.0 in
     let m = magic_sound end (0xAC ∷ 0xED ∷ 0x00 ∷ 0x05 ∷ []) bytes a.0 a.1 are in
-    let solid : Solid [] start = record { above = λ k i gone is desc. absurd cc; good = λ k i gone is. absurd cc; below = λ k h. absurd cc; few = omega arith } in
+    let solid : Solid [] start = record { above = λ k i gone is desc. absurd cc; good = λ k i gone is. absurd cc; below = λ k h. absurd cc; few = omega arith; ranged = All-nil InRange } in
     let g = items_sound (λ F. Spells F 200) (slot_at end 200) (slots_sound end 200) [] end false start a.0 y b.1 solid m.left in
     let F = y.1.nodes in
     let spelled : SpellsItems (Spells F 200 []) y.0 0 a.0 g.stop (length F) = g.got.spelled F (record { descs = λ k i gone is desc. is; texts = λ k i is t. is; long = omega arith }) (λ k low lt. refl) in
@@ -224,4 +227,5 @@ stream_sound bytes x are e =
     let all : parts_in F ≡ parts_in g.got.added = ap parts_in g.got.grown in
     let p = g.got.parts in
     let few = g.got.solid.few in
-    subst (λ (x : Answer). IsStream x.0 x.1 bytes × (parts_in x.0 ≤ 1048576)) (ok_is (F, y.0) x b.2) (record { contents = a.0; headed = m.parts; spelled = ended }, omega arith)
+    let ranged = g.got.solid.ranged in
+    subst (λ (x : Answer). IsStream x.0 x.1 bytes) (ok_is (F, y.0) x b.2) (record { contents = a.0; headed = m.parts; spelled = ended; numbers = numbers_of F ranged; units = units_of F ranged; few_parts = omega arith })

@@ -18,7 +18,7 @@ use Rattle.ser_values.specs.declared.node.Node.{Node}
 use Rattle.ser_values.specs.declared.node.Node.TheVariants.{Text, Desc, Proxy, Object, Array, Class, Enum}
 use Rattle.ser_values.specs.declared.node.Place.TheVariants as places
 use Rattle.ser_values.specs.Node.{Want, item_wants, value_wants, part_wants, field_wants, slot_wants, element_wants, before, after, inside}
-use Rattle.ser_values.specs.Shape.{is_joined, joined_from, parts_in, fit_values, fits_part, fits_above, fits_chain}
+use Rattle.ser_values.specs.Shape.{is_joined, joined_from, fit_values, fits_part, fits_above, fits_chain}
 use Rattle.ser_values.specs.Numbered.{Numbering, NumberAll, Numbers, no_numbers, Numbered, IsGraph}
 use Rattle.ser_values.specs.Numbered as numbers
 use Rattle.ser_values.specs.Spelled.{Token, raw, truth, want, note, short_text, reference, field_tokens, value_token, element_tokens, writers_above, writers, part_tokens, Form, a_text, a_long_text, a_desc, a_proxy, an_object, an_external, an_array, a_class, an_enum, One, SpellsBlocks, put_block, joined, SpellsAll, Spelling, Spell, a_null, again, fresh, never, Spells, IsStream}
@@ -241,13 +241,15 @@ joined_joined (items.Bytes p ∷ is) = joined_put p (joined is) (joined_joined i
 joined_joined (items.Ref s ∷ is) = joined_joined is
 
 -- The nodes and items of a stream are a graph.
-pub stream_graph : (nodes : List Node) (items : List Item) (bytes : List ℕ) → IsStream nodes items bytes → length nodes ≤ 65536 → parts_in nodes ≤ 1048576 → IsGraph nodes items
-stream_graph nodes items bytes s few parts =
+pub stream_graph : (nodes : List Node) (items : List Item) (bytes : List ℕ) → IsStream nodes items bytes → length nodes ≤ 65536 → IsGraph nodes items
+stream_graph nodes items bytes s few =
     let n = blocks_numbered (Spells nodes 200 []) (Numbered nodes 200 []) (spells_numbered nodes 200 []) s.spelled.0 [] 0 s.contents [] (length nodes) (length nodes) s.spelled.1 refl in
     let wants : item_wants s.spelled.0 ++ [] ≡ item_wants items = append-nil (item_wants s.spelled.0) ∙ sym (joined_wants s.spelled.0) ∙ ap item_wants (sym s.spelled.2) in
     record {
       numbered = subst (λ ws. NumberAll (Numbered nodes 200 []) ws 0 (length nodes)) wants n;
       joined = ap is_joined s.spelled.2 ∙ joined_joined s.spelled.0;
       few_nodes = few;
-      few_parts = parts;
+      few_parts = s.few_parts;
+      numbers = s.numbers;
+      units = s.units;
     }

@@ -1,8 +1,11 @@
--- Fields, values and elements that are read are spelled.
+-- Fields, values and elements that are read are spelled, and are in range.
 use Rattle.std.proofs.Common.{◌≡◌, ℕ, zero, suc, ◌<◌, ◌^◌, Bool, true, eqb, List, [], ◌∷◌, ◌++◌, map, length, flat_map, Some, None, Ok, refl, sym, ap, subst, ◌∙◌, inl, inr}
 use Rattle.std.proofs.Math.Dec.{eqb-suc-zero}
 use Rattle.std.proofs.lemmas.Bool.{eqb-true}
+use Rattle.std.specs.Prelude.{All}
 use Rattle.std.proofs.lemmas.Int.{of_z-to_z}
+use Rattle.std.proofs.lemmas.List.Elements.{All-nil, All-cons}
+use borrow.Author.Gap.{read_sfits}
 use Rattle.std.specs.Int.{Width, w16, w32, w64, to_be_bytes, cast_unsigned, cast_signed}
 use Rattle.class_desc.specs.declared.slot.Slot.{Slot}
 use Rattle.class_desc.specs.declared.field.TypeCode.{TypeCode}
@@ -16,6 +19,7 @@ use Rattle.ser_values.specs.declared.node.Node.{Node}
 use Rattle.ser_values.specs.declared.node.Place.{Place}
 use Rattle.ser_values.specs.declared.node.Place.TheVariants as places
 use Rattle.ser_values.specs.Shape.{is_short, fits_type, fits_value, fit_values}
+use Rattle.ser_values.specs.Ranges.{ValueFits, NameFits}
 use Rattle.ser_values.specs.Spelled.{Token, truth, value_token, One, SpellsToken, SpellsAll, Spelling}
 use Rattle.ser_values.specs.Reading.{◌>>=◌, Plain, byte_at, number_at, Progress, Step, Slots, plain, mapped, many_at, is_true, value_at, values_at}
 use Rattle.ser_values.proofs.PlainSound.{AreBytes, bytes_left, bind_ok, chosen, ok_is, byte_sound, IsNumber, number_sound_16, number_sound_32, number_sound_64}
@@ -55,6 +59,10 @@ abbrev pub Each : {X : Type 0} → (X → Type 0) → List X → Type 0
 Each P [] = Unit {0}
 Each P (x ∷ xs) = P x × Each P xs
 
+pub each_all : {X : Type 0} (P : X → Type 0) (xs : List X) → Each P xs → All P xs
+each_all P [] h = All-nil P
+each_all P (x ∷ xs) h = All-cons P x xs h.0 (each_all P xs h.1)
+
 pub record GotMany {X : Type 0} (S : List Node → Spelling) (unread : List ℕ) (toks : X → List Token) (P : List Node → X → Type 0) (n : ℕ) (now : Progress) (bs : List ℕ) (y : List X × Progress × List ℕ) : Type 0 where
   pub len : length y.0 ≡ n
   pub got : Got unread now y.1 y.2 (λ F. SpellsAll (S F unread) (flat_map toks y.0) (length now.nodes) bs y.2 (length y.1.nodes) × Each (P F) y.0)
@@ -84,6 +92,7 @@ many_sound {X} S unread step toks P one (suc n) now bs y e solid bytes =
 
 pub record GotValue (S : List Node → Spelling) (unread : List ℕ) (code : TypeCode) (now : Progress) (bs : List ℕ) (y : Value × Progress × List ℕ) : Type 0 where
   pub fits : fits_value code y.0 ≡ true
+  pub ranged : ValueFits y.0
   pub got : Got unread now y.1 y.2 (λ F. SpellsToken (S F unread) (value_token y.0) (length now.nodes) bs y.2 (length y.1.nodes))
 
 -- what a number that is read spells as a token
@@ -91,18 +100,21 @@ abbrev pub Spells_as : (ℕ → Token) → List ℕ → ℕ × List ℕ → Type
 Spells_as tok bs v = AreBytes v.1 × ((S : One) (n : ℕ) → SpellsToken S (tok v.0) n bs v.1 n)
 
 plain_value : (S : List Node → Spelling) (unread : List ℕ) (code : TypeCode) (read : List ℕ → Plain ℕ) (kind : ℕ → Value) (now : Progress) (bs : List ℕ) (y : Value × Progress × List ℕ) → mapped kind (plain read) now bs ≡ Ok y → Solid unread now → ((n : ℕ) → fits_value code (kind n) ≡ true)
-    → ((v : ℕ × List ℕ) → read bs ≡ Ok v → Spells_as (λ n. value_token (kind n)) bs v) → GotValue S unread code now bs y
-plain_value S unread code read kind now bs y e solid fits sound =
+    → ((v : ℕ × List ℕ) → read bs ≡ Ok v → ValueFits (kind v.0)) → ((v : ℕ × List ℕ) → read bs ≡ Ok v → Spells_as (λ n. value_token (kind n)) bs v) → GotValue S unread code now bs y
+plain_value S unread code read kind now bs y e solid fits ranged sound =
     let a = mapped_ok kind (plain read) now bs y e in
     let b = plain_ok read now bs a.0 a.1 in
     let v = b.0 in
     let s = sound v b.1 in
-    let made : GotValue S unread code now bs (kind v.0, now, v.1) = record { fits = fits v.0; got = got_none unread now v.1 _ solid s.0 (λ F sees. s.1 (S F unread) (length now.nodes)) } in
+    let made : GotValue S unread code now bs (kind v.0, now, v.1) = record { fits = fits v.0; ranged = ranged v b.1; got = got_none unread now v.1 _ solid s.0 (λ F sees. s.1 (S F unread) (length now.nodes)) } in
     let same : (kind v.0, now, v.1) ≡ y = ap (λ (z : ℕ × Progress × List ℕ). (kind z.0, z.1, z.2)) b.2 ∙ a.2 in
     subst (λ (y : Value × Progress × List ℕ). GotValue S unread code now bs y) same made
 
 pub byte_spells : (bs : List ℕ) → AreBytes bs → (v : ℕ × List ℕ) → byte_at bs ≡ Ok v → AreBytes v.1 × (bs ≡ v.0 ∷ v.1)
 byte_spells bs bytes v e = let s = byte_sound bs v e in (bytes_left bs (v.0 ∷ []) v.1 s bytes, s)
+
+pub byte_below : (bs : List ℕ) → AreBytes bs → (v : ℕ × List ℕ) → byte_at bs ≡ Ok v → v.0 < 2 ^ 8
+byte_below bs bytes v e = (subst AreBytes (byte_sound bs v e) bytes).0
 
 pub truth_spells : (bs rest : List ℕ) (b : ℕ) (S : One) (n : ℕ) → bs ≡ b ∷ rest → SpellsToken S (truth (is_true b)) n bs rest n
 truth_spells bs rest zero S n e = (e, refl)
@@ -114,29 +126,30 @@ back w bound bs v law n = n.parts ∙ ap (λ k. to_be_bytes w k ++ v.1) (sym (la
 
 pub value_sound : (S : List Node → Spelling) (inner : Slots) → IsSound S inner → (unread : List ℕ) (code : TypeCode) (now : Progress) (bs : List ℕ) (y : Value × Progress × List ℕ) → value_at (inner places.Reference unread) code now bs ≡ Ok y → Solid unread now → AreBytes bs → GotValue S unread code now bs y
 unfolding value_at
-value_sound S inner sound unread codes.B now bs y e solid bytes = plain_value S unread codes.B byte_at values.B now bs y e solid (λ n. refl) (λ v r. (let s = byte_spells bs bytes v r in (s.0, λ S n. (s.1, refl))))
-value_sound S inner sound unread codes.C now bs y e solid bytes = plain_value S unread codes.C (number_at w16) values.C now bs y e solid (λ n. refl) (λ v r. (let s = number_sound_16 bs v r bytes in (s.left, λ S n. (s.parts, refl))))
-value_sound S inner sound unread codes.D now bs y e solid bytes = plain_value S unread codes.D (number_at w64) values.D now bs y e solid (λ n. refl) (λ v r. (let s = number_sound_64 bs v r bytes in (s.left, λ S n. (s.parts, refl))))
-value_sound S inner sound unread codes.F now bs y e solid bytes = plain_value S unread codes.F (number_at w32) values.F now bs y e solid (λ n. refl) (λ v r. (let s = number_sound_32 bs v r bytes in (s.left, λ S n. (s.parts, refl))))
-value_sound S inner sound unread codes.I now bs y e solid bytes = plain_value S unread codes.I (number_at w32) (λ n. values.I (cast_signed w32 n)) now bs y e solid (λ n. refl) (λ v r. (let s = number_sound_32 bs v r bytes in (s.left, λ S n. (back w32 (2 ^ 32) bs v (of_z-to_z w32) s, refl))))
-value_sound S inner sound unread codes.J now bs y e solid bytes = plain_value S unread codes.J (number_at w64) (λ n. values.J (cast_signed w64 n)) now bs y e solid (λ n. refl) (λ v r. (let s = number_sound_64 bs v r bytes in (s.left, λ S n. (back w64 (2 ^ 64) bs v (of_z-to_z w64) s, refl))))
-value_sound S inner sound unread codes.S now bs y e solid bytes = plain_value S unread codes.S (number_at w16) (λ n. values.S (cast_signed w16 n)) now bs y e solid (λ n. refl) (λ v r. (let s = number_sound_16 bs v r bytes in (s.left, λ S n. (back w16 (2 ^ 16) bs v (of_z-to_z w16) s, refl))))
-value_sound S inner sound unread codes.Z now bs y e solid bytes = plain_value S unread codes.Z byte_at (λ b. values.Z (is_true b)) now bs y e solid (λ n. refl) (λ v r. (let s = byte_spells bs bytes v r in (s.0, λ S n. truth_spells bs v.1 v.0 S n s.1)))
+value_sound S inner sound unread codes.B now bs y e solid bytes = plain_value S unread codes.B byte_at values.B now bs y e solid (λ n. refl) (λ v r. byte_below bs bytes v r) (λ v r. (let s = byte_spells bs bytes v r in (s.0, λ S n. (s.1, refl))))
+value_sound S inner sound unread codes.C now bs y e solid bytes = plain_value S unread codes.C (number_at w16) values.C now bs y e solid (λ n. refl) (λ v r. (number_sound_16 bs v r bytes).below) (λ v r. (let s = number_sound_16 bs v r bytes in (s.left, λ S n. (s.parts, refl))))
+value_sound S inner sound unread codes.D now bs y e solid bytes = plain_value S unread codes.D (number_at w64) values.D now bs y e solid (λ n. refl) (λ v r. (number_sound_64 bs v r bytes).below) (λ v r. (let s = number_sound_64 bs v r bytes in (s.left, λ S n. (s.parts, refl))))
+value_sound S inner sound unread codes.F now bs y e solid bytes = plain_value S unread codes.F (number_at w32) values.F now bs y e solid (λ n. refl) (λ v r. (number_sound_32 bs v r bytes).below) (λ v r. (let s = number_sound_32 bs v r bytes in (s.left, λ S n. (s.parts, refl))))
+value_sound S inner sound unread codes.I now bs y e solid bytes = plain_value S unread codes.I (number_at w32) (λ n. values.I (cast_signed w32 n)) now bs y e solid (λ n. refl) (λ v r. read_sfits w32 v.0) (λ v r. (let s = number_sound_32 bs v r bytes in (s.left, λ S n. (back w32 (2 ^ 32) bs v (of_z-to_z w32) s, refl))))
+value_sound S inner sound unread codes.J now bs y e solid bytes = plain_value S unread codes.J (number_at w64) (λ n. values.J (cast_signed w64 n)) now bs y e solid (λ n. refl) (λ v r. read_sfits w64 v.0) (λ v r. (let s = number_sound_64 bs v r bytes in (s.left, λ S n. (back w64 (2 ^ 64) bs v (of_z-to_z w64) s, refl))))
+value_sound S inner sound unread codes.S now bs y e solid bytes = plain_value S unread codes.S (number_at w16) (λ n. values.S (cast_signed w16 n)) now bs y e solid (λ n. refl) (λ v r. read_sfits w16 v.0) (λ v r. (let s = number_sound_16 bs v r bytes in (s.left, λ S n. (back w16 (2 ^ 16) bs v (of_z-to_z w16) s, refl))))
+value_sound S inner sound unread codes.Z now bs y e solid bytes = plain_value S unread codes.Z byte_at (λ b. values.Z (is_true b)) now bs y e solid (λ n. refl) (λ v r. tt) (λ v r. (let s = byte_spells bs bytes v r in (s.0, λ S n. truth_spells bs v.1 v.0 S n s.1)))
 value_sound S inner sound unread codes.Array now bs y e solid bytes =
     let a = mapped_ok values.Ref (inner places.Reference unread) now bs y e in
-    subst (λ (y : Value × Progress × List ℕ). GotValue S unread codes.Array now bs y) a.2 (record { fits = refl; got = (sound unread places.Reference now bs a.0 a.1 solid bytes).got })
+    subst (λ (y : Value × Progress × List ℕ). GotValue S unread codes.Array now bs y) a.2 (record { fits = refl; ranged = tt; got = (sound unread places.Reference now bs a.0 a.1 solid bytes).got })
 value_sound S inner sound unread codes.Object now bs y e solid bytes =
     let a = mapped_ok values.Ref (inner places.Reference unread) now bs y e in
-    subst (λ (y : Value × Progress × List ℕ). GotValue S unread codes.Object now bs y) a.2 (record { fits = refl; got = (sound unread places.Reference now bs a.0 a.1 solid bytes).got })
+    subst (λ (y : Value × Progress × List ℕ). GotValue S unread codes.Object now bs y) a.2 (record { fits = refl; ranged = tt; got = (sound unread places.Reference now bs a.0 a.1 solid bytes).got })
 
 pub record GotValues (S : List Node → Spelling) (unread : List ℕ) (fs : List FieldDesc) (now : Progress) (bs : List ℕ) (y : List Value × Progress × List ℕ) : Type 0 where
   pub fit : fit_values fs y.0 ≡ true
+  pub ranged : All ValueFits y.0
   pub got : Got unread now y.1 y.2 (λ F. SpellsAll (S F unread) (map value_token y.0) (length now.nodes) bs y.2 (length y.1.nodes))
 
 pub values_sound : (S : List Node → Spelling) (inner : Slots) → IsSound S inner → (unread : List ℕ) (fs : List FieldDesc) (now : Progress) (bs : List ℕ) (y : List Value × Progress × List ℕ) → values_at (inner places.Reference unread) fs now bs ≡ Ok y → Solid unread now → AreBytes bs → GotValues S unread fs now bs y
 unfolding values_at fit_values
 values_sound S inner sound unread [] now bs y e solid bytes =
-    subst (λ (y : List Value × Progress × List ℕ). GotValues S unread [] now bs y) (ok_is ([], now, bs) y e) (record { fit = refl; got = got_none unread now bs _ solid bytes (λ F sees. (refl, refl)) })
+    subst (λ (y : List Value × Progress × List ℕ). GotValues S unread [] now bs y) (ok_is ([], now, bs) y e) (record { fit = refl; ranged = All-nil ValueFits; got = got_none unread now bs _ solid bytes (λ F sees. (refl, refl)) })
 values_sound S inner sound unread (f ∷ fs) now bs y e solid bytes =
     let a = bind_ok (value_at (inner places.Reference unread) f.code now bs) (λ v. values_at (inner places.Reference unread) fs v.1 v.2 >>= λ vs. Ok (v.0 ∷ vs.0, vs.1, vs.2)) y e in
     let v = a.0 in
@@ -146,6 +159,7 @@ values_sound S inner sound unread (f ∷ fs) now bs y e solid bytes =
     let h = values_sound S inner sound unread fs v.1 v.2 vs b.1 g.got.solid g.got.left in
     subst (λ (y : List Value × Progress × List ℕ). GotValues S unread (f ∷ fs) now bs y) (ok_is (v.0 ∷ vs.0, vs.1, vs.2) y b.2) (record {
       fit = rw g.fits h.fit;
+      ranged = All-cons ValueFits v.0 vs.0 g.ranged h.ranged;
       got = got_two unread now v.1 vs.1 v.2 vs.2 (λ F. SpellsToken (S F unread) (value_token v.0) (length now.nodes) bs v.2 (length v.1.nodes)) (λ F. SpellsAll (S F unread) (map value_token vs.0) (length v.1.nodes) v.2 vs.2 (length vs.1.nodes))
           (λ F. SpellsAll (S F unread) (map value_token (v.0 ∷ vs.0)) (length now.nodes) bs vs.2 (length vs.1.nodes)) g.got h.got (λ F sees p q. (v.2, length v.1.nodes, p, q));
     })
@@ -153,7 +167,7 @@ values_sound S inner sound unread (f ∷ fs) now bs y e solid bytes =
 -- ---- fields
 
 abbrev pub FieldOk : List Node → FieldDesc → Type 0
-FieldOk F f = (is_short f.name ≡ true) × (fits_type F f.code f.type_text ≡ true)
+FieldOk F f = (is_short f.name ≡ true) × (fits_type F f.code f.type_text ≡ true) × NameFits f
 
 pub code_letter : (c : ℕ) (code : TypeCode) → code_of c ≡ Some code → c ≡ letter code
 code_letter c code e = elim (chosen (eqb c 0x42) _ _ _ e) [

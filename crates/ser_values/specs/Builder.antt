@@ -10,12 +10,13 @@ use Rattle.ser_values.specs.declared.node.Node.{Node}
 use Rattle.ser_values.specs.declared.node.Node.TheVariants.{Text, Object, Array}
 use Rattle.ser_values.specs.declared.fault.BuildFault.{BuildFault}
 use Rattle.ser_values.specs.declared.fault.BuildFault.TheVariants.{OutOfMemory, TooManyNodes, WrongShape, TooDeep}
+use Rattle.ser_values.specs.declared.limits.TheConstants.{NODES}
 
--- The node is added at the end, and its number is answered; or it is refused, exactly at 65,536 nodes or for want of memory, and nothing changes.
+-- The node is added at the end, and its number is answered; or it is refused, exactly at the greatest number of nodes or for want of memory, and nothing changes.
 abbrev pub AddsNode : List Node → List Node → Node → Result Slot BuildFault → Type 0
-AddsNode old new node (Ok slot) = (length old < 65536) × (slot ≡ slots.Node (length old)) × (new ≡ old ++ node ∷ [])
-AddsNode old new node (Err TooManyNodes) = (length old ≡ 65536) × (new ≡ old)
-AddsNode old new node (Err OutOfMemory) = (length old < 65536) × (new ≡ old)
+AddsNode old new node (Ok slot) = (length old < NODES) × (slot ≡ slots.Node (length old)) × (new ≡ old ++ node ∷ [])
+AddsNode old new node (Err TooManyNodes) = (length old ≡ NODES) × (new ≡ old)
+AddsNode old new node (Err OutOfMemory) = (length old < NODES) × (new ≡ old)
 AddsNode old new node (Err WrongShape) = ⊥
 AddsNode old new node (Err TooDeep) = ⊥
 

@@ -4,6 +4,7 @@ use Rattle.class_desc.specs.declared.slot.Item.{Item}
 use Rattle.ser_values.specs.declared.node.Node.{Node}
 use Rattle.ser_values.specs.declared.fault.BuildFault.{BuildFault}
 use Rattle.ser_values.specs.declared.fault.BuildFault.TheVariants.{OutOfMemory, TooManyNodes, WrongShape, TooDeep}
+use Rattle.ser_values.specs.declared.limits.TheConstants.{LEVELS, PARTS}
 use Rattle.ser_values.specs.Node.{item_wants}
 use Rattle.ser_values.specs.Shape.{is_joined, parts_of, parts_in}
 use Rattle.ser_values.specs.Visits.{VisitAll, Visits}
@@ -13,12 +14,12 @@ use Rattle.ser_values.specs.Renumber.{place_in, item_by, reordered}
 pub record IsOrder (loose : List Node) (depth : ℕ) (items : List Item) (order : List ℕ) : Type 0 where
   pub visits : VisitAll (Visits loose depth []) (item_wants items) [] order
   pub joined : is_joined items ≡ true
-  pub few_parts : parts_in (reordered loose order) ≤ 1048576
+  pub few_parts : parts_in (reordered loose order) ≤ PARTS
 
 -- The graph of what the items reach, the rest dropped: each node's number is its place in the order.
 pub record IsGraphOf (loose : List Node) (items : List Item) (nodes : List Node) (to : List Item) : Type 0 where
   pub order : List ℕ
-  pub is_order : IsOrder loose 200 items order
+  pub is_order : IsOrder loose LEVELS items order
   pub nodes_are : nodes ≡ reordered loose order
   pub items_are : to ≡ map (item_by (place_in order)) items
 
@@ -26,10 +27,10 @@ pub record IsGraphOf (loose : List Node) (items : List Item) (nodes : List Node)
 abbrev pub HasShape : List Node → List Item → Type 0
 HasShape loose items = (depth : ℕ) × (order : List ℕ) × IsOrder loose depth items order
 
--- Why there is no graph: a rule is broken, or else the depth passes 200. Want of memory may stand in place of any answer.
+-- Why there is no graph: a rule is broken, or else it is too deep. Want of memory may stand in place of any answer.
 abbrev pub IsRefusal : List Node → List Item → BuildFault → Type 0
 IsRefusal loose items WrongShape = ¬ HasShape loose items
-IsRefusal loose items TooDeep = HasShape loose items × ((order : List ℕ) → ¬ IsOrder loose 200 items order)
+IsRefusal loose items TooDeep = HasShape loose items × ((order : List ℕ) → ¬ IsOrder loose LEVELS items order)
 IsRefusal loose items TooManyNodes = ⊥
 IsRefusal loose items OutOfMemory = Unit {0}
 

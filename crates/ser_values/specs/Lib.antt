@@ -11,3 +11,4 @@ pub mod Builder
 pub mod Spelled
 pub mod Ranges
 pub mod Reading
+pub mod Laws

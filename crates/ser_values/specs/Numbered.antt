@@ -4,8 +4,10 @@ use Rattle.std.specs.Prelude.{◌≡◌, ℕ, zero, suc, ◌<◌, ◌≤◌, tru
 use Rattle.class_desc.specs.declared.slot.Slot.TheVariants as slots
 use Rattle.class_desc.specs.declared.slot.Item.{Item}
 use Rattle.ser_values.specs.declared.node.Node.{Node}
+use Rattle.ser_values.specs.declared.limits.TheConstants.{LEVELS, NODES, PARTS}
 use Rattle.ser_values.specs.Node.{has, Want, item_wants, before, after, admits, admits_null, takes, inside}
 use Rattle.ser_values.specs.Shape.{is_shaped, is_joined, parts_in}
+use Rattle.ser_values.specs.Ranges.{NumbersFit, UnitsFit}
 
 -- The unread descriptions, what is wanted, and how many nodes have handles before it is written and afterwards.
 abbrev pub Numbering : Type 1
@@ -32,9 +34,11 @@ unfoldable pub Numbered : List Node → ℕ → Numbering
 Numbered nodes zero unread w n m = Numbers nodes zero no_numbers unread w n m
 Numbered nodes (suc d) unread w n m = Numbers nodes (suc d) (Numbered nodes d) unread w n m
 
--- A graph: its items reach each of its nodes, in the order of the nodes' numbers, at most 200 levels deep.
+-- A graph: its items reach each of its nodes, in the order of the nodes' numbers, within the limits; its numbers are in range.
 pub record IsGraph (nodes : List Node) (items : List Item) : Type 0 where
-  pub numbered : NumberAll (Numbered nodes 200 []) (item_wants items) 0 (length nodes)
+  pub numbered : NumberAll (Numbered nodes LEVELS []) (item_wants items) 0 (length nodes)
   pub joined : is_joined items ≡ true
-  pub few_nodes : length nodes ≤ 65536
-  pub few_parts : parts_in nodes ≤ 1048576
+  pub few_nodes : length nodes ≤ NODES
+  pub few_parts : parts_in nodes ≤ PARTS
+  pub numbers : NumbersFit nodes
+  pub units : UnitsFit nodes

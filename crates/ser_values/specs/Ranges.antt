@@ -1,11 +1,13 @@
--- Numbers in the ranges of their types. Bytes show a number only as far as its type's width, so two graphs are told apart by their bytes
--- where their numbers are in range.
-use Rattle.std.specs.Prelude.{◌<◌, ◌^◌, FitsSigned, List, All}
+-- Numbers in the ranges of their types: those of a graph are, since bytes show a number only as far as its type's width.
+use Rattle.std.specs.Prelude.{◌<◌, ◌^◌, ℕ, FitsSigned, List, All}
 use Rattle.std.specs.Int.{w16, w32, w64}
+use Rattle.class_desc.specs.declared.field.FieldDesc.{FieldDesc}
+use Rattle.class_desc.specs.declared.desc.ClassDesc.{ClassDesc}
 use Rattle.ser_values.specs.declared.value.Value.{Value}
 use Rattle.ser_values.specs.declared.value.Value.TheVariants as values
 use Rattle.ser_values.specs.declared.value.Values.{Values}
 use Rattle.ser_values.specs.declared.value.Values.TheVariants as kinds
+use Rattle.ser_values.specs.declared.value.Part.{Part}
 use Rattle.ser_values.specs.declared.node.Node.{Node}
 use Rattle.ser_values.specs.declared.node.Node.TheVariants.{Text, Desc, Proxy, Object, Array}
 
@@ -31,10 +33,14 @@ ElementsFit (kinds.Shorts v) = All (FitsSigned w16) v
 ElementsFit (kinds.Bools v) = Unit {0}
 ElementsFit (kinds.Refs v) = Unit {0}
 
+-- An object's part.
+abbrev pub PartFits : Part → Type 0
+PartFits p = All ValueFits p.values
+
 -- The serialVersionUID of a description, the values of an object's fields, or an array's elements.
 abbrev pub NodeFits : Node → Type 0
 NodeFits (Desc d) = FitsSigned w64 d.suid
-NodeFits (Object c ps) = All (λ p. All ValueFits p.values) ps
+NodeFits (Object c ps) = All PartFits ps
 NodeFits (Array c vs) = ElementsFit vs
 NodeFits _ = Unit {0}
 
@@ -42,13 +48,29 @@ NodeFits _ = Unit {0}
 abbrev pub NumbersFit : List Node → Type 0
 NumbersFit nodes = All NodeFits nodes
 
+-- The units of a text or a name.
+abbrev pub TextFits : List ℕ → Type 0
+TextFits t = All (λ u. u < 2 ^ 16) t
+
+-- Those of a field's name.
+abbrev pub NameFits : FieldDesc → Type 0
+NameFits f = TextFits f.name
+
 -- The units of a text, of a description's and its fields' names, or of a proxy's names.
 abbrev pub UnitsFitIn : Node → Type 0
-UnitsFitIn (Text t) = All (λ u. u < 2 ^ 16) t
-UnitsFitIn (Desc d) = All (λ u. u < 2 ^ 16) d.name × All (λ f. All (λ u. u < 2 ^ 16) f.name) d.fields
-UnitsFitIn (Proxy p) = All (λ n. All (λ u. u < 2 ^ 16) n) p.names
+UnitsFitIn (Text t) = TextFits t
+UnitsFitIn (Desc d) = TextFits d.name × All NameFits d.fields
+UnitsFitIn (Proxy p) = All TextFits p.names
 UnitsFitIn _ = Unit {0}
 
 -- Each unit of the nodes' texts and names is in its type's range.
 abbrev pub UnitsFit : List Node → Type 0
 UnitsFit nodes = All UnitsFitIn nodes
+
+-- The numbers and the units of one node.
+abbrev pub InRange : Node → Type 0
+InRange i = NodeFits i × UnitsFitIn i
+
+-- Those of a description.
+abbrev pub DescFits : ClassDesc → Type 0
+DescFits d = InRange (Desc d)

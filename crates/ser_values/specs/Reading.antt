@@ -23,6 +23,7 @@ use Rattle.ser_values.specs.declared.node.Node.{Node}
 use Rattle.ser_values.specs.declared.node.Node.TheVariants.{Text, Desc, Proxy, Object, Array, Class, Enum}
 use Rattle.ser_values.specs.declared.node.Place.{Place}
 use Rattle.ser_values.specs.declared.node.Place.TheVariants as places
+use Rattle.ser_values.specs.declared.limits.TheConstants.{LEVELS, NODES, PARTS}
 use Rattle.ser_values.specs.Node.{has, is_desc, is_text}
 use Rattle.ser_values.specs.Shape.{fits_type, is_enum}
 use Rattle.ser_values.specs.Spelled.{joined}
@@ -232,7 +233,7 @@ unless (Some kind) at r = Err (bad kind at)
 
 -- where another node has room
 abbrev pub roomy : {A : Type 0} → Progress → ℕ → Result A Fault → Result A Fault
-roomy now at r = if nat_lt (length now.nodes) 65536 then r else Err (too_many at)
+roomy now at r = if nat_lt (length now.nodes) NODES then r else Err (too_many at)
 
 abbrev pub blank : ClassDesc
 blank = record { name = []; suid = cast_signed w64 0; flags = 0; fields = []; note = []; parent = slots.Null }
@@ -282,9 +283,9 @@ object_after end inner class rows now bs =
 
 unfoldable pub object_at : ℕ → ℕ → Step Slot → ℕ → Step Slot
 object_at end at inner class now bs =
-    if nat_lt 1048576 (now.parts + length (rows_of (slice_get now.nodes class) (chain_of 1048576 now.nodes (slots.Node class)).0)) then Err (too_many at) else
-    unless (class_fault (slice_get now.nodes class) (chain_of 1048576 now.nodes (slots.Node class)).1) at
-    (object_after end inner class (rows_of (slice_get now.nodes class) (chain_of 1048576 now.nodes (slots.Node class)).0) now bs)
+    if nat_lt PARTS (now.parts + length (rows_of (slice_get now.nodes class) (chain_of PARTS now.nodes (slots.Node class)).0)) then Err (too_many at) else
+    unless (class_fault (slice_get now.nodes class) (chain_of PARTS now.nodes (slots.Node class)).1) at
+    (object_after end inner class (rows_of (slice_get now.nodes class) (chain_of PARTS now.nodes (slots.Node class)).0) now bs)
 
 -- the type of an array class's elements
 abbrev pub type_in : Option Node → Option TypeCode
@@ -384,5 +385,5 @@ magic_at end (w ∷ ws) bs = byte_at bs >>= λ b. if nat_eq b.0 w then magic_at 
 unfoldable pub stream_of : List ℕ → Result (List Node × List Item) Fault
 stream_of bytes =
     magic_at (length bytes) (0xAC ∷ 0xED ∷ 0x00 ∷ 0x05 ∷ []) bytes >>= λ bs.
-    items_at (length bytes) (slot_at (length bytes) 200 places.Reference []) false (record { nodes = []; parts = 0 }) bs >>= λ x.
+    items_at (length bytes) (slot_at (length bytes) LEVELS places.Reference []) false (record { nodes = []; parts = 0 }) bs >>= λ x.
     Ok (x.1.nodes, x.0)

@@ -20,8 +20,10 @@ use Rattle.ser_values.specs.declared.value.Part.{Part}
 use Rattle.ser_values.specs.declared.node.Node.{Node}
 use Rattle.ser_values.specs.declared.node.Node.TheVariants.{Text, Desc, Proxy, Object, Array, Class, Enum}
 use Rattle.ser_values.specs.declared.node.Place.TheVariants as places
+use Rattle.ser_values.specs.declared.limits.TheConstants.{LEVELS, NODES, PARTS}
 use Rattle.ser_values.specs.Node.{has, Want, admits, admits_null, takes, inside}
-use Rattle.ser_values.specs.Shape.{fits_chain, count_of, is_shaped}
+use Rattle.ser_values.specs.Shape.{fits_chain, count_of, is_shaped, parts_in}
+use Rattle.ser_values.specs.Ranges.{NumbersFit, UnitsFit}
 
 -- ---- what is written of a node, in order
 
@@ -160,7 +162,7 @@ pub data Spell (nodes : List Node) (left : ℕ) (Inner : Spelling) (unread : Lis
   a_null : w.1 ≡ slots.Null → admits_null w.0 ≡ true → bs ≡ 0x70 ∷ rest → m ≡ n → Spell nodes left Inner unread w n bs rest m
   again : (k : ℕ) (i : Node) → w.1 ≡ slots.Node k → slice_get nodes k ≡ Some i → k < n → takes w.0 (has unread k) i ≡ true
       → bs ≡ 0x71 ∷ (to_be_bytes w32 (0x7E0000 + k) ++ rest) → m ≡ n → Spell nodes left Inner unread w n bs rest m
-  fresh : (k : ℕ) (i : Node) (code : ℕ) (befores afters : List Token) (b b1 : List ℕ) → w.1 ≡ slots.Node k → slice_get nodes k ≡ Some i → n ≤ k → k < 65536 → 0 < left
+  fresh : (k : ℕ) (i : Node) (code : ℕ) (befores afters : List Token) (b b1 : List ℕ) → w.1 ≡ slots.Node k → slice_get nodes k ≡ Some i → n ≤ k → k < NODES → 0 < left
       → admits w.0 i ≡ true → is_shaped nodes i ≡ true → Form nodes i code befores afters
       → bs ≡ code ∷ b → SpellsAll (Inner unread) befores n b b1 k → SpellsAll (Inner (inside unread k i)) afters (suc k) b1 rest m → Spell nodes left Inner unread w n bs rest m
 
@@ -173,7 +175,11 @@ Spells nodes zero unread w n bs rest m = Spell nodes zero never unread w n bs re
 Spells nodes (suc d) unread w n bs rest m = Spell nodes (suc d) (Spells nodes d) unread w n bs rest m
 
 -- The bytes are a stream of these items: the magic number and the version, then the items, which give these nodes their handles in order.
+-- The nodes' numbers are in range, and their objects have not too many parts.
 pub record IsStream (nodes : List Node) (items : List Item) (bytes : List ℕ) : Type 0 where
   pub contents : List ℕ
   pub headed : bytes ≡ 0xAC ∷ 0xED ∷ 0x00 ∷ 0x05 ∷ contents
-  pub spelled : SpellsItems (Spells nodes 200 []) items 0 contents [] (length nodes)
+  pub spelled : SpellsItems (Spells nodes LEVELS []) items 0 contents [] (length nodes)
+  pub numbers : NumbersFit nodes
+  pub units : UnitsFit nodes
+  pub few_parts : parts_in nodes ≤ PARTS

@@ -8,7 +8,9 @@ ghost use Rattle.ser_values.specs.Finished.{IsGraphOf, IsRefusal};
 use crate::fault::BuildFault;
 use crate::finishing::{order_of, take_nodes};
 use crate::graph::Graph;
+use crate::limits::NODES;
 use crate::node::{Node, NodeList};
+use crate::ranges::Ranged;
 use crate::renumber::{places, renumber_all};
 use crate::value::{Part, PartList, Value, ValueList, Values};
 use class_desc::{ClassDesc, Items, ProxyDesc, Slot, SlotList};
@@ -17,8 +19,6 @@ use std::alloc::Global;
 use std::marker::Model;
 use std::mem;
 
-/// The greatest number of loose nodes.
-const NODES: usize = 0x1_0000;
 /// The number that a null class or name is kept by. It is no loose node's.
 const NO_NODE: u32 = 0xFFFF_FFFF;
 
@@ -31,14 +31,16 @@ pub struct Builder {
 }
 
 impl Model for Builder {
-    ghost use Rattle.std.specs.Prelude.{List, ◌≤◌, length};
+    ghost use Rattle.std.specs.Prelude.{All, List, ◌≤◌, length};
     ghost use Rattle.ser_values.specs.declared.node.Node.{Node};
+    ghost use Rattle.ser_values.specs.declared.limits.TheConstants.{NODES};
+    ghost use Rattle.ser_values.specs.Ranges.{InRange};
 
     ghost Value = { List Node };
 
     ghost view = { λ b. b.nodes.items };
 
-    ghost invariant = { λ b. length b.nodes.items ≤ 65536 };
+    ghost invariant = { λ b. (length b.nodes.items ≤ NODES) × All InRange b.nodes.items };
 }
 
 /// The number that a class or a name is kept by.
@@ -194,6 +196,7 @@ impl Builder {
             drop(node);
             return Err(BuildFault::TooManyNodes);
         }
+        node.look();
         match self.nodes.push(node) {
             Ok(()) => Ok(Slot::Node(count as u32)),
             Err(failed) => {

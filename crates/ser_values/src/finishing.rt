@@ -6,6 +6,7 @@ ghost use Rattle.ser_values.specs.Seen.{Once};
 ghost use Rattle.ser_values.specs.Shape.{is_joined};
 
 use crate::fault::BuildFault;
+use crate::limits::{LEVELS, NODES, PARTS};
 use crate::loose::Loose;
 use crate::node::Node;
 use crate::renumber::Renumber;
@@ -15,11 +16,6 @@ use class_desc::Item;
 use mod_utf::list::{TryCopy, Units};
 use std::alloc::{AllocError, Global};
 use std::mem;
-
-/// The greatest depth of a graph.
-const LEVELS: u32 = 200;
-/// The greatest number of parts that the objects of a graph have in all.
-const PARTS: usize = 0x10_0000;
 
 /// How many parts a node has, if there is one.
 fn parts_at(node: Option<&Node>) -> usize
@@ -35,7 +31,7 @@ fn parts_at(node: Option<&Node>) -> usize
 /// Whether the nodes of an order have few enough parts in all.
 #[tactic(auto, unfolding(crate::specs::Finished::parts_at))]
 fn has_few_parts(loose: &Loose, order: &[u32]) -> bool
-    ensures { result ≡ nat_le (parts_at loose.now.nodes.now order.now) 1048576 }
+    ensures { result ≡ nat_le (parts_at loose.now.nodes.now order.now) PARTS }
 {
     let mut total: usize = 0;
     for number in order {
@@ -49,9 +45,9 @@ fn has_few_parts(loose: &Loose, order: &[u32]) -> bool
 
 /// Why there is no order within the greatest depth: a broken rule, however deep it lies, or the depth.
 fn fault_of(alloc: Global, loose: &Loose, items: &[Item]) -> Result<BuildFault, AllocError>
-    requires few { length loose.now.nodes.now ≤ 65536 }
+    requires few { length loose.now.nodes.now ≤ NODES }
     requires joined { is_joined items.now ≡ true }
-    requires deeper { (order : List ℕ) → ¬ IsOrder loose.now.nodes.now 200 items.now order }
+    requires deeper { (order : List ℕ) → ¬ IsOrder loose.now.nodes.now LEVELS items.now order }
     ensures { IfOk result (IsRefusal loose.now.nodes.now items.now) }
 {
     match walk(alloc, loose, items, loose.count() as u32)? {
@@ -72,8 +68,8 @@ pub(crate) fn order_of(
     nodes: &[Node],
     items: &[Item],
 ) -> Result<Vec<u32>, BuildFault>
-    requires { length nodes.now ≤ 65536 }
-    ensures ok { IfOk result (λ order. IsOrder nodes.now 200 items.now order.items) }
+    requires { length nodes.now ≤ NODES }
+    ensures ok { IfOk result (λ order. IsOrder nodes.now LEVELS items.now order.items) }
     ensures err { IfErr result (IsRefusal nodes.now items.now) }
 {
     if !is_joined(items) {

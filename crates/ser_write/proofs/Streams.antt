@@ -33,7 +33,6 @@ use Rattle.ser_values.specs.Spelled.{Token, raw, truth, want, note, short_text, 
 use Rattle.ser_values.proofs.Spelling.{token_wants, form_wants, Silent, parts_silent, both, nil_is}
 use Rattle.ser_values.proofs.Shaped.{graph_shaped}
 use Rattle.ser_values.proofs.OneReading.{one_reading}
-use Rattle.ser_values.specs.Ranges.{NumbersFit}
 use Rattle.std.proofs.Math.Logic.{∥∥₁_map, ∥∥₁_elim, ∥∥₁_prop}
 use Rattle.ser_values.proofs.Chains.{not_both, chained_flag}
 use Rattle.ser_write.specs.Canonical.{Written, Writing, block_of, pieces_in, pieces, blocks, write_items, write_all, code_of, tokens_before, is_external_class, external_tokens, object_tokens, tokens_after, write_new, write_one, nothing, write_at, canonical}
@@ -434,11 +433,11 @@ canonical_stream F is g =
     let v = items_written (write_at 200 F) (Numbered F 200) (Spells F 200) (at_written F 200 (graph_shaped F is g) g.few_nodes) [] is 0 (length F) g.numbered in
     let w = write_items (write_at 200 F) 0 is in
     let blocks : SpellsBlocks (Spells F 200 []) (cut is) 0 w.0 [] (length F) = subst (λ (b : List ℕ). SpellsBlocks (Spells F 200 []) (cut is) 0 b [] (length F)) (append-nil w.0) (v.1 []) in
-    record { contents = w.0; headed = refl; spelled = (cut is, blocks, sym (joined_cut is g.joined)) }
+    record { contents = w.0; headed = refl; spelled = (cut is, blocks, sym (joined_cut is g.joined)); numbers = g.numbers; units = g.units; few_parts = g.few_parts }
 
 -- Two graphs have the same canonical bytes only where they are equal.
-pub canonical_alone : (F E : List Node) (is js : List Item) → NumbersFit F → NumbersFit E → ∥ IsGraph F is ∥₁ → ∥ IsGraph E js ∥₁ → canonical E js ≡ canonical F is → ∥ (E ≡ F) × (js ≡ is) ∥₁
-canonical_alone F E is js fits others g h e =
+pub canonical_alone : (F E : List Node) (is js : List Item) → ∥ IsGraph F is ∥₁ → ∥ IsGraph E js ∥₁ → canonical E js ≡ canonical F is → ∥ (E ≡ F) × (js ≡ is) ∥₁
+canonical_alone F E is js g h e =
     ∥∥₁_elim g ∥∥₁_prop (λ a. ∥∥₁_map h (λ b. (
     let stream : IsStream E js (canonical F is) = subst (λ (bytes : List ℕ). IsStream E js bytes) e (canonical_stream E js b) in
-    one_reading E F js is (canonical F is) others fits stream (canonical_stream F is a))))
+    one_reading E F js is (canonical F is) stream (canonical_stream F is a))))

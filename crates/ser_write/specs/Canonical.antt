@@ -19,7 +19,6 @@ use Rattle.ser_values.specs.declared.node.Node.TheVariants.{Text, Desc, Proxy, O
 use Rattle.ser_values.specs.declared.node.Place.TheVariants as places
 use Rattle.ser_values.specs.Shape.{is_short, count_of}
 use Rattle.ser_values.specs.Numbered.{IsGraph}
-use Rattle.ser_values.specs.Ranges.{NumbersFit}
 use Rattle.ser_values.specs.Spelled.{Token, raw, truth, want, note, short_text, long_text, field_tokens, element_tokens, writers, part_tokens}
 
 -- ---- block data
@@ -176,10 +175,10 @@ write_at (suc d) nodes n s = write_one (suc d) nodes (write_at d nodes) n s
 unfoldable pub canonical : List Node → List Item → List ℕ
 canonical nodes items = 0xAC ∷ 0xED ∷ 0x00 ∷ 0x05 ∷ (write_items (write_at 200 nodes) 0 items).0
 
--- The bytes are those of no other graph. The numbers of a program's graphs are always in their types' ranges.
+-- The bytes are those of no other graph.
 abbrev pub AreOfNoOther : List Node → List Item → List ℕ → Type 0
 AreOfNoOther nodes items bytes =
-    (others : List Node) (contents : List Item) → NumbersFit nodes → NumbersFit others → ∥ IsGraph others contents ∥₁ → canonical others contents ≡ bytes → ∥ (others ≡ nodes) × (contents ≡ items) ∥₁
+    (others : List Node) (contents : List Item) → ∥ IsGraph others contents ∥₁ → canonical others contents ≡ bytes → ∥ (others ≡ nodes) × (contents ≡ items) ∥₁
 
 -- what was written stands at the end, unless memory ran out
 abbrev pub Adds : List ℕ → List ℕ → Result ℕ AllocError → Written → Type 0

@@ -1,7 +1,6 @@
 use Rattle.std.proofs.Common.{◌≡◌, ◌-◌, ◌≤◌}
 use Rattle.wire_io.specs.Pulled.{place}
 use Rattle.ser_values.specs.Reading.{Progress, many_at}
-use Rattle.ser_read.specs.Here.{env}
 use Rattle.ser_read.proofs.Steps.{Leads}
 use Rattle.ser_read.proofs.Loop.{front_of}
 use Rattle.ser_read.proofs.numbers.numbers.Given as goal
@@ -10,9 +9,6 @@ abbrev pub invariant-loop-left : goal.invariant-loop-left
 invariant-loop-left g l =
     record {
       lent : l.pull.source.ghost_name ≡ l.fn.pull.source.ghost_name;
-      faults : g.S.Source.faults l.fn.pull.source.now ≤ g.S.Source.faults l.pull.source.now;
-      nears : l.pull.stop - l.pull.at ≤ l.fn.pull.stop - l.fn.pull.at;
-      same : env g.S.Source.left l.pull ≡ env g.S.Source.left l.fn.pull;
       leads : (now : Progress) → Leads (place g.S.Source.left g.S.Source.faults l.fn.pull) (place g.S.Source.left g.S.Source.faults l.pull) (λ end. many_at g.T.Number.read l.n now) (λ end bs. front_of l.numbers (many_at g.T.Number.read l.left now bs));
     }
 

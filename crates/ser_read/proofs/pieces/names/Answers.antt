@@ -1,39 +1,31 @@
 use Rattle.std.proofs.Common.{◌∙◌, arith, refl, rules}
-use Rattle.std.proofs.lemmas.Result.{err_from_is_err_and}
 use Rattle.ser_values.specs.Reading.{plain, short_at}
-use Rattle.ser_read.specs.Here.{coming, env}
-use Rattle.ser_read.proofs.Steps.{leads_start, leads_more, leads_done, leads_told, leads_fails, fails_then, plain_reads}
-use Rattle.ser_read.proofs.Loop.{many_start, many_next, many_stops, many_end}
+use Rattle.ser_read.proofs.Steps.{leads_start, leads_more, leads_done, plain_reads}
+use Rattle.ser_read.proofs.Loop.{many_start, many_next, many_end}
+use Rattle.ser_read.proofs.Values.{plain_stops}
+use Rattle.ser_read.proofs.Breaking.{raised, loop_stops, breaks_two, took_then}
+use Rattle.ser_read.proofs.Stopping.{many_err}
 use Rattle.ser_read.proofs.pieces.names.Goals as goal
 
 pub loop-init : goal.loop-init
 loop-init g c = record {
   lent = refl;
-  faults = omega arith;
-  nears = omega arith;
-  same = refl;
   leads = λ now. rw c.new-names.ensures (leads_start _ _ _ (λ end bs. many_start (plain (short_at end)) c.args.n now bs));
 }
 
-pub returns-in_err-name-clause-gives : goal.returns-in_err-name-clause-gives
-returns-in_err-name-clause-gives g c = λ now told.
-    let p = err_from_is_err_and c.from_residual.result c.from_residual.ensures.1 in
-    rw (p.1, p.2) (leads_fails g.S.Source.left g.S.Source.faults c.args.pull.now c.loop.pull _ c.in_err-name.field-0.0 (c.loop.invariant.leads now) c.loop.pull.within told
-    (many_stops _ _ (plain (short_at (env g.S.Source.left c.args.pull.now).end)) c.loop.names c.args.n c.loop.counter now _ c.loop-test.true (fails_then _ _ (short_at (env g.S.Source.left c.args.pull.now).end (coming g.S.Source.left c.loop.pull)) _ (rw c.loop.invariant.same at c.in_err-name.ensures.gives told))))
+pub returns-in_err-name-clause-stops : goal.returns-in_err-name-clause-stops
+returns-in_err-name-clause-stops g c = λ now. raised c.from_residual.result c.from_residual.ensures.1 (loop_stops (c.loop.invariant.leads now)
+    (λ end bs f here is. many_err (plain (short_at end)) c.loop.names c.args.n c.loop.counter now bs f c.loop-test.true is) (plain_stops now c.in_err-name.ensures.stops))
+
+pub returns-in_err-push-clause-stops : goal.returns-in_err-push-clause-stops
+returns-in_err-push-clause-stops g c = λ now. raised c.from_residual-in_err-push.result c.from_residual-in_err-push.ensures.1 (breaks_two (c.loop.invariant.leads now) (took_then c.in_ok-name.ensures.reads))
 
 pub loop-preserved : goal.loop-preserved
 loop-preserved g c = record {
   lent = c.in_ok-name.ensures.lent ∙ c.loop.invariant.lent;
-  faults = search rules;
-  nears = omega (arith, c.in_ok-name.ensures.nears, c.loop.invariant.nears);
-  same = c.in_ok-name.ensures.env ∙ c.loop.invariant.same;
   leads = λ now. leads_more _ (c.loop.invariant.leads now) (plain_reads now c.in_ok-name.ensures.reads)
       (λ end bs rest here h. rw c.in_ok-push.ensures.ok (many_next (plain (short_at end)) c.loop.names c.args.n c.loop.counter now bs c.in_ok-name.name now rest c.loop-test.true h));
 }
-
-pub returns-clause-gives : goal.returns-clause-gives
-returns-clause-gives g c = λ now told. leads_told g.S.Source.left g.S.Source.faults c.args.pull.now c.loop.pull (c.loop.invariant.leads now) c.loop.pull.within told
-    ∙ many_end (plain (short_at (env g.S.Source.left c.args.pull.now).end)) c.loop.names c.args.n c.loop.counter now _ c.loop-test.false
 
 pub returns-clause-reads : goal.returns-clause-reads
 returns-clause-reads g c = λ now. leads_done (c.loop.invariant.leads now) (λ end bs. many_end (plain (short_at end)) c.loop.names c.args.n c.loop.counter now bs c.loop-test.false)

@@ -1,7 +1,6 @@
 use Rattle.std.proofs.Common.{◌≡◌, ◌-◌, ◌≤◌}
 use Rattle.wire_io.specs.Pulled.{place}
 use Rattle.ser_values.specs.Reading.{Progress, many_at, plain, short_at}
-use Rattle.ser_read.specs.Here.{env}
 use Rattle.ser_read.proofs.Steps.{Leads}
 use Rattle.ser_read.proofs.Loop.{front_of}
 use Rattle.ser_read.proofs.pieces.names.Given as goal
@@ -10,8 +9,5 @@ abbrev pub invariant-loop : goal.invariant-loop
 invariant-loop g l =
     record {
       lent : l.pull.source.ghost_name ≡ l.fn.pull.source.ghost_name;
-      faults : g.S.Source.faults l.fn.pull.source.now ≤ g.S.Source.faults l.pull.source.now;
-      nears : l.pull.stop - l.pull.at ≤ l.fn.pull.stop - l.fn.pull.at;
-      same : env g.S.Source.left l.pull ≡ env g.S.Source.left l.fn.pull;
       leads : (now : Progress) → Leads (place g.S.Source.left g.S.Source.faults l.fn.pull) (place g.S.Source.left g.S.Source.faults l.pull) (λ end. many_at (plain (short_at end)) l.n now) (λ end bs. front_of l.names (many_at (plain (short_at end)) (l.n - l.counter) now bs));
     }

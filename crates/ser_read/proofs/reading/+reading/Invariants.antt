@@ -5,7 +5,6 @@ use Rattle.ser_values.specs.Reading.{slot_at, many_at, field_at, value_at}
 use Rattle.ser_read.specs.Lists.{all_at}
 use Rattle.ser_read.specs.Rows.{part_by, values_by, parts_by}
 use Rattle.ser_read.specs.Tables.{now_of}
-use Rattle.ser_read.specs.Here.{env}
 use Rattle.ser_read.proofs.Steps.{Leads}
 use Rattle.ser_read.proofs.Loop.{front_of}
 use Rattle.ser_read.proofs.Blocks.{Slack}
@@ -99,9 +98,6 @@ abbrev pub invariant-slots-loop : goal.invariant-slots-loop
 invariant-slots-loop g l =
     record {
       lent : l.pull.source.ghost_name ≡ l.fn.pull.source.ghost_name;
-      faults : g.S.Source.faults l.fn.pull.source.now ≤ g.S.Source.faults l.pull.source.now;
-      nears : l.pull.stop - l.pull.at ≤ l.fn.pull.stop - l.fn.pull.at;
-      same : env g.S.Source.left l.pull ≡ env g.S.Source.left l.fn.pull;
       grows : length l.fn.table.nodes.items ≤ length l.table.nodes.items;
       unread : l.table.unread.items ≡ l.fn.table.unread.items;
       leads : Leads (place g.S.Source.left g.S.Source.faults l.fn.pull) (place g.S.Source.left g.S.Source.faults l.pull) (λ end. many_at (slot_at end l.left Reference l.fn.table.unread.items) l.n (now_of l.fn.table)) (λ end bs. front_of l.slots (many_at (slot_at end l.left Reference l.fn.table.unread.items) (l.n - l.counter) (now_of l.table) bs));
@@ -111,9 +107,6 @@ abbrev pub invariant-fields-loop : goal.invariant-fields-loop
 invariant-fields-loop g l =
     record {
       lent : l.pull.source.ghost_name ≡ l.fn.pull.source.ghost_name;
-      faults : g.S.Source.faults l.fn.pull.source.now ≤ g.S.Source.faults l.pull.source.now;
-      nears : l.pull.stop - l.pull.at ≤ l.fn.pull.stop - l.fn.pull.at;
-      same : env g.S.Source.left l.pull ≡ env g.S.Source.left l.fn.pull;
       grows : length l.fn.table.nodes.items ≤ length l.table.nodes.items;
       unread : l.table.unread.items ≡ l.fn.table.unread.items;
       leads : Leads (place g.S.Source.left g.S.Source.faults l.fn.pull) (place g.S.Source.left g.S.Source.faults l.pull) (λ end. many_at (field_at end l.at (slot_at end l.left Text l.fn.table.unread.items)) l.n (now_of l.fn.table)) (λ end bs. front_of l.fields (many_at (field_at end l.at (slot_at end l.left Text l.fn.table.unread.items)) (l.n - l.counter) (now_of l.table) bs));
@@ -123,9 +116,6 @@ abbrev pub invariant-values-loop-code : goal.invariant-values-loop-code
 invariant-values-loop-code g l =
     record {
       lent : l.pull.source.ghost_name ≡ l.fn.pull.source.ghost_name;
-      faults : g.S.Source.faults l.fn.pull.source.now ≤ g.S.Source.faults l.pull.source.now;
-      nears : l.pull.stop - l.pull.at ≤ l.fn.pull.stop - l.fn.pull.at;
-      same : env g.S.Source.left l.pull ≡ env g.S.Source.left l.fn.pull;
       grows : length l.fn.table.nodes.items ≤ length l.table.nodes.items;
       unread : l.table.unread.items ≡ l.fn.table.unread.items;
       leads : Leads (place g.S.Source.left g.S.Source.faults l.fn.pull) (place g.S.Source.left g.S.Source.faults l.pull) (λ end. values_by (slot_at end l.left Reference l.fn.table.unread.items) l.codes (now_of l.fn.table)) (λ end bs. front_of l.values (all_at (value_at (slot_at end l.left Reference l.fn.table.unread.items)) (drop l.code-index l.codes) (now_of l.table) bs));
@@ -135,9 +125,6 @@ abbrev pub invariant-parts-loop-row : goal.invariant-parts-loop-row
 invariant-parts-loop-row g l =
     record {
       lent : l.pull.source.ghost_name ≡ l.fn.pull.source.ghost_name;
-      faults : g.S.Source.faults l.fn.pull.source.now ≤ g.S.Source.faults l.pull.source.now;
-      nears : l.pull.stop - l.pull.at ≤ l.fn.pull.stop - l.fn.pull.at;
-      same : env g.S.Source.left l.pull ≡ env g.S.Source.left l.fn.pull;
       grows : length l.fn.table.nodes.items ≤ length l.table.nodes.items;
       unread : l.table.unread.items ≡ l.fn.table.unread.items;
       leads : Leads (place g.S.Source.left g.S.Source.faults l.fn.pull) (place g.S.Source.left g.S.Source.faults l.pull) (λ end. parts_by end (slot_at end l.left Reference l.fn.table.unread.items) l.rows (now_of l.fn.table)) (λ end bs. front_of l.parts (all_at (part_by end (slot_at end l.left Reference l.fn.table.unread.items)) (drop l.row-index l.rows) (now_of l.table) bs));
@@ -147,9 +134,6 @@ abbrev pub invariant-items-loop-items : goal.invariant-items-loop-items
 invariant-items-loop-items g l =
     record {
       lent : l.pull.source.ghost_name ≡ l.fn.pull.source.ghost_name;
-      faults : g.S.Source.faults l.fn.pull.source.now ≤ g.S.Source.faults l.pull.source.now;
-      nears : l.pull.stop - l.pull.at ≤ l.fn.pull.stop - l.fn.pull.at;
-      same : env g.S.Source.left l.pull ≡ env g.S.Source.left l.fn.pull;
       grows : length l.fn.table.nodes.items ≤ length l.table.nodes.items;
       unread : l.table.unread.items ≡ l.fn.table.unread.items;
       slack : Slack (place g.S.Source.left g.S.Source.faults l.fn.pull) (place g.S.Source.left g.S.Source.faults l.pull) (λ end. (slot_at end l.left Reference l.fn.table.unread.items)) true (now_of l.fn.table) (now_of l.table) l.items.items;

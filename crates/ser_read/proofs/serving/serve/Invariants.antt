@@ -1,6 +1,5 @@
 use Rattle.std.proofs.Common.{◌≡◌, ◌≤◌, drop, None}
 use Rattle.wire_io.specs.Pulled.{place}
-use Rattle.ser_read.specs.Here.{env}
 use Rattle.ser_read.specs.Wants.{serve}
 use Rattle.ser_read.proofs.Steps.{Leads}
 use Rattle.ser_read.proofs.InOrder.{Serving, given_before}
@@ -10,8 +9,6 @@ abbrev pub invariant-loop-want : goal.invariant-loop-want
 invariant-loop-want g l =
     record {
       lent : l.pull.source.ghost_name ≡ l.fn.pull.source.ghost_name;
-      faults : g.S.Source.faults l.fn.pull.source.now ≤ g.S.Source.faults l.pull.source.now;
-      same : env g.S.Source.left l.pull ≡ env g.S.Source.left l.fn.pull;
       kept : l.reader.refused ≡ None;
       leads : Leads {Y = Serving} (place g.S.Source.left g.S.Source.faults l.fn.pull) (place g.S.Source.left g.S.Source.faults l.pull) (λ end. serve end l.wants l.fn.reader.stand) (λ end bs. given_before l.answers (serve end (drop l.want-index l.wants) l.reader.stand bs));
     }

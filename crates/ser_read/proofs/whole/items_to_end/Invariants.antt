@@ -3,7 +3,6 @@ use Rattle.ser_values.specs.declared.node.Place.TheVariants.{Reference}
 use Rattle.wire_io.specs.Pulled.{place}
 use Rattle.ser_values.specs.Reading.{slot_at}
 use Rattle.ser_read.specs.Tables.{now_of}
-use Rattle.ser_read.specs.Here.{env}
 use Rattle.ser_read.proofs.Blocks.{Slack}
 use Rattle.ser_read.proofs.whole.items_to_end.Given as goal
 
@@ -11,8 +10,6 @@ abbrev pub invariant-loop-items : goal.invariant-loop-items
 invariant-loop-items g l =
     record {
       lent : l.pull.source.ghost_name ≡ l.fn.pull.source.ghost_name;
-      faults : g.S.Source.faults l.fn.pull.source.now ≤ g.S.Source.faults l.pull.source.now;
-      same : env g.S.Source.left l.pull ≡ env g.S.Source.left l.fn.pull;
       unread : l.table.unread.items ≡ l.fn.table.unread.items;
       slack : Slack (place g.S.Source.left g.S.Source.faults l.fn.pull) (place g.S.Source.left g.S.Source.faults l.pull) (λ end. (slot_at end 200 Reference l.fn.table.unread.items)) false (now_of l.fn.table) (now_of l.table) l.items.items;
     }

@@ -20,4 +20,4 @@ pub returns-clause-alone : goal.returns-clause-alone
 unfolding canonical
 returns-clause-alone c =
     let written = rw (c.as_slice.ensures, c.as_slice-2.ensures, c.nodes.ensures, c.items.ensures, c.in_ok-append.ensures.ok, c.new-out.ensures) at c.in_ok-_count.ensures in
-    λ others contents fits other_fits graph same. canonical_alone c.args.graph.now.nodes others c.args.graph.now.items contents fits other_fits c.args.graph.now.numbered graph (same ∙ written.0)
+    λ others contents graph same. canonical_alone c.args.graph.now.nodes others c.args.graph.now.items contents c.args.graph.now.numbered graph (same ∙ written.0)

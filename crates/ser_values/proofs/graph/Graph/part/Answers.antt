@@ -1,7 +1,10 @@
 use Rattle.std.proofs.Common.{◌≡◌, ◌∙◌, ◌≤◌, length, arith, refl, [], ◌∷◌}
+use Rattle.std.specs.Prelude.{All}
+use Rattle.std.proofs.Math.Logic.{∥∥₁_map}
 use Rattle.class_desc.specs.declared.slot.Item.TheVariants as contents
 use Rattle.ser_values.specs.Finished.{IsGraphOf}
-use Rattle.ser_values.proofs.Reached.{below_order, few_in_order, graph_by, is_graph, few_nodes}
+use Rattle.ser_values.specs.Ranges.{InRange}
+use Rattle.ser_values.proofs.Reached.{below_order, few_in_order, graph_by, is_graph, few_nodes, in_range}
 use Rattle.ser_values.proofs.graph.Graph.part.Goals as goal
 
 pub places-requires-clause-below : goal.places-requires-clause-below
@@ -19,7 +22,11 @@ invariant_of-result c =
     let graph = graph_by c.as_slice-nodes.result.now _ c.from_vec.result c.as_slice.result.now c.renumber_all.new.list c.in_ok-order.order.items _ _ c.in_ok-places.places.items _ _
     c.in_ok-order.ensures.ok c.in_ok-places.ensures c.deref.ensures.value c.deref-2.ensures.value c.deref-3.ensures.value c.deref-4.ensures.value refl
     (c.from_vec.ensures ∙ c.in_ok-copies.ensures) (rw c.as_slice.ensures c.renumber_all.ensures) in
-    record { numbered = ∣ is_graph c.as_slice-nodes.result.now c.as_slice.result.now c.from_vec.result c.renumber_all.new.list small graph ∣₁ }
+    record {
+      numbered = ∥∥₁_map c.args.self.now.numbered (λ whole. (
+          let ranged : All InRange c.as_slice-nodes.result.now = rw c.as_slice-nodes.ensures (in_range c.args.self.now.nodes c.args.self.now.items whole) in
+          is_graph c.as_slice-nodes.result.now c.as_slice.result.now c.from_vec.result c.renumber_all.new.list small ranged graph));
+    }
 
 pub returns-clause-ok : goal.returns-clause-ok
 returns-clause-ok c =
