@@ -1,5 +1,5 @@
 -- What reading the whole input as a stream answers.
-use Rattle.std.proofs.Common.{◌≡◌, ℕ, ◌+◌, ◌-◌, ◌≤◌, ◌<◌, List, length, take, Option, Some, Result, Ok, Err, IfOk, arith}
+use Rattle.std.proofs.Common.{◌≡◌, ℕ, ◌+◌, ◌-◌, ◌≤◌, ◌<◌, List, length, take, Option, Some, Result, Ok, Err, IfOk, refl, arith}
 use Rattle.std.specs.Prelude.{IfErr, IsErrAnd}
 use Rattle.wire_io.specs.Pulled.{Place}
 use Rattle.ser_values.specs.declared.graph.Graph.{Graph}
@@ -7,10 +7,10 @@ use Rattle.ser_read.specs.declared.fault.StreamFault.{StreamFault}
 use Rattle.ser_read.specs.declared.fault.StreamFault.TheVariants.{TooLarge, Truncated}
 use Rattle.ser_read.specs.declared.fault.Large.TheVariants.{Bytes}
 use Rattle.ser_read.specs.Here.{Fails, Gives}
-use Rattle.ser_read.specs.Whole.{stream_at, going_on, TakesStream}
+use Rattle.ser_read.specs.Whole.{stream_at, going_on, BreaksWhole, TakesStream}
 use Rattle.ser_read.proofs.Streams.{from_start}
 use Rattle.ser_read.proofs.ToEnd.{graph_parts}
-use Rattle.rmi_cli.specs.Shown.{stream_bytes, TakesGraph, IsFaultOf}
+use Rattle.rmi_cli.specs.Shown.{stream_bytes, TakesGraph, IsFaultOf, StopsAt}
 
 pub graph_taken : (p q : Place) (result : Result Graph StreamFault) → p.at ≡ 0 → p.stop ≡ stream_bytes → q.at ≤ q.stop
     → IfOk result (λ graph. TakesStream p q graph.nodes graph.items) → IfOk result (λ graph. TakesGraph p.left q.left graph.nodes graph.items)
@@ -40,3 +40,8 @@ fault_told left at stop (Err e) start s gives limited = record {
       let room : stop - at ≡ stream_bytes = omega (arith, start, s) in
       rw (room, s) at (limited input told (omega (arith, start, s)));
 }
+
+pub stops_there : (p q : Place) (result : Result Graph StreamFault) → p.at ≡ 0 → p.stop ≡ stream_bytes → IfErr result (λ e. BreaksWhole p q e stream_at)
+    → IfErr result (StopsAt p.left q.left)
+stops_there p q (Ok graph) start stop breaks = tt
+stops_there p q (Err e) start stop breaks = record { start = p; stop = q; before = refl; after = refl; first = start; limit = stop; is = breaks }

@@ -3,7 +3,7 @@ ghost use Rattle.std.specs.Prelude.{◌≡◌, ◌≢◌, ◌≤◌, ◌<◌, le
 ghost use Rattle.wire_io.specs.Wire.{Rose, wires};
 ghost use Rattle.ser_read.specs.Here.{Caused};
 ghost use Rattle.rmi_cli.specs.Line.{status_of_run};
-ghost use Rattle.rmi_cli.specs.Shown.{TakesGraph, IsFaultOf, ShowEnds};
+ghost use Rattle.rmi_cli.specs.Shown.{TakesGraph, IsFaultOf, StopsAt, ShowEnds};
 
 use crate::end::RunEnd;
 use graph_text::graph_text;
@@ -44,6 +44,7 @@ fn read_input<S: Source>(alloc: Global, source: &mut S) -> Result<Graph, StreamF
     ensures cause { Caused (S.faults source.old) (S.faults source.new) result }
     ensures taken { IfOk result (λ graph. TakesGraph (S.left source.old) (S.left source.new) graph.nodes graph.items) }
     ensures fault { IfErr result (IsFaultOf (S.left source.old)) }
+    ensures stops { IfErr result (StopsAt (S.left source.old) (S.left source.new)) }
 {
     let mut pull = Pull::new(source);
     read_marked(alloc, &mut pull)
@@ -56,6 +57,7 @@ fn read_marked<S: Source>(alloc: Global, pull: &mut Pull<'_, S>) -> Result<Graph
     ensures cause { Caused (S.faults pull.old.source.now) (S.faults pull.new.source.now) result }
     ensures taken { IfOk result (λ graph. TakesGraph (S.left pull.old.source.now) (S.left pull.new.source.now) graph.nodes graph.items) }
     ensures fault { IfErr result (IsFaultOf (S.left pull.old.source.now)) }
+    ensures stops { IfErr result (StopsAt (S.left pull.old.source.now) (S.left pull.new.source.now)) }
 {
     pull.mark(STREAM_BYTES);
     read_to_end(alloc, pull)
