@@ -71,11 +71,7 @@ pub struct ClassParts {
 fn units_of(alloc: Global, text: &str) -> Result<Units, AllocError>
     ensures { IfOk result (λ units. units ≡ text.now) }
 {
-    let mut units = Units::new(alloc);
-    for byte in text.as_bytes() {
-        units.push(u16::from(*byte))?;
-    }
-    Ok(units)
+    Units::from_ascii(alloc, text.as_bytes())
 }
 
 /// Appends a field.

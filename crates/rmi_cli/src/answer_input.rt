@@ -96,9 +96,5 @@ fn low_half(word: u64) -> i32
 fn this_host(alloc: Global) -> Result<Units, AllocError>
     ensures { IfOk result (λ host. host ≡ codes "127.0.0.1") }
 {
-    let mut host = Units::new(alloc);
-    for byte in b"127.0.0.1" {
-        host.push(*byte as u16)?;
-    }
-    Ok(host)
+    Units::from_ascii(alloc, b"127.0.0.1")
 }
