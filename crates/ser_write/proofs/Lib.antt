@@ -1,3 +1,4 @@
+pub mod Begins
 pub mod Writes
 pub mod Cuts
 pub mod Streams

@@ -16,16 +16,17 @@ use Rattle.ser_values.specs.declared.node.Node.{Node}
 use Rattle.class_desc.specs.declared.desc.ClassDesc.{ClassDesc}
 use Rattle.class_desc.specs.declared.desc.ProxyDesc.{ProxyDesc}
 use Rattle.ser_values.specs.declared.value.Part.{Part}
-use Rattle.ser_values.specs.declared.node.Node.TheVariants.{Desc, Proxy, Array}
+use Rattle.ser_values.specs.declared.node.Node.TheVariants.{Desc, Proxy}
 use Rattle.ser_values.specs.declared.node.Place.TheVariants as places
 use Rattle.ser_values.specs.Shape.{count_of}
 use Rattle.ser_values.specs.Spelled.{Token, raw, truth, want, note, short_text, field_tokens, value_token, element_tokens, part_tokens}
-use Rattle.ser_write.specs.Canonical.{Written, Writing, before_more, write_items, write_token, write_all, value_bytes, primitive_bytes, short_bytes, code_of, tokens_before, note_tokens, tokens_after, write_new, write_one, write_at, Adds}
+use Rattle.ser_write.proofs.Begins.{begins_on}
+use Rattle.ser_write.specs.Canonical.{Written, Writing, before_more, write_items, write_token, write_all, value_bytes, primitive_bytes, short_bytes, code_of, tokens_before, note_tokens, array_tokens, tokens_after, write_new, write_one, write_at, Adds}
 
 -- ---- one after the other
 
 pub adds_more : (old mid new : List ℕ) (m : ℕ) (r : Result ℕ AllocError) (w : Written) (f : ℕ → Written) → Adds old mid (Ok m) w → Adds mid new r (f m) → Adds old new r (before_more w f)
-adds_more old mid new m (Err e) w f a b = tt
+adds_more old mid new m (Err e) w f a b = begins_on old mid new w.0 a.0 b
 adds_more old mid new m (Ok k) w f a b =
     let e : f m ≡ f w.1 = ap f a.1 in
     (b.0 ∙ (ap (λ (l : List ℕ). l ++ (f m).0) a.0 ∙ (append_assoc old w.0 (f m).0 ∙ ap (λ (v : Written). old ++ (w.0 ++ v.0)) e)), b.1 ∙ ap (λ (v : Written). v.1) e)
@@ -153,9 +154,9 @@ proxy_after nodes one n n2 p old o1 o2 o3 o4 new r e1 e2 a e3 h =
     (rw (write_all-append one n (map short_text p.names) (note p.note ∷ want (places.Parent, p.parent) ∷ []), write_all-raw one n short_bytes p.names)
     (adds_bytes o1 o2 new n r (flat_map short_bytes p.names) (λ m. write_all one m (note p.note ∷ want (places.Parent, p.parent) ∷ [])) e2 (ending one n n2 p.note p.parent o2 o3 o4 new r a e3 h)))
 
-pub array_after : (nodes : List Node) (one : Writing) (n c : ℕ) (vs : Values) (old o1 new : List ℕ) (r : Result ℕ AllocError) → o1 ≡ old ++ to_be_bytes w32 (count_of vs) → Adds o1 new r (write_all one n (element_tokens vs)) → Adds old new r (write_all one n (tokens_after nodes (Array c vs)))
-unfolding write_all tokens_after
-array_after nodes one n c vs old o1 new r e h = adds_bytes old o1 new n r (to_be_bytes w32 (count_of vs)) (λ m. write_all one m (element_tokens vs)) e h
+pub array_adds : (one : Writing) (n : ℕ) (vs : Values) (old o1 new : List ℕ) (r : Result ℕ AllocError) → o1 ≡ old ++ to_be_bytes w32 (count_of vs) → Adds o1 new r (write_all one n (element_tokens vs)) → Adds old new r (write_all one n (array_tokens vs))
+unfolding write_all
+array_adds one n vs old o1 new r e h = adds_bytes old o1 new n r (to_be_bytes w32 (count_of vs)) (λ m. write_all one m (element_tokens vs)) e h
 
 -- ---- parts
 

@@ -142,12 +142,16 @@ note_tokens false is = []
 abbrev pub object_tokens : List Node → ℕ → List Part → List Token
 object_tokens nodes c ps = if is_external_class (slice_get nodes c) then external_tokens ps else part_tokens (writers nodes (length ps) (slots.Node c)) ps
 
+-- the length of an array and its elements
+abbrev pub array_tokens : Values → List Token
+array_tokens vs = raw (to_be_bytes w32 (count_of vs)) ∷ element_tokens vs
+
 unfoldable pub tokens_after : List Node → Node → List Token
 tokens_after nodes (Text t) = (if is_short t then short_text t else long_text t) ∷ []
 tokens_after nodes (Desc d) = raw (d.flags ∷ []) ∷ raw (to_be_bytes w16 (length d.fields)) ∷ (field_tokens d.fields ++ (note d.note ∷ want (places.Parent, d.parent) ∷ []))
 tokens_after nodes (Proxy p) = raw (to_be_bytes w32 (length p.names)) ∷ (map short_text p.names ++ (note p.note ∷ want (places.Parent, p.parent) ∷ []))
 tokens_after nodes (Object c ps) = object_tokens nodes c ps
-tokens_after nodes (Array c vs) = raw (to_be_bytes w32 (count_of vs)) ∷ element_tokens vs
+tokens_after nodes (Array c vs) = array_tokens vs
 tokens_after nodes (Class c) = []
 tokens_after nodes (Enum c t) = want (places.Text, slots.Node t) ∷ []
 
@@ -189,10 +193,15 @@ abbrev pub AreOfNoOther : List Node → List Item → List ℕ → Type 0
 AreOfNoOther nodes items bytes =
     (others : List Node) (their_items : List Item) → ∥ IsGraph others their_items ∥₁ → canonical others their_items ≡ bytes → ∥ (others ≡ nodes) × (their_items ≡ items) ∥₁
 
--- what was written stands at the end, unless memory ran out
+-- The list begins with what stood there before.
+pub record Begins (old new : List ℕ) : Type 0 where
+  pub more : List ℕ
+  pub is : new ≡ old ++ more
+
+-- what was written stands at the end; where memory ran out, what stood there before still begins the list
 abbrev pub Adds : List ℕ → List ℕ → Result ℕ AllocError → Written → Type 0
 Adds old new (Ok m) w = (new ≡ old ++ w.0) × (m ≡ w.1)
-Adds old new (Err e) w = Unit {0}
+Adds old new (Err e) w = Begins old new
 
 -- the same, one description further up
 abbrev pub writers_by : (Slot → List Bool) → Option (Bool × Slot) → List Bool

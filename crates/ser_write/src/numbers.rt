@@ -1,8 +1,9 @@
 //! Numbers, truth values and texts as bytes.
-ghost use Rattle.std.specs.Prelude.{◌≡◌, ◌∷◌, ◌++◌, [], ℕ, List, length, OnOk};
+ghost use Rattle.std.specs.Prelude.{◌≡◌, ◌∷◌, ◌++◌, [], ℕ, List, length, OnErr, OnOk};
 ghost use Rattle.std.specs.Int.{w16, w32, w64, to_be_bytes, cast_unsigned, from_bool};
 ghost use Rattle.std.specs.List.{flat_map};
 ghost use Rattle.mod_utf.specs.Utf.{utf};
+ghost use Rattle.ser_write.specs.Canonical.{Begins};
 
 use mod_utf::list::{ByteList, Units};
 use mod_utf::utf::encode;
@@ -10,21 +11,24 @@ use std::alloc::{AllocError, Global};
 
 /// Appends a byte.
 pub(crate) fn put_byte(out: &mut ByteList, byte: u8) -> Result<(), AllocError>
-    ensures { OnOk result (out.new ≡ out.old ++ byte ∷ []) }
+    ensures written { OnOk result (out.new ≡ out.old ++ byte ∷ []) }
+    ensures kept { OnErr result (Begins out.old out.new) }
 {
     out.push(byte)
 }
 
 /// Appends the lowest 16 bits of a number, the highest byte first.
 pub(crate) fn put_16(out: &mut ByteList, number: usize) -> Result<(), AllocError>
-    ensures { OnOk result (out.new ≡ out.old ++ to_be_bytes w16 number) }
+    ensures written { OnOk result (out.new ≡ out.old ++ to_be_bytes w16 number) }
+    ensures kept { OnErr result (Begins out.old out.new) }
 {
     out.append(&[(number / 256 % 256) as u8, (number % 256) as u8])
 }
 
 /// Appends the lowest 32 bits of a number, the highest byte first.
 pub(crate) fn put_32(out: &mut ByteList, number: usize) -> Result<(), AllocError>
-    ensures { OnOk result (out.new ≡ out.old ++ to_be_bytes w32 number) }
+    ensures written { OnOk result (out.new ≡ out.old ++ to_be_bytes w32 number) }
+    ensures kept { OnErr result (Begins out.old out.new) }
 {
     out.append(&[
         (number / 0x100_0000 % 256) as u8,
@@ -41,12 +45,14 @@ pub(crate) trait Spelled {
 
     /// Appends the bytes.
     fn put(&self, out: &mut ByteList) -> Result<(), AllocError>
-        ensures { OnOk result (out.new ≡ out.old ++ bytes self.now) };
+        ensures written { OnOk result (out.new ≡ out.old ++ bytes self.now) }
+        ensures kept { OnErr result (Begins out.old out.new) };
 }
 
 /// Appends the bytes of each value in order.
 pub(crate) fn put_each<T: Spelled>(out: &mut ByteList, values: &[T]) -> Result<(), AllocError>
-    ensures { OnOk result (out.new ≡ out.old ++ flat_map T.bytes values.now) }
+    ensures written { OnOk result (out.new ≡ out.old ++ flat_map T.bytes values.now) }
+    ensures kept { OnErr result (Begins out.old out.new) }
 {
     for value in values {
         value.put(out)?;
@@ -116,7 +122,8 @@ pub(crate) fn put_short_text(
     out: &mut ByteList,
     text: &Units,
 ) -> Result<(), AllocError>
-    ensures { OnOk result (out.new ≡ out.old ++ (to_be_bytes w16 (length (utf text.now)) ++ utf text.now)) }
+    ensures written { OnOk result (out.new ≡ out.old ++ (to_be_bytes w16 (length (utf text.now)) ++ utf text.now)) }
+    ensures kept { OnErr result (Begins out.old out.new) }
 {
     let bytes = encode(alloc, text)?;
     put_16(out, bytes.len())?;
@@ -129,7 +136,8 @@ pub(crate) fn put_long_text(
     out: &mut ByteList,
     text: &Units,
 ) -> Result<(), AllocError>
-    ensures { OnOk result (out.new ≡ out.old ++ (to_be_bytes w64 (length (utf text.now)) ++ utf text.now)) }
+    ensures written { OnOk result (out.new ≡ out.old ++ (to_be_bytes w64 (length (utf text.now)) ++ utf text.now)) }
+    ensures kept { OnErr result (Begins out.old out.new) }
 {
     let bytes = encode(alloc, text)?;
     (bytes.len() as u64).put(out)?;

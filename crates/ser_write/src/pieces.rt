@@ -1,8 +1,8 @@
 //! What is written of a node by itself.
-ghost use Rattle.std.specs.Prelude.{◌≡◌, ◌∷◌, ◌++◌, [], ℕ, suc, IfOk, OnOk, option_map, reverse, slice_get, take, drop};
+ghost use Rattle.std.specs.Prelude.{◌≡◌, ◌∷◌, ◌++◌, [], ℕ, suc, IfOk, OnErr, OnOk, option_map, reverse, slice_get, take, drop};
 ghost use Rattle.std.specs.List.{flat_map};
 ghost use Rattle.ser_values.specs.Spelled.{writers};
-ghost use Rattle.ser_write.specs.Canonical.{block_of, blocks, code_of, short_bytes, text_bytes, primitive_bytes, value_bytes, is_external_class, writers_by};
+ghost use Rattle.ser_write.specs.Canonical.{Begins, block_of, blocks, code_of, short_bytes, text_bytes, primitive_bytes, value_bytes, is_external_class, writers_by};
 
 use crate::numbers::{Spelled, put_32, put_byte, put_each, put_long_text, put_short_text};
 use class_desc::{EXTERNALIZABLE, Slot, WRITE_METHOD, has_flag};
@@ -16,7 +16,8 @@ const BLOCK: usize = 1024;
 
 /// Appends a block.
 fn put_block(out: &mut ByteList, bytes: &[u8]) -> Result<(), AllocError>
-    ensures { OnOk result (out.new ≡ out.old ++ block_of bytes.now) }
+    ensures written { OnOk result (out.new ≡ out.old ++ block_of bytes.now) }
+    ensures kept { OnErr result (Begins out.old out.new) }
 {
     if bytes.len() < 256 {
         put_byte(out, 0x77)?;
@@ -38,7 +39,8 @@ fn cut(bytes: &[u8], at: usize) -> (&[u8], &[u8])
 
 /// Appends bytes as block data.
 pub(crate) fn put_blocks(out: &mut ByteList, bytes: &[u8]) -> Result<(), AllocError>
-    ensures { OnOk result (out.new ≡ out.old ++ blocks bytes.now) }
+    ensures written { OnOk result (out.new ≡ out.old ++ blocks bytes.now) }
+    ensures kept { OnErr result (Begins out.old out.new) }
 {
     let mut rest = bytes;
     while !rest.is_empty() {
@@ -72,7 +74,8 @@ pub(crate) fn code_of(node: &Node) -> u8
 
 /// Appends a text, with a length of 64 bits where 16 don't do.
 pub(crate) fn put_text(alloc: Global, out: &mut ByteList, text: &Units) -> Result<(), AllocError>
-    ensures { OnOk result (out.new ≡ out.old ++ text_bytes text.now) }
+    ensures written { OnOk result (out.new ≡ out.old ++ text_bytes text.now) }
+    ensures kept { OnErr result (Begins out.old out.new) }
 {
     if encoded_len(text) < 65536 {
         put_short_text(alloc, out, text)
@@ -87,7 +90,8 @@ pub(crate) fn put_names(
     out: &mut ByteList,
     names: &[Units],
 ) -> Result<(), AllocError>
-    ensures { OnOk result (out.new ≡ out.old ++ flat_map short_bytes names.now) }
+    ensures written { OnOk result (out.new ≡ out.old ++ flat_map short_bytes names.now) }
+    ensures kept { OnErr result (Begins out.old out.new) }
 {
     for name in names {
         put_short_text(alloc, out, name)?;
@@ -97,7 +101,8 @@ pub(crate) fn put_names(
 
 /// Appends the elements of an array of primitive values.
 pub(crate) fn put_primitives(out: &mut ByteList, values: &Values) -> Result<(), AllocError>
-    ensures { OnOk result (out.new ≡ out.old ++ primitive_bytes values.now) }
+    ensures written { OnOk result (out.new ≡ out.old ++ primitive_bytes values.now) }
+    ensures kept { OnErr result (Begins out.old out.new) }
 {
     match values {
         Values::Bytes(values) => out.append(values.as_slice()),
@@ -114,7 +119,8 @@ pub(crate) fn put_primitives(out: &mut ByteList, values: &Values) -> Result<(), 
 
 /// Appends a primitive value; nothing for a reference.
 pub(crate) fn put_primitive(out: &mut ByteList, value: Value) -> Result<(), AllocError>
-    ensures { OnOk result (out.new ≡ out.old ++ value_bytes value) }
+    ensures written { OnOk result (out.new ≡ out.old ++ value_bytes value) }
+    ensures kept { OnErr result (Begins out.old out.new) }
 {
     match value {
         Value::B(value) => out.push(value),

@@ -1,8 +1,8 @@
 //! Nodes are written where they are first wanted.
-ghost use Rattle.std.specs.Prelude.{◌≡◌, ◌++◌, IfOk, OnOk, map, slice_get};
+ghost use Rattle.std.specs.Prelude.{◌≡◌, ◌++◌, IfOk, OnErr, OnOk, map, slice_get};
 ghost use Rattle.ser_values.specs.Spelled.{field_tokens, value_token, reference, part_tokens};
 ghost use Rattle.ser_values.specs.Spelled.{IsStream};
-ghost use Rattle.ser_write.specs.Canonical.{write_items, write_all, tokens_before, object_tokens, note_tokens, tokens_after, write_new, write_at, contents, canonical, SpellContents, AreOfNoOther, Adds};
+ghost use Rattle.ser_write.specs.Canonical.{write_items, write_all, tokens_before, object_tokens, note_tokens, array_tokens, tokens_after, write_new, write_at, contents, canonical, SpellContents, AreOfNoOther, Adds};
 
 use crate::numbers::{Spelled, put_16, put_32, put_byte, put_short_text};
 use crate::pieces::{
@@ -137,16 +137,7 @@ fn put_after(
         Node::Object { class, parts } => {
             put_object(alloc, out, nodes, next, *class, parts.as_slice(), left)
         }
-        Node::Array { values, .. } => {
-            put_32(out, values.len())?;
-            match values {
-                Values::Refs(slots) => put_slots(alloc, out, nodes, next, slots.as_slice(), left),
-                _ => {
-                    put_primitives(out, values)?;
-                    Ok(next)
-                }
-            }
-        }
+        Node::Array { values, .. } => put_array(alloc, out, nodes, next, values, left),
         Node::Class { .. } => Ok(next),
         Node::Enum { name, .. } => put_slot(alloc, out, nodes, next, Slot::Node(*name), left),
     }
@@ -307,6 +298,28 @@ fn put_note(
     }
 }
 
+/// Writes an array's length and its elements.
+#[cycle(writing)]
+fn put_array(
+    alloc: Global,
+    out: &mut ByteList,
+    nodes: &[Node],
+    next: u64,
+    values: &Values,
+    left: u32,
+) -> Result<u64, AllocError>
+    ensures { Adds out.old out.new result (write_all (write_at left nodes.now) next (array_tokens values.now)) }
+{
+    put_32(out, values.len())?;
+    match values {
+        Values::Refs(slots) => put_slots(alloc, out, nodes, next, slots.as_slice(), left),
+        _ => {
+            put_primitives(out, values)?;
+            Ok(next)
+        }
+    }
+}
+
 /// Writes references.
 #[cycle(writing)]
 #[tactic(auto, unfolding(crate::specs::Canonical::write_all))]
@@ -328,21 +341,23 @@ fn put_slots(
 }
 
 /// Appends the bytes of a graph's items, as they stand in a stream after its head. Blocks have 1,024 bytes and one shorter
-/// rest; a handle stands for each node that was written before. It is refused only for want of memory; then a front of the
-/// bytes may stand there.
+/// rest; a handle stands for each node that was written before. It is refused only for want of memory, and then the list is
+/// as it was.
 pub fn write_items_onto(alloc: Global, out: &mut ByteList, graph: &Graph) -> Result<(), AllocError>
     ensures written { OnOk result (out.new ≡ out.old ++ contents graph.now.nodes graph.now.items) }
     ensures spelled { OnOk result (SpellContents graph.now.nodes graph.now.items (contents graph.now.nodes graph.now.items)) }
+    ensures err { OnErr result (out.new ≡ out.old) }
 {
-    let _count = put_items(
-        alloc,
-        out,
-        graph.nodes().as_slice(),
-        0,
-        graph.items().as_slice(),
-        LEVELS,
-    )?;
-    Ok(())
+    let before = out.len();
+    let nodes = graph.nodes().as_slice();
+    let items = graph.items().as_slice();
+    match put_items(alloc, out, nodes, 0, items, LEVELS) {
+        Ok(_count) => Ok(()),
+        Err(refusal) => {
+            out.truncate(before);
+            Err(refusal)
+        }
+    }
 }
 
 /// The bytes of a graph: the stream's head, and its items, as `write_items_onto` writes them. Two graphs have the same bytes

@@ -2,13 +2,14 @@ use Rattle.std.proofs.Common.{◌<◌, ◌≤◌, ◌∙◌, sym, refl, arith, r
 use Rattle.std.proofs.lemmas.List.{append-nil}
 use Rattle.ser_values.proofs.Lists.{slice_get-or}
 use Rattle.ser_write.specs.Canonical.{write_at}
-use Rattle.ser_write.proofs.Writes.{again_adds, flat_adds, desc_before, desc_after, proxy_after, array_after, write_all-primitive, parts_stop, part_next, slice_get_within_or}
+use Rattle.ser_write.proofs.Begins.{begins_more}
+use Rattle.ser_write.proofs.Writes.{again_adds, flat_adds, desc_before, desc_after, proxy_after, array_adds, write_all-primitive, parts_stop, part_next, slice_get_within_or}
 use Rattle.ser_write.proofs.writing.+writing.Goals as goal
 
 pub put_slot-returns-in_ok-put_32-in-Node : goal.put_slot-returns-in_ok-put_32-in-Node
 put_slot-returns-in_ok-put_32-in-Node t c =
     let lt : c.in-Node.number < c.args.next = search rules in
-    rw c.in-Node.is (again_adds c.args.out.now c.put_byte-then-from-next.new.out c.put_32.new.out c.args.left c.args.nodes.now c.args.next c.in-Node.number c.in_ok-put_byte-in-Node.ensures c.in_ok-put_32-in-Node.ensures lt)
+    rw c.in-Node.is (again_adds c.args.out.now c.put_byte-then-from-next.new.out c.put_32.new.out c.args.left c.args.nodes.now c.args.next c.in-Node.number c.in_ok-put_byte-in-Node.ensures.written c.in_ok-put_32-in-Node.ensures.written lt)
 
 pub put_slot-returns-then-left-eq0 : goal.put_slot-returns-then-left-eq0
 put_slot-returns-then-left-eq0 t c =
@@ -17,31 +18,31 @@ put_slot-returns-then-left-eq0 t c =
 
 pub put_before-returns-in_ok-put-in-Desc : goal.put_before-returns-in_ok-put-in-Desc
 put_before-returns-in_ok-put-in-Desc t c =
-    rw c.in-Desc.is (desc_before (write_at c.args.left c.args.nodes.now) c.args.next c.in-Desc.desc c.args.out.now c.put_short_text.new.out c.put.new.out c.in_ok-put_short_text-in-Desc.ensures c.in_ok-put-in-Desc.ensures)
+    rw c.in-Desc.is (desc_before (write_at c.args.left c.args.nodes.now) c.args.next c.in-Desc.desc c.args.out.now c.put_short_text.new.out c.put.new.out c.in_ok-put_short_text-in-Desc.ensures.written c.in_ok-put-in-Desc.ensures.written)
 
 pub put_after-returns-in_ok-put_byte-in-Desc-2 : goal.put_after-returns-in_ok-put_byte-in-Desc-2
 put_after-returns-in_ok-put_byte-in-Desc-2 t c =
     rw c.in-Desc.is (desc_after c.args.nodes.now (write_at c.args.left c.args.nodes.now) c.args.next c.in_ok-next-in-Desc.next c.in_ok-next-in-Desc-2.next c.in-Desc.desc
     c.args.out.now c.put_byte.new.out c.put_16.new.out c.put_fields.new.out c.put_items.new.out c.put_byte-in-Desc.new.out c.put_slot.new.out c.put_slot.result
-    c.in_ok-put_byte-in-Desc.ensures (rw c.len.ensures at c.in_ok-put_16-in-Desc.ensures) (rw c.as_slice.ensures at c.in_ok-next-in-Desc.ensures) (rw c.as_slice-in-Desc.ensures at c.in_ok-next-in-Desc-2.ensures) c.in_ok-put_byte-in-Desc-2.ensures c.put_slot.ensures)
+    c.in_ok-put_byte-in-Desc.ensures.written (rw c.len.ensures at c.in_ok-put_16-in-Desc.ensures.written) (rw c.as_slice.ensures at c.in_ok-next-in-Desc.ensures) (rw c.as_slice-in-Desc.ensures at c.in_ok-next-in-Desc-2.ensures) c.in_ok-put_byte-in-Desc-2.ensures.written c.put_slot.ensures)
 
 pub put_after-returns-in_ok-put_byte-in-Proxy : goal.put_after-returns-in_ok-put_byte-in-Proxy
 put_after-returns-in_ok-put_byte-in-Proxy t c =
     rw c.in-Proxy.is (proxy_after c.args.nodes.now (write_at c.args.left c.args.nodes.now) c.args.next c.in_ok-next-in-Proxy.next c.in-Proxy.proxy
     c.args.out.now c.put_32.new.out c.put_names.new.out c.put_items-in-Proxy.new.out c.put_byte-in-Proxy.new.out c.put_slot-in-Proxy.new.out c.put_slot-in-Proxy.result
-    (rw c.len-in-Proxy.ensures at c.in_ok-put_32-in-Proxy.ensures) (rw c.as_slice-in-Proxy.ensures at c.in_ok-put_names-in-Proxy.ensures) (rw c.as_slice-in-Proxy-2.ensures at c.in_ok-next-in-Proxy.ensures) c.in_ok-put_byte-in-Proxy.ensures c.put_slot-in-Proxy.ensures)
+    (rw c.len-in-Proxy.ensures at c.in_ok-put_32-in-Proxy.ensures.written) (rw c.as_slice-in-Proxy.ensures at c.in_ok-put_names-in-Proxy.ensures.written) (rw c.as_slice-in-Proxy-2.ensures at c.in_ok-next-in-Proxy.ensures) c.in_ok-put_byte-in-Proxy.ensures.written c.put_slot-in-Proxy.ensures)
 
-pub put_after-returns-in-Refs : goal.put_after-returns-in-Refs
-put_after-returns-in-Refs t c =
-    let slots = rw c.as_slice-in-Refs.ensures at c.put_slots.ensures in
-    rw (c.in-Array.is, c.in-Refs.is) (array_after c.args.nodes.now (write_at c.args.left c.args.nodes.now) c.args.next c.in-Array.class _ c.args.out.now c.put_32-in-Array.new.out c.put_slots.new.out c.put_slots.result
-    (rw (c.len-in-Array.ensures, c.in-Refs.is) at c.in_ok-put_32-in-Array.ensures) slots)
+pub put_array-returns-in-Refs : goal.put_array-returns-in-Refs
+put_array-returns-in-Refs t c =
+    let slots = rw c.as_slice.ensures at c.put_slots.ensures in
+    array_adds (write_at c.args.left c.args.nodes.now) c.args.next c.args.values.now c.args.out.now c.put_32.new.out c.put_slots.new.out c.put_slots.result
+    (rw c.len.ensures at c.in_ok-put_32.ensures.written) (rw c.in-Refs.is slots)
 
-pub put_after-returns-in_ok-put_primitives-in_default : goal.put_after-returns-in_ok-put_primitives-in_default
-put_after-returns-in_ok-put_primitives-in_default t c =
-    let e = write_all-primitive (write_at c.args.left c.args.nodes.now) c.args.next c.in-Array.values c.in_default.not-Refs in
-    rw c.in-Array.is (array_after c.args.nodes.now (write_at c.args.left c.args.nodes.now) c.args.next c.in-Array.class c.in-Array.values c.args.out.now c.put_32-in-Array.new.out c.put_primitives.new.out (Ok c.args.next)
-    (rw c.len-in-Array.ensures at c.in_ok-put_32-in-Array.ensures) (rw e (c.in_ok-put_primitives-in_default.ensures, refl)))
+pub put_array-returns-in_ok-put_primitives-in_default : goal.put_array-returns-in_ok-put_primitives-in_default
+put_array-returns-in_ok-put_primitives-in_default t c =
+    let e = write_all-primitive (write_at c.args.left c.args.nodes.now) c.args.next c.args.values.now c.in_default.not-Refs in
+    array_adds (write_at c.args.left c.args.nodes.now) c.args.next c.args.values.now c.args.out.now c.put_32.new.out c.put_primitives.new.out (Ok c.args.next)
+    (rw c.len.ensures at c.in_ok-put_32.ensures.written) (rw e (c.in_ok-put_primitives-in_default.ensures.written, refl))
 
 pub put_parts-returns-else-i-writes : goal.put_parts-returns-else-i-writes
 put_parts-returns-else-i-writes t c =
@@ -61,4 +62,5 @@ put_parts-loop-i-preserved t c =
       within = omega (arith, c.loop-i-test.true);
       bytes = n.bytes ∙ c.loop-i.invariant.bytes;
       count = n.count ∙ c.loop-i.invariant.count;
+      kept = begins_more c.args.out.now c.put_values.new.out c.put_note.new.out _ (begins_more c.args.out.now c.loop-i.out c.put_values.new.out _ c.loop-i.invariant.kept values.0) noted.0;
     }

@@ -1,6 +1,6 @@
 use Rattle.std.proofs.Common.{◌≡◌, ◌≤◌, ◌+◌, ◌-◌, ◌*◌, ◌++◌, drop, map, length}
 use Rattle.ser_values.specs.Spelled.{field_tokens, value_token, reference, part_tokens}
-use Rattle.ser_write.specs.Canonical.{write_items, write_all, write_at}
+use Rattle.ser_write.specs.Canonical.{Begins, write_items, write_all, write_at}
 use Rattle.ser_write.proofs.writing.+writing.Given as goal
 
 abbrev pub decreases-put_slot : goal.decreases-put_slot
@@ -30,6 +30,9 @@ decreases-put_items l = 16 * l.left + 6
 abbrev pub decreases-put_values : goal.decreases-put_values
 decreases-put_values l = 16 * l.left + 6
 
+abbrev pub decreases-put_array : goal.decreases-put_array
+decreases-put_array l = 16 * l.left + 7
+
 abbrev pub decreases-put_note : goal.decreases-put_note
 decreases-put_note l = 16 * l.left + 7
 
@@ -42,6 +45,7 @@ invariant-put_slots-loop-slot l =
     record {
       bytes : l.out ++ (write_all one l.next (map reference (drop l.slot-index l.slots))).0 ≡ l.fn.out ++ (write_all one l.fn.next (map reference l.slots)).0;
       count : (write_all one l.next (map reference (drop l.slot-index l.slots))).1 ≡ (write_all one l.fn.next (map reference l.slots)).1;
+      kept : Begins l.fn.out l.out;
     }
 
 abbrev pub invariant-put_values-loop-value : goal.invariant-put_values-loop-value
@@ -50,6 +54,7 @@ invariant-put_values-loop-value l =
     record {
       bytes : l.out ++ (write_all one l.next (map value_token (drop l.value-index l.values))).0 ≡ l.fn.out ++ (write_all one l.fn.next (map value_token l.values)).0;
       count : (write_all one l.next (map value_token (drop l.value-index l.values))).1 ≡ (write_all one l.fn.next (map value_token l.values)).1;
+      kept : Begins l.fn.out l.out;
     }
 
 abbrev pub invariant-put_items-loop-item : goal.invariant-put_items-loop-item
@@ -58,6 +63,7 @@ invariant-put_items-loop-item l =
     record {
       bytes : l.out ++ (write_items one l.next (drop l.item-index l.items)).0 ≡ l.fn.out ++ (write_items one l.fn.next l.items).0;
       count : (write_items one l.next (drop l.item-index l.items)).1 ≡ (write_items one l.fn.next l.items).1;
+      kept : Begins l.fn.out l.out;
     }
 
 abbrev pub invariant-put_fields-loop-field : goal.invariant-put_fields-loop-field
@@ -66,6 +72,7 @@ invariant-put_fields-loop-field l =
     record {
       bytes : l.out ++ (write_all one l.next (field_tokens (drop l.field-index l.fields))).0 ≡ l.fn.out ++ (write_all one l.fn.next (field_tokens l.fields)).0;
       count : (write_all one l.next (field_tokens (drop l.field-index l.fields))).1 ≡ (write_all one l.fn.next (field_tokens l.fields)).1;
+      kept : Begins l.fn.out l.out;
     }
 
 abbrev pub invariant-put_parts-loop-i : goal.invariant-put_parts-loop-i
@@ -75,6 +82,7 @@ invariant-put_parts-loop-i l =
       within : l.i ≤ length l.parts;
       bytes : l.out ++ (write_all one l.next (part_tokens (drop l.i l.writes) (drop l.i l.parts))).0 ≡ l.fn.out ++ (write_all one l.fn.next (part_tokens l.writes l.parts)).0;
       count : (write_all one l.next (part_tokens (drop l.i l.writes) (drop l.i l.parts))).1 ≡ (write_all one l.fn.next (part_tokens l.writes l.parts)).1;
+      kept : Begins l.fn.out l.out;
     }
 
 abbrev pub decreases-put_parts-loop-i : goal.decreases-put_parts-loop-i
