@@ -14,11 +14,15 @@ const USAGE: u8 = 1;
 /// The status for want of memory.
 const OUT_OF_MEMORY: u8 = 5;
 
-/// Runs the program with its words, its standard streams and their buffers, and answers its status.
-fn run_process(rt: &HostRuntime) -> io::Result<u8> {
+/// The program's words. One that is no UTF-8 is `InvalidData`.
+fn words_of(rt: &HostRuntime) -> io::Result<Words> {
+    Ok(Words::from_vec(env::args(rt)?.skip(1).collect(rt.alloc())?))
+}
+
+/// Runs the program on its standard streams and their buffers, and answers its status.
+fn run_process(rt: &HostRuntime, words: &Words) -> io::Result<u8> {
     let alloc = rt.alloc();
     let seed = [word(rt)?, word(rt)?, word(rt)?, word(rt)?];
-    let words = Words::from_vec(env::args(rt)?.skip(1).collect(alloc)?);
     let mut host = Host {
         input: StdSource::new(alloc, rt.stdin())?,
         output: StdSink::new(rt.stdout()),
@@ -26,7 +30,7 @@ fn run_process(rt: &HostRuntime) -> io::Result<u8> {
         ticks: StdClock::new(rt),
         seed,
     };
-    Ok(run(alloc, &words, &mut host))
+    Ok(run(alloc, words, &mut host))
 }
 
 /// A word by chance.
@@ -39,11 +43,19 @@ fn word(rt: &HostRuntime) -> io::Result<u64> {
 /// The status is that of `run`. Where there is no memory for the words or for the input's buffer, or the system gives no words by chance,
 /// it is 5, and where a word is no UTF-8, 1; nothing is read or written then but the line that says so.
 fn main(rt: HostRuntime) -> ExitCode {
-    let (line, status): (&[u8], u8) = match run_process(&rt) {
-        Ok(status) => (b"", status),
-        Err(e) if e.kind() == ErrorKind::InvalidData => (b"usage\n", USAGE),
-        Err(_) => (b"out of memory\n", OUT_OF_MEMORY),
+    let ran = match words_of(&rt) {
+        Ok(words) => run_process(&rt, &words),
+        Err(e) if e.kind() == ErrorKind::InvalidData => {
+            let _ = put_all(&mut StdSink::new(rt.stderr()), b"usage\n");
+            return ExitCode::from(USAGE);
+        }
+        Err(e) => Err(e),
     };
-    let _ = put_all(&mut StdSink::new(rt.stderr()), line);
-    ExitCode::from(status)
+    match ran {
+        Ok(status) => ExitCode::from(status),
+        Err(_) => {
+            let _ = put_all(&mut StdSink::new(rt.stderr()), b"out of memory\n");
+            ExitCode::from(OUT_OF_MEMORY)
+        }
+    }
 }

@@ -1,5 +1,5 @@
 -- How the end of a run is told: by the status of the process, and by a line on the errors' sink.
-use Rattle.std.specs.Prelude.{◌≡◌, ◌≢◌, ℕ, ◌⊎◌, List, [], ◌∷◌, ◌++◌, Option}
+use Rattle.std.specs.Prelude.{◌≡◌, ◌≢◌, ℕ, ◌<◌, ◌⊎◌, List, [], ◌∷◌, ◌++◌, length, take, Option}
 use Rattle.wire_io.specs.Wire.{with_end, Rose}
 use Rattle.rmi_cli.specs.Line.{line_of, status_of_run}
 use Rattle.rmi_cli.specs.declared.end.RunEnd.{RunEnd}
@@ -18,9 +18,16 @@ abbrev pub told_by : {E : Type 0} → (E → Option (List ℕ)) → (E → ℕ) 
 told_by held faults before after status =
     record { status = status; before = held before; after = held after; faults_before = faults before; faults_after = faults after }
 
--- The errors' sink took exactly these bytes, unless its count of faults rose.
+-- The errors' sink failed after it took exactly a front of these bytes.
+pub record TookFront (told : Told) (bytes : List ℕ) : Type 0 where
+  pub sent : ℕ
+  pub less : sent < length bytes
+  pub held : told.after ≡ with_end told.before (take sent bytes)
+  pub rose : Rose told.faults_before told.faults_after
+
+-- The errors' sink took exactly these bytes, or failed after a front of them.
 abbrev pub Took : Told → List ℕ → Type 0
-Took told bytes = (Rose told.faults_before told.faults_after → ⊥) → told.after ≡ with_end told.before bytes
+Took told bytes = (told.after ≡ with_end told.before bytes) ⊎ TookFront told bytes
 
 -- The line of an end, with its LF. No line tells that all was done.
 abbrev pub told_line : RunEnd → List ℕ

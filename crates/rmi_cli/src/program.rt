@@ -35,6 +35,7 @@ use wire_io::source::Source;
 ///
 /// One line on the errors' sink tells the end, but that all was done, which no line tells. That it could not be written changes nothing.
 /// Where there is no memory for the line, the status is 5, and the line is that of want of memory.
+#[tactic(auto, using(crate::proofs::Telling::took))]
 pub fn run<I: Source, O: Sink, E: Sink, T: Clock>(
     alloc: Global,
     words: &Words,
@@ -73,6 +74,10 @@ pub fn run<I: Source, O: Sink, E: Sink, T: Clock>(
         (wires I.left O.held host.new.input host.new.output)
         (told_by E.held E.faults host.old.errors host.new.errors result) }
 
+    // No other command asks the clock, and none changes the seed.
+    ensures clock { (AskFor words.now Command.Answer → ⊥) → T.given host.new.ticks ≡ T.given host.old.ticks }
+    ensures seed { host.new.seed ≡ host.old.seed }
+
     // The outside's failures.
     ensures read_fault { result ≡ 3 → Rose (I.faults host.old.input) (I.faults host.new.input) }
     ensures write_fault { result ≡ 4 → Rose (O.faults host.old.output) (O.faults host.new.output) }
@@ -105,6 +110,7 @@ pub fn run<I: Source, O: Sink, E: Sink, T: Clock>(
 
 /// Writes the line that tells an end, where the sink takes it, and answers the status. Where there is no memory for the line, want of
 /// memory is told.
+#[tactic(auto, using(crate::proofs::Telling::took))]
 fn told<E: Sink>(alloc: Global, errors: &mut E, end: RunEnd) -> u8
     ensures told { Tells (told_by E.held E.faults errors.old errors.new result) end }
     ensures status { (result ≡ status_of_run end) ⊎ (result ≡ 5) }
