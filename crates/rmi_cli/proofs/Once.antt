@@ -179,7 +179,7 @@ is_known (Err RefusedTurn) told = tt
 is_known (Err OutOfMemory) told = absurd (told refl)
 
 -- What was taken whole of a told input is that input.
-whole_is : (input taken : List ℕ) (left : Option (List ℕ)) → Some input ≡ with_front taken left → NothingLeft left → (taken ≡ input) × (left ≡ Some [])
+pub whole_is : (input taken : List ℕ) (left : Option (List ℕ)) → Some input ≡ with_front taken left → NothingLeft left → (taken ≡ input) × (left ≡ Some [])
 whole_is input taken None is nothing = absurd (cc)
 whole_is input taken (Some rest) is nothing =
     let same : input ≡ taken ++ rest = cc in

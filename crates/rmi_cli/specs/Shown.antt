@@ -1,19 +1,23 @@
 -- What `rmi show` takes and writes.
-use Rattle.std.specs.Prelude.{◌≡◌, ℕ, ◌<◌, ◌≤◌, List, length, take, Option, Some, Ok}
+use Rattle.std.specs.Prelude.{◌≡◌, ℕ, ◌<◌, ◌≤◌, ◌⊎◌, List, [], length, take, Option, Some, Ok, Err}
 use Rattle.class_desc.specs.declared.slot.Item.{Item}
 use Rattle.wire_io.specs.Wire.{Wires, with_front, with_end, NothingLeft}
 use Rattle.wire_io.specs.Pulled.{Place}
 use Rattle.ser_values.specs.declared.node.Node.{Node}
 use Rattle.ser_values.specs.Shape.{parts_in}
 use Rattle.ser_values.specs.Spelled.{IsStream}
-use Rattle.ser_values.specs.Reading.{stream_of}
+use Rattle.ser_values.specs.Reading.{stream_of, Fault, short, bad, too_many, too_deep, Kind, bad_magic, bad_code, bad_handle, wrong_handle_kind, bad_desc, bad_utf, negative_length, reset, inner_exception, old_external}
 use Rattle.ser_read.specs.declared.fault.StreamFault.{StreamFault}
 use Rattle.ser_read.specs.declared.fault.StreamFault.TheVariants as faults
-use Rattle.ser_read.specs.declared.fault.Large.TheVariants.{Bytes}
+use Rattle.ser_read.specs.declared.fault.Large.TheVariants.{Bytes, Nodes, Depth}
+use Rattle.ser_read.specs.declared.fault.StreamKind.{StreamKind}
+use Rattle.ser_read.specs.declared.fault.StreamKind.TheVariants as kinds
 use Rattle.ser_read.specs.Here.{Fails}
 use Rattle.ser_read.specs.Whole.{stream_at, going_on, BreaksWhole}
 use Rattle.graph_text.specs.GraphText.{graph_text}
-use Rattle.rmi_cli.specs.Told.{Told, Tells}
+use Rattle.rmi_cli.specs.Answer.{IsOutside}
+use Rattle.rmi_cli.specs.Line.{status_of_run}
+use Rattle.rmi_cli.specs.Told.{Told, TellsExactly, Tells}
 use Rattle.rmi_cli.specs.declared.end.RunEnd.{RunEnd}
 use Rattle.rmi_cli.specs.declared.end.RunEnd.TheVariants.{Done, Usage, Answered, BadLine, Refused, TooLarge, NotShown, ReadFault, WriteFault, OutOfMemory}
 
@@ -64,3 +68,43 @@ ShowEnds old new OutOfMemory = (nodes : List Node) × (items : List Item) × Tak
 -- The input was shown to an end, which is told.
 abbrev pub ShowsInput : Wires → Wires → Told → Type 0
 ShowsInput old new told = (end : RunEnd) × ShowEnds old new end × Tells told end
+
+-- How what is wrong in the bytes of a stream is named.
+abbrev pub told_kind : Kind → StreamKind
+told_kind bad_magic = kinds.BadMagic
+told_kind bad_code = kinds.BadCode
+told_kind bad_handle = kinds.BadHandle
+told_kind wrong_handle_kind = kinds.WrongHandleKind
+told_kind bad_desc = kinds.BadDesc
+told_kind bad_utf = kinds.BadUtf
+told_kind negative_length = kinds.NegativeLength
+told_kind reset = kinds.Reset
+told_kind inner_exception = kinds.InnerException
+told_kind old_external = kinds.OldExternal
+
+-- The fault that is told where reading stops at one; `after` is the fault of who wants one byte more.
+abbrev pub told_fault : StreamFault → Fault → StreamFault
+told_fault after short = after
+told_fault after (bad kind at) = faults.Bad (told_kind kind) at
+told_fault after (too_many at) = faults.TooLarge Nodes at
+told_fault after (too_deep at) = faults.TooLarge Depth at
+
+-- Where the input is told: if it is a stream within the limit, all of it was taken, and the text of its graph was written; if reading it, or
+-- past the limit as much of it as a stream may have, stops at a fault, that fault is the end, and nothing was written. Unless the outside
+-- failed, by the status. `Ends` says that the run ended so.
+pub record ExactlyShown (Ends : RunEnd → Type 0) (status : ℕ) (old new : Wires) : Type 0 where
+  pub stream : (nodes : List Node) (items : List Item) (input : List ℕ) → old.left ≡ Some input → length input ≤ stream_bytes → IsStream nodes items input
+      → (Ends Done × (new.left ≡ Some []) × (new.held ≡ with_end old.held (graph_text nodes items))) ⊎ IsOutside status
+  pub within : (input : List ℕ) (fault : Fault) → old.left ≡ Some input → length input ≤ stream_bytes → stream_of input ≡ Err fault
+      → (Ends (NotShown (told_fault (faults.Truncated (length input)) fault)) × (new.held ≡ old.held)) ⊎ IsOutside status
+  pub past : (input : List ℕ) (fault : Fault) → old.left ≡ Some input → stream_bytes < length input
+      → going_on (stream_at stream_bytes (take stream_bytes input)) ≡ Err fault
+      → (Ends (NotShown (told_fault (faults.TooLarge Bytes stream_bytes) fault)) × (new.held ≡ old.held)) ⊎ IsOutside status
+
+-- The end is this one.
+abbrev pub EndsExactly : Wires → Wires → RunEnd → Type 0
+EndsExactly old new result = ExactlyShown (λ end. result ≡ end) (status_of_run result) old new
+
+-- The end is told.
+abbrev pub ShowsExactly : Wires → Wires → Told → Type 0
+ShowsExactly old new told = ExactlyShown (TellsExactly told) told.status old new

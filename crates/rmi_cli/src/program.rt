@@ -5,7 +5,7 @@ ghost use Rattle.rmi_cli.specs.Answer.{Answers, AnswersExactly};
 ghost use Rattle.rmi_cli.specs.Command.{AskFor};
 ghost use Rattle.rmi_cli.specs.Line.{status_of_run};
 ghost use Rattle.rmi_cli.specs.Replayed.{ReplaysInput, ReplaysExactly};
-ghost use Rattle.rmi_cli.specs.Shown.{ShowsInput};
+ghost use Rattle.rmi_cli.specs.Shown.{ShowsInput, ShowsExactly};
 ghost use Rattle.rmi_cli.specs.Told.{told_by, TellsExactly, Tells};
 ghost use Rattle.rmi_cli.specs.declared.end.RunEnd.{RunEnd as RunEnds};
 ghost use Rattle.rmi_cli.specs.declared.words.Command.{Command as Commands};
@@ -70,6 +70,10 @@ pub fn run<I: Source, O: Sink, E: Sink, T: Clock>(
 
     // `show` takes the whole input as a stream, and writes the text of its graph, or says at which fault reading it stops.
     ensures show { AskFor words.now Command.Show → ShowsInput
+        (wires I.left O.held host.old.input host.old.output)
+        (wires I.left O.held host.new.input host.new.output)
+        (told_by E.held E.faults host.old.errors host.new.errors result) }
+    ensures show_exact { AskFor words.now Command.Show → ShowsExactly
         (wires I.left O.held host.old.input host.old.output)
         (wires I.left O.held host.new.input host.new.output)
         (told_by E.held E.faults host.old.errors host.new.errors result) }

@@ -3,12 +3,13 @@ ghost use Rattle.std.specs.Prelude.{◌≡◌, ◌≢◌, ◌≤◌, ◌<◌, le
 ghost use Rattle.wire_io.specs.Wire.{Rose, wires};
 ghost use Rattle.ser_read.specs.Here.{Caused};
 ghost use Rattle.rmi_cli.specs.Line.{status_of_run};
-ghost use Rattle.rmi_cli.specs.Shown.{TakesGraph, IsFaultOf, StopsAt, ShowEnds};
+ghost use Rattle.rmi_cli.specs.Shown.{TakesGraph, IsFaultOf, StopsAt, ShowEnds, EndsExactly};
 
 use crate::end::RunEnd;
 use graph_text::graph_text;
 use ser_read::{StreamFault, read_to_end};
 use ser_values::Graph;
+use ser_values::limits::MESSAGE_BYTES;
 use std::alloc::Global;
 use wire_io::pull::Pull;
 use wire_io::put::put_all;
@@ -16,11 +17,12 @@ use wire_io::sink::Sink;
 use wire_io::source::Source;
 
 /// How many bytes a stream has at most.
-pub const STREAM_BYTES: u64 = 16_777_216;
+pub const STREAM_BYTES: u64 = MESSAGE_BYTES;
 
 /// Takes the whole input as a stream, and writes the text of its graph.
 pub fn show_input<S: Source, K: Sink>(alloc: Global, source: &mut S, sink: &mut K) -> RunEnd
     ensures ends { ShowEnds (wires S.left K.held source.old sink.old) (wires S.left K.held source.new sink.new) result }
+    ensures exact { EndsExactly (wires S.left K.held source.old sink.old) (wires S.left K.held source.new sink.new) result }
     ensures known { status_of_run result ≢ 1 }
     ensures read_fault { status_of_run result ≡ 3 → Rose (S.faults source.old) (S.faults source.new) }
     ensures write_fault { status_of_run result ≡ 4 → Rose (K.faults sink.old) (K.faults sink.new) }

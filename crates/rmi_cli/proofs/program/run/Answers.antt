@@ -1,5 +1,6 @@
 use Rattle.rmi_cli.proofs.Exactly.{told_settles}
 use Rattle.rmi_cli.proofs.Once.{replays_exactly}
+use Rattle.rmi_cli.proofs.ShownOnce.{shows_exactly}
 use Rattle.rmi_cli.specs.declared.words.Command.TheVariants.{Answer, Replay, Show}
 use Rattle.rmi_cli.proofs.program.run.Goals as goal
 
@@ -23,3 +24,9 @@ returns-in-None-clause-replay_exact g c is = absurd (c.in-None.ensures.none Repl
 
 pub returns-in-None-clause-show : goal.returns-in-None-clause-show
 returns-in-None-clause-show g c is = absurd (c.in-None.ensures.none Show is)
+
+pub returns-in-Some-Show-clause-show_exact : goal.returns-in-Some-Show-clause-show_exact
+returns-in-Some-Show-clause-show_exact g c is = shows_exactly _ _ _ _ c.show_input-end.ensures.exact c.told-in-Some-Show.ensures.told
+
+pub returns-in-None-clause-show_exact : goal.returns-in-None-clause-show_exact
+returns-in-None-clause-show_exact g c is = absurd (c.in-None.ensures.none Show is)
