@@ -1,5 +1,5 @@
 use Rattle.std.proofs.Common.{sym, ◌∙◌}
-use Rattle.export_table.proofs.Laws.{kind-exported}
+use Rattle.export_table.proofs.RowLaws.{kind-exported}
 use Rattle.collector_tests.proofs.export_rows.list.Goals as goal
 
 pub wait_for-requires-clause-exported : goal.wait_for-requires-clause-exported
