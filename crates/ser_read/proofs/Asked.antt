@@ -1,5 +1,5 @@
 -- What lists of wants read is spelled.
-use Rattle.std.proofs.Common.{◌≡◌, ℕ, zero, suc, ◌-◌, ◌<◌, ◌≤◌, true, eqb, List, [], ◌∷◌, ◌++◌, length, Result, Ok, refl, sym, ap, subst, ◌∙◌, append_assoc, append-nil, arith, inl, inr}
+use Rattle.std.proofs.Common.{◌≡◌, ℕ, zero, suc, ◌-◌, ◌<◌, true, eqb, List, [], ◌∷◌, ◌++◌, length, Result, Ok, refl, sym, ap, subst, ◌∙◌, append_assoc, append-nil, arith, inl, inr}
 use Rattle.std.proofs.lemmas.Bool.{eqb-true}
 use Rattle.std.specs.Int.{w32, to_be_bytes}
 use Rattle.class_desc.specs.declared.slot.Slot.{Slot}
@@ -21,8 +21,10 @@ use Rattle.ser_read.specs.Heads.{head_at}
 use Rattle.ser_read.specs.Named.{add_bytes, added}
 use Rattle.ser_read.specs.declared.serving.Want.{Want}
 use Rattle.ser_read.specs.declared.serving.Want.TheVariants as wanted
-use Rattle.ser_read.specs.Wants.{WantFault, ◌▸◌, lifted, Stand, nothing_read, only_block, opened_at, run_at, reference_at, bytes_at, slot_next, close_at, want_at, serve, serve_all}
+use Rattle.ser_read.specs.Wants.{WantFault, ◌▸◌, lifted, Stand, nothing_read, only_block, opened_at, run_at, reference_at, bytes_at, slot_next, close_at, want_at, serve, serve_to_close}
 use Rattle.ser_read.specs.Asked.{Fits, IsSome, EndsFull, IsAsked}
+use Rattle.ser_read.specs.Here as here
+use Rattle.ser_read.proofs.Behind.{blocks_front, spells_front}
 use Rattle.ser_read.proofs.Joins.{added_is}
 use Rattle.ser_read.proofs.Heads.{byte_is}
 use Rattle.ser_read.proofs.Runs.{opened_here, opened_some}
@@ -78,7 +80,7 @@ record RunSound (k : ℕ) (bs p : List ℕ) (k2 : ℕ) (b2 : List ℕ) : Type 1 
   bytes : AreBytes b2
   back : (front b : List ℕ) (is : List Item) → length front ≡ k2 → b2 ≡ front ++ b → EndsFull is → Before k bs p front b is
 
-abbrev RunOk : Type 0
+abbrev pub RunOk : Type 0
 RunOk = List ℕ × ℕ × List ℕ
 
 abbrev SoundAs : ℕ → List ℕ → RunOk → Type 1
@@ -120,7 +122,7 @@ opened_before e bs mid k c rest y em head h = record {
       });
 }
 
-abbrev more_of : ℕ → ℕ → ℕ × List ℕ → Result RunOk WantFault
+abbrev pub more_of : ℕ → ℕ → ℕ × List ℕ → Result RunOk WantFault
 more_of end n o = lifted (byte_at o.1) ▸ λ b. run_at end n (o.0 - 1) b.1 ▸ λ r. Ok (b.0 ∷ r.0, r.1, r.2)
 
 run_sound : (end n k : ℕ) (bs : List ℕ) (y : RunOk) → run_at end n k bs ≡ Ok y → AreBytes bs → SoundAs k bs y
@@ -171,7 +173,7 @@ pub record Spelt (s s2 : Stand) (bs rest : List ℕ) (answers : List Item) : Typ
   same : bytes_of left ++ flat blocks ≡ flat answers
   got : Got [] s.progress s2.progress rest (λ F. SpellsBlocks (Spells F 200 []) blocks (length s.progress.nodes) mid rest (length s2.progress.nodes))
 
-abbrev ServeOk : Type 0
+abbrev pub ServeOk : Type 0
 ServeOk = List Item × Stand × List ℕ
 
 pub serve_sound : (end : ℕ) (ws : List Want) (s : Stand) (bs : List ℕ) (y : ServeOk) → serve end ws s bs ≡ Ok y → y.1.block ≡ 0 → Solid [] s.progress → AreBytes bs → Spelt s y.1 bs y.2 y.0
@@ -251,7 +253,7 @@ FitsOne (wanted.Bytes n) (items.Bytes p) = length p ≡ n
 FitsOne wanted.Slot (items.Ref s) = Unit {0}
 FitsOne _ _ = ⊥
 
-run_length : (end n k : ℕ) (bs : List ℕ) (y : RunOk) → run_at end n k bs ≡ Ok y → length y.0 ≡ n
+pub run_length : (end n k : ℕ) (bs : List ℕ) (y : RunOk) → run_at end n k bs ≡ Ok y → length y.0 ≡ n
 unfolding run_at
 run_length end zero k bs y e = ap (λ (x : RunOk). length x.0) (sym (given_is ([], k, bs) y e))
 run_length end (suc n) k bs y e =
@@ -316,9 +318,20 @@ AllOk = List Item × List Node × List Item × List ℕ
 abbrev start : Progress
 start = record { nodes = []; parts = 0 }
 
+pub bytes_front : (xs ys : List ℕ) → AreBytes (xs ++ ys) → here.AreBytes xs
+bytes_front [] ys h = tt
+bytes_front (b ∷ xs) ys h = (h.0, bytes_front xs ys h.1)
+
+-- A front of the bytes spells what was answered.
+pub record AskedFront (ws : List Want) (bs : List ℕ) (y : AllOk) : Type 0 where
+  pub front : List ℕ
+  pub is : bs ≡ front ++ y.3
+  pub asked : IsAsked ws y.0 y.1 front
+  pub contents : y.2 ≡ joined y.0
+
 -- What lists of wants answer is spelled, and the items are what they gave, joined.
-pub asked_sound : (end : ℕ) (ws : List Want) (bs : List ℕ) (y : AllOk) → serve_all end ws bs ≡ Ok y → AreBytes bs → IsAsked ws y.0 y.1 bs y.3 × (y.2 ≡ joined y.0) × (parts_in y.1 ≤ 1048576)
-unfolding serve_all close_at has parts_in
+pub asked_sound : (end : ℕ) (ws : List Want) (bs : List ℕ) (y : AllOk) → serve_to_close end ws nothing_read bs ≡ Ok y → AreBytes bs → AskedFront ws bs y
+unfolding serve_to_close close_at has parts_in
 asked_sound end ws bs y e bytes =
     let a = want_ok (serve end ws nothing_read bs) (λ x. close_at (end - length x.2) x.1 ▸ λ g. Ok (x.0, g.0, g.1, x.2)) y e in
     let c = want_ok (close_at (end - length a.0.2) a.0.1) (λ g. Ok (a.0.0, g.0, g.1, a.0.2)) y a.2 in
@@ -338,19 +351,24 @@ asked_sound end ws bs y e bytes =
           let all : parts_in N ≡ parts_in h.got.added = ap parts_in h.got.grown in
           let q = h.got.parts in
           let most = h.got.solid.few in
-          subst (λ (y : AllOk). IsAsked ws y.0 y.1 bs y.3 × (y.2 ≡ joined y.0) × (parts_in y.1 ≤ 1048576)) two (
-            record {
+          let f = blocks_front (Spells N 200 []) (spells_front N 200 []) h.blocks 0 h.mid a.0.2 (length N) spelled in
+          let parts : bs ≡ f.front ++ a.0.2 = mid ∙ f.is in
+          subst (λ (y : AllOk). AskedFront ws bs y) two (record {
+            front = f.front;
+            is = parts;
+            asked = record {
+              are_bytes = bytes_front f.front a.0.2 (subst AreBytes parts bytes);
               fits = serve_fits end ws nothing_read bs a.0 a.1;
               blocks = h.blocks;
-              spelled = subst (λ (l : List ℕ). SpellsBlocks (Spells N 200 []) h.blocks 0 l a.0.2 (length N)) (sym mid) spelled;
+              spelled = subst (λ (l : List ℕ). SpellsBlocks (Spells N 200 []) h.blocks 0 l [] (length N)) (append-nil f.front) (f.other []);
               full = h.full;
               same = joined_by a.0.0 h.blocks (sym flats);
               numbers = numbers_of N h.got.solid.ranged;
               units = units_of N h.got.solid.ranged;
-            },
-            serve_items end ws nothing_read bs a.0 a.1 [] refl,
-            omega arith,
-          ))
+              few_parts = omega arith;
+            };
+            contents = serve_items end ws nothing_read bs a.0 a.1 [] refl;
+          }))
     ]
   where
     nil_of : (l : List ℕ) → length l ≡ 0 → l ≡ []

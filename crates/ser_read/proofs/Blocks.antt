@@ -9,8 +9,8 @@ use Rattle.ser_values.specs.Spelled.{joined}
 use Rattle.std.proofs.lemmas.List.{append-nil}
 use Rattle.std.specs.Int.{w32}
 use Rattle.wire_io.proofs.Pulling.{takes_nothing, takes_more}
-use Rattle.ser_read.specs.Here.{AreBytes, NeedsLast, Reads}
-use Rattle.ser_read.proofs.Steps.{Goes, goes_two, Leads, leads_two, leads_read, no_last, least_two, bytes_more}
+use Rattle.ser_read.specs.Here.{AreBytes, NeedsAll, Reads}
+use Rattle.ser_read.proofs.Steps.{Goes, goes_two, Leads, leads_two, leads_read, no_next, least_two, bytes_more}
 use Rattle.ser_read.proofs.Bytes.{ok_is}
 use Rattle.ser_read.specs.Whole.{going_on}
 use Rattle.ser_read.specs.Named.{item_at, added}
@@ -49,7 +49,7 @@ pub record Slack (p q : Place) (inner : ℕ → Step Slot) (within : Bool) (firs
   pub takes : Takes p q taken
   pub spare : ℕ
   pub reads : (rest : List ℕ) → items_at (q.at + length rest) (inner (q.at + length rest)) within first (taken ++ rest) ≡ after_all is (blocks_at (q.at + length rest) (inner (q.at + length rest)) within (suc (spare + length rest)) now rest)
-  pub least : NeedsLast short p.at taken (λ end bs. until within (items_at end (inner end) within first bs))
+  pub least : NeedsAll short p.at taken (λ end bs. until within (items_at end (inner end) within first bs))
 
 added_joined : (xs ys : List Item) → added_all (joined xs) ys ≡ joined (xs ++ ys)
 unfolding added_all
@@ -64,7 +64,7 @@ slack_start p inner within first = record {
   takes = takes_nothing p;
   spare = 0;
   reads = λ rest. let k : 0 + length rest ≡ length rest = omega arith in rw k (go (blocks_at (p.at + length rest) (inner (p.at + length rest)) within (suc (length rest)) first rest));
-  least = λ front last e. absurd (no_last front last e);
+  least = λ front one others e. absurd (no_next front one others e);
 }
   where
     go : (r : Items) → ◌>>=◌ {B = List Item × Progress × List ℕ} r (λ x. Ok (joined x.0, x.1, x.2)) ≡ after_all [] r
@@ -247,9 +247,9 @@ slack_next {p} {q} {m} {r} {inner} {within} ref {first} {now} {later} {is} {c} {
       bytes = bytes_more s.taken (a.taken ++ b.taken) s.bytes (bytes_more a.taken b.taken a.bytes b.bytes);
       takes = takes_more p q r s.taken (a.taken ++ b.taken) s.takes (takes_more q m r a.taken b.taken a.takes b.takes);
       spare = s.spare + length b.taken;
-      least = least_two (slack_leads s) (a.taken ++ b.taken) (least_two (byte_leads inner within s.spare now is c a) b.taken (λ front last e.
+      least = least_two (slack_leads s) (a.taken ++ b.taken) (least_two (byte_leads inner within s.spare now is c a) b.taken (λ front next others e.
           let here : m.at + length front ≡ q.at + suc (length front) = omega (arith, len, a.takes.at) in
-          until_err within _ short (item_err (m.at + length front) (inner (m.at + length front)) within (s.spare + suc (length front)) c is now front (ref (m.at + length front)) short other (same (m.at + length front) front here) (b.least front last e))));
+          until_err within _ short (item_err (m.at + length front) (inner (m.at + length front)) within (s.spare + suc (length front)) c is now front (ref (m.at + length front)) short other (same (m.at + length front) front here) (b.least front next others e))));
       reads = λ rest.
           let end = r.at + length rest in
           let whole : (s.taken ++ (a.taken ++ b.taken)) ++ rest ≡ s.taken ++ (c ∷ (b.taken ++ rest)) =
@@ -282,5 +282,5 @@ slack_end {p} {q} {m} {inner} {first} {now} {is} {c} s a h =
           let whole : (s.taken ++ a.taken) ++ rest ≡ s.taken ++ (c ∷ rest) = append_assoc s.taken a.taken rest ∙ ap (λ (x : List ℕ). s.taken ++ (x ++ rest)) one in
           let first_is = rw (← ends) at (s.reads (c ∷ rest)) in
           rw whole (first_is ∙ rw h refl);
-      least = least_two (slack_leads s) a.taken (λ front last e. first_err (q.at + length front) (inner (q.at + length front)) true (s.spare + length front) now is front (a.least front last e));
+      least = least_two (slack_leads s) a.taken (λ front next others e. first_err (q.at + length front) (inner (q.at + length front)) true (s.spare + length front) now is front (a.least front next others e));
     }

@@ -12,10 +12,10 @@ use Rattle.ser_read.specs.declared.fault.StreamKind.{StreamKind}
 use Rattle.ser_read.specs.declared.fault.StreamFault.{StreamFault}
 use Rattle.ser_read.specs.declared.fault.StreamFault.TheVariants as faults
 use Rattle.ser_read.specs.declared.fault.Large.TheVariants as larges
-use Rattle.ser_read.specs.Here.{Env, IsBad, IsInBytes, kind_of, fault_of, FailsBy, Fails, GivesBy, Caused, env_at, coming_at, env, coming, IsTold, Reads, Decides, FallsShort, TakesSome, BreaksBy, Breaks}
+use Rattle.ser_read.specs.Here.{Env, IsBad, IsInBytes, kind_of, fault_of, FailsBy, Fails, GivesBy, Caused, env_at, coming_at, env, coming, IsTold, Reads, Decides, FallsShort, TakesNeeded, BreaksBy, Breaks}
 use Rattle.ser_read.specs.Wants.{WantFault, inside, ◌▸◌, lifted, fault_at, WantIsBad, WantFails, GivesWant, WantBreaks}
 use Rattle.ser_read.proofs.Wants.{inside_is}
-use Rattle.ser_read.proofs.Steps.{Goes, Leads, goes, no_last, least_two, bytes_more, leads_read, end_is, reads_gives}
+use Rattle.ser_read.proofs.Steps.{Goes, Leads, goes, no_next, least_two, bytes_more, leads_read, end_is, reads_gives}
 use Rattle.ser_read.proofs.Pulling.{takes_told, takes_env, byte_ends, byte_passes}
 use Rattle.ser_read.proofs.Bytes.{takes_short}
 
@@ -24,8 +24,8 @@ use Rattle.ser_read.proofs.Bytes.{takes_short}
 rose_more : (a b c : ℕ) → a ≤ b → Rose b c → Rose a c
 rose_more a b c le h = (omega (arith, h.0), omega (arith, h.1))
 
-some_more : {p q r : Place} (a : List ℕ) → Takes p q a → TakesSome q r → TakesSome p r
-some_more {p} {q} {r} a first then = (a ++ then.0, takes_more p q r a then.0 first then.1)
+needed_two : {Y F : Type 0} {m : F} {p q r : Place} {read next : ℕ → List ℕ → Result Y F} → Leads m p q read next → TakesNeeded m q r next → TakesNeeded m p r read
+needed_two {Y} {F} {m} {p} {q} {r} a b = record { taken = a.taken ++ b.taken; takes = takes_more p q r a.taken b.taken a.takes b.takes; least = least_two a b.taken b.least }
 
 decides_two : {Y F : Type 0} {m : F} {p q r : Place} {read next : ℕ → List ℕ → Result Y F} (P : Result Y F → Type 0) → Leads m p q read next → Decides m q r next P → Decides m p r read P
 decides_two {Y} {F} {m} {p} {q} {r} {read} {next} P a b = record {
@@ -57,8 +57,8 @@ two_by said of_kind r (faults.TooLarge larges.Nodes at) a b = decides_two (λ r.
 two_by said of_kind r (faults.TooLarge larges.Depth at) a b = decides_two (λ r. r ≡ Err (said (too_deep at))) a b
 two_by said of_kind r (faults.TooLarge larges.Bytes at) a b = (b.0, short_two at (said short) (goes a) b.1, b.2)
 two_by said of_kind r (faults.Truncated at) a b = (short_two at (said short) (goes a) b.0, b.1)
-two_by said of_kind r faults.ReadFault a b = (some_more a.taken a.takes b.0, rose_more _ _ _ a.takes.faults b.1)
-two_by said of_kind r faults.OutOfMemory a b = some_more a.taken a.takes b
+two_by said of_kind r faults.ReadFault a b = (short_two r.at (said short) (goes a) b.0, rose_more _ _ _ a.takes.faults b.1)
+two_by said of_kind r faults.OutOfMemory a b = needed_two a b
 
 pub breaks_two : {Y : Type 0} {p q r : Place} {e : StreamFault} {read next : ℕ → List ℕ → Result Y Fault} → Leads short p q read next → Breaks q r e next → Breaks p r e read
 breaks_two {Y} {p} {q} {r} {e} a b = record { is = two_by (λ f. f) IsBad r e a b.is }
@@ -75,12 +75,16 @@ decides_as {A} {B} {F} {G} {m} {n} {p} {q} s P Q so more h = record {
   bytes = h.bytes;
   takes = h.takes;
   is = λ rest. so (q.at + length rest) (h.taken ++ rest) (omega (arith, h.takes.at, length-append h.taken rest)) (h.is rest);
-  least = λ front last e. more (p.at + length front) front refl (h.least front last e);
+  least = λ front one others e. more (p.at + length front) front refl (h.least front one others e);
 }
 
 pub short_as : {A B F G : Type 0} {p q : Place} (at : ℕ) {r : ℕ → List ℕ → Result A F} (s : ℕ → List ℕ → Result B G) (f : F) (g : G)
     → ((end : ℕ) (bs : List ℕ) → end ≡ p.at + length bs → r end bs ≡ Err f → s end bs ≡ Err g) → FallsShort p q at r f → FallsShort p q at s g
 short_as {A} {B} {F} {G} {p} {q} at s f g so h = record { taken = h.taken; takes = h.takes; here = h.here; is = so q.at h.taken h.takes.at h.is }
+
+needed_as : {A B F G : Type 0} {p q : Place} {r : ℕ → List ℕ → Result A F} (s : ℕ → List ℕ → Result B G) (f : F) (g : G)
+    → ((end : ℕ) (bs : List ℕ) → end ≡ p.at + length bs → r end bs ≡ Err f → s end bs ≡ Err g) → TakesNeeded f p q r → TakesNeeded g p q s
+needed_as {A} {B} {F} {G} {p} {q} s f g so h = record { taken = h.taken; takes = h.takes; least = λ front one others e. so (p.at + length front) front refl (h.least front one others e) }
 
 -- `one` and `other` say the faults, `P` and `Q` those of a kind.
 breaks_by : {A B F G : Type 0} (one : Fault → F) (other : Fault → G) (P : Result A F → StreamKind → ℕ → Type 0) (Q : Result B G → StreamKind → ℕ → Type 0) (p q : Place) (e : StreamFault)
@@ -93,8 +97,8 @@ breaks_by one other P Q p q (faults.TooLarge larges.Nodes at) r s errs kinds h =
 breaks_by one other P Q p q (faults.TooLarge larges.Depth at) r s errs kinds h = decides_as s (λ r. r ≡ Err (one (too_deep at))) (λ r. r ≡ Err (other (too_deep at))) (λ end bs here is. errs end bs (too_deep at) here is) (λ end bs here is. errs end bs short here is) h
 breaks_by one other P Q p q (faults.TooLarge larges.Bytes at) r s errs kinds h = (h.0, short_as at s (one short) (other short) (λ end bs here is. errs end bs short here is) h.1, h.2)
 breaks_by one other P Q p q (faults.Truncated at) r s errs kinds h = (short_as at s (one short) (other short) (λ end bs here is. errs end bs short here is) h.0, h.1)
-breaks_by one other P Q p q faults.ReadFault r s errs kinds h = h
-breaks_by one other P Q p q faults.OutOfMemory r s errs kinds h = h
+breaks_by one other P Q p q faults.ReadFault r s errs kinds h = (short_as q.at s (one short) (other short) (λ end bs here is. errs end bs short here is) h.0, h.1)
+breaks_by one other P Q p q faults.OutOfMemory r s errs kinds h = needed_as s (one short) (other short) (λ end bs here is. errs end bs short here is) h
 
 -- The same fails, where a stream is read whole.
 pub breaks_as : {A B : Type 0} {p q : Place} {e : StreamFault} {r : ℕ → List ℕ → Result A Fault} {s : ℕ → List ℕ → Result B Fault}
@@ -116,35 +120,42 @@ lifted_breaks {A} {B} {p} {q} {e} {r} {s} errs h = record { is = breaks_by (λ f
 -- What is read next is wrong.
 pub bad_here : {Y : Type 0} {p : Place} {read : ℕ → List ℕ → Result Y Fault} (kind : StreamKind) (at : ℕ) → IsInBytes kind
     → ((end : ℕ) (bs : List ℕ) → end ≡ p.at + length bs → read end bs ≡ Err (bad (kind_of kind) at)) → Breaks p p (faults.Bad kind at) read
-bad_here {Y} {p} kind at known h = record { is = record { taken = []; bytes = tt; takes = takes_nothing p; is = λ rest. (h (p.at + length rest) rest refl, known); least = λ front last e. absurd (no_last front last e) } }
+bad_here {Y} {p} kind at known h = record { is = record { taken = []; bytes = tt; takes = takes_nothing p; is = λ rest. (h (p.at + length rest) rest refl, known); least = λ front one others e. absurd (no_next front one others e) } }
 
 pub many_here : {Y : Type 0} {p : Place} {read : ℕ → List ℕ → Result Y Fault} (at : ℕ)
     → ((end : ℕ) (bs : List ℕ) → end ≡ p.at + length bs → read end bs ≡ Err (too_many at)) → Breaks p p (faults.TooLarge larges.Nodes at) read
-many_here {Y} {p} at h = record { is = record { taken = []; bytes = tt; takes = takes_nothing p; is = λ rest. h (p.at + length rest) rest refl; least = λ front last e. absurd (no_last front last e) } }
+many_here {Y} {p} at h = record { is = record { taken = []; bytes = tt; takes = takes_nothing p; is = λ rest. h (p.at + length rest) rest refl; least = λ front one others e. absurd (no_next front one others e) } }
 
 pub deep_here : {Y : Type 0} {p : Place} {read : ℕ → List ℕ → Result Y Fault} (at : ℕ)
     → ((end : ℕ) (bs : List ℕ) → end ≡ p.at + length bs → read end bs ≡ Err (too_deep at)) → Breaks p p (faults.TooLarge larges.Depth at) read
-deep_here {Y} {p} at h = record { is = record { taken = []; bytes = tt; takes = takes_nothing p; is = λ rest. h (p.at + length rest) rest refl; least = λ front last e. absurd (no_last front last e) } }
+deep_here {Y} {p} at h = record { is = record { taken = []; bytes = tt; takes = takes_nothing p; is = λ rest. h (p.at + length rest) rest refl; least = λ front one others e. absurd (no_next front one others e) } }
 
 -- a want's
 pub want_here : {Y : Type 0} {p : Place} {read : ℕ → List ℕ → Result Y WantFault} (kind : StreamKind) (at : ℕ)
     → ((end : ℕ) (bs : List ℕ) → end ≡ p.at + length bs → read end bs ≡ Err (fault_at kind at)) → WantBreaks p p (faults.Bad kind at) read
-want_here {Y} {p} kind at h = record { is = record { taken = []; bytes = tt; takes = takes_nothing p; is = λ rest. h (p.at + length rest) rest refl; least = λ front last e. absurd (no_last front last e) } }
+want_here {Y} {p} kind at h = record { is = record { taken = []; bytes = tt; takes = takes_nothing p; is = λ rest. h (p.at + length rest) rest refl; least = λ front one others e. absurd (no_next front one others e) } }
 
 -- There is no memory.
 pub no_memory : {Y : Type 0} {p : Place} {read : ℕ → List ℕ → Result Y Fault} → Breaks p p faults.OutOfMemory read
-no_memory {Y} {p} = record { is = ([], takes_nothing p) }
+no_memory {Y} {p} = record { is = record { taken = []; takes = takes_nothing p; least = λ front one others e. absurd (no_next front one others e) } }
 
--- the same after some bytes
-pub took_then : {Y A F : Type 0} {p q : Place} {m : F} {one : ℕ → List ℕ → Result A F} {mid : List ℕ → A} {read : ℕ → List ℕ → Result Y Fault} → Reads m p q one mid → Breaks p q faults.OutOfMemory read
-took_then h = record { is = (h.taken, h.takes) }
+-- the same behind what was read
+pub took : {A : Type 0} {p q : Place} {one : ℕ → List ℕ → Result A Fault} {mid : List ℕ → A} → Reads short p q one mid → Breaks p q faults.OutOfMemory one
+took h = record { is = record { taken = h.taken; takes = h.takes; least = h.least } }
 
--- ---- no byte came
+-- ---- a byte came, or none
+
+byte_wanted : (b : ℕ) (front : List ℕ) (next : ℕ) (others : List ℕ) → b ∷ [] ≡ front ++ next ∷ others → byte_at front ≡ Err short
+byte_wanted b [] next others e = refl
+byte_wanted b (c ∷ front) next others e = absurd (no_next front next others (cc))
+
+pub byte_comes : (old new : Place) (b : ℕ) → GivesByte old new (Ok b) → Reads short old new (λ end. byte_at) (λ rest. (b, rest))
+byte_comes old new b h = record { taken = b ∷ []; bytes = (h.0, tt); takes = h.2; is = λ rest. refl; least = byte_wanted b }
 
 pub byte_breaks : (old new : Place) (e : PullEnd) → GivesByte old new (Err e) → Breaks old new (fault_of e) (λ end. byte_at)
 byte_breaks old new (ends.End at) h = record { is = (record { taken = []; takes = h.1; here = omega (arith, h.0, h.1.at); is = refl }, h.2) }
 byte_breaks old new (ends.Limit at) h = record { is = (old, record { taken = []; takes = takes_nothing old; here = h.0; is = refl }, h.1) }
-byte_breaks old new ends.ReadFault h = record { is = (([], h.0), h.1) }
+byte_breaks old new ends.ReadFault h = record { is = (record { taken = []; takes = h.0; here = refl; is = refl }, h.1) }
 byte_breaks old new ends.OutOfMemory h = absurd h
 
 pub bytes_break : (old new : Place) (n : ℕ) (e : PullEnd) → GivesBytes old new n (Err e) → Breaks old new (fault_of e) (λ end. take_at n)
@@ -154,8 +165,11 @@ bytes_break old new n (ends.End at) h =
 bytes_break old new n (ends.Limit at) h =
     let few : length h.0 < n = h.3 (λ same. cc) in
     record { is = (h.1, record { taken = h.0; takes = h.4; here = h.5.0; is = takes_short n h.0 few }, h.5.1) }
-bytes_break old new n ends.ReadFault h = record { is = ((h.0, takes_stop old h.1 new h.0 h.4 h.5.0), rose_more _ _ _ h.4.faults h.5.1) }
-bytes_break old new n ends.OutOfMemory h = record { is = (h.0, takes_stop old h.1 new h.0 h.4 h.5) }
+bytes_break old new n ends.ReadFault h =
+    let few : length h.0 < n = h.3 (λ same. cc) in
+    record { is = (record { taken = h.0; takes = takes_stop old h.1 new h.0 h.4 h.5.0; here = refl; is = takes_short n h.0 few }, rose_more _ _ _ h.4.faults h.5.1) }
+bytes_break old new n ends.OutOfMemory h =
+    record { is = record { taken = h.0; takes = takes_stop old h.1 new h.0 h.4 h.5; least = λ front one others e. takes_short n front (omega (arith, h.2, ap (λ (l : List ℕ). length l) e, length-append front (one ∷ others))) } }
 
 -- ---- the answer of a `?` hands on the fault
 
@@ -212,8 +226,8 @@ inside_later {A} {Y} {p} {q} {r} {e} {one} {mid} k a b = want_breaks_two (leads_
 pub want_said : {Y : Type 0} {p q : Place} {e : StreamFault} {a b : ℕ → List ℕ → Result Y WantFault} → ((end : ℕ) (bs : List ℕ) → end ≡ p.at + length bs → b end bs ≡ a end bs) → WantBreaks p q e a → WantBreaks p q e b
 want_said same h = want_breaks_as (λ end bs f here is. same end bs here ∙ is) h
 
-pub want_took : {Y A F : Type 0} {p q : Place} {m : F} {one : ℕ → List ℕ → Result A F} {mid : List ℕ → A} {read : ℕ → List ℕ → Result Y WantFault} → Reads m p q one mid → WantBreaks p q faults.OutOfMemory read
-want_took h = record { is = (h.taken, h.takes) }
+pub want_took : {A : Type 0} {p q : Place} {one : ℕ → List ℕ → Result A WantFault} {mid : List ℕ → A} → Reads (inside short) p q one mid → WantBreaks p q faults.OutOfMemory one
+want_took h = record { is = record { taken = h.taken; takes = h.takes; least = h.least } }
 
 -- ---- where the bytes are told
 
@@ -296,7 +310,7 @@ caused_by X said of_kind p q (faults.TooLarge larges.Depth at) read h = h.takes.
 caused_by X said of_kind p q (faults.TooLarge larges.Bytes at) read h = omega (arith, h.1.takes.faults, h.2.faults)
 caused_by X said of_kind p q (faults.Truncated at) read h = h.0.takes.faults
 caused_by X said of_kind p q faults.ReadFault read h = h.1
-caused_by X said of_kind p q faults.OutOfMemory read h = h.1.faults
+caused_by X said of_kind p q faults.OutOfMemory read h = h.takes.faults
 
 pub breaks_caused : {Y : Type 0} (X : Type 0) {p q : Place} {e : StreamFault} {read : ℕ → List ℕ → Result Y Fault} → Breaks p q e read → Caused {A = X} p.faults q.faults (Err e)
 breaks_caused {Y} X {p} {q} {e} {read} h = caused_by X (λ f. f) IsBad p q e read h.is

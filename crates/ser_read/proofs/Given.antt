@@ -1,5 +1,5 @@
 -- What is spelled is read by lists of wants.
-use Rattle.std.proofs.Common.{◌≡◌, ℕ, suc, ◌-◌, ◌^◌, false, eqb, List, [], ◌∷◌, ◌++◌, length, Result, Ok, refl, sym, ap, subst, ◌∙◌, append_assoc, arith, inl, inr}
+use Rattle.std.proofs.Common.{◌≡◌, ℕ, suc, ◌-◌, ◌^◌, false, eqb, List, [], ◌∷◌, ◌++◌, length, Result, Ok, refl, sym, ap, subst, ◌∙◌, append_assoc, append-nil, arith, inl, inr}
 use Rattle.std.proofs.Math.Dec.{eqb-suc-zero}
 use Rattle.std.specs.Int.{w32, to_be_bytes}
 use Rattle.class_desc.specs.declared.slot.Slot.{Slot}
@@ -9,12 +9,13 @@ use Rattle.ser_values.specs.declared.node.Node.{Node}
 use Rattle.ser_values.specs.declared.node.Place.TheVariants as places
 use Rattle.ser_values.specs.Node.{has}
 use Rattle.ser_values.specs.Shape.{parts_in}
-use Rattle.ser_values.specs.Spelled.{joined, One, IsBlock, Spells, SpellsBlocks}
+use Rattle.ser_values.specs.Spelled.{joined, One, IsBlock, Spells, SpellsBlocks, IsStream}
 use Rattle.ser_values.specs.Reading.{Fault, Progress, slot_at, coded}
 use Rattle.ser_values.proofs.Mirror.{Ready, After, after_none, after_two}
 use Rattle.ser_values.proofs.Plains.{size_back, number_back_32}
 use Rattle.ser_values.proofs.SameTokens.{spells_begin}
 use Rattle.ser_values.proofs.OneReading.{same_list}
+use Rattle.ser_values.proofs.Shrinks.{stream_few}
 use Rattle.ser_values.proofs.Complete.{Given, slots_complete}
 use Rattle.ser_read.specs.declared.block.Head.{Head}
 use Rattle.ser_read.specs.declared.block.Head.TheVariants.{Block, Code}
@@ -22,7 +23,7 @@ use Rattle.ser_read.specs.Heads.{one_head, any_head, head_at}
 use Rattle.ser_read.specs.Named.{add_bytes}
 use Rattle.ser_read.specs.declared.serving.Want.{Want}
 use Rattle.ser_read.specs.declared.serving.Want.TheVariants as wanted
-use Rattle.ser_read.specs.Wants.{◌▸◌, lifted, Stand, nothing_read, opened_at, run_at, only_slot, reference_at, bytes_at, slot_next, close_at, want_at, serve, serve_all}
+use Rattle.ser_read.specs.Wants.{◌▸◌, lifted, Stand, nothing_read, opened_at, run_at, only_slot, reference_at, bytes_at, slot_next, close_at, want_at, serve, serve_to_close}
 use Rattle.ser_read.specs.Asked.{Fits, EndsFull, IsAsked}
 use Rattle.ser_read.proofs.Heads.{head_goes, head_stops}
 use Rattle.ser_read.proofs.Slots.{slot_is}
@@ -30,10 +31,11 @@ use Rattle.ser_read.proofs.Empties.{Header}
 use Rattle.ser_read.proofs.Runs.{Run}
 use Rattle.ser_read.proofs.Flat.{Piece, a_byte, a_slot, bytes_of, flat, flat_by}
 use Rattle.ser_read.proofs.Asked.{serve_items}
+use Rattle.ser_read.proofs.Behind.{blocks_front, spells_front}
 
 -- ---- heads
 
-header_of : (p block bs b : List ℕ) → IsBlock p block → bs ≡ block ++ b → Header (length p) bs (p ++ b)
+pub header_of : (p block bs b : List ℕ) → IsBlock p block → bs ≡ block ++ b → Header (length p) bs (p ++ b)
 header_of p block bs b (inl x) e = inl (x.0, e ∙ ap (λ (l : List ℕ). l ++ b) x.1)
 header_of p block bs b (inr x) e = inr (x.0, e ∙ ap (λ (l : List ℕ). l ++ b) x.1 ∙ ap (λ (l : List ℕ). 0x7A ∷ l) (append_assoc (to_be_bytes w32 (length p)) p b))
 
@@ -54,10 +56,10 @@ code_head end code after a b = head_stops end (code ∷ after) (Code code (end -
 
 -- ---- block data
 
-abbrev cons : ℕ → Run → Run
+abbrev pub cons : ℕ → Run → Run
 cons c read = read ▸ λ r. Ok (c ∷ r.0, r.1, r.2)
 
-run_skips : (end n : ℕ) (bs b : List ℕ) → Header 0 bs b → run_at end (suc n) 0 bs ≡ run_at end (suc n) 0 b
+pub run_skips : (end n : ℕ) (bs b : List ℕ) → Header 0 bs b → run_at end (suc n) 0 bs ≡ run_at end (suc n) 0 b
 unfolding run_at opened_at
 run_skips end n bs b h = rw (empty_head end bs b h) refl
 
@@ -65,7 +67,7 @@ run_goes : (end n k c : ℕ) (b : List ℕ) → run_at end (suc n) (suc k) (c �
 unfolding run_at opened_at
 run_goes end n k c b = let less : suc k - 1 ≡ k = omega arith in let some : eqb (suc k) 0 ≡ false = eqb-suc-zero k in rw some (rw less refl)
 
-run_begins : (end n k c : ℕ) (bs b : List ℕ) → Header (suc k) bs (c ∷ b) → run_at end (suc n) 0 bs ≡ cons c (run_at end n k b)
+pub run_begins : (end n k c : ℕ) (bs b : List ℕ) → Header (suc k) bs (c ∷ b) → run_at end (suc n) 0 bs ≡ cons c (run_at end n k b)
 unfolding run_at opened_at
 run_begins end n k c bs b h = let less : suc k - 1 ≡ k = omega arith in rw (full_head end k bs (c ∷ b) h) (rw less refl)
 
@@ -203,12 +205,22 @@ serve_back F given end rest m (wanted.Slot ∷ ws) (items.Ref t ∷ is) s [] mid
 
 -- ---- the law, in the other direction
 
--- What is spelled within the limits is what the list of wants answers.
-pub asked_complete : (end : ℕ) (ws : List Want) (answers : List Item) (F : List Node) (bs rest : List ℕ) → Given F → IsAsked ws answers F bs rest → serve_all end ws bs ≡ Ok (answers, F, joined answers, rest)
-unfolding serve_all close_at has parts_in
-asked_complete end ws answers F bs rest given h =
+pub asked_stream : (ws : List Want) (answers : List Item) (F : List Node) (bs : List ℕ) → IsAsked ws answers F bs → IsStream F (joined answers) (0xAC ∷ 0xED ∷ 0x00 ∷ 0x05 ∷ bs)
+asked_stream ws answers F bs h = record { contents = bs; headed = refl; spelled = (h.blocks, h.spelled, h.same); numbers = h.numbers; units = h.units; few_parts = h.few_parts; are_bytes = (omega arith, (omega arith, (omega arith, (omega arith, h.are_bytes)))) }
+
+given_of : (ws : List Want) (answers : List Item) (F : List Node) (bs : List ℕ) → IsAsked ws answers F bs → Given F
+given_of ws answers F bs h = record { few = stream_few F (joined answers) (0xAC ∷ 0xED ∷ 0x00 ∷ 0x05 ∷ bs) (asked_stream ws answers F bs h); parts = h.few_parts; numbers = h.numbers; units = h.units }
+
+-- What is spelled is what the list of wants answers, whatever stands behind it.
+pub asked_complete : (end : ℕ) (ws : List Want) (answers : List Item) (F : List Node) (bs rest : List ℕ) → IsAsked ws answers F bs → serve_to_close end ws nothing_read (bs ++ rest) ≡ Ok (answers, F, joined answers, rest)
+unfolding serve_to_close close_at has parts_in
+asked_complete end ws answers F bs rest h =
+    let given = given_of ws answers F bs h in
+    let f = blocks_front (Spells F 200 []) (spells_front F 200 []) h.blocks 0 bs [] (length F) h.spelled in
+    let front : f.front ≡ bs = sym (f.is ∙ append-nil f.front) in
+    let spelled : SpellsBlocks (Spells F 200 []) h.blocks 0 (bs ++ rest) rest (length F) = subst (λ (l : List ℕ). SpellsBlocks (Spells F 200 []) h.blocks 0 (l ++ rest) rest (length F)) front (f.other rest) in
     let ready : Ready F [] (record { nodes = []; parts = 0 }) = record { parts = refl; below = λ k e. absurd cc; known = λ k i lt e is d. absurd (omega arith); texts = λ k i lt is t. absurd (omega arith) } in
-    let r = serve_back F given end rest (length F) ws answers nothing_read [] bs h.blocks h.fits refl h.spelled h.full (sym (flat_by answers h.blocks h.same)) ready in
+    let r = serve_back F given end rest (length F) ws answers nothing_read [] (bs ++ rest) h.blocks h.fits refl spelled h.full (sym (flat_by answers h.blocks h.same)) ready in
     let nodes : F ≡ r.last.progress.nodes = same_list F r.last.progress.nodes (sym r.len) (λ k lt. r.after.agrees k (omega arith) (let e : length r.last.progress.nodes ≡ length F = r.len in omega arith)) in
-    let its : r.last.items ≡ joined answers = serve_items end ws nothing_read bs (answers, r.last, rest) r.is [] refl in
+    let its : r.last.items ≡ joined answers = serve_items end ws nothing_read (bs ++ rest) (answers, r.last, rest) r.is [] refl in
     rw r.is (rw r.closed (rw (sym nodes, its) refl))

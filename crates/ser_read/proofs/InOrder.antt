@@ -10,15 +10,14 @@ use Rattle.ser_values.specs.Spelled.{joined}
 use Rattle.ser_values.specs.Reading.{short, bad, bad_magic, byte_at, magic_at}
 use Rattle.ser_values.proofs.PlainSound as plain
 use Rattle.ser_values.proofs.PlainSound.{bind_ok, passed, ok_is}
-use Rattle.ser_values.proofs.Complete as complete
 use Rattle.ser_read.specs.declared.fault.StreamFault.{StreamFault}
 use Rattle.ser_read.specs.declared.serving.Want.{Want}
 use Rattle.ser_read.specs.declared.fault.StreamFault.TheVariants as faults
 use Rattle.ser_read.specs.declared.fault.StreamKind.TheVariants as kinds
 use Rattle.ser_read.proofs.Breaking.{inside_later, want_later, want_here}
 use Rattle.ser_read.specs.Here.{Reads}
-use Rattle.ser_read.specs.Wants.{WantFault, inside, block_left, WantBreaks, ◌▸◌, Stand, nothing_read, close_at, want_at, serve, serve_all, wants_at, WantIsBad, WantGives}
-use Rattle.ser_read.specs.Asked.{IsAsked, TakesAsked, InLimits, AnswersAsked}
+use Rattle.ser_read.specs.Wants.{WantFault, inside, block_left, WantBreaks, ◌▸◌, Stand, nothing_read, close_at, want_at, serve, serve_to_close, wants_at, WantIsBad, WantGives}
+use Rattle.ser_read.specs.Asked.{IsAsked, TakesAsked, AnswersAsked}
 use Rattle.ser_read.proofs.Heads.{byte_is}
 use Rattle.ser_read.proofs.Steps.{fails_outside}
 use Rattle.ser_read.proofs.Wants.{want_then}
@@ -63,25 +62,30 @@ serve_end end front ws i s bs le = let k : drop i ws ≡ [] = nil_from_length (d
 
 -- ---- the whole stream
 
-pub close_reads : {p q r : Place} (ws : List Want) (answers : List Item) (s : Stand) (nodes : List Node) (is : List Item)
-    → Reads short p q (λ end bs. magic_at end (0xAC ∷ 0xED ∷ 0x00 ∷ 0x05 ∷ []) bs) (λ rest. rest) → Reads (inside short) q r (λ end. serve end ws nothing_read) (λ rest. (answers, s, rest)) → close_at r.at s ≡ Ok (nodes, is)
-    → Reads (inside short) p r (λ end. wants_at end ws) (λ rest. (answers, nodes, is, rest))
-unfolding wants_at serve_all
-close_reads {p} {q} {r} ws answers s nodes is a b closed = want_then (λ end. serve_all end ws) a (record {
+pub closed_reads : {q r : Place} (ws : List Want) (answers : List Item) (s later : Stand) (nodes : List Node) (is : List Item) → Reads (inside short) q r (λ end. serve end ws s) (λ rest. (answers, later, rest)) → close_at r.at later ≡ Ok (nodes, is)
+    → Reads (inside short) q r (λ end. serve_to_close end ws s) (λ rest. (answers, nodes, is, rest))
+unfolding serve_to_close
+closed_reads {q} {r} ws answers s later nodes is b closed = record {
   taken = b.taken;
   bytes = b.bytes;
   takes = b.takes;
   is = λ rest. let k : r.at + length rest - length rest ≡ r.at = omega arith in rw (b.is rest) (rw k (rw closed refl));
-  least = λ front last e. rw (b.least front last e) refl;
-})
+  least = λ front next others e. rw (b.least front next others e) refl;
+}
+
+pub close_reads : {p q r : Place} (ws : List Want) (answers : List Item) (s : Stand) (nodes : List Node) (is : List Item)
+    → Reads short p q (λ end bs. magic_at end (0xAC ∷ 0xED ∷ 0x00 ∷ 0x05 ∷ []) bs) (λ rest. rest) → Reads (inside short) q r (λ end. serve end ws nothing_read) (λ rest. (answers, s, rest)) → close_at r.at s ≡ Ok (nodes, is)
+    → Reads (inside short) p r (λ end. wants_at end ws) (λ rest. (answers, nodes, is, rest))
+unfolding wants_at
+close_reads {p} {q} {r} ws answers s nodes is a b closed = want_then (λ end. serve_to_close end ws nothing_read) a (closed_reads ws answers nothing_read s nodes is b closed)
 
 -- a block is left where the end is wanted
 pub close_stops : {p q r : Place} (ws : List Want) (answers : List Item) (s : Stand) (e : StreamFault) → Reads short p q (λ end bs. magic_at end (0xAC ∷ 0xED ∷ 0x00 ∷ 0x05 ∷ []) bs) (λ rest. rest)
     → Reads (inside short) q r (λ end. serve end ws nothing_read) (λ rest. (answers, s, rest)) → e ≡ faults.Bad kinds.BlockLeft r.at → s.block ≢ 0 → WantBreaks p r e (λ end. wants_at end ws)
-unfolding wants_at serve_all close_at
+unfolding wants_at serve_to_close close_at
 close_stops {p} {q} {r} ws answers s e a b is some =
     let open_block : eqb s.block 0 ≡ false = ne_eqb s.block 0 some in
-    rw is (inside_later (λ end. serve_all end ws) a (want_later _ b (want_here kinds.BlockLeft r.at (λ end bs here.
+    rw is (inside_later (λ end. serve_to_close end ws nothing_read) a (want_later _ b (want_here kinds.BlockLeft r.at (λ end bs here.
     let k : end - length bs ≡ r.at = omega (arith, here) in rw open_block (ap (λ n. Err (block_left n)) k)))))
 
 magic_is : (end : ℕ) (ws bs rest : List ℕ) → magic_at end ws bs ≡ Ok rest → bs ≡ ws ++ rest
@@ -99,22 +103,22 @@ takes_asked {p} {q} ws answers nodes is r =
     let end = q.at + 0 in
     let head : List ℕ = 0xAC ∷ 0xED ∷ 0x00 ∷ 0x05 ∷ [] in
     let one : wants_at end ws r.taken ≡ Ok (answers, nodes, is, []) = ap (λ (l : List ℕ). wants_at end ws l) (sym (append-nil r.taken)) ∙ r.is [] in
-    let a = lifted_ok (magic_at end head r.taken) (serve_all end ws) (answers, nodes, is, []) one in
+    let a = lifted_ok (magic_at end head r.taken) (serve_to_close end ws nothing_read) (answers, nodes, is, []) one in
     let m = magic_is end head r.taken a.0 a.1 in
     let left = plain.bytes_left r.taken head a.0 m (are r.taken r.bytes) in
     let s = asked_sound end ws a.0 (answers, nodes, is, []) a.2 left in
-    record { bytes = a.0; takes = subst (λ (l : List ℕ). Takes p q l) m r.takes; asked = s.0; contents_are = s.1 }
+    let all : s.front ≡ a.0 = sym (s.is ∙ append-nil s.front) in
+    record { bytes = a.0; takes = subst (λ (l : List ℕ). Takes p q l) m r.takes; asked = subst (λ (l : List ℕ). IsAsked ws answers nodes l) all s.asked; contents_are = s.contents }
 
 abbrev Whole : Type 0
 Whole = List Item × List Node × List Item × List ℕ
 
 -- what is asked is read, unless the outside fails
 pub gives_asked : (after : StreamFault) (end : ℕ) (ws : List Want) (answers : List Item) (nodes : List Node) (bytes rest now coming : List ℕ) (result : Result (List Item × Graph) StreamFault)
-    → WantGives {Y = Whole} after (λ x. (x.0, x.1.nodes, x.1.items, now)) result (wants_at end ws coming) → coming ≡ 0xAC ∷ 0xED ∷ 0x00 ∷ 0x05 ∷ bytes → InLimits nodes → IsAsked ws answers nodes bytes rest → AnswersAsked answers nodes rest now result
+    → WantGives {Y = Whole} after (λ x. (x.0, x.1.nodes, x.1.items, now)) result (wants_at end ws coming) → coming ≡ 0xAC ∷ 0xED ∷ 0x00 ∷ 0x05 ∷ (bytes ++ rest) → IsAsked ws answers nodes bytes → AnswersAsked answers nodes rest now result
 unfolding wants_at magic_at
-gives_asked after end ws answers nodes bytes rest now coming result h here limits asked =
-    let given : complete.Given nodes = record { few = limits.few; parts = limits.parts; numbers = asked.numbers; units = asked.units } in
-    let read : wants_at end ws coming ≡ Ok (answers, nodes, joined answers, rest) = ap (λ (l : List ℕ). wants_at end ws l) here ∙ asked_complete end ws answers nodes bytes rest given asked in
+gives_asked after end ws answers nodes bytes rest now coming result h here asked =
+    let read : wants_at end ws coming ≡ Ok (answers, nodes, joined answers, rest) = ap (λ (l : List ℕ). wants_at end ws l) here ∙ asked_complete end ws answers nodes bytes rest asked in
     go result h read
   where
     go : (result : Result (List Item × Graph) StreamFault) → WantGives {Y = Whole} after (λ x. (x.0, x.1.nodes, x.1.items, now)) result (wants_at end ws coming) → wants_at end ws coming ≡ Ok (answers, nodes, joined answers, rest) → AnswersAsked answers nodes rest now result

@@ -17,9 +17,12 @@ pub mod Runs
 pub mod Empties
 pub mod Served
 pub mod Flat
+pub mod Behind
 pub mod Asked
 pub mod Given
 pub mod InOrder
+pub mod WantLaws
+pub mod Heading
 pub mod Streams
 pub mod ToEnd
 pub mod Rows

@@ -1,15 +1,24 @@
 -- The first fault that stands in some bytes, computed: one row for each kind that has no row where reading is defined.
-use Rattle.std.proofs.Common.{◌≡◌, ℕ, List, [], ◌∷◌, length, Result, Err, refl}
+use Rattle.std.proofs.Common.{◌≡◌, ℕ, List, [], ◌∷◌, length, take, Some, Result, Ok, Err, refl}
 use Rattle.mod_utf.specs.Decoding.{decoded_at, front}
 use Rattle.class_desc.specs.declared.slot.Slot.{Slot}
 use Rattle.class_desc.specs.declared.slot.Item.{Item}
+use Rattle.class_desc.specs.declared.slot.Item.TheVariants as items
 use Rattle.class_desc.specs.TypeText.{element_of, is_array_text, is_component_text, ends_class}
 use Rattle.class_desc.specs.ClassDesc.{is_good_desc, fit_flags, are_ordered}
 use Rattle.ser_values.specs.declared.node.Node.{Node}
 use Rattle.ser_values.specs.declared.node.Place.TheVariants.{Reference}
-use Rattle.ser_values.specs.Reading.{Fault, Progress, bad, too_many, too_deep, bad_desc, negative_length, inner_exception, stream_of, magic_at, items_at, blocks_at, slot_at, coded, fresh_at, desc_at, desc_after, short_at, units_at, size_at, many_at, field_at, field_of, text_at, with_class, object_at, chain_of, array_at, array_of, enum_at}
+use Rattle.ser_values.specs.Reading.{Fault, Progress, short, bad, too_many, too_deep, bad_desc, negative_length, inner_exception, stream_of, magic_at, items_at, blocks_at, slot_at, coded, fresh_at, desc_at, desc_after, short_at, units_at, size_at, many_at, field_at, field_of, text_at, with_class, object_at, chain_of, array_at, array_of, enum_at}
+use Rattle.ser_read.specs.declared.fault.StreamFault.TheVariants.{TooLarge}
+use Rattle.ser_read.specs.declared.fault.Large.TheVariants.{Bytes}
+use Rattle.ser_read.specs.declared.serving.Want.TheVariants as wanted
+use Rattle.ser_read.specs.Here.{env_at}
+use Rattle.ser_read.specs.Whole.{stream_at, going_on}
+use Rattle.ser_read.specs.Named.{add_bytes}
 use Rattle.ser_read.specs.Heads.{one_head, any_head, head_within}
-use Rattle.ser_read.specs.Wants.{WantFault, missing_block, block_left, nothing_read, no_block, opened_at, run_at, bytes_at, slot_next}
+use Rattle.ser_read.specs.Heading.{inside_block}
+use Rattle.ser_read.specs.Wants.{WantFault, missing_block, block_left, nothing_read, Stand, no_block, opened_at, run_at, bytes_at, slot_next, want_at, serve, close_at}
+use Rattle.ser_read.proofs.InOrder.{Serving}
 
 abbrev Answer : Type 0
 Answer = Result (List Node × List Item) Fault
@@ -72,3 +81,26 @@ a_block_left = refl
 a_missing_block : bytes_at 1 1 nothing_read (0x70 ∷ []) ≡ want_fails (missing_block 0)
 unfolding bytes_at run_at opened_at head_within any_head one_head no_block
 a_missing_block = refl
+
+a_block_left_at_the_end : close_at 7 (inside_block (0x01 ∷ []) 2) ≡ want_fails (block_left 7)
+unfolding close_at
+a_block_left_at_the_end = refl
+
+-- null and one byte more, where a stream may have five bytes
+abbrev six : List ℕ
+six = 0xAC ∷ 0xED ∷ 0x00 ∷ 0x05 ∷ 0x70 ∷ 0x70 ∷ []
+
+too_many_bytes : (env_at (Some six) 0 5).after ≡ TooLarge Bytes 5
+too_many_bytes = refl
+
+no_end_at_the_limit : going_on (stream_at 5 (take 5 six)) ≡ fails short
+unfolding stream_at magic_at items_at blocks_at slot_at coded
+no_end_at_the_limit = refl
+
+abbrev served : List Item × Stand × List ℕ → Serving
+served x = Ok x
+
+-- two bytes behind an empty block, of a block of three
+a_head_in_a_block : serve 6 (wanted.Bytes 2 ∷ []) nothing_read (0x77 ∷ 0x00 ∷ 0x77 ∷ 0x03 ∷ 0x01 ∷ 0x02 ∷ []) ≡ served (items.Bytes (0x01 ∷ 0x02 ∷ []) ∷ [], inside_block (0x01 ∷ 0x02 ∷ []) 1, [])
+unfolding serve want_at bytes_at run_at opened_at head_within any_head one_head add_bytes
+a_head_in_a_block = refl

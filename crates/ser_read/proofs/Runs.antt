@@ -22,7 +22,7 @@ pub behind_none : (read : Run) → behind [] read ≡ read
 behind_none (Ok x) = refl
 behind_none (Err f) = refl
 
-behind_two : (a b : List ℕ) (read : Run) → behind a (behind b read) ≡ behind (a ++ b) read
+pub behind_two : (a b : List ℕ) (read : Run) → behind a (behind b read) ≡ behind (a ++ b) read
 behind_two a b (Ok x) = ap (λ (xs : List ℕ). Ok (xs, x.1, x.2)) (sym (append_assoc a b x.0))
 behind_two a b (Err f) = refl
 
@@ -70,7 +70,7 @@ opened_none end block bs h = rw h refl
 abbrev nil : List ℕ
 nil = []
 
-run_piece : (end : ℕ) (piece rest : List ℕ) (n k : ℕ) → run_at end (length piece + n) (length piece + k) (piece ++ rest) ≡ behind piece (run_at end n k rest)
+pub run_piece : (end : ℕ) (piece rest : List ℕ) (n k : ℕ) → run_at end (length piece + n) (length piece + k) (piece ++ rest) ≡ behind piece (run_at end n k rest)
 unfolding run_at
 run_piece end [] rest n k =
     let a : length (nil) + n ≡ n = omega arith in

@@ -1,5 +1,5 @@
 -- What was read by wants that were served is a graph.
-use Rattle.std.proofs.Common.{◌≡◌, ℕ, suc, ◌+◌, ◌-◌, ◌≤◌, eqb, List, [], ◌∷◌, ◌++◌, length, Result, Ok, Err, refl, sym, ap, subst, ◌∙◌, append-nil, arith, inl, inr}
+use Rattle.std.proofs.Common.{◌≡◌, ℕ, zero, suc, ◌+◌, ◌-◌, ◌<◌, ◌≤◌, ◌^◌, eqb, List, [], ◌∷◌, ◌++◌, length, Result, Ok, Err, refl, sym, ap, subst, ◌∙◌, append-nil, arith, inl, inr}
 use Rattle.wire_io.specs.Pulled.{Place}
 use Rattle.class_desc.specs.declared.slot.Slot.{Slot}
 use Rattle.class_desc.specs.declared.slot.Item.{Item}
@@ -10,10 +10,11 @@ use Rattle.ser_values.specs.Node.{has, item_wants}
 use Rattle.ser_values.specs.Shape.{is_joined, parts_in}
 use Rattle.ser_values.specs.Numbered.{NumberAll, Numbered, IsGraph}
 use Rattle.ser_values.specs.Spelled.{joined, Spells}
-use Rattle.ser_values.specs.Reading.{short, Fault, Progress, slot_at, coded}
-use Rattle.std.proofs.lemmas.List.Elements.{All-nil}
-use Rattle.ser_values.specs.Ranges.{InRange}
-use Rattle.ser_values.proofs.Ranged.{numbers_of, units_of}
+use Rattle.ser_values.specs.Reading.{short, byte_at, Fault, Progress, slot_at, coded}
+use Rattle.std.specs.Prelude.{All}
+use Rattle.std.proofs.lemmas.List.Elements.{All-nil, All-cons, All-push}
+use Rattle.ser_values.specs.Ranges.{ItemFits, ItemsFit, InRange}
+use Rattle.ser_values.proofs.Ranged.{numbers_of, units_of, joined_fit}
 use Rattle.ser_values.proofs.PlainSound as plain
 use Rattle.ser_values.proofs.Solid.{Solid, Got, got_none, got_map, got_two}
 use Rattle.ser_values.proofs.Sound.{slots_sound}
@@ -25,8 +26,9 @@ use Rattle.ser_read.specs.Heads.{head_at}
 use Rattle.ser_read.specs.Named.{add_bytes}
 use Rattle.ser_read.specs.declared.serving.Want.{Want}
 use Rattle.ser_read.specs.declared.serving.Want.TheVariants as wanted
-use Rattle.ser_read.specs.Wants.{WantFault, inside, ◌▸◌, lifted, Stand, nothing_read, run_at, only_slot, reference_at, bytes_at, slot_next, want_at, Served, AreServed, IsServed}
+use Rattle.ser_read.specs.Wants.{WantFault, inside, ◌▸◌, lifted, Stand, nothing_read, only_block, opened_at, run_at, only_slot, reference_at, bytes_at, slot_next, want_at, Served, AreServed, IsServed}
 use Rattle.ser_read.proofs.Joins.{added_is}
+use Rattle.ser_read.proofs.Runs.{opened_here}
 use Rattle.ser_read.proofs.Slots.{slot_is}
 use Rattle.ser_read.proofs.Empties.{Empties, found}
 
@@ -118,6 +120,7 @@ start = record { nodes = []; parts = 0 }
 record SoFar (s : Stand) : Type 0 where
   raw : List Item
   same : s.items ≡ joined raw
+  fit : ItemsFit raw
   got : Got [] start s.progress [] (λ F. NumberAll (Numbered F 200 []) (item_wants s.items) 0 (length s.progress.nodes))
 
 at_start : SoFar nothing_read
@@ -125,12 +128,38 @@ unfolding has item_wants
 at_start = record {
   raw = [];
   same = refl;
+  fit = All-nil ItemFits;
   got = got_none [] start [] _ (record { above = λ k i gone is desc. absurd cc; good = λ k i gone is. absurd cc; below = λ k h. absurd cc; few = omega arith; ranged = All-nil InRange }) tt (λ F sees. refl);
 }
 
-bytes_so_far : (end n : ℕ) (before after : Stand) (bs x rest : List ℕ) → bytes_at end n before bs ≡ Ok (x, after, rest) → SoFar before → SoFar after
+-- the bytes after what opens a block
+opened_bytes : (end k : ℕ) (bs : List ℕ) (o : ℕ × List ℕ) → opened_at end k bs ≡ Ok o → plain.AreBytes bs → plain.AreBytes o.1
+unfolding opened_at
+opened_bytes end zero bs o is bytes = (found end (suc (length bs)) bs (Block o.0, o.1) found_block bytes).left
+  where
+    found_block : head_at end bs ≡ Ok (Block o.0, o.1)
+    found_block =
+        let a = lifted_ok (head_at end bs) only_block o is in
+        by a.0 a.1 a.2
+      where
+        by : (x : Head × List ℕ) → head_at end bs ≡ Ok x → only_block x ≡ Ok o → head_at end bs ≡ Ok (Block o.0, o.1)
+        by (Block j, rest) is h = let s : (j, rest) ≡ o = given_is (j, rest) o h in is ∙ ap (λ (x : ℕ × List ℕ). Ok (Block x.0, x.1)) s
+        by (Code code at, rest) is h = absurd cc
+opened_bytes end (suc j) bs o is bytes = let same : (suc j, bs) ≡ o = given_is (suc j, bs) o (sym (opened_here end (suc j) bs (omega arith)) ∙ is) in subst (λ (x : ℕ × List ℕ). plain.AreBytes x.1) same bytes
+
+run_fits : (end n k : ℕ) (bs : List ℕ) (y : List ℕ × ℕ × List ℕ) → run_at end n k bs ≡ Ok y → plain.AreBytes bs → All (λ x. x < 2 ^ 8) y.0
+unfolding run_at
+run_fits end zero k bs y e bytes = subst (λ (y : List ℕ × ℕ × List ℕ). All (λ x. x < 2 ^ 8) y.0) (given_is ([], k, bs) y e) (All-nil (λ x. x < 2 ^ 8))
+run_fits end (suc n) k bs y e bytes =
+    let o = want_ok (opened_at end k bs) (λ o. lifted (byte_at o.1) ▸ λ b. run_at end n (o.0 - 1) b.1 ▸ λ r. Ok (b.0 ∷ r.0, r.1, r.2)) y e in
+    let c = lifted_ok (byte_at o.0.1) (λ b. run_at end n (o.0.0 - 1) b.1 ▸ λ r. Ok (b.0 ∷ r.0, r.1, r.2)) y o.2 in
+    let r = want_ok (run_at end n (o.0.0 - 1) c.0.1) (λ r. Ok (c.0.0 ∷ r.0, r.1, r.2)) y c.2 in
+    let read = subst plain.AreBytes (plain.byte_sound o.0.1 c.0 c.1) (opened_bytes end k bs o.0 o.1 bytes) in
+    subst (λ (y : List ℕ × ℕ × List ℕ). All (λ x. x < 2 ^ 8) y.0) (given_is (c.0.0 ∷ r.0.0, r.0.1, r.0.2) y r.2) (All-cons (λ x. x < 2 ^ 8) c.0.0 r.0.0 read.0 (run_fits end n (o.0.0 - 1) c.0.1 r.0 r.1 read.1))
+
+bytes_so_far : (end n : ℕ) (before after : Stand) (bs x rest : List ℕ) → bytes_at end n before bs ≡ Ok (x, after, rest) → plain.AreBytes bs → SoFar before → SoFar after
 unfolding bytes_at
-bytes_so_far end n before after bs x rest e h =
+bytes_so_far end n before after bs x rest e bytes h =
     let a = want_ok (run_at end n before.block bs) _ (x, after, rest) e in
     let y = a.0 in
     let now : Stand = record { progress = before.progress; items = add_bytes before.items y.0; block = y.1 } in
@@ -138,6 +167,7 @@ bytes_so_far end n before after bs x rest e h =
     let mine : SoFar now = record {
       raw = h.raw ++ items.Bytes y.0 ∷ [];
       same = ap (λ (l : List Item). add_bytes l y.0) h.same ∙ added_is h.raw (items.Bytes y.0);
+      fit = All-push ItemFits h.raw (items.Bytes y.0) h.fit (run_fits end n before.block bs y a.1 bytes);
       got = got_map [] start before.progress [] _ _ h.got (λ F sees g. subst (λ ws. NumberAll (Numbered F 200 []) ws 0 (length before.progress.nodes)) (sym (bytes_wants before.items y.0)) g);
     } in
     subst SoFar (ap (λ (t : List ℕ × Stand × List ℕ). t.1) same) mine
@@ -156,6 +186,7 @@ slot_so_far end before after bs slot e bytes h = elim (plain.chosen (eqb before.
       let mine : SoFar now = record {
         raw = h.raw ++ items.Ref y.0 ∷ [];
         same = ap (λ (l : List Item). l ++ items.Ref y.0 ∷ []) h.same ∙ added_is h.raw (items.Ref y.0);
+        fit = All-push ItemFits h.raw (items.Ref y.0) h.fit tt;
         got = subst (λ (r : List ℕ). Got [] start y.1 r (λ F. NumberAll (Numbered F 200 []) (item_wants (before.items ++ items.Ref y.0 ∷ [])) 0 (length y.1.nodes))) none
             (got_two [] start before.progress y.1 [] y.2 _ _ _ h.got g (λ F sees a b. subst (λ ws. NumberAll (Numbered F 200 []) ws 0 (length y.1.nodes)) (sym (ref_wants before.items y.0)) (number_last (Numbered F 200 []) (item_wants before.items) (places.Reference, y.0) 0 (length before.progress.nodes) (length y.1.nodes) a b)));
       } in
@@ -167,7 +198,7 @@ unfolding want_at
 want_so_far end (wanted.Bytes n) before after bs answer e bytes h =
     let a = want_ok (bytes_at end n before bs) _ (answer, after, []) e in
     let s = given_is (items.Bytes a.0.0, a.0.1, a.0.2) (answer, after, []) a.2 in
-    subst SoFar (ap (λ (t : Item × Stand × List ℕ). t.1) s) (bytes_so_far end n before a.0.1 bs a.0.0 a.0.2 a.1 h)
+    subst SoFar (ap (λ (t : Item × Stand × List ℕ). t.1) s) (bytes_so_far end n before a.0.1 bs a.0.0 a.0.2 a.1 bytes h)
 want_so_far end wanted.Slot before after bs answer e bytes h =
     let a = want_ok (slot_next end before bs) _ (answer, after, []) e in
     let s = given_is (items.Ref a.0.0, a.0.1, a.0.2) (answer, after, []) a.2 in
@@ -195,6 +226,7 @@ served_graph s h few =
       few_parts = omega arith;
       numbers = numbers_of N f.got.solid.ranged;
       units = units_of N f.got.solid.ranged;
+      bytes = subst (λ (l : List Item). ItemsFit l) (sym f.same) (joined_fit f.raw f.fit);
     }
 
 -- ---- one want more

@@ -19,7 +19,6 @@ use Rattle.class_desc.specs.declared.slot.Item.TheVariants as items
 use Rattle.ser_read.specs.Wants.{Stand, ◌▸◌, reference_at, slot_next}
 use Rattle.ser_read.specs.Named.{item_at}
 use Rattle.ser_read.proofs.Steps.{done, said}
-use Rattle.wire_io.proofs.Pulling.{takes_nothing}
 use Rattle.ser_read.proofs.Breaking.{breaks_as, bad_here, many_here, deep_here, no_memory}
 
 pub slot_is : (end left : ℕ) (p : Place) (unread : List ℕ) (now : Progress) (bs : List ℕ) → slot_at end left p unread now bs ≡ (byte_at bs >>= λ c. coded end left (slot_at end (left - 1)) p unread (end - length bs) c.0 now c.1)
@@ -56,7 +55,7 @@ null_stops q left inner p unread at code now (Err (faults.TooLarge larges.Nodes 
 null_stops q left inner p unread at code now (Err (faults.TooLarge larges.Depth a)) h g cause = deep_here a (λ end bs here. coded_null end left (inner end) p unread at code now bs h ∙ g faults.ReadFault now bs)
 null_stops q left inner p unread at code now (Err (faults.TooLarge larges.Bytes a)) h g cause = absurd (let e = (g faults.ReadFault now []).1 in cc)
 null_stops q left inner p unread at code now (Err (faults.Truncated a)) h g cause = absurd (let e = (g faults.ReadFault now []).1 in cc)
-null_stops q left inner p unread at code now (Err faults.ReadFault) h g cause = record { is = (([], takes_nothing q), cause q.faults) }
+null_stops q left inner p unread at code now (Err faults.ReadFault) h g cause = absurd (let least = (cause 0).1 in omega (arith, least))
 null_stops q left inner p unread at code now (Err faults.OutOfMemory) h g cause = no_memory
 
 -- values and elements of primitive types have no references

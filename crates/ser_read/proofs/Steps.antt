@@ -9,7 +9,7 @@ use Rattle.ser_read.specs.declared.fault.StreamKind.{StreamKind}
 use Rattle.ser_read.specs.declared.fault.StreamFault.{StreamFault}
 use Rattle.ser_read.specs.declared.fault.StreamFault.TheVariants as faults
 use Rattle.ser_read.specs.declared.fault.Large.TheVariants as larges
-use Rattle.ser_read.specs.Here.{FailsBy, IsOutside, AreBytes, NeedsLast, Reads, env_at, coming_at, env, coming, IsTold}
+use Rattle.ser_read.specs.Here.{FailsBy, IsOutside, AreBytes, NeedsAll, Reads, env_at, coming_at, env, coming, IsTold}
 use Rattle.ser_read.proofs.Pulling.{takes_told}
 
 pub bytes_more : (xs ys : List ℕ) → AreBytes xs → AreBytes ys → AreBytes (xs ++ ys)
@@ -42,50 +42,43 @@ pub record Leads {Y F : Type 0} (more : F) (p q : Place) (read next : ℕ → Li
   pub bytes : AreBytes taken
   pub takes : Takes p q taken
   pub is : (rest : List ℕ) → read (q.at + length rest) (taken ++ rest) ≡ next (q.at + length rest) rest
-  pub least : NeedsLast more p.at taken read
+  pub least : NeedsAll more p.at taken read
 
 pub goes : {Y F : Type 0} {m : F} {p q : Place} {read next : ℕ → List ℕ → Result Y F} → Leads m p q read next → Goes p q read next
 goes l = record { taken = l.taken; bytes = l.bytes; takes = l.takes; is = l.is }
 
--- the last of some bytes and of others after them
-pub no_last : (front : List ℕ) (last : ℕ) → [] ≡ front ++ last ∷ [] → ⊥
-no_last [] last e = cc
-no_last (b ∷ front) last e = cc
+-- no bytes have a front that lacks one
+pub no_next : (front : List ℕ) (next : ℕ) (others : List ℕ) → [] ≡ front ++ next ∷ others → ⊥
+no_next [] next others e = cc
+no_next (b ∷ front) next others e = cc
 
-abbrev Last : List ℕ → List ℕ → List ℕ → ℕ → Type 0
-Last xs ys front last = ((ys ≡ []) × (xs ≡ front ++ last ∷ [])) ⊎ ((g : List ℕ) × (front ≡ xs ++ g) × (ys ≡ g ++ last ∷ []))
+-- A front that lacks a byte of some bytes and of others after them, lacks one of the first, or is those and a front that lacks one of the others.
+abbrev Lacks : List ℕ → List ℕ → List ℕ → Type 0
+Lacks xs ys front = ((next : ℕ) × (others : List ℕ) × (xs ≡ front ++ next ∷ others)) ⊎ ((g : List ℕ) × (next : ℕ) × (others : List ℕ) × (front ≡ xs ++ g) × (ys ≡ g ++ next ∷ others))
 
-last_of : (xs ys front : List ℕ) (last : ℕ) → xs ++ ys ≡ front ++ last ∷ [] → Last xs ys front last
-last_of [] ys front last e = inr (front, refl, e)
-last_of (x ∷ xs) ys [] last e = inl (none xs ys (cc), let h : xs ≡ [] = first_none xs ys (cc) in let k : x ≡ last = cc in rw (h, k) refl)
-  where
-    none : (xs ys : List ℕ) → xs ++ ys ≡ [] → ys ≡ []
-    none [] ys e = e
-    none (x ∷ xs) ys e = absurd cc
-
-    first_none : (xs ys : List ℕ) → xs ++ ys ≡ [] → xs ≡ []
-    first_none [] ys e = refl
-    first_none (x ∷ xs) ys e = absurd cc
-last_of (x ∷ xs) ys (f ∷ front) last e =
+lacks : (xs ys front : List ℕ) (next : ℕ) (others : List ℕ) → xs ++ ys ≡ front ++ next ∷ others → Lacks xs ys front
+lacks [] ys front next others e = inr (front, next, others, refl, e)
+lacks (x ∷ xs) ys [] next others e = inl (x, xs, refl)
+lacks (x ∷ xs) ys (f ∷ front) next others e =
     let k : x ≡ f = cc in
-    let more : xs ++ ys ≡ front ++ last ∷ [] = cc in
-    elim (last_of xs ys front last more) [
-      | inl h ↦ inl (h.0, rw (k, h.1) refl)
-      | inr h ↦ inr (h.0, rw (k, h.1) refl, h.2)
+    let more : xs ++ ys ≡ front ++ next ∷ others = cc in
+    elim (lacks xs ys front next others more) [
+      | inl h ↦ inl (h.0, h.1, rw (k, h.2) refl)
+      | inr h ↦ inr (h.0, h.1, h.2, rw (k, h.3) refl, h.4)
     ]
 
--- Of what was read in two steps, the last byte is needed where it is in each.
-pub least_two : {Y F : Type 0} {m : F} {p q : Place} {read next : ℕ → List ℕ → Result Y F} (a : Leads m p q read next) (b : List ℕ) → NeedsLast m q.at b next → NeedsLast m p.at (a.taken ++ b) read
-least_two {Y} {F} {m} {p} {q} {read} {next} a b h = λ front last e. elim (last_of a.taken b front last e) [
-  | inl x ↦ a.least front last x.1
+-- Of what was read in two steps, each byte is needed where each is needed in its step.
+pub least_two : {Y F : Type 0} {m : F} {p q : Place} {read next : ℕ → List ℕ → Result Y F} (a : Leads m p q read next) (b : List ℕ) → NeedsAll m q.at b next → NeedsAll m p.at (a.taken ++ b) read
+least_two {Y} {F} {m} {p} {q} {read} {next} a b h = λ front one others e. elim (lacks a.taken b front one others e) [
+  | inl x ↦ a.least front x.0 x.1 x.2
   | inr x ↦ (
       let g = x.0 in
-      let here : p.at + length front ≡ q.at + length g = omega (arith, ap (λ (l : List ℕ). length l) x.1, length-append a.taken g, a.takes.at) in
-      ap (λ n. read n front) here ∙ ap (λ (l : List ℕ). read (q.at + length g) l) x.1 ∙ a.is g ∙ h g last x.2)
+      let here : p.at + length front ≡ q.at + length g = omega (arith, ap (λ (l : List ℕ). length l) x.3, length-append a.taken g, a.takes.at) in
+      ap (λ n. read n front) here ∙ ap (λ (l : List ℕ). read (q.at + length g) l) x.3 ∙ a.is g ∙ h g x.1 x.2 x.4)
 ]
 
 pub leads_start : {Y F : Type 0} {m : F} (p : Place) (read next : ℕ → List ℕ → Result Y F) → ((end : ℕ) (bs : List ℕ) → read end bs ≡ next end bs) → Leads m p p read next
-leads_start p read next h = record { taken = []; bytes = tt; takes = takes_nothing p; is = λ rest. h (p.at + length rest) rest; least = λ front last e. absurd (no_last front last e) }
+leads_start p read next h = record { taken = []; bytes = tt; takes = takes_nothing p; is = λ rest. h (p.at + length rest) rest; least = λ front one others e. absurd (no_next front one others e) }
 
 pub leads_two : {Y F : Type 0} {m : F} {p q r : Place} {read next more : ℕ → List ℕ → Result Y F} → Leads m p q read next → Leads m q r next more → Leads m p r read more
 unfolding goes goes_two
@@ -102,7 +95,7 @@ leads_read {Y} {A} {F} {G} {m} {n} {q} {r} {next} {step} {out} more b h wants = 
   bytes = b.bytes;
   takes = b.takes;
   is = λ rest. h (r.at + length rest) (b.taken ++ rest) rest (omega (arith, b.takes.at, length-append b.taken rest)) (b.is rest);
-  least = λ front last e. wants (q.at + length front) front refl (b.least front last e);
+  least = λ front one others e. wants (q.at + length front) front refl (b.least front one others e);
 }
 
 -- one step more

@@ -1,5 +1,5 @@
 -- Streams whose bytes end at any position: what is read is a stream of a graph, and each stream is read.
-use Rattle.std.proofs.Common.{◌≡◌, ℕ, ◌-◌, false, cond, eqb, List, [], ◌∷◌, ◌++◌, length, Result, Ok, Err, refl, sym, ap, subst, ◌∙◌, arith}
+use Rattle.std.proofs.Common.{◌≡◌, ℕ, ◌+◌, ◌-◌, ◌≤◌, false, cond, eqb, List, [], ◌∷◌, ◌++◌, length, Result, Ok, Err, refl, sym, ap, subst, ◌∙◌, arith}
 use Rattle.std.proofs.lemmas.Bool.{eqb-true}
 use Rattle.class_desc.specs.declared.slot.Item.{Item}
 use Rattle.ser_values.specs.declared.node.Node.{Node}
@@ -7,7 +7,7 @@ use Rattle.ser_values.specs.declared.node.Place.TheVariants as places
 use Rattle.ser_values.specs.Node.{has}
 use Rattle.ser_values.specs.Numbered.{IsGraph}
 use Rattle.std.proofs.lemmas.List.Elements.{All-nil}
-use Rattle.ser_values.specs.Ranges.{InRange}
+use Rattle.ser_values.specs.Ranges.{ItemsFit, InRange}
 use Rattle.ser_values.proofs.Ranged.{numbers_of, units_of}
 use Rattle.ser_values.specs.Shape.{parts_in}
 use Rattle.ser_values.specs.Spelled.{Spells, SpellsItems, IsStream}
@@ -16,6 +16,8 @@ use Rattle.ser_values.proofs.PlainSound as plain_sound
 use Rattle.ser_values.proofs.PlainSound.{bind_ok, passed, ok_is}
 use Rattle.ser_values.proofs.StepSound.{byte_spells}
 use Rattle.ser_values.proofs.Solid.{Solid}
+use Rattle.ser_values.specs.Faults.{FaultStands}
+use Rattle.ser_values.proofs.Standing.{stream_from, stands_from}
 use Rattle.ser_values.proofs.NoteSound.{items_sound}
 use Rattle.ser_values.proofs.Sound.{slots_sound}
 use Rattle.ser_values.proofs.Spelling.{stream_graph}
@@ -32,6 +34,13 @@ use Rattle.ser_read.specs.Whole.{nothing_read, stream_at}
 pub from_start : (bytes : List ℕ) → stream_of bytes ≡ stream_at (length bytes) bytes
 unfolding stream_of stream_at
 from_start bytes = refl
+
+-- Each fault stands in the bytes.
+pub faults_stand : (end : ℕ) (bytes : List ℕ) (fault : Fault) → length bytes ≤ end → stream_at end bytes ≡ Err fault → FaultStands (end - length bytes) bytes fault
+unfolding stream_at
+faults_stand end bytes fault le e =
+    let start : (end - length bytes) + length bytes ≡ end = omega arith in
+    stands_from (end - length bytes) bytes fault (ap (λ k. stream_from k bytes) start ∙ e)
 
 same_bytes : (bs : List ℕ) → AreBytes bs → plain_sound.AreBytes bs
 same_bytes [] are = tt
@@ -54,10 +63,10 @@ magic_sound end (w ∷ ws) bs rest e bytes =
     let more = magic_sound end ws a.0.1 rest p.1 s.0 in
     record { parts = s.1 ∙ (ap (λ z. z ∷ a.0.1) (eqb-true a.0.0 w p.0) ∙ ap (λ (l : List ℕ). w ∷ l) more.parts); left = more.left }
 
--- Bytes that are read are a stream of the nodes and items that are answered.
-pub stream_at_sound : (end : ℕ) (bytes : List ℕ) (x : Answer) → AreBytes bytes → stream_at end bytes ≡ Ok x → IsStream x.0 x.1 bytes
+-- Bytes that are read are a stream of the nodes and items that are answered, and the items' bytes are in range.
+stream_at_got : (end : ℕ) (bytes : List ℕ) (x : Answer) → AreBytes bytes → stream_at end bytes ≡ Ok x → IsStream x.0 x.1 bytes × ItemsFit x.1
 unfolding stream_at has parts_in
-stream_at_sound end bytes x are e =
+stream_at_got end bytes x are e =
     let a = bind_ok (magic_at end (0xAC ∷ 0xED ∷ 0x00 ∷ 0x05 ∷ []) bytes) (λ bs. items_at end (slot_at end 200 places.Reference []) false nothing_read bs >>= λ x. Ok (x.1.nodes, x.0)) x e in
     let b = bind_ok (items_at end (slot_at end 200 places.Reference []) false nothing_read a.0) (λ x. Ok (x.1.nodes, x.0)) x a.2 in
     let y = b.0 in
@@ -71,11 +80,14 @@ stream_at_sound end bytes x are e =
     let p = g.got.parts in
     let few = g.got.solid.few in
     let ranged = g.got.solid.ranged in
-    subst (λ (x : Answer). IsStream x.0 x.1 bytes) (ok_is (F, y.0) x b.2) (record { contents = a.0; headed = m.parts; spelled = ended; numbers = numbers_of F ranged; units = units_of F ranged; few_parts = omega arith })
+    subst (λ (x : Answer). IsStream x.0 x.1 bytes × ItemsFit x.1) (ok_is (F, y.0) x b.2) (record { contents = a.0; headed = m.parts; spelled = ended; numbers = numbers_of F ranged; units = units_of F ranged; few_parts = omega arith; are_bytes = are }, g.ranged)
+
+pub stream_at_sound : (end : ℕ) (bytes : List ℕ) (x : Answer) → AreBytes bytes → stream_at end bytes ≡ Ok x → IsStream x.0 x.1 bytes
+stream_at_sound end bytes x are e = (stream_at_got end bytes x are e).0
 
 -- What is read is a graph.
 pub graph_at : (end : ℕ) (bytes : List ℕ) (x : Answer) → AreBytes bytes → stream_at end bytes ≡ Ok x → IsGraph x.0 x.1
-graph_at end bytes x are e = let s = stream_at_sound end bytes x are e in stream_graph x.0 x.1 bytes s (stream_few x.0 x.1 bytes s)
+graph_at end bytes x are e = let s = stream_at_got end bytes x are e in stream_graph x.0 x.1 bytes s.0 (stream_few x.0 x.1 bytes s.0) s.1
 
 abbrev answer : List Node → List Item → Result (List Node × List Item) Fault
 answer nodes is = Ok (nodes, is)

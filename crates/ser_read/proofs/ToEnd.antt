@@ -83,7 +83,7 @@ no_code {p} {q} {m} {inner} {first} (TooLarge Bytes at) s h =
     let k : q.at + 0 ≡ q.at = omega arith in
     let all = rw (append-nil, k) at (s.reads []) in
     record { is = record { is = (q, record { taken = s.taken; takes = s.takes; here = h.0; is = rw all refl }, h.1) } }
-no_code ReadFault s h = record { is = breaks_two (slack_leads s) (record { is = (([], h.0), h.1) }) }
+no_code ReadFault s h = record { is = breaks_two (slack_leads s) (record { is = (record { taken = []; takes = h.0; here = refl; is = refl }, h.1) }) }
 no_code (TooLarge Nodes at) s h = absurd h
 no_code (TooLarge Depth at) s h = absurd h
 no_code (Bad kind at) s h = absurd h

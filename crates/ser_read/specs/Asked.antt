@@ -5,12 +5,12 @@ use Rattle.class_desc.specs.declared.slot.Item.{Item}
 use Rattle.class_desc.specs.declared.slot.Item.TheVariants as items
 use Rattle.ser_values.specs.declared.node.Node.{Node}
 use Rattle.ser_values.specs.declared.graph.Graph.{Graph}
-use Rattle.ser_values.specs.declared.limits.TheConstants.{LEVELS, NODES, PARTS}
+use Rattle.ser_values.specs.declared.limits.TheConstants.{LEVELS, PARTS}
 use Rattle.ser_values.specs.Ranges.{NumbersFit, UnitsFit}
 use Rattle.ser_values.specs.Shape.{parts_in}
 use Rattle.ser_read.specs.declared.fault.StreamFault.{StreamFault}
 use Rattle.ser_values.specs.Spelled.{joined, Spells, SpellsBlocks}
-use Rattle.ser_read.specs.Here.{IsOutside}
+use Rattle.ser_read.specs.Here.{AreBytes, IsOutside}
 use Rattle.ser_read.specs.declared.serving.Want.{Want}
 use Rattle.ser_read.specs.declared.serving.Want.TheVariants as wanted
 
@@ -32,28 +32,25 @@ EndsFull [] = Unit {0}
 EndsFull (i ∷ []) = IsSome i
 EndsFull (i ∷ j ∷ is) = EndsFull (j ∷ is)
 
--- A front of the bytes spells the answers to these wants, as blocks in whatever partition and references, which give these nodes their
--- handles in order. It ends with no empty block. The nodes' numbers are in range.
-pub record IsAsked (wants : List Want) (answers : List Item) (nodes : List Node) (bytes rest : List ℕ) : Type 0 where
+-- The bytes spell the answers to these wants, as blocks in whatever partition and references, which give these nodes their handles in order.
+-- They end with no empty block. The nodes' numbers are in range, and their objects have not too many parts.
+pub record IsAsked (wants : List Want) (answers : List Item) (nodes : List Node) (bytes : List ℕ) : Type 0 where
+  pub are_bytes : AreBytes bytes
   pub fits : Fits wants answers
   pub blocks : List Item
-  pub spelled : SpellsBlocks (Spells nodes LEVELS []) blocks 0 bytes rest (length nodes)
+  pub spelled : SpellsBlocks (Spells nodes LEVELS []) blocks 0 bytes [] (length nodes)
   pub full : EndsFull blocks
   pub same : joined answers ≡ joined blocks
   pub numbers : NumbersFit nodes
   pub units : UnitsFit nodes
+  pub few_parts : parts_in nodes ≤ PARTS
 
 -- A front of the bytes was taken, which is a stream of what these wants ask for.
 pub record TakesAsked (old new : Place) (wants : List Want) (answers : List Item) (nodes : List Node) (contents : List Item) : Type 0 where
   pub bytes : List ℕ
   pub takes : Takes old new (0xAC ∷ 0xED ∷ 0x00 ∷ 0x05 ∷ bytes)
-  pub asked : IsAsked wants answers nodes bytes []
+  pub asked : IsAsked wants answers nodes bytes
   pub contents_are : contents ≡ joined answers
-
--- nodes within the limits
-pub record InLimits (nodes : List Node) : Type 0 where
-  pub few : length nodes ≤ NODES
-  pub parts : parts_in nodes ≤ PARTS
 
 -- these answers and nodes, with these bytes to come; or a fault of the outside
 abbrev pub AnswersAsked : List Item → List Node → List ℕ → List ℕ → Result (List Item × Graph) StreamFault → Type 0

@@ -124,9 +124,9 @@ GivesTold left old new result read out = GivesToldBy Fails left old new result r
 abbrev pub AreBytes : List ℕ → Type 0
 AreBytes bs = AllByRecursion (λ b. b < 256) bs
 
--- Without the last of these bytes, which begin at this position, reading wants more: `more` says that.
-abbrev pub NeedsLast : {Y F : Type 0} → F → ℕ → List ℕ → (ℕ → List ℕ → Result Y F) → Type 0
-NeedsLast more at taken read = (front : List ℕ) (last : ℕ) → taken ≡ front ++ last ∷ [] → read (at + length front) front ≡ Err more
+-- None of these bytes, which begin at this position, can be left out: reading any front that lacks one wants more. `more` says that.
+abbrev pub NeedsAll : {Y F : Type 0} → F → ℕ → List ℕ → (ℕ → List ℕ → Result Y F) → Type 0
+NeedsAll more at taken read = (front : List ℕ) (next : ℕ) (others : List ℕ) → taken ≡ front ++ next ∷ others → read (at + length front) front ≡ Err more
 
 -- Bytes were taken, and whatever comes after them, reading gives `out` of that. None of them could be left out.
 pub record Reads {Y F : Type 0} (more : F) (old new : Place) (read : ℕ → List ℕ → Result Y F) (out : List ℕ → Y) : Type 0 where
@@ -134,7 +134,7 @@ pub record Reads {Y F : Type 0} (more : F) (old new : Place) (read : ℕ → Lis
   pub bytes : AreBytes taken
   pub takes : Takes old new taken
   pub is : (rest : List ℕ) → read (new.at + length rest) (taken ++ rest) ≡ Ok (out rest)
-  pub least : NeedsLast more old.at taken read
+  pub least : NeedsAll more old.at taken read
 
 -- Whether the bytes are told or not, what a call answers is read from those that it took.
 abbrev pub ReadsTaken : {S X Y : Type 0} → (S → Option (List ℕ)) → (S → ℕ) → Pull S → Pull S → Result X StreamFault → (ℕ → List ℕ → Result Y Fault) → (X → List ℕ → Y) → Type 0
@@ -148,7 +148,7 @@ pub record Decides {Y F : Type 0} (more : F) (old new : Place) (read : ℕ → L
   pub bytes : AreBytes taken
   pub takes : Takes old new taken
   pub is : (rest : List ℕ) → is_fault (read (new.at + length rest) (taken ++ rest))
-  pub least : NeedsLast more old.at taken read
+  pub least : NeedsAll more old.at taken read
 
 -- Bytes were taken up to this place, at which the fault stands, and reading wants more of them.
 pub record FallsShort {Y F : Type 0} (old new : Place) (at : ℕ) (read : ℕ → List ℕ → Result Y F) (fault : F) : Type 0 where
@@ -157,21 +157,24 @@ pub record FallsShort {Y F : Type 0} (old new : Place) (at : ℕ) (read : ℕ �
   pub here : at ≡ new.at
   pub is : read new.at taken ≡ Err fault
 
--- Some bytes were taken.
-abbrev pub TakesSome : Place → Place → Type 0
-TakesSome old new = (taken : List ℕ) × Takes old new taken
+-- Bytes were taken, and none of them could be left out.
+pub record TakesNeeded {Y F : Type 0} (more : F) (old new : Place) (read : ℕ → List ℕ → Result Y F) : Type 0 where
+  pub taken : List ℕ
+  pub takes : Takes old new taken
+  pub least : NeedsAll more old.at taken read
 
 -- What was taken where this fault is answered, and why reading ends there. `said` says a fault of what is read, and `of_kind` whether reading
 -- gives the fault of a kind at a position. What is wrong, or too deep, or one node too many, is decided by the bytes taken, whatever comes
--- after them, and by no fewer of them. The input ends behind the bytes taken, or goes on there past the limit, and reading them wants more.
+-- after them, and by no fewer of them. The input ends behind the bytes taken, or goes on there past the limit, or the source fails there, and
+-- reading them wants more. Where there is no memory, none of the bytes taken could be left out.
 abbrev pub BreaksBy : {Y F : Type 0} → (Fault → F) → (Result Y F → StreamKind → ℕ → Type 0) → Place → Place → StreamFault → (ℕ → List ℕ → Result Y F) → Type 0
 BreaksBy said of_kind old new (Bad kind at) read = Decides (said short) old new read (λ r. of_kind r kind at)
 BreaksBy said of_kind old new (TooLarge Nodes at) read = Decides (said short) old new read (λ r. r ≡ Err (said (too_many at)))
 BreaksBy said of_kind old new (TooLarge Depth at) read = Decides (said short) old new read (λ r. r ≡ Err (said (too_deep at)))
 BreaksBy said of_kind old new (TooLarge Bytes at) read = (mid : Place) × FallsShort old mid at read (said short) × Passes mid new
 BreaksBy said of_kind old new (Truncated at) read = FallsShort old new at read (said short) × NothingLeft new.left
-BreaksBy said of_kind old new ReadFault read = TakesSome old new × Rose old.faults new.faults
-BreaksBy said of_kind old new OutOfMemory read = TakesSome old new
+BreaksBy said of_kind old new ReadFault read = FallsShort old new new.at read (said short) × Rose old.faults new.faults
+BreaksBy said of_kind old new OutOfMemory read = TakesNeeded (said short) old new read
 
 -- the same where a stream is read whole
 pub record Breaks {Y : Type 0} (old new : Place) (fault : StreamFault) (read : ℕ → List ℕ → Result Y Fault) : Type 0 where

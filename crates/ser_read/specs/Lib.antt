@@ -13,3 +13,5 @@ pub mod Heads
 pub mod Wants
 pub mod Stands
 pub mod Asked
+pub mod Heading
+pub mod Laws

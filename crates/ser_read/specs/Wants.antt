@@ -158,9 +158,9 @@ serve end [] s bs = Ok ([], s, bs)
 serve end (w ∷ ws) s bs = want_at end w s bs ▸ λ x. serve end ws x.1 x.2 ▸ λ xs. Ok (x.0 ∷ xs.0, xs.1, xs.2)
 
 -- and then the end: what they gave, the nodes and the items, and the bytes after them
-unfoldable pub serve_all : ℕ → List Want → List ℕ → Result (List Item × List Node × List Item × List ℕ) WantFault
-serve_all end ws bs = serve end ws nothing_read bs ▸ λ x. close_at (end - length x.2) x.1 ▸ λ g. Ok (x.0, g.0, g.1, x.2)
+unfoldable pub serve_to_close : ℕ → List Want → Stand → List ℕ → Result (List Item × List Node × List Item × List ℕ) WantFault
+serve_to_close end ws s bs = serve end ws s bs ▸ λ x. close_at (end - length x.2) x.1 ▸ λ g. Ok (x.0, g.0, g.1, x.2)
 
 -- the magic number and the version in front
 unfoldable pub wants_at : ℕ → List Want → List ℕ → Result (List Item × List Node × List Item × List ℕ) WantFault
-wants_at end ws bs = lifted (magic_at end (0xAC ∷ 0xED ∷ 0x00 ∷ 0x05 ∷ []) bs) ▸ serve_all end ws
+wants_at end ws bs = lifted (magic_at end (0xAC ∷ 0xED ∷ 0x00 ∷ 0x05 ∷ []) bs) ▸ serve_to_close end ws nothing_read

@@ -1,5 +1,5 @@
 -- Reading a stream to the end of the input.
-use Rattle.std.specs.Prelude.{◌≡◌, ℕ, ◌≤◌, false, List, [], ◌∷◌, Result, Ok, Err}
+use Rattle.std.specs.Prelude.{◌≡◌, ℕ, ◌-◌, ◌≤◌, false, List, [], ◌∷◌, length, Result, Ok, Err}
 use Rattle.class_desc.specs.declared.slot.Item.{Item}
 use Rattle.wire_io.specs.Wire.{NothingLeft, Rose}
 use Rattle.wire_io.specs.Pulled.{Place, Takes, Passes}
@@ -10,6 +10,7 @@ use Rattle.ser_values.specs.declared.limits.TheConstants.{LEVELS, PARTS}
 use Rattle.ser_values.specs.Shape.{parts_in}
 use Rattle.ser_values.specs.Spelled.{IsStream}
 use Rattle.ser_values.specs.Reading.{◌>>=◌, Fault, short, Progress, magic_at, items_at, slot_at}
+use Rattle.ser_values.specs.Faults.{FaultStands}
 use Rattle.ser_read.specs.declared.fault.StreamFault.{StreamFault}
 use Rattle.ser_read.specs.declared.fault.StreamFault.TheVariants.{Truncated, TooLarge, ReadFault}
 use Rattle.ser_read.specs.declared.fault.Large.TheVariants.{Bytes}
@@ -25,6 +26,10 @@ stream_at end bytes =
     magic_at end (0xAC ∷ 0xED ∷ 0x00 ∷ 0x05 ∷ []) bytes >>= λ bs.
     items_at end (slot_at end LEVELS places.Reference []) false nothing_read bs >>= λ x.
     Ok (x.1.nodes, x.0)
+
+-- Where reading bytes that end at a position answers a fault, it stands in them.
+abbrev pub FaultsStandInBytes : Type 0
+FaultsStandInBytes = (end : ℕ) (bytes : List ℕ) (fault : Fault) → length bytes ≤ end → stream_at end bytes ≡ Err fault → FaultStands (end - length bytes) bytes fault
 
 -- what is read of bytes behind which the input goes on: they can't be all
 abbrev pub going_on : {Y : Type 0} → Result Y Fault → Result Y Fault

@@ -4,6 +4,7 @@
 mod block;
 mod fault;
 mod header;
+pub mod laws;
 mod numbers;
 mod pieces;
 mod pulled;

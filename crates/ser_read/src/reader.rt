@@ -97,7 +97,8 @@ fn slot_in<S: Source>(
 
 /// Reads a stream, want by want: block data and references, as its caller asks for them. It is handed its Pull at each call.
 ///
-/// At a fault a call has taken exactly the bytes that show it. Every later call answers the same refusal and takes nothing.
+/// At a fault a call has taken exactly the bytes that show it; where a read failed or there was no memory, none that could be left out.
+/// Every later call answers the same refusal and takes nothing.
 #[derive(Drop)]
 pub struct Reader {
     stand: Stand,

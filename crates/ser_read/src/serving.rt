@@ -1,11 +1,11 @@
 //! Lists of wants.
-ghost use Rattle.std.specs.Prelude.{◌≡◌, ◌∷◌, List, ℕ, OnOk, IfOk, None};
+ghost use Rattle.std.specs.Prelude.{◌≡◌, ◌∷◌, ◌++◌, List, ℕ, OnOk, IfOk, None};
 ghost use Rattle.wire_io.specs.Pulled.{place};
 ghost use Rattle.class_desc.specs.declared.slot.Item.{Item};
 ghost use Rattle.ser_values.specs.declared.node.Node.{Node};
 ghost use Rattle.ser_read.specs.Here.{coming, IsTold, Caused};
 ghost use Rattle.ser_read.specs.Wants.{GivesWant, StopsWant, WantTaken, want_at, serve, wants_at};
-ghost use Rattle.ser_read.specs.Asked.{IsAsked, TakesAsked, InLimits, AnswersAsked};
+ghost use Rattle.ser_read.specs.Asked.{IsAsked, TakesAsked, AnswersAsked};
 
 use crate::fault::StreamFault;
 use crate::reader::Reader;
@@ -72,7 +72,7 @@ pub(crate) fn serve_all<S: Source>(
 }
 
 /// Reads a stream of which this is asked.
-#[tactic(auto, unfolding(crate::specs::Wants::wants_at, crate::specs::Wants::serve_all))]
+#[tactic(auto, unfolding(crate::specs::Wants::wants_at, crate::specs::Wants::serve_to_close))]
 fn read_each<S: Source>(
     alloc: Global,
     pull: &mut Pull<'_, S>,
@@ -90,7 +90,8 @@ fn read_each<S: Source>(
 
 /// Reads a stream of which this is asked, one want after the other and then the end: what each gave, and the graph of it all.
 ///
-/// The stream need not end the input: no byte behind what was asked is taken.
+/// The stream need not end the input: no byte behind what was asked is taken. What it answers is what `IsAsked` says of the bytes taken, and no
+/// proper front of them says it of the same wants ([`crate::laws::asked_is_one`]).
 pub fn read_wants<S: Source>(
     alloc: Global,
     pull: &mut Pull<'_, S>,
@@ -101,7 +102,7 @@ pub fn read_wants<S: Source>(
     ensures gives { GivesWant S.left pull.old pull.new result (λ end. wants_at end wants.now) (λ x rest. (x.0, x.1.nodes, x.1.items, rest)) }
     ensures stops { StopsWant S.left S.faults pull.old pull.new result (λ end. wants_at end wants.now) }
     ensures spelled { IfOk result (λ x. TakesAsked (place S.left S.faults pull.old) (place S.left S.faults pull.new) wants.now x.0 x.1.nodes x.1.items) }
-    ensures complete { (answers : List Item) (nodes : List Node) (bytes rest : List ℕ) → IsTold S.left pull.old → coming S.left pull.old ≡ 0xAC ∷ 0xED ∷ 0x00 ∷ 0x05 ∷ bytes → InLimits nodes → IsAsked wants.now answers nodes bytes rest → AnswersAsked answers nodes rest (coming S.left pull.new) result }
+    ensures complete { (answers : List Item) (nodes : List Node) (bytes rest : List ℕ) → IsTold S.left pull.old → coming S.left pull.old ≡ 0xAC ∷ 0xED ∷ 0x00 ∷ 0x05 ∷ (bytes ++ rest) → IsAsked wants.now answers nodes bytes → AnswersAsked answers nodes rest (coming S.left pull.new) result }
 {
     read_each(alloc, pull, wants)
 }

@@ -1,5 +1,5 @@
 -- Graphs that differ in the bytes of their objects' notes alone are numbered and shaped alike.
-use Rattle.std.proofs.Common.{◌≡◌, ◌&&◌, ◌||◌, not, ℕ, zero, suc, Bool, true, false, List, [], ◌∷◌, ◌++◌, map, length, Option, Some, None, slice_get, refl, sym, ap, subst, ◌∙◌, arith}
+use Rattle.std.proofs.Common.{◌≡◌, ◌&&◌, ◌||◌, not, ℕ, zero, suc, ◌<◌, ◌^◌, Bool, true, false, List, [], ◌∷◌, ◌++◌, map, length, Option, Some, None, slice_get, refl, sym, ap, subst, ◌∙◌, arith}
 use Rattle.std.specs.Prelude.{All, option_map, slice_set}
 use Rattle.class_desc.specs.declared.slot.Slot.{Slot}
 use Rattle.class_desc.specs.declared.slot.Slot.TheVariants as slots
@@ -21,7 +21,7 @@ use Rattle.ser_values.specs.Builder.{put}
 use Rattle.ser_values.specs.Node.{has, is_desc, is_text, admits, takes, Want, item_wants, value_wants, part_wants, before, after, inside}
 use Rattle.ser_values.specs.NoteBytes.{byte_to, item_to, note_to, object_to, with_note_byte}
 use Rattle.ser_values.specs.Numbered.{Numbering, NumberAll, Numbers, a_null, again, fresh, no_numbers, Numbered, IsGraph}
-use Rattle.ser_values.specs.Ranges.{PartFits, InRange}
+use Rattle.ser_values.specs.Ranges.{ItemFits, PartFits, InRange}
 use Rattle.ser_values.specs.Shape.{joined_from, fits_node, fits_type, are_typed, fits_part, fits_above, fits_chain, is_external, fits_object, fits_array, is_enum, is_shaped, parts_in}
 use Rattle.ser_values.proofs.Lists.{some_same}
 use Rattle.ser_values.proofs.Ranged.{numbers_of, units_of, both_of, all_at, put_kept}
@@ -316,6 +316,7 @@ alike_graph A B is e ranged g =
       few_parts = omega arith;
       numbers = numbers_of B ranged;
       units = units_of B ranged;
+      bytes = g.bytes;
     }
 
 -- ---- a byte that is written over
@@ -378,27 +379,39 @@ object_bare part item offset b (Some (Object c ps)) j e =
     some i = Some i
 object_bare part item offset b _ j e = absurd cc
 
-note_ranged : (item offset b : ℕ) (o : Option Part) (q : Part) → ((p : Part) → o ≡ Some p → PartFits p) → note_to item offset b o ≡ Some q → PartFits q
-note_ranged item offset b None q f e = absurd cc
-note_ranged item offset b (Some p) q f e =
+byte_ranged : (b : ℕ) (o : Option ℕ) (y : ℕ) → b < 2 ^ 8 → byte_to b o ≡ Some y → y < 2 ^ 8
+byte_ranged b None y lt e = absurd cc
+byte_ranged b (Some x) y lt e = subst (λ z. z < 2 ^ 8) (some_same b y e) lt
+
+item_ranged : (offset b : ℕ) (o : Option Item) (j : Item) → b < 2 ^ 8 → ((i : Item) → o ≡ Some i → ItemFits i) → item_to offset b o ≡ Some j → ItemFits j
+item_ranged offset b None j lt f e = absurd cc
+item_ranged offset b (Some (items.Ref s)) j lt f e = absurd cc
+item_ranged offset b (Some (items.Bytes l)) j lt f e =
+    let m = mapped (λ (l : List ℕ). items.Bytes l) (put l offset (byte_to b (slice_get l offset))) j e in
+    subst ItemFits m.2 (put_kept (λ x. x < 2 ^ 8) l m.0 offset (byte_to b (slice_get l offset)) m.1 (λ y g. byte_ranged b (slice_get l offset) y lt g) (f (items.Bytes l) refl))
+
+note_ranged : (item offset b : ℕ) (o : Option Part) (q : Part) → b < 2 ^ 8 → ((p : Part) → o ≡ Some p → PartFits p) → note_to item offset b o ≡ Some q → PartFits q
+note_ranged item offset b None q lt f e = absurd cc
+note_ranged item offset b (Some p) q lt f e =
+    let whole = f p refl in
     let m = mapped (λ (is : List Item). note_of p is) (put p.note item (item_to offset b (slice_get p.note item))) q e in
-    subst PartFits m.2 (f p refl)
+    subst PartFits m.2 (whole.0, put_kept ItemFits p.note m.0 item (item_to offset b (slice_get p.note item)) m.1 (λ j. item_ranged offset b (slice_get p.note item) j lt (all_at ItemFits p.note whole.1 item)) whole.1)
   where
     note_of : Part → List Item → Part
     note_of p is = record p { note = is }
 
-object_ranged : (part item offset b : ℕ) (o : Option Node) (j : Node) → ((i : Node) → o ≡ Some i → InRange i) → object_to part item offset b o ≡ Some j → InRange j
-object_ranged part item offset b (Some (Object c ps)) j f e =
+object_ranged : (part item offset b : ℕ) (o : Option Node) (j : Node) → b < 2 ^ 8 → ((i : Node) → o ≡ Some i → InRange i) → object_to part item offset b o ≡ Some j → InRange j
+object_ranged part item offset b (Some (Object c ps)) j lt f e =
     let m = mapped (λ (qs : List Part). Object c qs) (put ps part (note_to item offset b (slice_get ps part))) j e in
     let whole = f (Object c ps) refl in
-    let fits = put_kept PartFits ps m.0 part (note_to item offset b (slice_get ps part)) m.1 (λ q. note_ranged item offset b (slice_get ps part) q (all_at PartFits ps whole.0 part)) whole.0 in
+    let fits = put_kept PartFits ps m.0 part (note_to item offset b (slice_get ps part)) m.1 (λ q. note_ranged item offset b (slice_get ps part) q lt (all_at PartFits ps whole.0 part)) whole.0 in
     subst InRange m.2 (fits, tt)
-object_ranged part item offset b _ j f e = absurd cc
+object_ranged part item offset b _ j lt f e = absurd cc
 
 -- A graph whose note has another byte is a graph.
-pub byte_graph : (nodes new : List Node) (is : List Item) (at : NotePlace) (b : ℕ) → with_note_byte nodes at b ≡ Some new → IsGraph nodes is → IsGraph new is
-byte_graph nodes new is at b e g =
+pub byte_graph : (nodes new : List Node) (is : List Item) (at : NotePlace) (b : ℕ) → b < 2 ^ 8 → with_note_byte nodes at b ≡ Some new → IsGraph nodes is → IsGraph new is
+byte_graph nodes new is at b lt e g =
     let o = object_to at.part at.item at.offset b (slice_get nodes at.node) in
     let same = put_same bare nodes new at.node o e (object_bare at.part at.item at.offset b (slice_get nodes at.node)) in
-    let ranged = put_kept InRange nodes new at.node o e (λ j. object_ranged at.part at.item at.offset b (slice_get nodes at.node) j (all_at InRange nodes (both_of nodes g.numbers g.units) at.node)) (both_of nodes g.numbers g.units) in
+    let ranged = put_kept InRange nodes new at.node o e (λ j. object_ranged at.part at.item at.offset b (slice_get nodes at.node) j lt (all_at InRange nodes (both_of nodes g.numbers g.units) at.node)) (both_of nodes g.numbers g.units) in
     alike_graph nodes new is (sym same) ranged g

@@ -12,11 +12,12 @@ use Rattle.class_desc.proofs.Fields.{flags_are}
 use Rattle.ser_values.specs.declared.value.Part.{Part}
 use Rattle.ser_values.specs.declared.node.Node.{Node}
 use Rattle.ser_values.specs.declared.node.Node.TheVariants.{Desc, Proxy}
+use Rattle.ser_values.specs.Ranges.{PartFits}
 use Rattle.ser_values.specs.Shape.{fit_values, fits_part, fits_above, fits_chain, is_joined}
 use Rattle.ser_values.specs.Spelled.{writers_above, writers, part_tokens}
 use Rattle.ser_values.proofs.Spelling.{both, take-push, take-all, nil_is}
 use Rattle.ser_values.proofs.Leading.{SameAbove, SameChain, SameUp, Leads}
-use Rattle.ser_values.proofs.Parted.{Row, Fitted, writes, PartFits, parts_lead}
+use Rattle.ser_values.proofs.Parted.{Row, Fitted, writes, parts_lead}
 
 -- ---- the classes of a chain, the highest first
 

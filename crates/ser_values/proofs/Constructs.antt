@@ -136,13 +136,13 @@ desc_reads F S inner complete begin unread sh end at d shaped fits units k now b
     let good = (both (is_good_desc d) (are_typed F d.fields && is_joined d.note) a.1).0 in
     let name : short_at end bs ≡ Ok (d.name, h1.0) = short_back end d.name bs h1.0 (ltb-true _ _ (both (is_short d.name) (ltb (length d.fields) 32768) a.0).0) (units_are d.name units.0) h1.2.0 in
     let t = h1.3 in
-    let suid : number_at w64 h1.0 ≡ Ok (cast_unsigned w64 d.suid, t.0) = number_back_64 (cast_unsigned w64 d.suid) h1.0 t.0 (below_64 d.suid fits) t.2.0 in
+    let suid : number_at w64 h1.0 ≡ Ok (cast_unsigned w64 d.suid, t.0) = number_back_64 (cast_unsigned w64 d.suid) h1.0 t.0 (below_64 d.suid fits.0) t.2.0 in
     let u = h2 in
     let flags : t.0 ≡ d.flags ∷ u.0 = t.3.0 ∙ u.2.0 in
     let mid = push now (Desc blank) in
     let ready_mid = ready_push F unread now mid (Desc d) (Desc blank) ready here refl (omega arith) (λ t. absurd cc) in
     let mid_len : length mid.nodes ≡ suc n = length_push now.nodes (Desc blank) in
     let spelled = moved (S inside_list) (number w16 (length d.fields) ∷ (field_tokens d.fields ++ (note d.note ∷ want (places.Parent, d.parent) ∷ []))) (length mid.nodes) u.1 u.0 rest m (mid_len ∙ sym u.2.1) u.3 in
-    let inner_read = desc_after_reads F S inner complete begin inside_list (sh inside_list) end at d (cast_unsigned w64 d.suid) (signed w64 d.suid fits) shaped units mid u.0 rest m spelled ready_mid in
+    let inner_read = desc_after_reads F S inner complete begin inside_list (sh inside_list) end at d (cast_unsigned w64 d.suid) (signed w64 d.suid fits.0) shaped units mid u.0 rest m spelled ready_mid in
     rw name (rw suid (rw flags (filled_reads F unread now mid (Desc d) (Desc blank) d rest m (desc_after end at inner inside_list d.name (cast_unsigned w64 d.suid) d.flags mid u.0) (λ d. Ok (slots.Node n, fill d.1 n (Desc d.0), d.2))
     ready here refl inner_read.reads (λ j. (good, inner_read.up j)) (λ later. refl))))

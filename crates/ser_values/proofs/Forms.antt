@@ -133,7 +133,7 @@ desc_leads A B d e p q f g =
     let dn = note d.note ∷ want (places.Parent, d.parent) ∷ [] in
     let en = note e.note ∷ want (places.Parent, e.parent) ∷ [] in
     text_lead A B d.name e.name (number w64 (cast_unsigned w64 d.suid) ∷ []) (number w64 (cast_unsigned w64 e.suid) ∷ []) G (ltb-true _ _ p2.0) (ltb-true _ _ q2.0) (λ name.
-    lead_i64 A B d.suid e.suid [] [] G f g (λ suid.
+    lead_i64 A B d.suid e.suid [] [] G f.0 g.0 (λ suid.
     byte_lead A B d.flags e.flags (number w16 (length d.fields) ∷ (field_tokens d.fields ++ dn)) (number w16 (length e.fields) ∷ (field_tokens e.fields ++ en)) W (λ flags.
     lead_16 A B (length d.fields) (length e.fields) (field_tokens d.fields ++ dn) (field_tokens e.fields ++ en) W (omega arith) (omega arith) (λ len.
     fields_lead A B d.fields e.fields len (both (are_typed A d.fields) (is_joined d.note) p3.1).0 (both (are_typed B e.fields) (is_joined e.note) q3.1).0 dn en W (λ fields notes.

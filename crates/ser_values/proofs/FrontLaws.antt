@@ -1,5 +1,7 @@
 -- Bytes before items, taken away and put there.
-use Rattle.std.proofs.Common.{◌≡◌, ◌≢◌, ◌⊎◌, ◌||◌, not, ℕ, zero, suc, ◌+◌, ◌<◌, ◌≤◌, Bool, true, false, cond, eqb, ltb, List, [], ◌∷◌, ◌++◌, length, take, drop, Some, None, refl, sym, ap, subst, ◌∙◌, arith, inl, inr}
+use Rattle.std.proofs.Common.{◌≡◌, ◌≢◌, ◌⊎◌, ◌||◌, not, ℕ, zero, suc, ◌+◌, ◌<◌, ◌≤◌, ◌^◌, Bool, true, false, cond, eqb, ltb, List, [], ◌∷◌, ◌++◌, length, take, drop, Some, None, refl, sym, ap, subst, ◌∙◌, arith, inl, inr}
+use Rattle.std.specs.Prelude.{All}
+use Rattle.std.proofs.lemmas.List.Elements.{All-cons, All-head, All-tail, All-drop}
 use Rattle.std.proofs.lemmas.Bool.{eqb-true, eqb-false, ltb-false, lt-ltb, le-ltb, cases_eq}
 use Rattle.class_desc.specs.declared.slot.Item.{Item}
 use Rattle.class_desc.specs.declared.slot.Item.TheVariants as items
@@ -7,10 +9,12 @@ use Rattle.class_desc.specs.TypeText.{is_nil}
 use Rattle.ser_values.specs.declared.node.Node.{Node}
 use Rattle.ser_values.specs.Node.{Want, item_wants}
 use Rattle.ser_values.specs.Numbered.{NumberAll, Numbered, IsGraph}
+use Rattle.ser_values.specs.Ranges.{ItemFits, ItemsFit}
 use Rattle.ser_values.specs.Shape.{joined_from, is_joined}
 use Rattle.ser_values.specs.Spelled.{put_block}
 use Rattle.ser_values.specs.Fronts.{front_len, without_front, HasFront}
 use Rattle.ser_values.proofs.Lists.{some_same}
+use Rattle.ser_values.proofs.Ranged.{block_fits}
 use Rattle.ser_values.proofs.Spelling.{both, joined_put, put_wants}
 
 -- ---- what is cut away
@@ -155,21 +159,36 @@ front_none n is rest e h =
 
 -- ---- graphs
 
+-- what is left of items is in range
+front_fits : (n : ℕ) (is rest : List Item) → without_front n is ≡ Some rest → ItemsFit is → ItemsFit rest
+front_fits zero is rest e h = subst (λ (l : List Item). ItemsFit l) (some_same is rest e) h
+front_fits (suc n) [] rest e h = absurd cc
+front_fits (suc n) (items.Ref s ∷ is) rest e h = absurd cc
+front_fits (suc n) (items.Bytes b ∷ is) rest e h = go (ltb (length b) (suc n)) (eqb (length b) (suc n)) e
+  where
+    go : (c d : Bool) → cond c None (Some (cond d is (items.Bytes (drop (suc n) b) ∷ is))) ≡ Some rest → ItemsFit rest
+    go true d e = absurd cc
+    go false true e = subst (λ (l : List Item). ItemsFit l) (some_same is rest e) (All-tail ItemFits (items.Bytes b) is h)
+    go false false e =
+        let left = All-drop (λ x. x < 2 ^ 8) (suc n) b (All-head ItemFits (items.Bytes b) is h) in
+        subst (λ (l : List Item). ItemsFit l) (some_same (items.Bytes (drop (suc n) b) ∷ is) rest e) (All-cons ItemFits (items.Bytes (drop (suc n) b)) is left (All-tail ItemFits (items.Bytes b) is h))
+
 -- other items with the same references are a graph's too
-pub graph_items : (nodes : List Node) (is js : List Item) → IsGraph nodes is → item_wants js ≡ item_wants is → is_joined js ≡ true → IsGraph nodes js
-graph_items nodes is js g e j = record {
+pub graph_items : (nodes : List Node) (is js : List Item) → IsGraph nodes is → item_wants js ≡ item_wants is → is_joined js ≡ true → ItemsFit js → IsGraph nodes js
+graph_items nodes is js g e j fit = record {
   numbered = subst (λ (ws : List Want). NumberAll (Numbered nodes 200 []) ws 0 (length nodes)) (sym e) g.numbered;
   joined = j;
   few_nodes = g.few_nodes;
   few_parts = g.few_parts;
   numbers = g.numbers;
   units = g.units;
+  bytes = fit;
 }
 
-pub with_graph : (nodes : List Node) (b : List ℕ) (is : List Item) → IsGraph nodes is → IsGraph nodes (put_block b is)
-with_graph nodes b is g = graph_items nodes is (put_block b is) g (put_wants b is) (joined_put b is g.joined)
+pub with_graph : (nodes : List Node) (b : List ℕ) (is : List Item) → All (λ x. x < 2 ^ 8) b → IsGraph nodes is → IsGraph nodes (put_block b is)
+with_graph nodes b is fit g = graph_items nodes is (put_block b is) g (put_wants b is) (joined_put b is g.joined) (block_fits b is fit g.bytes)
 
 pub without_graph : (nodes : List Node) (n : ℕ) (is rest : List Item) → IsGraph nodes is → without_front n is ≡ Some rest → IsGraph nodes rest
 without_graph nodes n is rest g e =
     let h = cut_front n is rest g.joined e in
-    graph_items nodes is rest g (sym (put_wants h.bytes rest) ∙ ap item_wants (sym h.parts)) h.joined
+    graph_items nodes is rest g (sym (put_wants h.bytes rest) ∙ ap item_wants (sym h.parts)) h.joined (front_fits n is rest e g.bytes)

@@ -47,3 +47,4 @@ pub mod Exact
 pub mod FrontLaws
 pub mod Bare
 pub mod ChainLaws
+pub mod Standing

@@ -17,7 +17,7 @@ use Rattle.ser_values.specs.declared.node.Node.TheVariants.{Text, Desc}
 use Rattle.ser_values.specs.declared.node.Place.TheVariants as places
 use Rattle.ser_values.specs.Node.{is_desc, is_text, inside}
 use Rattle.ser_values.specs.Shape.{is_short, are_typed, is_joined, is_shaped}
-use Rattle.ser_values.specs.Ranges.{TextFits, NameFits, InRange}
+use Rattle.ser_values.specs.Ranges.{ItemFits, ItemsFit, TextFits, NameFits, InRange}
 use Rattle.ser_values.specs.Spelled.{Token, want, note, number, short_text, long_text, field_tokens, Form, a_text, a_long_text, a_desc, One, SpellsItems, SpellsToken, SpellsAll, Spelling}
 use Rattle.ser_values.specs.Reading.{◌>>=◌, byte_at, number_at, size_at, short_at, long_at, Progress, Slots, many_at, push, fill, blank, items_at, field_at, text_at, desc_after, desc_at}
 use Rattle.ser_values.proofs.Lists.{length_push, slice_get-append_seam}
@@ -60,7 +60,7 @@ pub record GotNode (S : List Node → Spelling) (unread : List ℕ) (now : Progr
 
 -- the node that keeps a place free is in range
 pub blank_ranged : InRange (Desc blank)
-blank_ranged = (read_sfits w64 0, (All-nil _, All-nil NameFits))
+blank_ranged = ((read_sfits w64 0, All-nil ItemFits), (All-nil _, All-nil NameFits))
 
 -- the node in its place
 pub filled_here : (now mid last : Progress) (added : List Node) (i j : Node) → mid.nodes ≡ now.nodes ++ j ∷ [] → last.nodes ≡ mid.nodes ++ added → slice_get (fill last (length now.nodes) i).nodes (length now.nodes) ≡ Some i
@@ -134,6 +134,7 @@ record GotDesc (S : List Node → Spelling) (unread name : List ℕ) (suid flags
   good : is_good_desc y.0 ≡ true
   joined : is_joined y.0.note ≡ true
   names : All NameFits y.0.fields
+  note_fits : ItemsFit y.0.note
   parent : WholeSlot y.1.nodes unread y.0.parent
   got : Got unread now y.1 y.2 (λ F. SpellsAll (S F unread) (number w16 (length y.0.fields) ∷ (field_tokens y.0.fields ++ (note y.0.note ∷ want (places.Parent, y.0.parent) ∷ []))) (length now.nodes) bs y.2 (length y.1.nodes) × (are_typed F y.0.fields ≡ true))
 
@@ -186,6 +187,7 @@ desc_after_sound S inner sound unread end at name suid flags now bs y e solid by
       good = sym (good_with name suid flags fs.0 is.0 p.0) ∙ c.0;
       joined = h.fine;
       names = each_named fs.1.nodes fs.0 (got_self unread now fs.1 fs.2 _ g.got).1;
+      note_fits = h.ranged;
       parent = k.whole;
       got = whole;
     })
@@ -218,7 +220,7 @@ desc_node S inner sound unread end at now bs y e solid bytes room =
     let len : length (fill d.1 n (Desc d.0)).nodes ≡ length d.1.nodes = length-set d.1.nodes n (Desc d.0) in
     let number_fits : FitsSigned w64 d.0.suid = subst (FitsSigned w64) (sym g.suid_is) (read_sfits w64 b.0.0) in
     let name_fits : TextFits d.0.name = subst TextFits (sym g.name_is) (units_all a.0.0 t.units) in
-    let ranged : InRange (Desc d.0) = (number_fits, (name_fits, g.names)) in
+    let ranged : InRange (Desc d.0) = ((number_fits, g.note_fits), (name_fits, g.names)) in
     subst (λ (y : Slot × Progress × List ℕ). GotNode S unread now 0x72 bs y) (ok_is (slots.Node n, fill d.1 n (Desc d.0), d.2) y f.2) (record {
       k = n;
       node = Desc d.0;

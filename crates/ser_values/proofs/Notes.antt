@@ -14,12 +14,12 @@ use Rattle.ser_values.specs.declared.node.Node.{Node}
 use Rattle.ser_values.specs.declared.node.Place.TheVariants as places
 use Rattle.ser_values.specs.Shape.{count_of}
 use Rattle.ser_values.specs.Spelled.{Token, raw, truth, note, number, reference, value_token, element_tokens, part_tokens, IsBlock, joined, One, SpellsBlocks, SpellsItems, SpellsAll, Spelling}
-use Rattle.ser_values.specs.Ranges.{ElementsFit}
+use Rattle.ser_values.specs.Ranges.{ElementsFit, PartFits}
 use Rattle.ser_values.specs.Reading.{◌>>=◌, byte_at, number_at, Progress, Step, Slots, plain, mapped, many_at, blocks_at, items_at, is_true, elements_at, note_at, part, parts_at, values_at}
 use Rattle.ser_values.proofs.Apart.{below_16, below_32, below_64}
 use Rattle.ser_values.proofs.Varieties.{ElementsOf}
 use Rattle.ser_values.proofs.Leading.{all_rest}
-use Rattle.ser_values.proofs.Parted.{Row, Fitted, writes, PartFits}
+use Rattle.ser_values.proofs.Parted.{Row, Fitted, writes}
 use Rattle.ser_values.proofs.SameTokens.{AllBegin}
 use Rattle.ser_values.proofs.Shrinks.{Shrinks, block_len}
 use Rattle.ser_values.proofs.Mirror.{Ready, Reads, reads_done, reads_then}
@@ -162,7 +162,7 @@ parts_reads F S inner complete begin unread sh end [] [] now bs rest m fit p h r
 parts_reads F S inner complete begin unread sh end ((fs, true) ∷ rs) (x ∷ ps) now bs rest m fit p h ready =
     let s = spells_split (S unread) (map value_token x.values) (note x.note ∷ part_tokens (writes rs) ps) (length now.nodes) bs rest m h in
     let t = s.3 in
-    let vs = values_reads F S inner complete unread fs x.values now bs s.0 s.1 fit.0 (p zero x (omega arith)) s.2 ready in
+    let vs = values_reads F S inner complete unread fs x.values now bs s.0 s.1 fit.0 (p zero x (omega arith)).0 s.2 ready in
     let noted : SpellsItems (S unread) x.note (length vs.later.nodes) s.0 (0x78 ∷ t.0) t.1 = subst (λ j. SpellsItems (S unread) x.note j s.0 (0x78 ∷ t.0) t.1) (sym vs.len) t.2 in
     let is = items_reads F S inner complete begin unread sh end true x.note vs.later s.0 (0x78 ∷ t.0) t.0 t.1 noted refl vs.after.ready in
     let more = parts_reads F S inner complete begin unread sh end rs ps is.later t.0 rest m fit.2 (all_rest PartFits x ps p) (moved (S unread) (part_tokens (writes rs) ps) (length is.later.nodes) t.1 t.0 rest m is.len t.3) is.after.ready in
@@ -171,7 +171,7 @@ parts_reads F S inner complete begin unread sh end ((fs, true) ∷ rs) (x ∷ ps
     (reads_map F unread is.later (λ l. x ∷ l) ps rest m (parts_at end (inner places.Reference unread) rs is.later t.0) more))
 parts_reads F S inner complete begin unread sh end ((fs, false) ∷ rs) (x ∷ ps) now bs rest m fit p h ready =
     let s = spells_split (S unread) (map value_token x.values) (part_tokens (writes rs) ps) (length now.nodes) bs rest m h in
-    let vs = values_reads F S inner complete unread fs x.values now bs s.0 s.1 fit.0 (p zero x (omega arith)) s.2 ready in
+    let vs = values_reads F S inner complete unread fs x.values now bs s.0 s.1 fit.0 (p zero x (omega arith)).0 s.2 ready in
     let more = parts_reads F S inner complete begin unread sh end rs ps vs.later s.0 rest m fit.2 (all_rest PartFits x ps p) (moved (S unread) (part_tokens (writes rs) ps) (length vs.later.nodes) s.1 s.0 rest m vs.len s.3) vs.after.ready in
     let same : part x.values [] ≡ x = ap (λ (is : List Item). part x.values is) (sym (fit.1 refl)) in
     reads_then F unread now x.values s.0 s.1 (values_at (inner places.Reference unread) fs now bs) _ (x ∷ ps) rest m vs

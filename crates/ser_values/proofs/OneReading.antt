@@ -8,13 +8,13 @@ use Rattle.class_desc.specs.declared.slot.Item.{Item}
 use Rattle.ser_values.specs.declared.node.Node.{Node}
 use Rattle.ser_values.specs.Node.{has, is_desc, inside}
 use Rattle.ser_values.specs.Shape.{is_shaped}
-use Rattle.ser_values.specs.Spelled.{Token, Spelling, SpellsItems, SpellsAll, Form, Spell, a_null, again, fresh, never, Spells, IsStream}
+use Rattle.ser_values.specs.Spelled.{Token, Spelling, SpellsBlocks, SpellsItems, SpellsAll, Form, Spell, a_null, again, fresh, never, Spells, IsStream}
 use Rattle.ser_values.specs.Ranges.{NodeFits, NumbersFit}
 use Rattle.ser_values.proofs.Apart.{front_same, same_32, heads}
 use Rattle.ser_values.proofs.Leading.{Leads}
 use Rattle.ser_values.proofs.Forms.{Whole, forms_lead, IsCodeOf, code_of}
 use Rattle.ser_values.proofs.Agreeing.{IsState, Agree, agree_none, chained_null, chained_again, chained_fresh, opened, whole_up, agree_node}
-use Rattle.ser_values.proofs.SameTokens.{AreSame, AllBegin, never_begins, spells_begin, items_same, tokens_same}
+use Rattle.ser_values.proofs.SameTokens.{AreSame, AllBegin, never_begins, spells_begin, as_many_same, items_same, tokens_same}
 
 pub node_fits : (nodes : List Node) → NumbersFit nodes → (k : ℕ) (i : Node) → slice_get nodes k ≡ Some i → NodeFits i
 node_fits (x ∷ nodes) h zero i e = let same : x ≡ i = cc in subst (λ (j : Node). NodeFits j) same (h zero x (omega arith))
@@ -92,6 +92,17 @@ same_list (x ∷ xs) (y ∷ ys) e h =
     let one : x ≡ y = cc in
     let others : xs ≡ ys = same_list xs ys (omega arith) (λ k lt. h (suc k) (omega arith)) in
     cc
+
+-- No spelling of equally many blocks and references is a proper front of another.
+pub no_fronts : (A B : List Node) (is js : List Item) (bytes x y : List ℕ) (m k : ℕ) → NumbersFit A → NumbersFit B → length A ≡ m → length B ≡ k → length is ≡ length js
+    → SpellsBlocks (Spells A 200 []) is 0 bytes x m → SpellsBlocks (Spells B 200 []) js 0 bytes y k → (A ≡ B) × (is ≡ js) × (x ≡ y)
+unfolding has
+no_fronts A B is js bytes x y m k fits_a fits_b ea eb len h g =
+    let st : IsState A B [] 0 = record { few = omega arith; below = λ k h. absurd cc; known = λ k i lt h is d. absurd (omega arith) } in
+    let r = as_many_same A B (Spells A 200) (Spells B 200) (spells_same A B fits_a fits_b 200) (spells_begin A 200) (spells_begin B 200) [] is js 0 bytes x y m k h g len st in
+    let a = r.1 in
+    let lens : length A ≡ length B = ea ∙ (a.counts ∙ sym eb) in
+    (same_list A B lens (λ k lt. a.agrees k (omega arith) (omega (arith, lt, ea))), r.0, a.rests)
 
 -- Bytes are a stream of at most one graph.
 pub one_reading : (nodes1 nodes2 : List Node) (items1 items2 : List Item) (bytes : List ℕ) → IsStream nodes1 items1 bytes → IsStream nodes2 items2 bytes → (nodes1 ≡ nodes2) × (items1 ≡ items2)

@@ -19,7 +19,7 @@ use Rattle.ser_values.specs.declared.node.Node.{Node}
 use Rattle.ser_values.specs.declared.node.Place.TheVariants as places
 use Rattle.ser_values.specs.Shape.{is_short, fits_type, are_typed, fits_value, fit_values, count_of}
 use Rattle.ser_values.specs.Spelled.{Token, raw, truth, want, note, number, short_text, reference, field_tokens, value_token, element_tokens, part_tokens}
-use Rattle.ser_values.specs.Ranges.{ValueFits, ElementsFit}
+use Rattle.ser_values.specs.Ranges.{ValueFits, ElementsFit, PartFits}
 use Rattle.ser_values.proofs.Spelling.{both}
 use Rattle.ser_values.proofs.Varieties.{ValueOf, value_of, ElementsOf}
 use Rattle.ser_values.proofs.Leading.{Leads, byte_lead, lead_16, lead_32, lead_64, lead_i16, lead_i32, lead_i64, text_lead, whole_lead, all_rest}
@@ -131,9 +131,6 @@ Fitted (r ∷ rs) (p ∷ ps) = (fit_values r.0 p.values ≡ true) × (r.1 ≡ fa
 abbrev pub writes : List Row → List Bool
 writes rs = map (λ r. r.1) rs
 
-abbrev pub PartFits : Part → Type 0
-PartFits p = All ValueFits p.values
-
 abbrev part : List Value → List Item → Part
 part vs is = record { values = vs; note = is }
 
@@ -144,10 +141,10 @@ pub parts_lead : (A B : List Node) (rs : List Row) (ps qs : List Part) → Fitte
 unfolding part_tokens
 parts_lead A B [] [] [] a b p q G k = k refl
 parts_lead A B ((fs, true) ∷ rs) (x ∷ ps) (y ∷ qs) a b p q G k =
-    values_lead A B fs x.values y.values a.0 b.0 (p zero x (omega arith)) (q zero y (omega arith)) (note x.note ∷ part_tokens (writes rs) ps) (note y.note ∷ part_tokens (writes rs) qs) G
+    values_lead A B fs x.values y.values a.0 b.0 (p zero x (omega arith)).0 (q zero y (omega arith)).0 (note x.note ∷ part_tokens (writes rs) ps) (note y.note ∷ part_tokens (writes rs) qs) G
     (λ same notes. parts_lead A B rs ps qs a.2 b.2 (all_rest PartFits x ps p) (all_rest PartFits y qs q) G (λ others. let first = part_same x y same notes in k cc))
 parts_lead A B ((fs, false) ∷ rs) (x ∷ ps) (y ∷ qs) a b p q G k =
-    values_lead A B fs x.values y.values a.0 b.0 (p zero x (omega arith)) (q zero y (omega arith)) (part_tokens (writes rs) ps) (part_tokens (writes rs) qs) G
+    values_lead A B fs x.values y.values a.0 b.0 (p zero x (omega arith)).0 (q zero y (omega arith)).0 (part_tokens (writes rs) ps) (part_tokens (writes rs) qs) G
     (λ same. parts_lead A B rs ps qs a.2 b.2 (all_rest PartFits x ps p) (all_rest PartFits y qs q) G (λ others. let first = part_same x y same (a.1 refl ∙ sym (b.1 refl)) in k cc))
 parts_lead A B [] (x ∷ ps) qs a b p q G k = absurd a
 parts_lead A B [] [] (y ∷ qs) a b p q G k = absurd b

@@ -1,5 +1,8 @@
 -- Numbers and texts that are read are spelled.
 use Rattle.std.proofs.Common.{◌≡◌, ℕ, zero, suc, ◌<◌, ◌≤◌, ◌^◌, ◌⊎◌, Bool, true, false, cond, ltb, List, [], ◌∷◌, ◌++◌, length, take, drop, get_or, Option, Some, None, Result, Ok, Err, refl, sym, ap, subst, ◌∙◌, append_assoc, arith, inl, inr}
+use Rattle.std.specs.Prelude.{All}
+use Rattle.std.specs.List.{AllByRecursion}
+use Rattle.std.proofs.lemmas.List.Elements.{All-nil, All-cons}
 use Rattle.std.proofs.lemmas.Bool.{ltb-true, ltb-false}
 use Rattle.std.proofs.lemmas.List.{take-append-drop, length-take}
 use Rattle.std.proofs.lemmas.Nat.{be_bytes_2, be_bytes_4, be_bytes_8}
@@ -19,6 +22,19 @@ AreBytes (b ∷ bs) = (b < 256) × AreBytes bs
 pub bytes_rest : (t rest : List ℕ) → AreBytes (t ++ rest) → AreBytes rest
 bytes_rest [] rest h = h
 bytes_rest (b ∷ t) rest h = bytes_rest t rest h.1
+
+-- the same, in the words of the definitions
+pub all_bytes : (bs : List ℕ) → AreBytes bs → AllByRecursion (λ b. b < 256) bs
+all_bytes [] h = tt
+all_bytes (b ∷ bs) h = (h.0, all_bytes bs h.1)
+
+pub from_bytes : (bs : List ℕ) → AllByRecursion (λ b. b < 256) bs → AreBytes bs
+from_bytes [] h = tt
+from_bytes (b ∷ bs) h = (h.0, from_bytes bs h.1)
+
+pub bytes_fit : (t rest : List ℕ) → AreBytes (t ++ rest) → All (λ x. x < 2 ^ 8) t
+bytes_fit [] rest h = All-nil (λ x. x < 2 ^ 8)
+bytes_fit (b ∷ t) rest h = All-cons (λ x. x < 2 ^ 8) b t h.0 (bytes_fit t rest h.1)
 
 bytes_front : (t rest : List ℕ) → AreBytes (t ++ rest) → (i : ℕ) → get_or t i 0 < 256
 bytes_front [] rest h i = omega arith

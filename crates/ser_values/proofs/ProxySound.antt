@@ -98,7 +98,7 @@ proxy_node S inner sound unread end now bs y e solid bytes room =
       here = filled_here now mid p.1 whole.added (Proxy q) (Desc blank) refl whole.grown;
       desc = refl;
       text = refl;
-      got = got_filled unread now mid p.1 p.2 _ _ (Proxy q) (Desc blank) true solid refl refl free whole (λ yes. k.whole) tt (tt, each_units ns.1.nodes ns.0 (got_self within mid ns.1 ns.2 _ g.got).1) (omega arith) (λ F sees is q. record {
+      got = got_filled unread now mid p.1 p.2 _ _ (Proxy q) (Desc blank) true solid refl refl free whole (λ yes. k.whole) tt (h.ranged, each_units ns.1.nodes ns.0 (got_self within mid ns.1 ns.2 _ g.got).1) (omega arith) (λ F sees is q. record {
         is = is;
         shaped = (let short = q.1 in rw few (rw short joined));
         befores = [];

@@ -1,10 +1,12 @@
 -- Numbers stay in range: in lists, under new numbers, and where a reference is written over.
-use Rattle.std.proofs.Common.{◌≡◌, ℕ, zero, suc, ◌<◌, ◌^◌, Bool, true, false, List, [], ◌∷◌, ◌++◌, length, take, drop, Option, Some, None, slice_get, refl, sym, ap, subst, arith}
+use Rattle.std.proofs.Common.{◌≡◌, ℕ, zero, suc, ◌<◌, ◌^◌, Bool, true, false, List, [], ◌∷◌, ◌++◌, map, length, take, drop, Option, Some, None, slice_get, refl, sym, ap, subst, arith}
 use Rattle.std.specs.Prelude.{All, option_map, slice_set}
-use Rattle.std.proofs.lemmas.List.Elements.{All-nil, All-cons, All-tail, All-set, All-map, All-weaker}
+use Rattle.std.proofs.lemmas.List.Elements.{All-nil, All-cons, All-head, All-tail, All-append, All-set, All-map, All-weaker}
 use Rattle.mod_utf.proofs.Fronts.{AreUnits}
 use Rattle.class_desc.specs.declared.slot.Slot.{Slot}
 use Rattle.class_desc.specs.declared.slot.Slot.TheVariants as slots
+use Rattle.class_desc.specs.declared.slot.Item.{Item}
+use Rattle.class_desc.specs.declared.slot.Item.TheVariants as items
 use Rattle.ser_values.specs.declared.value.Value.{Value}
 use Rattle.ser_values.specs.declared.value.Value.TheVariants as values
 use Rattle.ser_values.specs.declared.value.Values.{Values}
@@ -13,8 +15,9 @@ use Rattle.ser_values.specs.declared.value.Part.{Part}
 use Rattle.ser_values.specs.declared.node.Node.{Node}
 use Rattle.ser_values.specs.declared.node.Node.TheVariants.{Text, Desc, Proxy, Object, Array, Class, Enum}
 use Rattle.ser_values.specs.Builder.{put, value_to, slot_to, values_to, part_to, node_to, with_reference, or_none}
-use Rattle.ser_values.specs.Ranges.{ValueFits, ElementsFit, PartFits, NumbersFit, TextFits, NameFits, UnitsFit, InRange}
-use Rattle.ser_values.specs.Renumber.{Renaming, field_by, value_by, part_by, values_by, node_by, place_in, node_or_by, reordered}
+use Rattle.ser_values.specs.Spelled.{put_block, joined}
+use Rattle.ser_values.specs.Ranges.{ValueFits, ElementsFit, ItemFits, ItemsFit, PartFits, NumbersFit, TextFits, NameFits, UnitsFit, InRange}
+use Rattle.ser_values.specs.Renumber.{Renaming, item_by, field_by, value_by, part_by, values_by, node_by, place_in, node_or_by, reordered}
 use Rattle.ser_values.proofs.Lists.{some_same}
 
 -- ---- lists
@@ -37,7 +40,28 @@ pub units_all : (us : List ℕ) → AreUnits us → TextFits us
 units_all [] h = All-nil (λ u. u < 2 ^ 16)
 units_all (u ∷ us) h = All-cons (λ u. u < 2 ^ 16) u us h.0 (units_all us h.1)
 
+-- ---- items
+
+-- bytes before items, which join those that they begin with
+pub block_fits : (b : List ℕ) (is : List Item) → All (λ x. x < 2 ^ 8) b → ItemsFit is → ItemsFit (put_block b is)
+block_fits [] is p h = h
+block_fits (x ∷ b) [] p h = All-cons ItemFits (items.Bytes (x ∷ b)) [] p h
+block_fits (x ∷ b) (items.Bytes q ∷ is) p h = All-cons ItemFits (items.Bytes ((x ∷ b) ++ q)) is (All-append (λ x. x < 2 ^ 8) (x ∷ b) q p (All-head ItemFits (items.Bytes q) is h)) (All-tail ItemFits (items.Bytes q) is h)
+block_fits (x ∷ b) (items.Ref s ∷ is) p h = All-cons ItemFits (items.Bytes (x ∷ b)) (items.Ref s ∷ is) p h
+
+pub joined_fit : (is : List Item) → ItemsFit is → ItemsFit (joined is)
+joined_fit [] h = h
+joined_fit (items.Bytes p ∷ is) h = block_fits p (joined is) (All-head ItemFits (items.Bytes p) is h) (joined_fit is (All-tail ItemFits (items.Bytes p) is h))
+joined_fit (items.Ref s ∷ is) h = All-cons ItemFits (items.Ref s) (joined is) tt (joined_fit is (All-tail ItemFits (items.Ref s) is h))
+
 -- ---- under new numbers
+
+item_kept : (f : Renaming) (i : Item) → ItemFits i → ItemFits (item_by f i)
+item_kept f (items.Bytes b) h = h
+item_kept f (items.Ref s) h = h
+
+pub items_kept : (f : Renaming) (is : List Item) → ItemsFit is → ItemsFit (map (item_by f) is)
+items_kept f is h = All-map ItemFits (item_by f) is (All-weaker ItemFits (λ i. ItemFits (item_by f i)) (item_kept f) is h)
 
 value_kept : (f : Renaming) (v : Value) → ValueFits v → ValueFits (value_by f v)
 value_kept f (values.B v) h = h
@@ -50,8 +74,8 @@ value_kept f (values.S v) h = h
 value_kept f (values.Z v) h = h
 value_kept f (values.Ref s) h = h
 
-part_kept : (f : Renaming) (p : Part) → All ValueFits p.values → All ValueFits (part_by f p).values
-part_kept f p h = All-map ValueFits (value_by f) p.values (All-weaker ValueFits (λ v. ValueFits (value_by f v)) (value_kept f) p.values h)
+part_kept : (f : Renaming) (p : Part) → PartFits p → PartFits (part_by f p)
+part_kept f p h = (All-map ValueFits (value_by f) p.values (All-weaker ValueFits (λ v. ValueFits (value_by f v)) (value_kept f) p.values h.0), items_kept f p.note h.1)
 
 elements_kept : (f : Renaming) (vs : Values) → ElementsFit vs → ElementsFit (values_by f vs)
 elements_kept f (kinds.Bytes v) h = h
@@ -67,8 +91,8 @@ elements_kept f (kinds.Refs v) h = h
 pub node_kept : (f : Renaming) (i : Node) → InRange i → InRange (node_by f i)
 unfolding node_by
 node_kept f (Text t) h = h
-node_kept f (Desc d) h = (h.0, (h.1.0, All-map NameFits (field_by f) d.fields h.1.1))
-node_kept f (Proxy p) h = h
+node_kept f (Desc d) h = ((h.0.0, items_kept f d.note h.0.1), (h.1.0, All-map NameFits (field_by f) d.fields h.1.1))
+node_kept f (Proxy p) h = (items_kept f p.note h.0, h.1)
 node_kept f (Object c ps) h = (All-map PartFits (part_by f) ps (All-weaker PartFits (λ p. PartFits (part_by f p)) (part_kept f) ps h.0), tt)
 node_kept f (Array c vs) h = (elements_kept f vs h.0, tt)
 node_kept f (Class c) h = h
@@ -104,7 +128,8 @@ part_put place to (Some p) q f e = go (values_to p.values place to) refl e
     go None is e = absurd cc
     go (Some vs) is e =
         let made : Part = record p { values = vs } in
-        subst PartFits (some_same made q e) (put_kept ValueFits p.values vs place (value_to to (slice_get p.values place)) is (value_put to (slice_get p.values place)) (f p refl))
+        let whole = f p refl in
+        subst PartFits (some_same made q e) (put_kept ValueFits p.values vs place (value_to to (slice_get p.values place)) is (value_put to (slice_get p.values place)) whole.0, whole.1)
 
 node_put : (part place : ℕ) (to : Slot) (o : Option Node) (j : Node) → ((i : Node) → o ≡ Some i → InRange i) → node_to part place to o ≡ Some j → InRange j
 node_put part place to (Some (Object c ps)) j f e = go (put ps part (part_to place to (slice_get ps part))) refl e

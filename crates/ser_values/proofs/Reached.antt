@@ -24,7 +24,7 @@ use Rattle.ser_values.specs.declared.node.Node.TheVariants.{Text, Desc, Proxy, O
 use Rattle.ser_values.specs.declared.node.Place.TheVariants as places
 use Rattle.ser_values.specs.Node.{has, Want, item_wants, value_wants, part_wants, field_wants, slot_wants, element_wants, before, after}
 use Rattle.ser_values.specs.Shape.{is_joined, parts_of, parts_in}
-use Rattle.ser_values.specs.Ranges.{InRange}
+use Rattle.ser_values.specs.Ranges.{ItemsFit, InRange}
 use Rattle.ser_values.specs.Visits.{VisitAll, Visits}
 use Rattle.ser_values.specs.Walk.{end_of, all, visit_at}
 use Rattle.ser_values.specs.Numbered.{NumberAll, Numbered, IsGraph}
@@ -34,7 +34,7 @@ use Rattle.ser_values.specs.Seen.{Once}
 use Rattle.ser_values.proofs.Orders.{sound, complete, all_sound, all_complete}
 use Rattle.ser_values.proofs.Depths.{deeper, bounded, all_bounded, all_more}
 use Rattle.ser_values.proofs.Places.{get_or-some}
-use Rattle.ser_values.proofs.Ranged.{numbers_of, units_of, both_of, reordered_kept}
+use Rattle.ser_values.proofs.Ranged.{numbers_of, units_of, both_of, items_kept, reordered_kept}
 use Rattle.ser_values.proofs.Added.{Names, NamesAll, Wants, Adds, visits_add, all_adds, has-seam}
 use Rattle.ser_values.proofs.Renumbered.{map_len, want_by, split_named, item_wants-map, is_joined-map}
 use Rattle.ser_values.proofs.Numbering.{is_numbered, length-reordered}
@@ -277,8 +277,8 @@ graph_of loose items order places nodes to h p n t = record {
   items_are = t ∙ same_items order (place_at places) (place_in order) (agrees order places p) items (adds loose (item_wants items) 200 order h.visits).1;
 }
 
-pub is_graph : (loose : List Node) (items : List Item) (nodes : List Node) (to : List Item) → length loose ≤ 65536 → All InRange loose → IsGraphOf loose items nodes to → IsGraph nodes to
-is_graph loose items nodes to small ranged g =
+pub is_graph : (loose : List Node) (items : List Item) (nodes : List Node) (to : List Item) → length loose ≤ 65536 → All InRange loose → ItemsFit items → IsGraphOf loose items nodes to → IsGraph nodes to
+is_graph loose items nodes to small ranged fit g =
     let n = is_numbered loose (item_wants items) 200 g.order g.is_order.visits in
     let wants : item_wants to ≡ map (want_by (place_in g.order)) (item_wants items) = ap item_wants g.items_are ∙ item_wants-map (place_in g.order) items in
     let numbered : NumberAll (Numbered nodes 200 []) (map (want_by (place_in g.order)) (item_wants items)) 0 (length nodes) = subst (λ (ns : List Node). NumberAll (Numbered ns 200 []) (map (want_by (place_in g.order)) (item_wants items)) 0 (length ns)) (sym g.nodes_are) n in
@@ -292,6 +292,7 @@ is_graph loose items nodes to small ranged g =
       few_parts = rw g.nodes_are g.is_order.few_parts;
       numbers = numbers_of nodes kept;
       units = units_of nodes kept;
+      bytes = subst (λ (l : List Item). ItemsFit l) (sym g.items_are) (items_kept (place_in g.order) items fit);
     }
 
 -- the same, where each list is seen more than once

@@ -16,6 +16,7 @@ use Rattle.ser_values.specs.declared.value.Values.TheVariants.{Refs}
 use Rattle.ser_values.specs.declared.node.Node.{Node}
 use Rattle.ser_values.specs.declared.node.Node.TheVariants.{Text, Desc, Object, Array}
 use Rattle.ser_values.specs.Node.{has, is_desc}
+use Rattle.ser_values.specs.Numbered.{IsGraph}
 use Rattle.ser_values.specs.Spelled.{IsStream}
 use Rattle.ser_values.specs.Reading.{Fault, short, bad, bad_magic, bad_code, bad_handle, wrong_handle_kind, bad_desc, bad_utf, negative_length, reset, old_external, size_at, units_at, short_at, long_at, many_at, blocks_at, items_at, field_of, field_at, elements_at, chain_of, note_at, parts_at, values_at, value_at, text_at, desc_after, desc_at, with_class, object_after, object_at, array_of, array_at, fresh_at, handle_at, coded, slot_at, magic_at, stream_of}
 
@@ -121,6 +122,30 @@ a_class_in_itself : after_head (0x72 ∷ 0x00 ∷ 0x01 ∷ 0x4E ∷ 0x00 ∷ 0x0
 unfolding stream_of magic_at items_at blocks_at slot_at coded fresh_at desc_at desc_after short_at units_at decoded_at front size_at many_at is_good_desc fit_flags are_ordered handle_at has
 a_class_in_itself = refl
 
+-- null where a class is wanted
+a_null_for_a_class : after_head (0x73 ∷ 0x70 ∷ []) ≡ fails (bad bad_code 5)
+unfolding stream_of magic_at items_at blocks_at slot_at coded fresh_at with_class
+a_null_for_a_class = refl
+
+-- a byte behind the last code
+no_code : after_head (0x70 ∷ 0x7F ∷ []) ≡ fails (bad bad_code 5)
+unfolding stream_of magic_at items_at blocks_at slot_at coded
+no_code = refl
+
+-- a number below that of the first handle
+a_low_handle : after_head (0x74 ∷ 0x00 ∷ 0x00 ∷ 0x71 ∷ 0x00 ∷ 0x7D ∷ 0xFF ∷ 0xFF ∷ []) ≡ fails (bad bad_handle 7)
+unfolding stream_of magic_at items_at blocks_at slot_at coded fresh_at text_at short_at units_at decoded_at handle_at
+a_low_handle = refl
+
+-- a length of 64 bits
+a_negative_text : after_head (0x7C ∷ 0x80 ∷ 0x00 ∷ 0x00 ∷ 0x00 ∷ 0x00 ∷ 0x00 ∷ 0x00 ∷ 0x00 ∷ []) ≡ fails (bad negative_length 5)
+unfolding stream_of magic_at items_at blocks_at slot_at coded fresh_at text_at long_at size_at
+a_negative_text = refl
+
 -- A unit is a number of 16 bits: no bytes are a stream of a text with a unit past 65,535.
 no_wide_text : (contents : List Item) (bytes : List ℕ) → IsStream (Text (65536 ∷ []) ∷ []) contents bytes → ⊥
 no_wide_text contents bytes h = absurd (let small : 65536 < 65536 = h.units 0 (Text []) (omega arith) 0 0 (omega arith) in omega arith)
+
+-- A byte is a number of 8 bits: no items have one past 255.
+no_wide_byte : (nodes : List Node) → IsGraph nodes (items.Bytes (256 ∷ []) ∷ []) → ⊥
+no_wide_byte nodes h = absurd (let small : 256 < 256 = h.bytes 0 (items.Bytes []) (omega arith) 0 0 (omega arith) in omega arith)

@@ -111,6 +111,29 @@ blocks_same A B S T same bs bt unread (items.Ref s ∷ is) (items.Ref t ∷ js) 
     let others : is ≡ js = more.0 in
     (cc, agree_two A B unread n h.0 g.0 x y h.1 g.1 m k a more.1)
 
+-- equally many, which need not end the stream or an annotation
+pub as_many_same : (A B : List Node) (S T : Spelling) → AreSame A B S T → AllBegin S → AllBegin T → (unread : List ℕ) (is js : List Item) (n : ℕ) (bs x y : List ℕ) (m k : ℕ)
+    → SpellsBlocks (S unread) is n bs x m → SpellsBlocks (T unread) js n bs y k → length is ≡ length js → IsState A B unread n → (is ≡ js) × Agree A B unread n x y m k
+as_many_same A B S T same bs bt unread [] [] n b x y m k h g len st = (refl, agree_none A B unread n x y m k (sym h.0 ∙ g.0) h.1 g.1 st)
+as_many_same A B S T same bs bt unread [] (j ∷ js) n b x y m k h g len st = absurd (omega arith)
+as_many_same A B S T same bs bt unread (i ∷ is) [] n b x y m k h g len st = absurd (omega arith)
+as_many_same A B S T same bs bt unread (items.Bytes p ∷ is) (items.Ref t ∷ js) n b x y m k h g len st = absurd (block_no_begin b p h.0 h.1 h.2 h.3 (bt unread (places.Reference, t) n b g.0 g.1 g.2))
+as_many_same A B S T same bs bt unread (items.Ref s ∷ is) (items.Bytes q ∷ js) n b x y m k h g len st = absurd (block_no_begin b q g.0 g.1 g.2 g.3 (bs unread (places.Reference, s) n b h.0 h.1 h.2))
+as_many_same A B S T same bs bt unread (items.Bytes p ∷ is) (items.Bytes q ∷ js) n b x y m k h g len st =
+    let r = block_same b p q h.0 g.0 h.1 g.1 h.2 g.2 h.3 g.3 in
+    let more = as_many_same A B S T same bs bt unread is js n h.1 x y m k h.4 (subst (λ (z : List ℕ). SpellsBlocks (T unread) js n z y k) (sym r.1) g.4) (omega arith) st in
+    let first : p ≡ q = r.0 in
+    let others : is ≡ js = more.0 in
+    (cc, more.1)
+as_many_same A B S T same bs bt unread (items.Ref s ∷ is) (items.Ref t ∷ js) n b x y m k h g len st =
+    let r = same unread places.Reference s t n b h.0 g.0 h.1 g.1 h.2 g.2 st in
+    let a = r.2 in
+    let g3 : SpellsBlocks (T unread) js h.1 h.0 y k = subst (λ (z : List ℕ). SpellsBlocks (T unread) js h.1 z y k) (sym a.rests) (subst (λ j. SpellsBlocks (T unread) js j g.0 y k) (sym a.counts) g.3) in
+    let more = as_many_same A B S T same bs bt unread is js h.1 h.0 x y m k h.3 g3 (omega arith) a.state in
+    let first : s ≡ t = r.0 in
+    let others : is ≡ js = more.0 in
+    (cc, agree_two A B unread n h.0 g.0 x y h.1 g.1 m k a more.1)
+
 pub items_same : (A B : List Node) (S T : Spelling) → AreSame A B S T → AllBegin S → AllBegin T → (unread : List ℕ) (is js : List Item) (n : ℕ) (bs x y : List ℕ) (m k : ℕ)
     → SpellsItems (S unread) is n bs x m → SpellsItems (T unread) js n bs y k → IsEnd x → IsEnd y → IsState A B unread n → (is ≡ js) × Agree A B unread n x y m k
 items_same A B S T same bs bt unread is js n b x y m k h g ex ey st =

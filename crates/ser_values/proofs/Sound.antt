@@ -12,12 +12,12 @@ use Rattle.ser_values.specs.declared.node.Place.{Place}
 use Rattle.ser_values.specs.declared.node.Place.TheVariants as places
 use Rattle.ser_values.specs.Node.{has, is_desc, is_text, admits, admits_null, takes}
 use Rattle.ser_values.specs.Shape.{parts_in}
-use Rattle.ser_values.specs.Ranges.{InRange}
+use Rattle.ser_values.specs.Ranges.{ItemsFit, InRange}
 use Rattle.ser_values.specs.Spelled.{Spelling, Spell, a_null, again, fresh, never, Spells, SpellsItems, IsStream}
 use Rattle.ser_values.specs.Reading.{Fault, bad, bad_code, bad_handle, bad_desc, wrong_handle_kind, bad_magic, too_many, ◌>>=◌, byte_at, number_at, Progress, Slots, roomy, with_class, object_at, array_at, class_at, enum_at, admits_code, code_fault, fresh_at, null_at, handle_fault, handle_at, deep, coded, no_slots, slot_at, magic_at, items_at, stream_of}
 use Rattle.ser_values.proofs.Lists.{has_not, found_at}
 use Rattle.ser_values.proofs.Ranged.{numbers_of, units_of}
-use Rattle.ser_values.proofs.PlainSound.{AreBytes, bind_ok, passed, guarded, chosen, ok_is, number_sound_32, unless_ok}
+use Rattle.ser_values.proofs.PlainSound.{AreBytes, all_bytes, bind_ok, passed, guarded, chosen, ok_is, number_sound_32, unless_ok}
 use Rattle.ser_values.proofs.Solid.{IsWhole, WholeIn, Solid, Sees, got_none, got_map}
 use Rattle.ser_values.proofs.StepSound.{GotSlot, IsSound, byte_spells}
 use Rattle.ser_values.proofs.NoteSound.{items_sound}
@@ -209,10 +209,10 @@ magic_sound end (w ∷ ws) bs rest e bytes =
 abbrev pub Answer : Type 0
 Answer = List Node × List Item
 
--- Bytes that are read are a stream of the nodes and items that are answered.
-pub stream_sound : (bytes : List ℕ) (x : Answer) → AreBytes bytes → stream_of bytes ≡ Ok x → IsStream x.0 x.1 bytes
+-- Bytes that are read are a stream of the nodes and items that are answered, and the items' bytes are in range.
+pub stream_got : (bytes : List ℕ) (x : Answer) → AreBytes bytes → stream_of bytes ≡ Ok x → IsStream x.0 x.1 bytes × ItemsFit x.1
 unfolding stream_of has parts_in
-stream_sound bytes x are e =
+stream_got bytes x are e =
     let end = length bytes in
     let start : Progress = record { nodes = []; parts = 0 } in
     let a = bind_ok (magic_at end (0xAC ∷ 0xED ∷ 0x00 ∷ 0x05 ∷ []) bytes) (λ bs. items_at end (slot_at end 200 places.Reference []) false start bs >>= λ x. Ok (x.1.nodes, x.0)) x e in
@@ -228,4 +228,7 @@ stream_sound bytes x are e =
     let p = g.got.parts in
     let few = g.got.solid.few in
     let ranged = g.got.solid.ranged in
-    subst (λ (x : Answer). IsStream x.0 x.1 bytes) (ok_is (F, y.0) x b.2) (record { contents = a.0; headed = m.parts; spelled = ended; numbers = numbers_of F ranged; units = units_of F ranged; few_parts = omega arith })
+    subst (λ (x : Answer). IsStream x.0 x.1 bytes × ItemsFit x.1) (ok_is (F, y.0) x b.2) (record { contents = a.0; headed = m.parts; spelled = ended; numbers = numbers_of F ranged; units = units_of F ranged; few_parts = omega arith; are_bytes = all_bytes bytes are }, g.ranged)
+
+pub stream_sound : (bytes : List ℕ) (x : Answer) → AreBytes bytes → stream_of bytes ≡ Ok x → IsStream x.0 x.1 bytes
+stream_sound bytes x are e = (stream_got bytes x are e).0

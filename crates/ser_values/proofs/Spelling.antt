@@ -18,6 +18,7 @@ use Rattle.ser_values.specs.declared.node.Node.{Node}
 use Rattle.ser_values.specs.declared.node.Node.TheVariants.{Text, Desc, Proxy, Object, Array, Class, Enum}
 use Rattle.ser_values.specs.declared.node.Place.TheVariants as places
 use Rattle.ser_values.specs.Node.{Want, item_wants, value_wants, part_wants, field_wants, slot_wants, element_wants, before, after, inside}
+use Rattle.ser_values.specs.Ranges.{ItemsFit}
 use Rattle.ser_values.specs.Shape.{is_joined, joined_from, fit_values, fits_part, fits_above, fits_chain}
 use Rattle.ser_values.specs.Numbered.{Numbering, NumberAll, Numbers, no_numbers, Numbered, IsGraph}
 use Rattle.ser_values.specs.Numbered as numbers
@@ -241,8 +242,8 @@ joined_joined (items.Bytes p ∷ is) = joined_put p (joined is) (joined_joined i
 joined_joined (items.Ref s ∷ is) = joined_joined is
 
 -- The nodes and items of a stream are a graph.
-pub stream_graph : (nodes : List Node) (items : List Item) (bytes : List ℕ) → IsStream nodes items bytes → length nodes ≤ 65536 → IsGraph nodes items
-stream_graph nodes items bytes s few =
+pub stream_graph : (nodes : List Node) (items : List Item) (bytes : List ℕ) → IsStream nodes items bytes → length nodes ≤ 65536 → ItemsFit items → IsGraph nodes items
+stream_graph nodes items bytes s few fit =
     let n = blocks_numbered (Spells nodes 200 []) (Numbered nodes 200 []) (spells_numbered nodes 200 []) s.spelled.0 [] 0 s.contents [] (length nodes) (length nodes) s.spelled.1 refl in
     let wants : item_wants s.spelled.0 ++ [] ≡ item_wants items = append-nil (item_wants s.spelled.0) ∙ sym (joined_wants s.spelled.0) ∙ ap item_wants (sym s.spelled.2) in
     record {
@@ -252,4 +253,5 @@ stream_graph nodes items bytes s few =
       few_parts = s.few_parts;
       numbers = s.numbers;
       units = s.units;
+      bytes = fit;
     }

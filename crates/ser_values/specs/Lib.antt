@@ -11,6 +11,7 @@ pub mod Builder
 pub mod Spelled
 pub mod Ranges
 pub mod Reading
+pub mod Faults
 pub mod Chain
 pub mod Fronts
 pub mod NoteBytes

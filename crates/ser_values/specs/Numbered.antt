@@ -7,7 +7,7 @@ use Rattle.ser_values.specs.declared.node.Node.{Node}
 use Rattle.ser_values.specs.declared.limits.TheConstants.{LEVELS, NODES, PARTS}
 use Rattle.ser_values.specs.Node.{has, Want, item_wants, before, after, admits, admits_null, takes, inside}
 use Rattle.ser_values.specs.Shape.{is_shaped, is_joined, parts_in}
-use Rattle.ser_values.specs.Ranges.{NumbersFit, UnitsFit}
+use Rattle.ser_values.specs.Ranges.{ItemsFit, NumbersFit, UnitsFit}
 
 -- The unread descriptions, what is wanted, and how many nodes have handles before it is written and afterwards.
 abbrev pub Numbering : Type 1
@@ -34,7 +34,8 @@ unfoldable pub Numbered : List Node → ℕ → Numbering
 Numbered nodes zero unread w n m = Numbers nodes zero no_numbers unread w n m
 Numbered nodes (suc d) unread w n m = Numbers nodes (suc d) (Numbered nodes d) unread w n m
 
--- A graph: its items reach each of its nodes, in the order of the nodes' numbers, within the limits; its numbers are in range.
+-- A graph: its items reach each of its nodes, in the order of the nodes' numbers, within the limits; its numbers are in range, and so
+-- are the bytes of its items.
 pub record IsGraph (nodes : List Node) (items : List Item) : Type 0 where
   pub numbered : NumberAll (Numbered nodes LEVELS []) (item_wants items) 0 (length nodes)
   pub joined : is_joined items ≡ true
@@ -42,3 +43,4 @@ pub record IsGraph (nodes : List Node) (items : List Item) : Type 0 where
   pub few_parts : parts_in nodes ≤ PARTS
   pub numbers : NumbersFit nodes
   pub units : UnitsFit nodes
+  pub bytes : ItemsFit items

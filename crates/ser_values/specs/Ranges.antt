@@ -1,6 +1,8 @@
 -- Numbers in the ranges of their types: those of a graph are, since bytes show a number only as far as its type's width.
 use Rattle.std.specs.Prelude.{◌<◌, ◌^◌, ℕ, FitsSigned, List, All}
 use Rattle.std.specs.Int.{w16, w32, w64}
+use Rattle.class_desc.specs.declared.slot.Item.{Item}
+use Rattle.class_desc.specs.declared.slot.Item.TheVariants as items
 use Rattle.class_desc.specs.declared.field.FieldDesc.{FieldDesc}
 use Rattle.class_desc.specs.declared.desc.ClassDesc.{ClassDesc}
 use Rattle.ser_values.specs.declared.value.Value.{Value}
@@ -33,18 +35,28 @@ ElementsFit (kinds.Shorts v) = All (FitsSigned w16) v
 ElementsFit (kinds.Bools v) = Unit {0}
 ElementsFit (kinds.Refs v) = Unit {0}
 
--- An object's part.
-abbrev pub PartFits : Part → Type 0
-PartFits p = All ValueFits p.values
+-- The bytes of an item of block data.
+abbrev pub ItemFits : Item → Type 0
+ItemFits (items.Bytes b) = All (λ x. x < 2 ^ 8) b
+ItemFits (items.Ref s) = Unit {0}
 
--- The serialVersionUID of a description, the values of an object's fields, or an array's elements.
+-- Each byte of the items is one.
+abbrev pub ItemsFit : List Item → Type 0
+ItemsFit is = All ItemFits is
+
+-- An object's part: its values and its note.
+abbrev pub PartFits : Part → Type 0
+PartFits p = All ValueFits p.values × ItemsFit p.note
+
+-- The serialVersionUID and the note of a description, a proxy's note, the values and the notes of an object, or an array's elements.
 abbrev pub NodeFits : Node → Type 0
-NodeFits (Desc d) = FitsSigned w64 d.suid
+NodeFits (Desc d) = FitsSigned w64 d.suid × ItemsFit d.note
+NodeFits (Proxy p) = ItemsFit p.note
 NodeFits (Object c ps) = All PartFits ps
 NodeFits (Array c vs) = ElementsFit vs
 NodeFits _ = Unit {0}
 
--- Each number of the nodes is in its type's range.
+-- Each number and each byte of the nodes is in its type's range.
 abbrev pub NumbersFit : List Node → Type 0
 NumbersFit nodes = All NodeFits nodes
 

@@ -1,6 +1,7 @@
 -- Which bytes spell a reference, and which a stream (Java Object Serialization Specification, 6.4): for each kind of node
 -- a code, what stands before the node's handle is given, and what stands after it.
 use Rattle.std.specs.Prelude.{◌≡◌, ◌⊎◌, ◌<◌, ◌≤◌, ◌^◌, ℕ, zero, suc, ◌+◌, Bool, true, false, List, [], ◌∷◌, ◌++◌, length, map, Option, Some, slice_get, if◌then◌else◌}
+use Rattle.std.specs.List.{AllByRecursion}
 use Rattle.std.specs.Int.{Width, w16, w32, w64, to_be_bytes, cast_unsigned}
 use Rattle.mod_utf.specs.Utf.{utf}
 use Rattle.class_desc.specs.declared.slot.Slot.{Slot}
@@ -175,7 +176,7 @@ Spells nodes zero unread w n bs rest m = Spell nodes zero never unread w n bs re
 Spells nodes (suc d) unread w n bs rest m = Spell nodes (suc d) (Spells nodes d) unread w n bs rest m
 
 -- The bytes are a stream of these items: the magic number and the version, then the items, which give these nodes their handles in order.
--- The nodes' numbers are in range, and their objects have not too many parts.
+-- The nodes' numbers are in range, their objects have not too many parts, and the bytes are numbers of 8 bits.
 pub record IsStream (nodes : List Node) (items : List Item) (bytes : List ℕ) : Type 0 where
   pub contents : List ℕ
   pub headed : bytes ≡ 0xAC ∷ 0xED ∷ 0x00 ∷ 0x05 ∷ contents
@@ -183,3 +184,4 @@ pub record IsStream (nodes : List Node) (items : List Item) (bytes : List ℕ) :
   pub numbers : NumbersFit nodes
   pub units : UnitsFit nodes
   pub few_parts : parts_in nodes ≤ PARTS
+  pub are_bytes : AllByRecursion (λ b. b < 256) bytes

@@ -1,5 +1,5 @@
 //! Builders: loose nodes that become a graph.
-ghost use Rattle.std.specs.Prelude.{◌≡◌, ◌↔◌, ℕ, IsTrue, false, None, Ok, Some, [], IfOk, IfErr, OnOk, slice_get};
+ghost use Rattle.std.specs.Prelude.{◌≡◌, ◌↔◌, ℕ, IsTrue, false, None, Ok, Some, [], length, take, IfOk, IfErr, OnOk, slice_get};
 ghost use Rattle.class_desc.specs.declared.slot.Slot.TheVariants as slots;
 ghost use Rattle.ser_values.specs.declared.node.Node.TheVariants as nodes;
 ghost use Rattle.ser_values.specs.Builder.{AddsNode, number_of, HasNoText, IsFirstText, MatchFirstText, put, slot_to, values_to, part_to, node_to, with_reference, or_none};
@@ -187,6 +187,27 @@ impl Builder {
         }
     }
 
+    /// How many loose nodes there are: at most 65,536.
+    pub fn len(&self) -> usize
+        ensures { result ≡ length self.now }
+    {
+        self.nodes.len()
+    }
+
+    /// Whether there are none.
+    pub fn is_empty(&self) -> bool
+        ensures { IsTrue result ↔ (self.now ≡ []) }
+    {
+        self.nodes.is_empty()
+    }
+
+    /// Keeps the first `len` loose nodes, or all where there are no more. So what was added to a builder can be taken back.
+    pub fn truncate(&mut self, len: usize)
+        ensures { self.new ≡ take len self.old }
+    {
+        self.nodes.truncate(len);
+    }
+
     /// Adds a loose node.
     fn add(&mut self, node: Node) -> Result<Slot, BuildFault>
         ensures { AddsNode self.old self.new node result }
@@ -302,6 +323,7 @@ impl Builder {
         let Builder { alloc, nodes } = self;
         let mut nodes = nodes;
         let mut items = items;
+        items.look();
         let order = order_of(alloc, &nodes, items.as_slice())?;
         let places = places(alloc, &order, nodes.len())?;
         let taken = take_nodes(alloc, &mut nodes, &order, &places)?;

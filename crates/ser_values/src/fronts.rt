@@ -6,6 +6,7 @@ ghost use Rattle.ser_values.specs.Fronts.{begin_with_bytes, front_len, without_f
 ghost use Rattle.ser_values.specs.Spelled.{put_block};
 
 use crate::graph::Graph;
+use crate::ranges::look_at_each;
 use class_desc::{Item, Items, Slot};
 use mod_utf::list::ByteList;
 use std::alloc::{AllocError, Global};
@@ -111,6 +112,7 @@ impl Graph {
         ensures items { IfOk result (λ graph. graph.items ≡ put_block bytes.now self.items) }
         ensures undone { IfOk result (λ graph. without_front (length bytes.now) graph.items ≡ Some self.items) }
     {
+        look_at_each(bytes);
         let (nodes, items) = self.into_parts();
         let mut items = items.into_vec();
         join_front(alloc, &mut items, ByteList::from_slice(alloc, bytes)?)?;

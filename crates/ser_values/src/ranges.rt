@@ -2,11 +2,11 @@
 //! number is to know it, so these functions read each number and do nothing else.
 ghost use Rattle.std.specs.Prelude.{All, ◌<◌, ◌^◌, FitsSigned};
 ghost use Rattle.std.specs.Int.{w16, w32, w64};
-ghost use Rattle.ser_values.specs.Ranges.{ValueFits, ElementsFit, PartFits, NameFits, DescFits, InRange};
+ghost use Rattle.ser_values.specs.Ranges.{ValueFits, ElementsFit, ItemFits, PartFits, NameFits, DescFits, InRange};
 
 use crate::node::Node;
 use crate::value::{Part, Value, Values};
-use class_desc::{ClassDesc, FieldDesc};
+use class_desc::{ClassDesc, FieldDesc, Item};
 use mod_utf::list::Sequence;
 
 /// What has numbers.
@@ -20,7 +20,7 @@ pub(crate) trait Ranged {
 }
 
 /// Looks at each number of several values.
-fn look_at_each<T: Ranged>(values: &[T])
+pub(crate) fn look_at_each<T: Ranged>(values: &[T])
     ensures { All T.fits values.now }
 {
     for value in values {
@@ -128,11 +128,23 @@ impl Ranged for Values {
     }
 }
 
+impl Ranged for Item {
+    ghost fits = { ItemFits };
+
+    fn look(&self) {
+        match self {
+            Item::Bytes(bytes) => bytes.look(),
+            Item::Ref(_) => {}
+        }
+    }
+}
+
 impl Ranged for Part {
     ghost fits = { PartFits };
 
     fn look(&self) {
         self.values.look();
+        self.note.look();
     }
 }
 
@@ -151,6 +163,7 @@ impl Ranged for ClassDesc {
         self.suid.look();
         self.name.look();
         self.fields.look();
+        self.note.look();
     }
 }
 
@@ -161,7 +174,10 @@ impl Ranged for Node {
         match self {
             Node::Text(text) => text.look(),
             Node::Desc(desc) => desc.look(),
-            Node::Proxy(proxy) => proxy.names.look(),
+            Node::Proxy(proxy) => {
+                proxy.names.look();
+                proxy.note.look();
+            }
             Node::Object { parts, .. } => parts.look(),
             Node::Array { values, .. } => values.look(),
             Node::Class { .. } => {}

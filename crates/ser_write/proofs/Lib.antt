@@ -1,4 +1,5 @@
 pub mod Begins
 pub mod Writes
 pub mod Cuts
+pub mod Bytes
 pub mod Streams

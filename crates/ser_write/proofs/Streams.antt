@@ -1,7 +1,7 @@
 -- What is written of a graph is a stream of its items.
-use Rattle.std.proofs.Common.{◌≡◌, ◌||◌, ◌&&◌, not, ℕ, zero, suc, ◌+◌, ◌<◌, ◌≤◌, ◌^◌, Bool, true, false, cond, ltb, List, [], ◌∷◌, ◌++◌, map, length, take, drop, Option, Some, None, slice_get, refl, sym, ap, subst, ◌∙◌, append_assoc, add-one, arith, inl, inr}
-use Rattle.std.specs.Prelude.{is_some}
-use Rattle.std.specs.List.{flat_map}
+use Rattle.std.proofs.Common.{◌≡◌, ◌||◌, ◌&&◌, not, ℕ, zero, suc, ◌+◌, ◌<◌, ◌≤◌, ◌^◌, Bool, true, false, cond, ltb, List, [], ◌∷◌, ◌++◌, map, length, take, drop, Option, Some, None, slice_get, get_or, refl, sym, ap, subst, ◌∙◌, append_assoc, add-one, arith, inl, inr}
+use Rattle.std.specs.Prelude.{is_some, All}
+use Rattle.std.specs.List.{flat_map, AllByRecursion}
 use Rattle.std.specs.Int.{w32, to_be_bytes}
 use Rattle.std.proofs.lemmas.Bool.{ltb-true, lt-ltb, le-ltb}
 use Rattle.std.proofs.lemmas.List.{append-nil}
@@ -35,7 +35,8 @@ use Rattle.ser_values.proofs.Shaped.{graph_shaped}
 use Rattle.ser_values.proofs.OneReading.{one_reading}
 use Rattle.std.proofs.Math.Logic.{∥∥₁_map, ∥∥₁_elim, ∥∥₁_prop}
 use Rattle.ser_values.proofs.Chains.{not_both, chained_flag}
-use Rattle.ser_write.specs.Canonical.{Written, Writing, block_of, pieces_in, pieces, blocks, write_items, write_all, code_of, tokens_before, is_external_class, external_tokens, object_tokens, tokens_after, write_new, write_one, nothing, write_at, contents, canonical}
+use Rattle.ser_write.proofs.Bytes.{canonical_bytes}
+use Rattle.ser_write.specs.Canonical.{Written, Writing, block_of, pieces_in, pieces, blocks, write_items, write_all, code_of, tokens_before, is_external_class, external_tokens, object_tokens, tokens_after, write_new, write_one, nothing, write_at, contents, canonical, IsFull, SpellFully}
 
 -- ---- blocks
 
@@ -437,7 +438,7 @@ pub canonical_stream : (F : List Node) (is : List Item) → IsGraph F is → IsS
 unfolding canonical
 canonical_stream F is g =
     let spelled = subst (λ (b : List ℕ). SpellsItems (Spells F 200 []) is 0 b [] (length F)) (append-nil (contents F is)) (contents_spelled F is g []) in
-    record { contents = contents F is; headed = refl; spelled = spelled; numbers = g.numbers; units = g.units; few_parts = g.few_parts }
+    record { contents = contents F is; headed = refl; spelled = spelled; numbers = g.numbers; units = g.units; few_parts = g.few_parts; are_bytes = canonical_bytes F is g }
 
 -- Two graphs have the same canonical bytes only where they are equal.
 pub canonical_alone : (F E : List Node) (is js : List Item) → ∥ IsGraph F is ∥₁ → ∥ IsGraph E js ∥₁ → canonical E js ≡ canonical F is → ∥ (E ≡ F) × (js ≡ is) ∥₁
@@ -445,3 +446,44 @@ canonical_alone F E is js g h e =
     ∥∥₁_elim g ∥∥₁_prop (λ a. ∥∥₁_map h (λ b. (
     let stream : IsStream E js (canonical F is) = subst (λ (bytes : List ℕ). IsStream E js bytes) e (canonical_stream E js b) in
     one_reading E F js is (canonical F is) stream (canonical_stream F is a))))
+
+-- ---- no block is empty
+
+pieces_full : (k : ℕ) (b : List ℕ) (is : List Item) → AllByRecursion IsFull is → AllByRecursion IsFull (map items.Bytes (pieces_in k b) ++ is)
+unfolding pieces_in
+pieces_full zero b is h = h
+pieces_full (suc k) [] is h = h
+pieces_full (suc k) (x ∷ b) is h = (tt, pieces_full k (drop 1024 (x ∷ b)) is h)
+
+cut_full : (is : List Item) → AllByRecursion IsFull (cut is)
+unfolding pieces
+cut_full [] = tt
+cut_full (items.Bytes b ∷ is) = pieces_full (length b) b (cut is) (cut_full is)
+cut_full (items.Ref s ∷ is) = (tt, cut_full is)
+
+-- What is written of a graph's items spells them in blocks of which none is empty.
+pub contents_full : (F : List Node) (is : List Item) → IsGraph F is → SpellFully F is (contents F is)
+unfolding contents
+contents_full F is g =
+    let v = items_written (write_at 200 F) (Numbered F 200) (Spells F 200) (at_written F 200 (graph_shaped F is g) g.few_nodes) [] is 0 (length F) g.numbered in
+    record { blocks = cut is; full = cut_full is; same = sym (joined_cut is g.joined); spelled = v.1 }
+
+-- Bytes by themselves are spelled so.
+pub bytes_full : (b : List ℕ) → 0 < length b → SpellFully [] (items.Bytes b ∷ []) (blocks b)
+unfolding pieces joined_from
+bytes_full [] some = absurd (omega arith)
+bytes_full (x ∷ b) some = record {
+  blocks = map items.Bytes (pieces (x ∷ b)) ++ [];
+  full = pieces_full (suc (length b)) (x ∷ b) [] tt;
+  same = sym (joined_cut (items.Bytes (x ∷ b) ∷ []) refl);
+  spelled = λ rest. blocks_spelled (Spells [] 200 []) (pieces (x ∷ b)) [] 0 rest rest 0 (pieces_short (x ∷ b)) (refl, refl);
+}
+
+-- Bytes that are in range, each at its place, are so all together.
+pub all_fit : (bs : List ℕ) → ((i : ℕ) → get_or bs i 0 < 256) → All (λ x. x < 2 ^ 8) bs
+all_fit bs h = λ k d lt. at_place bs h k d lt
+  where
+    at_place : (bs : List ℕ) → ((i : ℕ) → get_or bs i 0 < 256) → (k d : ℕ) → k < length bs → get_or bs k d < 2 ^ 8
+    at_place [] h k d lt = absurd (omega arith)
+    at_place (b ∷ bs) h zero d lt = h 0
+    at_place (b ∷ bs) h (suc k) d lt = at_place bs (λ i. h (suc i)) k d (omega arith)

@@ -8,6 +8,7 @@ use Rattle.std.specs.declared.alloc.AllocError.{AllocError}
 use Rattle.class_desc.specs.declared.slot.Slot.{Slot}
 use Rattle.class_desc.specs.declared.slot.Slot.TheVariants as slots
 use Rattle.class_desc.specs.declared.slot.Item.{Item}
+use Rattle.class_desc.specs.declared.slot.Item.TheVariants as items
 use Rattle.ser_values.specs.declared.value.Value.{Value}
 use Rattle.ser_values.specs.declared.value.Value.TheVariants as values
 use Rattle.ser_values.specs.declared.value.Values.{Values}
@@ -19,9 +20,9 @@ use Rattle.ser_values.specs.declared.value.Part.{Part}
 use Rattle.ser_values.specs.declared.node.Node.TheVariants.{Desc, Proxy}
 use Rattle.ser_values.specs.declared.node.Place.TheVariants as places
 use Rattle.ser_values.specs.Shape.{count_of}
-use Rattle.ser_values.specs.Spelled.{Token, raw, truth, want, note, short_text, field_tokens, value_token, element_tokens, part_tokens}
+use Rattle.ser_values.specs.Spelled.{put_block, Token, raw, truth, want, note, short_text, field_tokens, value_token, element_tokens, part_tokens}
 use Rattle.ser_write.proofs.Begins.{begins_on}
-use Rattle.ser_write.specs.Canonical.{Written, Writing, before_more, write_items, write_token, write_all, value_bytes, primitive_bytes, short_bytes, code_of, tokens_before, note_tokens, array_tokens, tokens_after, write_new, write_one, write_at, Adds}
+use Rattle.ser_write.specs.Canonical.{Written, Writing, pieces_in, pieces, blocks, before_more, write_items, write_token, write_all, value_bytes, primitive_bytes, short_bytes, code_of, tokens_before, note_tokens, array_tokens, tokens_after, write_new, write_one, write_at, front_bytes, after_front, Adds}
 
 -- ---- one after the other
 
@@ -213,3 +214,19 @@ pub slice_get_within_or : {A : Type 0} (xs : List A) (k : ℕ) (d : A) → k < l
 slice_get_within_or [] k d lt = absurd (omega arith)
 slice_get_within_or (x ∷ xs) zero d lt = refl
 slice_get_within_or (x ∷ xs) (suc k) d lt = slice_get_within_or xs k d (omega arith)
+
+-- ---- bytes before items
+
+-- They join those that the items begin with.
+pub front_joins : (one : Writing) (n : ℕ) (front : List ℕ) (is : List Item) → write_items one n (put_block front is) ≡ before_more (blocks (front ++ front_bytes is), n) (λ m. write_items one m (after_front is))
+unfolding write_items pieces pieces_in
+front_joins one n [] [] = refl
+front_joins one n [] (items.Bytes b ∷ is) = refl
+front_joins one n [] (items.Ref s ∷ is) = refl
+front_joins one n (x ∷ front) [] = rw (append-nil front) refl
+front_joins one n (x ∷ front) (items.Bytes b ∷ is) = refl
+front_joins one n (x ∷ front) (items.Ref s ∷ is) = rw (append-nil front) refl
+
+pub front_adds : (one : Writing) (n : ℕ) (front run : List ℕ) (is : List Item) (old mid new : List ℕ) (r : Result ℕ AllocError) → run ≡ front ++ front_bytes is → mid ≡ old ++ blocks run → Adds mid new r (write_items one n (after_front is)) → Adds old new r (write_items one n (put_block front is))
+front_adds one n front run is old mid new r joins first then =
+    rw (front_joins one n front is, ← joins) (adds_bytes old mid new n r (blocks run) (λ m. write_items one m (after_front is)) first then)

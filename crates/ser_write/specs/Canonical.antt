@@ -1,6 +1,6 @@
 -- The bytes that are written: each node is written where it is first wanted, and a handle stands for it from then on.
 use Rattle.std.specs.Prelude.{◌≡◌, ℕ, zero, suc, ◌+◌, Bool, true, false, List, [], ◌∷◌, ◌++◌, length, take, drop, map, Option, Some, None, Result, Ok, Err, nat_eq, nat_lt, slice_get, if◌then◌else◌}
-use Rattle.std.specs.List.{flat_map}
+use Rattle.std.specs.List.{flat_map, AllByRecursion}
 use Rattle.std.specs.Int.{w16, w32, w64, to_be_bytes, cast_unsigned, from_bool}
 use Rattle.std.specs.declared.alloc.AllocError.{AllocError}
 use Rattle.mod_utf.specs.Utf.{utf}
@@ -20,7 +20,7 @@ use Rattle.ser_values.specs.declared.node.Place.TheVariants as places
 use Rattle.ser_values.specs.Shape.{is_short, count_of}
 use Rattle.ser_values.specs.declared.limits.TheConstants.{LEVELS}
 use Rattle.ser_values.specs.Numbered.{IsGraph}
-use Rattle.ser_values.specs.Spelled.{Token, raw, truth, want, note, short_text, long_text, field_tokens, element_tokens, writers, part_tokens, SpellsItems, Spells}
+use Rattle.ser_values.specs.Spelled.{Token, raw, truth, want, note, short_text, long_text, field_tokens, element_tokens, writers, part_tokens, joined, SpellsBlocks, SpellsItems, Spells}
 
 -- ---- block data
 
@@ -176,6 +176,15 @@ unfoldable pub write_at : ℕ → List Node → Writing
 write_at zero nodes n s = write_one zero nodes nothing n s
 write_at (suc d) nodes n s = write_one (suc d) nodes (write_at d nodes) n s
 
+-- the bytes that items begin with, and the items after them
+abbrev pub front_bytes : List Item → List ℕ
+front_bytes (items.Bytes b ∷ is) = b
+front_bytes _ = []
+
+abbrev pub after_front : List Item → List Item
+after_front (items.Bytes b ∷ is) = is
+after_front is = is
+
 -- The bytes of a graph's items.
 unfoldable pub contents : List Node → List Item → List ℕ
 contents nodes items = (write_items (write_at LEVELS nodes) 0 items).0
@@ -187,6 +196,19 @@ canonical nodes items = 0xAC ∷ 0xED ∷ 0x00 ∷ 0x05 ∷ contents nodes items
 -- The bytes spell the items, whatever stands after them, and give these nodes their handles in order.
 abbrev pub SpellContents : List Node → List Item → List ℕ → Type 0
 SpellContents nodes items bytes = (rest : List ℕ) → ∥ SpellsItems (Spells nodes LEVELS []) items 0 (bytes ++ rest) rest (length nodes) ∥₁
+
+-- It is no empty block.
+abbrev pub IsFull : Item → Type 0
+IsFull (items.Bytes []) = ⊥
+IsFull (items.Bytes (b ∷ p)) = Unit {0}
+IsFull (items.Ref s) = Unit {0}
+
+-- The bytes spell the items, whatever stands after them, in blocks of which none is empty.
+pub record SpellFully (nodes : List Node) (items : List Item) (bytes : List ℕ) : Type 0 where
+  pub blocks : List Item
+  pub full : AllByRecursion IsFull blocks
+  pub same : items ≡ joined blocks
+  pub spelled : (rest : List ℕ) → SpellsBlocks (Spells nodes LEVELS []) blocks 0 (bytes ++ rest) rest (length nodes)
 
 -- The bytes are those of no other graph.
 abbrev pub AreOfNoOther : List Node → List Item → List ℕ → Type 0

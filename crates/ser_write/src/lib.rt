@@ -5,4 +5,5 @@ mod numbers;
 mod pieces;
 mod writing;
 
-pub use writing::{write_items_onto, write_stream};
+pub use pieces::{put_primitive, write_blocks_onto};
+pub use writing::{write_items_after, write_items_onto, write_stream};

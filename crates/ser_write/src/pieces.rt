@@ -51,6 +51,22 @@ pub(crate) fn put_blocks(out: &mut ByteList, bytes: &[u8]) -> Result<(), AllocEr
     Ok(())
 }
 
+/// Appends bytes as block data: blocks of 1,024 bytes and one shorter rest. It is refused only for want of memory, and then the list is
+/// as it was.
+pub fn write_blocks_onto(out: &mut ByteList, bytes: &[u8]) -> Result<(), AllocError>
+    ensures written { OnOk result (out.new ≡ out.old ++ blocks bytes.now) }
+    ensures err { OnErr result (out.new ≡ out.old) }
+{
+    let before = out.len();
+    match put_blocks(out, bytes) {
+        Ok(()) => Ok(()),
+        Err(refusal) => {
+            out.truncate(before);
+            Err(refusal)
+        }
+    }
+}
+
 /// The code of a node.
 pub(crate) fn code_of(node: &Node) -> u8
     ensures { result ≡ code_of node.now }
@@ -117,8 +133,8 @@ pub(crate) fn put_primitives(out: &mut ByteList, values: &Values) -> Result<(), 
     }
 }
 
-/// Appends a primitive value; nothing for a reference.
-pub(crate) fn put_primitive(out: &mut ByteList, value: Value) -> Result<(), AllocError>
+/// Appends a primitive value; nothing for a reference. It is refused only for want of memory, and then what stood in the list still begins it.
+pub fn put_primitive(out: &mut ByteList, value: Value) -> Result<(), AllocError>
     ensures written { OnOk result (out.new ≡ out.old ++ value_bytes value) }
     ensures kept { OnErr result (Begins out.old out.new) }
 {

@@ -1,8 +1,8 @@
 //! Nodes are written where they are first wanted.
 ghost use Rattle.std.specs.Prelude.{◌≡◌, ◌++◌, IfOk, OnErr, OnOk, map, slice_get};
 ghost use Rattle.ser_values.specs.Spelled.{field_tokens, value_token, reference, part_tokens};
-ghost use Rattle.ser_values.specs.Spelled.{IsStream};
-ghost use Rattle.ser_write.specs.Canonical.{write_items, write_all, tokens_before, object_tokens, note_tokens, array_tokens, tokens_after, write_new, write_at, contents, canonical, SpellContents, AreOfNoOther, Adds};
+ghost use Rattle.ser_values.specs.Spelled.{IsStream, put_block};
+ghost use Rattle.ser_write.specs.Canonical.{write_items, write_all, tokens_before, object_tokens, note_tokens, array_tokens, tokens_after, write_new, write_at, contents, canonical, front_bytes, after_front, SpellContents, SpellFully, AreOfNoOther, Adds};
 
 use crate::numbers::{Spelled, put_16, put_32, put_byte, put_short_text};
 use crate::pieces::{
@@ -355,6 +355,58 @@ pub fn write_items_onto(alloc: Global, out: &mut ByteList, graph: &Graph) -> Res
         Ok(_count) => Ok(()),
         Err(refusal) => {
             out.truncate(before);
+            Err(refusal)
+        }
+    }
+}
+
+/// The bytes that items begin with, and the items after them.
+fn split_front(items: &[Item]) -> (&[u8], &[Item])
+    ensures bytes { result.0.now ≡ front_bytes items.now }
+    ensures rest { result.1.now ≡ after_front items.now }
+{
+    match items {
+        [Item::Bytes(bytes), rest @ ..] => (bytes.as_slice(), rest),
+        _ => (&[], items),
+    }
+}
+
+/// Writes bytes and then items. The bytes join those that the items begin with.
+fn put_joined(
+    alloc: Global,
+    out: &mut ByteList,
+    front: &[u8],
+    nodes: &[Node],
+    items: &[Item],
+) -> Result<u64, AllocError>
+    ensures { Adds out.old out.new result (write_items (write_at LEVELS nodes.now) 0 (put_block front.now items.now)) }
+{
+    let (bytes, rest) = split_front(items);
+    let mut run = ByteList::from_slice(alloc, front)?;
+    run.append(bytes)?;
+    put_blocks(out, run.as_slice())?;
+    put_items(alloc, out, nodes, 0, rest, LEVELS)
+}
+
+/// Appends bytes as block data and then the bytes of a graph's items, as `write_items_onto` writes them: the bytes and those that the
+/// items begin with are one run. It is refused only for want of memory, and then the list is as it was.
+pub fn write_items_after(
+    alloc: Global,
+    out: &mut ByteList,
+    front: &[u8],
+    graph: &Graph,
+) -> Result<(), AllocError>
+    ensures written { OnOk result (out.new ≡ out.old ++ contents graph.now.nodes (put_block front.now graph.now.items)) }
+    ensures spelled { OnOk result (∥ SpellFully graph.now.nodes (put_block front.now graph.now.items) (contents graph.now.nodes (put_block front.now graph.now.items)) ∥₁) }
+    ensures err { OnErr result (out.new ≡ out.old) }
+{
+    let start = out.len();
+    let nodes = graph.nodes().as_slice();
+    let items = graph.items().as_slice();
+    match put_joined(alloc, out, front, nodes, items) {
+        Ok(_count) => Ok(()),
+        Err(refusal) => {
+            out.truncate(start);
             Err(refusal)
         }
     }

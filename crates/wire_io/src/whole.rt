@@ -1,5 +1,5 @@
 //! Taking all that a source has left.
-ghost use Rattle.std.specs.Prelude.{◌≡◌, ◌≤◌, ◌<◌, ◌^◌, ℕ, List, length, IfOk, Err};
+ghost use Rattle.std.specs.Prelude.{◌≡◌, ◌≤◌, ◌<◌, ◌+◌, ◌^◌, ℕ, List, length, IfOk, Err};
 ghost use Rattle.wire_io.specs.Wire.{with_front, NothingLeft, Rose};
 
 use crate::source::Source;
@@ -22,7 +22,8 @@ pub enum WholeEnd {
 
 /// Takes all the bytes that the source has left, to the end of input, where they are at most `limit`.
 ///
-/// After an error some front of them was taken; after `TooLarge` it is longer than the limit.
+/// After an error some front of them was taken, at most 4,096 bytes more than the limit; after `TooLarge` it is longer than
+/// the limit.
 pub fn take_whole<S: Source>(
     alloc: Global,
     source: &mut S,
@@ -31,9 +32,9 @@ pub fn take_whole<S: Source>(
     requires { limit < 2 ^ 32 }
     ensures ok { IfOk result (λ bytes. (length bytes ≤ limit)
         × (S.left source.old ≡ with_front bytes (S.left source.new)) × NothingLeft (S.left source.new)) }
-    ensures too_large { result ≡ Err WholeEnd.TooLarge → (bytes : List ℕ) × (limit < length bytes)
+    ensures too_large { result ≡ Err WholeEnd.TooLarge → (bytes : List ℕ) × (limit < length bytes) × (length bytes ≤ limit + 4096)
         × (S.left source.old ≡ with_front bytes (S.left source.new)) }
-    ensures err { (front : List ℕ) × (S.left source.old ≡ with_front front (S.left source.new)) }
+    ensures err { (front : List ℕ) × (length front ≤ limit + 4096) × (S.left source.old ≡ with_front front (S.left source.new)) }
     ensures read_fault { result ≡ Err WholeEnd.ReadFault → Rose (S.faults source.old) (S.faults source.new) }
     ensures faults { S.faults source.old ≤ S.faults source.new }
 {

@@ -1,9 +1,15 @@
 use Rattle.std.proofs.Common.{◌∙◌, refl, sym, Ok}
 use Rattle.ser_values.specs.Reading.{short}
-use Rattle.ser_read.proofs.Steps.{leads_more, leads_done}
+use Rattle.ser_read.proofs.Steps.{leads_start, leads_more, leads_done}
 use Rattle.ser_read.proofs.Heads.{head_goes, head_stops, head_err, head_nearer}
 use Rattle.ser_read.proofs.Breaking.{raised, loop_stops}
 use Rattle.ser_read.proofs.block.next_head.Goals as goal
+
+pub loop-head-init : goal.loop-head-init
+loop-head-init g c = record {
+  lent = refl;
+  leads = leads_start _ _ _ (λ end bs. refl);
+}
 
 pub returns-then-not-is_empty-clause-reads : goal.returns-then-not-is_empty-clause-reads
 returns-then-not-is_empty-clause-reads g c =

@@ -3,7 +3,7 @@ use Rattle.ser_read.specs.Wants.{inside, run_at}
 use Rattle.ser_values.specs.Reading.{short}
 use Rattle.ser_read.proofs.Steps.{leads_more, leads_done}
 use Rattle.ser_read.proofs.Runs.{behind, opened_some, run_opens, run_unopened, piece_next, piece_err, run_end}
-use Rattle.ser_read.proofs.Breaking.{want_raised, want_loop_stops, inside_loop_stops, want_breaks_two, want_took}
+use Rattle.ser_read.proofs.Breaking.{want_raised, want_loop_stops, inside_loop_stops, took}
 use Rattle.ser_read.proofs.block.run.Goals as goal
 
 pub loop-left-smaller : goal.loop-left-smaller
@@ -39,4 +39,5 @@ returns-in_err-piece-clause-stops g c =
 pub returns-in_err-append-clause-stops : goal.returns-in_err-append-clause-stops
 returns-in_err-append-clause-stops g c =
     let more = leads_more (λ end bs. behind c.loop-left.bytes (run_at end c.loop-left.left c.in_ok-present.present bs)) c.loop-left.invariant.leads c.in_ok-present.ensures.reads (λ end bs rest here h. ap (behind c.loop-left.bytes) (run_opens end c.loop-left.left c.loop-left.block bs c.in_ok-present.present rest c.loop-left-test.true h)) (λ end bs here is. run_unopened c.loop-left.bytes end c.loop-left.left c.loop-left.block bs (inside short) c.loop-left-test.true is) in
-    want_raised c.from_residual-in_err-append.result c.from_residual-in_err-append.ensures.1 (want_breaks_two more (want_took c.in_ok-piece.ensures.reads))
+    want_raised c.from_residual-in_err-append.result c.from_residual-in_err-append.ensures.1 (inside_loop_stops more
+    (λ end bs f here is. piece_err c.loop-left.bytes end c.min-more.result c.loop-left.left c.in_ok-present.present bs f (omega (arith, c.min-more.ensures)) (omega (arith, c.min-more.ensures)) is) (took (rw c.from.ensures at c.in_ok-piece.ensures.reads)))

@@ -1,7 +1,7 @@
 use Rattle.std.proofs.Common.{◌≡◌, ◌∙◌, ◌*◌, arith, refl}
 use Rattle.ser_values.specs.Reading.{short}
 use Rattle.ser_read.proofs.Steps.{leads_start, leads_more, leads_done}
-use Rattle.ser_read.proofs.Breaking.{raised, loop_stops, breaks_two, took_then}
+use Rattle.ser_read.proofs.Breaking.{raised, loop_stops, took}
 use Rattle.ser_read.proofs.NumberRuns.{block_long, run_start, run_err, run_next, run_end}
 use Rattle.ser_read.proofs.numbers.numbers.Goals as goal
 
@@ -16,7 +16,8 @@ returns-in_err-block-clause-stops g c = λ now. raised c.from_residual.result c.
     (λ end bs f here is. run_err g.T.Number.read g.T.Number.WIDTH g.T.Number.value g.met.T.Number.spelled c.loop-left.numbers c.loop-left.left c.min-more.result now bs f (omega arith) (rw c.WIDTH.ensures at is)) c.in_err-block.ensures.stops)
 
 pub returns-in_err-append_run-clause-stops : goal.returns-in_err-append_run-clause-stops
-returns-in_err-append_run-clause-stops g c = λ now. raised c.from_residual-in_err-append_run.result c.from_residual-in_err-append_run.ensures.1 (breaks_two (c.loop-left.invariant.leads now) (took_then c.in_ok-block.ensures.reads))
+returns-in_err-append_run-clause-stops g c = λ now. raised c.from_residual-in_err-append_run.result c.from_residual-in_err-append_run.ensures.1 (loop_stops (c.loop-left.invariant.leads now)
+    (λ end bs f here is. run_err g.T.Number.read g.T.Number.WIDTH g.T.Number.value g.met.T.Number.spelled c.loop-left.numbers c.loop-left.left c.min-more.result now bs f (omega arith) (rw c.WIDTH.ensures at is)) (took c.in_ok-block.ensures.reads))
 
 pub append_run-requires : goal.append_run-requires
 append_run-requires g c =

@@ -3,7 +3,7 @@ use Rattle.ser_values.specs.Reading.{short, plain, short_at}
 use Rattle.ser_read.proofs.Steps.{leads_start, leads_more, leads_done, plain_reads}
 use Rattle.ser_read.proofs.Loop.{many_start, many_next, many_end}
 use Rattle.ser_read.proofs.Values.{plain_stops}
-use Rattle.ser_read.proofs.Breaking.{raised, loop_stops, breaks_two, took_then}
+use Rattle.ser_read.proofs.Breaking.{raised, loop_stops, took}
 use Rattle.ser_read.proofs.Stopping.{many_err}
 use Rattle.ser_read.proofs.pieces.names.Goals as goal
 
@@ -18,7 +18,8 @@ returns-in_err-name-clause-stops g c = λ now. raised c.from_residual.result c.f
     (λ end bs f here is. many_err (plain (short_at end)) c.loop.names c.args.n c.loop.counter now bs f c.loop-test.true is) (plain_stops now c.in_err-name.ensures.stops))
 
 pub returns-in_err-push-clause-stops : goal.returns-in_err-push-clause-stops
-returns-in_err-push-clause-stops g c = λ now. raised c.from_residual-in_err-push.result c.from_residual-in_err-push.ensures.1 (breaks_two (c.loop.invariant.leads now) (took_then c.in_ok-name.ensures.reads))
+returns-in_err-push-clause-stops g c = λ now. raised c.from_residual-in_err-push.result c.from_residual-in_err-push.ensures.1 (loop_stops (c.loop.invariant.leads now)
+    (λ end bs f here is. many_err (plain (short_at end)) c.loop.names c.args.n c.loop.counter now bs f c.loop-test.true is) (took (plain_reads now c.in_ok-name.ensures.reads)))
 
 pub loop-preserved : goal.loop-preserved
 loop-preserved g c = record {

@@ -2,7 +2,7 @@ use Rattle.std.proofs.Common.{◌∙◌, arith}
 use Rattle.ser_values.specs.Reading.{short}
 use Rattle.ser_read.proofs.Steps.{leads_more}
 use Rattle.ser_read.proofs.Bytes.{take_more}
-use Rattle.ser_read.proofs.Breaking.{raised, loop_stops, breaks_two, took_then}
+use Rattle.ser_read.proofs.Breaking.{raised, loop_stops, took}
 use Rattle.ser_read.proofs.Stopping.{take_err}
 use Rattle.ser_read.proofs.pulled.take.Goals as goal
 
@@ -10,7 +10,7 @@ pub returns-in_err-piece-clause-stops : goal.returns-in_err-piece-clause-stops
 returns-in_err-piece-clause-stops g c = raised c.from_residual.result c.from_residual.ensures.1 (loop_stops c.loop-left.invariant.leads (λ end bs f here is. take_err c.loop-left.bytes c.loop-left.left c.min-more.result bs f (omega arith) is) c.in_err-piece.ensures.stops)
 
 pub returns-in_err-append-clause-stops : goal.returns-in_err-append-clause-stops
-returns-in_err-append-clause-stops g c = raised c.from_residual-in_err-append.result c.from_residual-in_err-append.ensures.1 (breaks_two c.loop-left.invariant.leads (took_then c.in_ok-piece.ensures.reads))
+returns-in_err-append-clause-stops g c = raised c.from_residual-in_err-append.result c.from_residual-in_err-append.ensures.1 (loop_stops c.loop-left.invariant.leads (λ end bs f here is. take_err c.loop-left.bytes c.loop-left.left c.min-more.result bs f (omega arith) is) (took c.in_ok-piece.ensures.reads))
 
 pub loop-left-preserved : goal.loop-left-preserved
 loop-left-preserved g c =

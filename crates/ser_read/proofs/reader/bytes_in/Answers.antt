@@ -7,7 +7,9 @@ unfolding bytes_at
 returns-in_err-bytes-clause-stops g c = want_raised c.from_residual.result c.from_residual.ensures.1 (want_first _ c.in_err-bytes.ensures.stops)
 
 pub returns-in_err-copy-clause-stops : goal.returns-in_err-copy-clause-stops
-returns-in_err-copy-clause-stops g c = want_raised c.from_residual-in_err-copy.result c.from_residual-in_err-copy.ensures.1 (want_took c.in_ok-bytes.ensures.reads)
+unfolding bytes_at
+returns-in_err-copy-clause-stops g c = want_raised c.from_residual-in_err-copy.result c.from_residual-in_err-copy.ensures.1 (want_first _ (want_took c.in_ok-bytes.ensures.reads))
 
 pub returns-in_err-add-clause-stops : goal.returns-in_err-add-clause-stops
-returns-in_err-add-clause-stops g c = want_raised c.from_residual-in_err-add.result c.from_residual-in_err-add.ensures.1 (want_took c.in_ok-bytes.ensures.reads)
+unfolding bytes_at
+returns-in_err-add-clause-stops g c = want_raised c.from_residual-in_err-add.result c.from_residual-in_err-add.ensures.1 (want_first _ (want_took c.in_ok-bytes.ensures.reads))

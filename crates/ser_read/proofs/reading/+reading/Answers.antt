@@ -1,19 +1,19 @@
-use Rattle.std.proofs.Common.{◌≡◌, Err, ◌-◌, ◌∙◌, FitsSigned, ◌∷◌, [], Some, None, true, false, arith, refl, rules, sym, ap, Option, option_map}
+use Rattle.std.proofs.Common.{◌≡◌, Err, ◌-◌, ◌∙◌, FitsSigned, ◌∷◌, [], Some, None, true, false, arith, refl, rules, sym, ap, Option, option_map, slice_get}
 use Rattle.std.proofs.lemmas.Bool.{ne_eqb}
 use Rattle.class_desc.specs.declared.slot.Slot.TheVariants as slots
 use Rattle.ser_values.specs.declared.node.Place.TheVariants.{Reference, Text}
-use Rattle.ser_values.specs.Reading.{Kind, short, bad, enum_at, fresh_at, note_at, slot_at, coded, field_at, field_of, value_at, Progress, push, fill, blank, desc_at, desc_after, proxy_at, array_of}
+use Rattle.ser_values.specs.Reading.{Kind, short, bad, enum_at, fresh_at, note_at, slot_at, coded, field_at, field_of, value_at, Progress, push, fill, blank, desc_at, desc_after, proxy_at, array_of, array_at, type_in}
 use Rattle.ser_read.specs.Rows.{part_by, values_by, parts_by}
 use Rattle.ser_read.specs.Tables.{now_of}
 use Rattle.ser_read.specs.Here.{kind_of}
 use Rattle.ser_read.specs.declared.fault.StreamKind.{StreamKind}
 use Rattle.ser_read.proofs.Steps.{then, last, said, said_last, done, leads_start, leads_more, leads_done}
-use Rattle.ser_read.proofs.Breaking.{raised, first, later, later_last, breaks_said, breaks_said_last, breaks_two, loop_stops, took_then, no_memory, bad_here, many_here, deep_here, nearer}
+use Rattle.ser_read.proofs.Breaking.{raised, first, later, later_last, breaks_said, breaks_said_last, loop_stops, took, no_memory, bad_here, many_here, deep_here, nearer}
 use Rattle.ser_read.proofs.Stopping.{many_err, all_err, all_err_item, slack_stops, item_other, value_refs, elements_refs}
 use Rattle.ser_read.specs.declared.fault.StreamKind.TheVariants.{BadDesc, BadCode}
 use Rattle.ser_read.specs.Named.{class_named}
 use Rattle.ser_read.proofs.Loop.{many_start, many_next, many_end, all_start, all_next, all_end, all_next_item}
-use Rattle.ser_read.proofs.Blocks.{slack_start, slack_more, slack_end, slack_leads, slack_byte, code_err}
+use Rattle.ser_read.proofs.Blocks.{slack_start, slack_more, slack_end, slack_leads, code_err}
 use Rattle.ser_read.proofs.Parts.{with_class_is, object_is, object_here, object_bad}
 use Rattle.ser_read.proofs.Slots.{made, slot_here, slot_gives, null_reads, null_stops, value_any, item_block, item_long, when, otherwise, stops_when, stops_otherwise, elements_any, coded_none, coded_deep, coded_full}
 use Rattle.ser_read.proofs.reading.+reading.Goals as goal
@@ -211,11 +211,11 @@ desc-returns-in_err-flags-clause-stops g t c = raised c.from_residual-in_err-fla
 
 pub desc-returns-in_err-number-clause-stops : goal.desc-returns-in_err-number-clause-stops
 unfolding desc_at
-desc-returns-in_err-number-clause-stops g t c = raised c.from_residual-in_err-number.result c.from_residual-in_err-number.ensures.1 (later _ c.in_ok-name.ensures.reads (later _ c.in_ok-suid.ensures.reads (took_then c.in_ok-flags.ensures.reads)))
+desc-returns-in_err-number-clause-stops g t c = raised c.from_residual-in_err-number.result c.from_residual-in_err-number.ensures.1 (later _ c.in_ok-name.ensures.reads (later _ c.in_ok-suid.ensures.reads (first _ (took c.in_ok-flags.ensures.reads))))
 
 pub desc-returns-in_err-open-clause-stops : goal.desc-returns-in_err-open-clause-stops
 unfolding desc_at
-desc-returns-in_err-open-clause-stops g t c = raised c.from_residual-in_err-open.result c.from_residual-in_err-open.ensures.1 (later _ c.in_ok-name.ensures.reads (later _ c.in_ok-suid.ensures.reads (took_then c.in_ok-flags.ensures.reads)))
+desc-returns-in_err-open-clause-stops g t c = raised c.from_residual-in_err-open.result c.from_residual-in_err-open.ensures.1 (later _ c.in_ok-name.ensures.reads (later _ c.in_ok-suid.ensures.reads (first _ (took c.in_ok-flags.ensures.reads))))
 
 pub desc-returns-in_err-desc-clause-stops : goal.desc-returns-in_err-desc-clause-stops
 unfolding desc_at
@@ -227,11 +227,11 @@ proxy-returns-in_err-n-clause-stops g t c = raised c.from_residual.result c.from
 
 pub proxy-returns-in_err-number-clause-stops : goal.proxy-returns-in_err-number-clause-stops
 unfolding proxy_at
-proxy-returns-in_err-number-clause-stops g t c = raised c.from_residual-in_err-number.result c.from_residual-in_err-number.ensures.1 (took_then c.in_ok-n.ensures.reads)
+proxy-returns-in_err-number-clause-stops g t c = raised c.from_residual-in_err-number.result c.from_residual-in_err-number.ensures.1 (first _ (took c.in_ok-n.ensures.reads))
 
 pub proxy-returns-in_err-open-clause-stops : goal.proxy-returns-in_err-open-clause-stops
 unfolding proxy_at
-proxy-returns-in_err-open-clause-stops g t c = raised c.from_residual-in_err-open.result c.from_residual-in_err-open.ensures.1 (took_then c.in_ok-n.ensures.reads)
+proxy-returns-in_err-open-clause-stops g t c = raised c.from_residual-in_err-open.result c.from_residual-in_err-open.ensures.1 (first _ (took c.in_ok-n.ensures.reads))
 
 pub proxy-returns-in_err-names-clause-stops : goal.proxy-returns-in_err-names-clause-stops
 unfolding proxy_at
@@ -297,7 +297,7 @@ pub class_value-returns-in_err-class-clause-stops : goal.class_value-returns-in_
 class_value-returns-in_err-class-clause-stops g t c = raised c.from_residual.result c.from_residual.ensures.1 (breaks_said (λ end bs here. with_class_is _ _ _ _ _ bs) (first _ c.in_err-class.ensures.stops))
 
 pub class_value-returns-in_err-number-clause-stops : goal.class_value-returns-in_err-number-clause-stops
-class_value-returns-in_err-number-clause-stops g t c = raised c.from_residual-in_err-number.result c.from_residual-in_err-number.ensures.1 (took_then c.in_ok-class.ensures.reads)
+class_value-returns-in_err-number-clause-stops g t c = raised c.from_residual-in_err-number.result c.from_residual-in_err-number.ensures.1 (breaks_said (λ end bs here. with_class_is _ _ _ _ _ bs) (first _ (took c.in_ok-class.ensures.reads)))
 
 pub object_in-returns-in_err-shape-clause-stops : goal.object_in-returns-in_err-shape-clause-stops
 object_in-returns-in_err-shape-clause-stops g t c = raised c.from_residual.result c.from_residual.ensures.1 (no_memory)
@@ -312,13 +312,19 @@ object_in-returns-clause-stops g t c =
 pub object_after-returns-in_err-number-clause-stops : goal.object_after-returns-in_err-number-clause-stops
 object_after-returns-in_err-number-clause-stops g t c = raised c.from_residual.result c.from_residual.ensures.1 (no_memory)
 
+pub array_in-returns-in-None-clause-stops : goal.array_in-returns-in-None-clause-stops
+unfolding array_at array_of
+array_in-returns-in-None-clause-stops g t c =
+    let none : type_in (slice_get c.args.table.now.nodes.items c.args.class) ≡ None = sym c.element_type.ensures ∙ c.in-None.is in
+    rw c.bad.ensures (bad_here BadDesc c.args.at tt (λ end bs here. rw none refl))
+
 pub array_of-returns-in_err-n-clause-stops : goal.array_of-returns-in_err-n-clause-stops
 unfolding array_of
 array_of-returns-in_err-n-clause-stops g t c = raised c.from_residual.result c.from_residual.ensures.1 (first _ c.in_err-n.ensures.stops)
 
 pub array_of-returns-in_err-number-clause-stops : goal.array_of-returns-in_err-number-clause-stops
 unfolding array_of
-array_of-returns-in_err-number-clause-stops g t c = raised c.from_residual-in_err-number.result c.from_residual-in_err-number.ensures.1 (took_then c.in_ok-n.ensures.reads)
+array_of-returns-in_err-number-clause-stops g t c = raised c.from_residual-in_err-number.result c.from_residual-in_err-number.ensures.1 (first _ (took c.in_ok-n.ensures.reads))
 
 pub array_of-returns-in_err-values-clause-stops : goal.array_of-returns-in_err-values-clause-stops
 unfolding array_of
@@ -399,25 +405,25 @@ pub slots-returns-in_err-slot-clause-stops : goal.slots-returns-in_err-slot-clau
 slots-returns-in_err-slot-clause-stops g t c = raised c.from_residual.result c.from_residual.ensures.1 (loop_stops c.loop.invariant.leads (λ end bs f here is. many_err (slot_at end c.args.left Reference c.args.table.now.unread.items) c.loop.slots c.args.n c.loop.counter (now_of c.loop.table) bs f c.loop-test.true is) (rw c.loop.invariant.unread at c.in_err-slot.ensures.stops))
 
 pub slots-returns-in_err-push-clause-stops : goal.slots-returns-in_err-push-clause-stops
-slots-returns-in_err-push-clause-stops g t c = raised c.from_residual-in_err-push.result c.from_residual-in_err-push.ensures.1 (breaks_two c.loop.invariant.leads (took_then (rw c.loop.invariant.unread at c.in_ok-slot.ensures.reads)))
+slots-returns-in_err-push-clause-stops g t c = raised c.from_residual-in_err-push.result c.from_residual-in_err-push.ensures.1 (loop_stops c.loop.invariant.leads (λ end bs f here is. many_err (slot_at end c.args.left Reference c.args.table.now.unread.items) c.loop.slots c.args.n c.loop.counter (now_of c.loop.table) bs f c.loop-test.true is) (took (rw c.loop.invariant.unread at c.in_ok-slot.ensures.reads)))
 
 pub fields-returns-in_err-field-clause-stops : goal.fields-returns-in_err-field-clause-stops
 fields-returns-in_err-field-clause-stops g t c = raised c.from_residual.result c.from_residual.ensures.1 (loop_stops c.loop.invariant.leads (λ end bs f here is. many_err (field_at end c.args.at (slot_at end c.args.left Text c.args.table.now.unread.items)) c.loop.fields c.args.n c.loop.counter (now_of c.loop.table) bs f c.loop-test.true is) (rw c.loop.invariant.unread at c.in_err-field.ensures.stops))
 
 pub fields-returns-in_err-push-clause-stops : goal.fields-returns-in_err-push-clause-stops
-fields-returns-in_err-push-clause-stops g t c = raised c.from_residual-in_err-push.result c.from_residual-in_err-push.ensures.1 (breaks_two c.loop.invariant.leads (took_then (rw c.loop.invariant.unread at c.in_ok-field.ensures.reads)))
+fields-returns-in_err-push-clause-stops g t c = raised c.from_residual-in_err-push.result c.from_residual-in_err-push.ensures.1 (loop_stops c.loop.invariant.leads (λ end bs f here is. many_err (field_at end c.args.at (slot_at end c.args.left Text c.args.table.now.unread.items)) c.loop.fields c.args.n c.loop.counter (now_of c.loop.table) bs f c.loop-test.true is) (took (rw c.loop.invariant.unread at c.in_ok-field.ensures.reads)))
 
 pub values-returns-in_err-value-clause-stops : goal.values-returns-in_err-value-clause-stops
 values-returns-in_err-value-clause-stops g t c = raised c.from_residual.result c.from_residual.ensures.1 (loop_stops c.loop-code.invariant.leads (λ end bs f here is. all_err (value_at (slot_at end c.args.left Reference c.args.table.now.unread.items)) c.loop-code.values c.args.codes.now c.loop-code.code-index _ (now_of c.loop-code.table) bs f c.loop-code-test.true is) (rw c.loop-code.invariant.unread at c.in_err-value.ensures.stops))
 
 pub values-returns-in_err-push-clause-stops : goal.values-returns-in_err-push-clause-stops
-values-returns-in_err-push-clause-stops g t c = raised c.from_residual-in_err-push.result c.from_residual-in_err-push.ensures.1 (breaks_two c.loop-code.invariant.leads (took_then (rw c.loop-code.invariant.unread at c.in_ok-value.ensures.reads)))
+values-returns-in_err-push-clause-stops g t c = raised c.from_residual-in_err-push.result c.from_residual-in_err-push.ensures.1 (loop_stops c.loop-code.invariant.leads (λ end bs f here is. all_err (value_at (slot_at end c.args.left Reference c.args.table.now.unread.items)) c.loop-code.values c.args.codes.now c.loop-code.code-index _ (now_of c.loop-code.table) bs f c.loop-code-test.true is) (took (rw c.loop-code.invariant.unread at c.in_ok-value.ensures.reads)))
 
 pub parts-returns-in_err-part-clause-stops : goal.parts-returns-in_err-part-clause-stops
 parts-returns-in_err-part-clause-stops g t c = raised c.from_residual.result c.from_residual.ensures.1 (loop_stops c.loop-row.invariant.leads (λ end bs f here is. all_err_item (part_by end (slot_at end c.args.left Reference c.args.table.now.unread.items)) c.loop-row.parts c.args.rows.now c.loop-row.row-index c.row-item.result (now_of c.loop-row.table) bs f c.loop-row-test.true c.row-item.is is) (rw c.loop-row.invariant.unread at c.in_err-part.ensures.stops))
 
 pub parts-returns-in_err-push-clause-stops : goal.parts-returns-in_err-push-clause-stops
-parts-returns-in_err-push-clause-stops g t c = raised c.from_residual-in_err-push.result c.from_residual-in_err-push.ensures.1 (breaks_two c.loop-row.invariant.leads (took_then (rw c.loop-row.invariant.unread at c.in_ok-part.ensures.reads)))
+parts-returns-in_err-push-clause-stops g t c = raised c.from_residual-in_err-push.result c.from_residual-in_err-push.ensures.1 (loop_stops c.loop-row.invariant.leads (λ end bs f here is. all_err_item (part_by end (slot_at end c.args.left Reference c.args.table.now.unread.items)) c.loop-row.parts c.args.rows.now c.loop-row.row-index c.row-item.result (now_of c.loop-row.table) bs f c.loop-row-test.true c.row-item.is is) (took (rw c.loop-row.invariant.unread at c.in_ok-part.ensures.reads)))
 
 pub items-returns-in_err-code-clause-stops : goal.items-returns-in_err-code-clause-stops
 items-returns-in_err-code-clause-stops g t c = raised c.from_residual.result c.from_residual.ensures.1 (loop_stops (slack_leads c.loop-items.invariant.slack) (λ end bs f here is. code_err end (slot_at end c.args.left Reference c.args.table.now.unread.items) _ (now_of c.loop-items.table) c.loop-items.items.items bs f is) c.in_err-code.ensures.stops)
@@ -426,7 +432,7 @@ pub items-returns-in_err-item-clause-stops : goal.items-returns-in_err-item-clau
 items-returns-in_err-item-clause-stops g t c = raised c.from_residual-in_err-item.result c.from_residual-in_err-item.ensures.1 (slack_stops (λ end. coded end c.args.left (slot_at end (c.args.left - 1)) Reference c.args.table.now.unread.items c.loop-items.pull.at c.in_ok-code.code) c.loop-items.invariant.slack c.in_ok-code.ensures.reads (ne_eqb c.in_ok-code.code 120 c.if-code-eq120.false) (λ end bs here. slot_gives end c.args.left Reference c.args.table.now.unread.items (now_of c.loop-items.table) (c.in_ok-code.code ∷ bs) c.loop-items.pull.at c.in_ok-code.code bs here refl) (rw c.loop-items.invariant.unread at c.in_err-item.ensures.stops))
 
 pub items-returns-in_err-add-clause-stops : goal.items-returns-in_err-add-clause-stops
-items-returns-in_err-add-clause-stops g t c = raised c.from_residual-in_err-add.result c.from_residual-in_err-add.ensures.1 (breaks_two (slack_byte c.loop-items.invariant.slack c.in_ok-code.ensures.reads) (took_then c.in_ok-item.ensures.reads))
+items-returns-in_err-add-clause-stops g t c = raised c.from_residual-in_err-add.result c.from_residual-in_err-add.ensures.1 (slack_stops (λ end. coded end c.args.left (slot_at end (c.args.left - 1)) Reference c.args.table.now.unread.items c.loop-items.pull.at c.in_ok-code.code) c.loop-items.invariant.slack c.in_ok-code.ensures.reads (ne_eqb c.in_ok-code.code 120 c.if-code-eq120.false) (λ end bs here. slot_gives end c.args.left Reference c.args.table.now.unread.items (now_of c.loop-items.table) (c.in_ok-code.code ∷ bs) c.loop-items.pull.at c.in_ok-code.code bs here refl) (took (rw c.loop-items.invariant.unread at c.in_ok-item.ensures.reads)))
 
 pub items-loop-items-smaller : goal.items-loop-items-smaller
 items-loop-items-smaller g t c = nearer c.in_ok-code.ensures.reads c.in_ok-item.ensures.reads c.item.new.pull.within

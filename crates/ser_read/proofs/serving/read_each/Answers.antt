@@ -1,4 +1,4 @@
-use Rattle.ser_read.specs.Wants.{wants_at, serve_all}
+use Rattle.ser_read.specs.Wants.{wants_at, serve_to_close}
 use Rattle.ser_read.proofs.InOrder.{close_reads, close_stops}
 use Rattle.ser_read.proofs.Breaking.{want_raised, want_first, inside_first, inside_later}
 use Rattle.ser_read.proofs.serving.read_each.Goals as goal
@@ -13,7 +13,7 @@ unfolding wants_at
 returns-in_err-reader-clause-stops g c = want_raised c.from_residual.result c.from_residual.ensures.1 (inside_first _ c.in_err-reader.ensures.stops)
 
 pub returns-in_err-answers-clause-stops : goal.returns-in_err-answers-clause-stops
-unfolding wants_at serve_all
+unfolding wants_at serve_to_close
 returns-in_err-answers-clause-stops g c = want_raised c.from_residual-in_err-answers.result c.from_residual-in_err-answers.ensures.1 (inside_later _ c.in_ok-reader.ensures.reads (want_first _ (rw c.in_ok-reader.ensures.stand at c.in_err-answers.ensures.stops)))
 
 pub returns-in_err-graph-clause-stops : goal.returns-in_err-graph-clause-stops

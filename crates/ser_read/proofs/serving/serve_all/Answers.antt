@@ -3,7 +3,7 @@ use Rattle.ser_values.specs.Reading.{short}
 use Rattle.ser_read.specs.Wants.{inside}
 use Rattle.ser_read.proofs.Steps.{leads_start, leads_more, leads_done}
 use Rattle.ser_read.proofs.InOrder.{serve_start, serve_next, serve_err, serve_end}
-use Rattle.ser_read.proofs.Breaking.{want_raised, want_loop_stops, want_breaks_two, want_took}
+use Rattle.ser_read.proofs.Breaking.{want_raised, want_loop_stops, want_took}
 use Rattle.ser_read.proofs.serving.serve_all.Goals as goal
 
 pub loop-want-preserved : goal.loop-want-preserved
@@ -22,7 +22,7 @@ pub returns-in_err-answer-clause-stops : goal.returns-in_err-answer-clause-stops
 returns-in_err-answer-clause-stops g c = want_raised c.from_residual.result c.from_residual.ensures.1 (want_loop_stops c.loop-want.invariant.leads (λ end bs f here is. serve_err end c.loop-want.answers c.args.wants.now c.loop-want.want-index _ c.loop-want.reader.stand bs f c.loop-want-test.true is) c.in_err-answer.ensures.stops)
 
 pub returns-in_err-push-clause-stops : goal.returns-in_err-push-clause-stops
-returns-in_err-push-clause-stops g c = want_raised c.from_residual-in_err-push.result c.from_residual-in_err-push.ensures.1 (want_breaks_two c.loop-want.invariant.leads (want_took c.in_ok-answer.ensures.reads))
+returns-in_err-push-clause-stops g c = want_raised c.from_residual-in_err-push.result c.from_residual-in_err-push.ensures.1 (want_loop_stops c.loop-want.invariant.leads (λ end bs f here is. serve_err end c.loop-want.answers c.args.wants.now c.loop-want.want-index _ c.loop-want.reader.stand bs f c.loop-want-test.true is) (want_took c.in_ok-answer.ensures.reads))
 
 pub loop-want-init : goal.loop-want-init
 loop-want-init g c = record {

@@ -1,10 +1,11 @@
 use Rattle.std.proofs.Common.{◌∷◌, ◌∙◌, ◌-◌, false, refl}
 use Rattle.ser_values.specs.declared.node.Place.TheVariants.{Reference}
 use Rattle.ser_values.specs.Reading.{slot_at, coded}
+use Rattle.ser_read.specs.declared.fault.StreamFault.TheVariants.{OutOfMemory}
 use Rattle.ser_read.specs.Tables.{now_of}
 use Rattle.ser_read.proofs.Slots.{slot_gives}
-use Rattle.ser_read.proofs.Blocks.{slack_start, slack_next, slack_byte}
-use Rattle.ser_read.proofs.Breaking.{breaks_two, took_then, nearer}
+use Rattle.ser_read.proofs.Blocks.{slack_start, slack_next}
+use Rattle.ser_read.proofs.Breaking.{took, nearer}
 use Rattle.ser_read.proofs.Stopping.{whole_stops}
 use Rattle.ser_read.proofs.ToEnd.{slack_all, no_code, whole_raised}
 use Rattle.ser_read.proofs.whole.items_to_end.Goals as goal
@@ -31,7 +32,8 @@ returns-in_err-item-in-Some-clause-stops g c = whole_raised c.from_residual-in_e
 
 pub returns-in_err-add-in-Some-clause-stops : goal.returns-in_err-add-in-Some-clause-stops
 returns-in_err-add-in-Some-clause-stops g c = whole_raised c.from_residual-in_err-add-in-Some.result c.from_residual-in_err-add-in-Some.ensures.1
-    (record { is = breaks_two (slack_byte c.loop-items.invariant.slack (rw c.in-Some.is at c.in_ok-next_code.ensures.reads)) (took_then c.in_ok-item-in-Some.ensures.reads) })
+    (whole_stops (λ end. coded end 200 (slot_at end (200 - 1)) Reference c.args.table.now.unread.items c.loop-items.pull.at c.in-Some.code) OutOfMemory c.loop-items.invariant.slack (rw c.in-Some.is at c.in_ok-next_code.ensures.reads)
+    (λ end bs here. slot_gives end 200 Reference c.args.table.now.unread.items (now_of c.loop-items.table) (c.in-Some.code ∷ bs) c.loop-items.pull.at c.in-Some.code bs here refl) (took (rw c.loop-items.invariant.unread at c.in_ok-item-in-Some.ensures.reads)))
 
 pub loop-items-preserved : goal.loop-items-preserved
 loop-items-preserved g c =

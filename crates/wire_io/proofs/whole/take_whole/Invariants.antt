@@ -5,6 +5,7 @@ use Rattle.wire_io.proofs.whole.take_whole.Given as goal
 abbrev pub invariant-loop-block : goal.invariant-loop-block
 invariant-loop-block g l = (g.S.Source.left l.initial.source ≡ with_front l.bytes (g.S.Source.left l.source))
     × (g.S.Source.faults l.initial.source ≤ g.S.Source.faults l.source) × (length l.block ≡ 4096)
+    × (length l.bytes ≤ l.limit + 4096)
 
 abbrev pub decreases-loop-block : goal.decreases-loop-block
 decreases-loop-block g l = l.limit + 1 - length l.bytes

@@ -1,7 +1,7 @@
 use Rattle.std.proofs.Common.{◌≡◌, ◌∙◌, ◌≤◌, sym, length, arith}
 use Rattle.std.specs.Prelude.{All}
 use Rattle.ser_values.specs.Finished.{IsGraphOf}
-use Rattle.ser_values.specs.Ranges.{InRange}
+use Rattle.ser_values.specs.Ranges.{ItemsFit, InRange}
 use Rattle.ser_values.proofs.Reached.{below_order, few_in_order, once_in_order, graph_by, is_graph}
 use Rattle.ser_values.proofs.builder.Builder.finish.Goals as goal
 
@@ -26,7 +26,8 @@ from_parts-requires c =
     c.in_ok-order.ensures.ok c.in_ok-places.ensures c.deref-2.ensures.value c.deref-3.ensures.value c.deref-4.ensures.value c.deref-5.ensures.value (c.deref_mut.ensures.value ∙ sym c.deref.ensures.value)
     (c.from_vec.ensures ∙ c.in_ok-taken.ensures) (rw c.as_slice.ensures c.renumber_all.ensures) in
     let ranged : All InRange c.deref.result.now = rw c.deref.ensures.value c.self.invariant.1 in
-    ∣ is_graph c.deref.result.now c.as_slice.result.now c.from_vec.result c.renumber_all.new.list small ranged graph ∣₁
+    let fit : ItemsFit c.as_slice.result.now = rw c.as_slice.ensures c.look.ensures in
+    ∣ is_graph c.deref.result.now c.as_slice.result.now c.from_vec.result c.renumber_all.new.list small ranged fit graph ∣₁
 
 pub returns-clause-ok : goal.returns-clause-ok
 returns-clause-ok c =

@@ -8,7 +8,7 @@ use Rattle.ser_values.proofs.graph.Graph.with_front.Goals as goal
 pub from_parts-requires : goal.from_parts-requires
 from_parts-requires c =
     let put : c.from_vec.result ≡ put_block c.args.bytes.now c.args.self.items = search rules in
-    rw put (∥∥₁_map (search rules) (λ g. with_graph c.into_parts-nodes.result.0 c.args.bytes.now c.args.self.items g))
+    rw put (∥∥₁_map (search rules) (λ g. with_graph c.into_parts-nodes.result.0 c.args.bytes.now c.args.self.items c.look_at_each.ensures g))
 
 pub returns-clause-undone : goal.returns-clause-undone
 returns-clause-undone c =

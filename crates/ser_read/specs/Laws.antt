@@ -1,0 +1,61 @@
+-- Laws of lists of wants, which functions of `laws` promise.
+use Rattle.std.specs.Prelude.{◌≡◌, ◌↔◌, ◌<◌, ℕ, List, [], ◌∷◌, ◌++◌, Ok}
+use Rattle.class_desc.specs.declared.slot.Item.{Item}
+use Rattle.class_desc.specs.declared.slot.Item.TheVariants as items
+use Rattle.ser_values.specs.declared.node.Node.{Node}
+use Rattle.ser_values.specs.Spelled.{joined, IsStream}
+use Rattle.ser_read.specs.Here.{AreBytes}
+use Rattle.ser_read.specs.declared.serving.Want.{Want}
+use Rattle.ser_read.specs.declared.serving.Want.TheVariants as wanted
+use Rattle.ser_read.specs.Wants.{◌▸◌, Stand, nothing_read, serve, serve_to_close}
+use Rattle.ser_read.specs.Asked.{IsAsked}
+use Rattle.ser_read.specs.Heading.{EndsInBlock, inside_block}
+
+-- Reading want by want, from left to right, answers exactly what a front of the bytes spells.
+abbrev pub WantsAreAsked : Type 0
+WantsAreAsked = (end : ℕ) (wants : List Want) (answers : List Item) (nodes : List Node) (bytes rest : List ℕ) → AreBytes (bytes ++ rest)
+    → (serve_to_close end wants nothing_read (bytes ++ rest) ≡ Ok (answers, nodes, joined answers, rest)) ↔ IsAsked wants answers nodes bytes
+
+-- What is spelled is read, whatever comes behind it.
+abbrev pub AskedIsServed : Type 0
+AskedIsServed = (end : ℕ) (wants : List Want) (answers : List Item) (nodes : List Node) (bytes rest : List ℕ) → IsAsked wants answers nodes bytes
+    → serve_to_close end wants nothing_read (bytes ++ rest) ≡ Ok (answers, nodes, joined answers, rest)
+
+-- Fronts of one list of bytes that spell what the same wants ask for are one, and so is what they spell: none is a proper front of another.
+abbrev pub AskedIsOne : Type 0
+AskedIsOne = (wants : List Want) (answers others : List Item) (nodes more : List Node) (one other after behind : List ℕ) → IsAsked wants answers nodes one → IsAsked wants others more other → one ++ after ≡ other ++ behind
+    → (answers ≡ others) × (nodes ≡ more) × (one ≡ other)
+
+-- What is spelled is a stream of the answers, joined.
+abbrev pub AskedAreStreams : Type 0
+AskedAreStreams = (wants : List Want) (answers : List Item) (nodes : List Node) (bytes : List ℕ) → IsAsked wants answers nodes bytes → IsStream nodes (joined answers) (0xAC ∷ 0xED ∷ 0x00 ∷ 0x05 ∷ bytes)
+
+-- Lists of wants that are served one after the other are served as one list.
+abbrev pub ServedOneAfterTheOther : Type 0
+ServedOneAfterTheOther = (end : ℕ) (wants others : List Want) (stand : Stand) (bytes : List ℕ)
+    → serve end (wants ++ others) stand bytes ≡ (serve end wants stand bytes ▸ λ x. serve end others x.1 x.2 ▸ λ y. Ok (x.0 ++ y.0, y.1, y.2))
+
+-- Bytes of block data are read from the first one exactly where what was taken ends in a block so.
+abbrev pub HeadEndsInBlock : Type 0
+HeadEndsInBlock = (end n : ℕ) (taken bytes : List ℕ) (left : ℕ) → 0 < n → AreBytes taken
+    → (serve end (wanted.Bytes n ∷ []) nothing_read taken ≡ Ok (items.Bytes bytes ∷ [], inside_block bytes left, [])) ↔ EndsInBlock n taken bytes left
+
+-- Where they were taken, and other wants are served and the end is met, the whole spells the bytes and what the others ask for.
+abbrev pub HeadGoesOn : Type 0
+HeadGoesOn = (end n : ℕ) (head bytes : List ℕ) (left : ℕ) (wants : List Want) (answers : List Item) (nodes : List Node) (contents : List Item) (more : List ℕ)
+    → EndsInBlock n head bytes left → AreBytes more → serve_to_close end wants (inside_block bytes left) more ≡ Ok (answers, nodes, contents, [])
+    → IsAsked (wanted.Bytes n ∷ wants) (items.Bytes bytes ∷ answers) nodes (head ++ more) × (contents ≡ joined (items.Bytes bytes ∷ answers))
+
+-- The bytes in front of what is spelled, and what is read behind them.
+pub record Headed (end n : ℕ) (whole bytes : List ℕ) (wants : List Want) (answers : List Item) (nodes : List Node) : Type 0 where
+  pub head : List ℕ
+  pub left : ℕ
+  pub more : List ℕ
+  pub is : whole ≡ head ++ more
+  pub ends : EndsInBlock n head bytes left
+  pub read : serve_to_close end wants (inside_block bytes left) more ≡ Ok (answers, nodes, joined (items.Bytes bytes ∷ answers), [])
+
+-- What begins with a want of bytes is headed so.
+abbrev pub AskedIsHeaded : Type 0
+AskedIsHeaded = (end n : ℕ) (whole bytes : List ℕ) (wants : List Want) (answers : List Item) (nodes : List Node) → 0 < n → IsAsked (wanted.Bytes n ∷ wants) (items.Bytes bytes ∷ answers) nodes whole
+    → Headed end n whole bytes wants answers nodes

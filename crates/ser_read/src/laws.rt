@@ -1,0 +1,48 @@
+//! Laws of reading, for those who read contracts: these functions do nothing.
+ghost use Rattle.ser_read.specs.Laws.{WantsAreAsked, AskedIsServed, AskedIsOne, AskedAreStreams, ServedOneAfterTheOther, HeadEndsInBlock, HeadGoesOn, AskedIsHeaded};
+ghost use Rattle.ser_read.specs.Whole.{FaultsStandInBytes};
+
+/// Reading want by want, from left to right, answers exactly what a front of the bytes spells.
+pub fn wants_are_asked()
+    ensures { WantsAreAsked }
+{}
+
+/// What is spelled is read, whatever comes behind it.
+pub fn asked_is_served()
+    ensures { AskedIsServed }
+{}
+
+/// Nothing that the same wants ask for is a proper front of another.
+pub fn asked_is_one()
+    ensures { AskedIsOne }
+{}
+
+/// What wants ask for is a stream of the answers, joined.
+pub fn asked_are_streams()
+    ensures { AskedAreStreams }
+{}
+
+/// Lists of wants that are served one after the other are served as one list.
+pub fn served_one_after_the_other()
+    ensures { ServedOneAfterTheOther }
+{}
+
+/// What is taken for bytes in front of a stream ends in a block.
+pub fn head_ends_in_block()
+    ensures { HeadEndsInBlock }
+{}
+
+/// What is read behind such bytes makes the whole what all the wants ask for.
+pub fn head_goes_on()
+    ensures { HeadGoesOn }
+{}
+
+/// What begins with a want of bytes has such a head.
+pub fn asked_is_headed()
+    ensures { AskedIsHeaded }
+{}
+
+/// Where reading bytes that end at a position answers a fault, as `read_to_end` does, the bytes show it at the fault's position.
+pub fn faults_stand_in_bytes()
+    ensures { FaultsStandInBytes }
+{}
