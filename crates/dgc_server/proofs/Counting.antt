@@ -17,9 +17,8 @@ use Rattle.history.specs.Lists.{distinct}
 use Rattle.history.specs.Leases.{is_dirty_kind, is_strong_kind, is_naming, calls_of, clients, tenure, strong_cleans, has_time_left as has_time, is_remembered as is_remembered_pair, same_pair, pairs_of, pairs_with, pairs, objects_named, new_pairs}
 use Rattle.history.proofs.LeaseLaws.{list_any-clients}
 use Rattle.history.proofs.ListLemmas.{Every, Every-weaker, or_false, and_false, list_any-filter, list_any-map, list_any-same}
-use Rattle.dgc_server.specs.declared.entry.ObjectEntry.{ObjectEntry}
 use Rattle.dgc_server.specs.Numbers.{no_numbers, is_remembered}
-use Rattle.dgc_server.specs.Entry.{Entry, numbers_of, has_object, counts_lem, has_time_left, remembered_of, entry_remembers, fresh_of}
+use Rattle.dgc_server.specs.Entry.{ObjectEntry, Entry, numbers_of, has_object, counts_lem, has_time_left, remembered_of, entry_remembers, fresh_of}
 use Rattle.dgc_server.specs.Table.{entry_of, remembered, clients_after, pairs_after}
 use Rattle.dgc_server.specs.Counts.{new_call, clients_with_call, pairs_with_call}
 use Rattle.dgc_server.specs.Stands.{LeaseTable, EntryStands, StandsFor, is_in_order, each_once, top, is_dirty_for, is_clean_for, is_strong_for}

@@ -21,7 +21,7 @@ use Rattle.dgc_server.proofs.Outputs.{no_time}
 use Rattle.dgc_server.proofs.Steps.{earlier}
 
 -- A narrower test keeps fewer.
-fewer : (q r : Entry → Bool) → ((e : Entry) → q e ≡ true → r e ≡ true) → (es : List Entry) → length (filter q es) ≤ length (filter r es)
+pub fewer : (q r : Entry → Bool) → ((e : Entry) → q e ≡ true → r e ≡ true) → (es : List Entry) → length (filter q es) ≤ length (filter r es)
 fewer q r f [] = omega arith
 fewer q r f (e ∷ es) = go (q e) (r e) refl refl (fewer q r f es)
   where
@@ -69,7 +69,7 @@ pub few-without : (m : ℕ) (o : ObjId) (es : List Entry) (most : ℕ) → lengt
 few-without m o es most h = let a = same-map (has_time_left m) (entry_without o) (λ e. refl) es in omega (arith, a, h)
 
 -- One client's entry in place of its own, or one more.
-few-with : (q : Entry → Bool) → ((c : Client) → q (no_entry c) ≡ false) → (e : Entry) (es : List Entry) → is_in_order es ≡ true →
+pub few-with : (q : Entry → Bool) → ((c : Client) → q (no_entry c) ≡ false) → (e : Entry) (es : List Entry) → is_in_order es ≡ true →
     length (filter q (with_entry e es)) + (if q (entry_of es e.client) then 1 else 0) ≡ length (filter q es) + (if q e then 1 else 0)
 few-with q none e [] order = rw (none e.client) (go (q e))
   where

@@ -1,6 +1,7 @@
--- How many pairs are remembered, as time passes, after a call, and without an object; and that each client has its objects once.
+-- How many pairs are remembered, as time passes, after a call, and without an object; and that each client has its objects once, with some
+-- number of each.
 use Rattle.std.proofs.Common.{◌≡◌, ℕ, ◌+◌, ◌≤◌, List, [], ◌∷◌, ◌++◌, length, refl, ap, sym, ◌∙◌, arith, cond, map, suc, length-append}
-use Rattle.std.specs.Prelude.{ℤ, Bool, true, false, ◌&&◌, ◌||◌, not, filter, is_some, nat_lt, sum_by, if◌then◌else◌}
+use Rattle.std.specs.Prelude.{ℤ, Bool, true, false, ◌&&◌, ◌||◌, not, filter, is_some, int_lt, nat_lt, sum_by, Option, Some, None, if◌then◌else◌}
 use Rattle.std.specs.List.{list_any, list_all}
 use Rattle.std.specs.Ordering.{is_lt, is_eq}
 use Rattle.std.specs.declared.cmp.Ordering.{Ordering}
@@ -18,9 +19,8 @@ use Rattle.history.specs.declared.calls.CallKind.TheVariants.{Dirty, Weak, Stron
 use Rattle.history.specs.Lists.{distinct}
 use Rattle.history.proofs.ListLemmas.{AllOnce, length-fewer, or_true}
 use Rattle.dgc_server.specs.declared.numbers.Numbers.{Numbers}
-use Rattle.dgc_server.specs.declared.entry.ObjectEntry.{ObjectEntry}
-use Rattle.dgc_server.specs.Numbers.{is_remembered}
-use Rattle.dgc_server.specs.Entry.{Entry, numbers_of, is_in, counts_lem, has_strong, strong_only, tenure_forgotten, lapsed, is_entry_kept, has_time_left, remembered_of, entry_remembers, fresh_of, entry_without}
+use Rattle.dgc_server.specs.Numbers.{larger, noted, is_remembered}
+use Rattle.dgc_server.specs.Entry.{ObjectEntry, Entry, numbers_of, is_in, has_number, each_has_number, with_numbers, object_noted, objects_noted, objects_after, counts_lem, has_strong, strong_only, tenure_forgotten, lapsed, is_entry_kept, has_time_left, remembered_of, entry_remembers, fresh_of, entry_without}
 use Rattle.dgc_server.specs.Table.{no_entry, entry_of, with_entry, after_lapse, remembered, pairs_after}
 use Rattle.dgc_server.specs.Stands.{is_in_order, each_once, entry_after}
 use Rattle.dgc_server.proofs.Counting.{decides-object, object-turned, kept_of, any-kept, once-kept_of, fresh}
@@ -29,24 +29,47 @@ use Rattle.dgc_server.proofs.Objects.{numbers_after, numbers-after, once-after, 
 use Rattle.dgc_server.proofs.Ordered.{all_after, absent, after-absent, after-earlier, client-of}
 use Rattle.dgc_server.proofs.Steps.{earlier}
 
+-- ---- what holds of each entry
+
+each-map : (q : Entry → Bool) (f : Entry → Entry) → ((e : Entry) → q e ≡ true → q (f e) ≡ true) → (es : List Entry) → list_all q es ≡ true → list_all q (map f es) ≡ true
+each-map q f k [] h = refl
+each-map q f k (e ∷ es) h =
+    let two = and_parts (q e) (list_all q es) h in
+    and_from (q (f e)) (list_all q (map f es)) (k e two.0) (each-map q f k es two.1)
+
+pub each-filtered : {X : Type 0} (q p : X → Bool) (xs : List X) → list_all q xs ≡ true → list_all q (filter p xs) ≡ true
+each-filtered q p [] h = refl
+each-filtered q p (x ∷ xs) h = let two = and_parts (q x) (list_all q xs) h in go (p x) two.0 (each-filtered q p xs two.1)
+  where
+    go : (b : Bool) → q x ≡ true → list_all q (filter p xs) ≡ true → list_all q (cond b (x ∷ filter p xs) (filter p xs)) ≡ true
+    go true y rest = and_from (q x) (list_all q (filter p xs)) y rest
+    go false y rest = rest
+
+pub each-with : (q : Entry → Bool) (e : Entry) (es : List Entry) → q e ≡ true → list_all q es ≡ true → list_all q (with_entry e es) ≡ true
+each-with q e [] a h = and_from (q e) true a refl
+each-with q e (d ∷ es) a h = let two = and_parts (q d) (list_all q es) h in go (client_cmp e.client d.client) two.0 two.1 (each-with q e es a two.1)
+  where
+    go : (o : Ordering) → q d ≡ true → list_all q es ≡ true → list_all q (with_entry e es) ≡ true →
+        list_all q (if is_lt o then e ∷ d ∷ es else if is_eq o then e ∷ es else d ∷ with_entry e es) ≡ true
+    go Less x y rest = rw (a, x, y) refl
+    go Equal x y rest = rw (a, y) refl
+    go Greater x y rest = rw (x, rest) refl
+
+pub each-entry : (q : Entry → Bool) (es : List Entry) (c : Client) → q (no_entry c) ≡ true → list_all q es ≡ true → q (entry_of es c) ≡ true
+each-entry q [] c none h = none
+each-entry q (e ∷ es) c none h = let two = and_parts (q e) (list_all q es) h in go (same_client e.client c) two.0 (each-entry q es c none two.1)
+  where
+    go : (b : Bool) → q e ≡ true → q (entry_of es c) ≡ true → q (if b then e else entry_of es c) ≡ true
+    go true x rest = x
+    go false x rest = rest
+
 -- ---- each object once
 
+abbrev pub is_once : Entry → Bool
+is_once e = each_once e.objects
+
 abbrev pub all_objects_once : List Entry → Bool
-all_objects_once es = list_all (λ e. each_once e.objects) es
-
-once-map : (f : Entry → Entry) → ((e : Entry) → each_once e.objects ≡ true → each_once (f e).objects ≡ true) → (es : List Entry) → all_objects_once es ≡ true → all_objects_once (map f es) ≡ true
-once-map f k [] h = refl
-once-map f k (e ∷ es) h =
-    let two = and_parts (each_once e.objects) (all_objects_once es) h in
-    and_from (each_once (f e).objects) (all_objects_once (map f es)) (k e two.0) (once-map f k es two.1)
-
-once-filtered : (p : Entry → Bool) (es : List Entry) → all_objects_once es ≡ true → all_objects_once (filter p es) ≡ true
-once-filtered p [] h = refl
-once-filtered p (e ∷ es) h = let two = and_parts (each_once e.objects) (all_objects_once es) h in go (p e) two.0 (once-filtered p es two.1)
-  where
-    go : (b : Bool) → each_once e.objects ≡ true → all_objects_once (filter p es) ≡ true → all_objects_once (cond b (e ∷ filter p es) (filter p es)) ≡ true
-    go true x rest = and_from (each_once e.objects) (all_objects_once (filter p es)) x rest
-    go false x rest = rest
+all_objects_once es = list_all is_once es
 
 once-lapsed : (k : ℕ) (e : Entry) → each_once e.objects ≡ true → each_once (lapsed k e).objects ≡ true
 once-lapsed k e h = go (nat_lt k e.until)
@@ -56,35 +79,97 @@ once-lapsed k e h = go (nat_lt k e.until)
     go false = once-forgotten e.objects h
 
 pub once-lapse : (k : ℕ) (es : List Entry) → all_objects_once es ≡ true → all_objects_once (after_lapse k es) ≡ true
-once-lapse k es h = once-filtered (is_entry_kept k) (map (lapsed k) es) (once-map (lapsed k) (once-lapsed k) es h)
+once-lapse k es h = each-filtered is_once (is_entry_kept k) (map (lapsed k) es) (each-map is_once (lapsed k) (once-lapsed k) es h)
 
 pub once-without : (o : ObjId) (es : List Entry) → all_objects_once es ≡ true → all_objects_once (map (entry_without o) es) ≡ true
-once-without o es h = once-map (entry_without o) (λ e x. once-filter (λ y. not (same_id y.object o)) e.objects x) es h
+once-without o es h = each-map is_once (entry_without o) (λ e x. once-filter (λ y. not (same_id y.object o)) e.objects x) es h
 
-once-with : (e : Entry) (es : List Entry) → each_once e.objects ≡ true → all_objects_once es ≡ true → all_objects_once (with_entry e es) ≡ true
-once-with e [] a h = and_from (each_once e.objects) true a refl
-once-with e (d ∷ es) a h =
-    let two = and_parts (each_once d.objects) (all_objects_once es) h in go (client_cmp e.client d.client) two.0 two.1 (once-with e es a two.1)
-  where
-    go : (o : Ordering) → each_once d.objects ≡ true → all_objects_once es ≡ true → all_objects_once (with_entry e es) ≡ true →
-        all_objects_once (if is_lt o then e ∷ d ∷ es else if is_eq o then e ∷ es else d ∷ with_entry e es) ≡ true
-    go Less x y rest = rw (a, x, y) refl
-    go Equal x y rest = rw (a, y) refl
-    go Greater x y rest = rw (x, rest) refl
-
-once-entry : (es : List Entry) (c : Client) → all_objects_once es ≡ true → each_once (entry_of es c).objects ≡ true
-once-entry [] c h = refl
-once-entry (e ∷ es) c h = let two = and_parts (each_once e.objects) (all_objects_once es) h in go (same_client e.client c) two.0 (once-entry es c two.1)
-  where
-    go : (b : Bool) → each_once e.objects ≡ true → each_once (entry_of es c).objects ≡ true → each_once (if b then e else entry_of es c).objects ≡ true
-    go true x rest = x
-    go false x rest = rest
+pub once-entry : (es : List Entry) (c : Client) → all_objects_once es ≡ true → each_once (entry_of es c).objects ≡ true
+once-entry es c h = each-entry is_once es c refl h
 
 pub once-noted : (at lease : ℕ) (kind : CallKind) (c : Client) (n : ℤ) (os : List ObjId) (es : List Entry) → all_objects_once es ≡ true →
     all_objects_once (after_lapse at (with_entry (entry_after lease kind n os at (entry_of es c)) es)) ≡ true
 once-noted at lease kind c n os es h =
     once-lapse at (with_entry (entry_after lease kind n os at (entry_of es c)) es)
-    (once-with (entry_after lease kind n os at (entry_of es c)) es (once-after (has_time_left at (entry_of es c)) kind n os (entry_of es c).objects (once-entry es c h)) h)
+    (each-with is_once (entry_after lease kind n os at (entry_of es c)) es (once-after (has_time_left at (entry_of es c)) kind n os (entry_of es c).objects (once-entry es c h)) h)
+
+-- ---- some number of each object
+
+abbrev pub is_numbered : Entry → Bool
+is_numbered e = each_has_number e.objects
+
+abbrev pub all_numbered : List Entry → Bool
+all_numbered es = list_all is_numbered es
+
+numbered-strong : (e : ObjectEntry) → has_strong e ≡ true → has_number (strong_only e) ≡ true
+numbered-strong e s = s
+
+numbered-forgotten : (es : List ObjectEntry) → each_has_number (tenure_forgotten es) ≡ true
+numbered-forgotten [] = refl
+numbered-forgotten (e ∷ es) = go (has_strong e) refl (numbered-forgotten es)
+  where
+    go : (b : Bool) → has_strong e ≡ b → each_has_number (tenure_forgotten es) ≡ true → each_has_number (map strong_only (cond b (e ∷ filter has_strong es) (filter has_strong es))) ≡ true
+    go true s rest = and_from (has_number (strong_only e)) (each_has_number (tenure_forgotten es)) (numbered-strong e s) rest
+    go false s rest = rest
+
+number-noted : (kind : CallKind) (n : ℤ) (numbers : Numbers) → is_remembered true (noted kind n numbers) ≡ true
+number-noted kind n numbers = go kind
+  where
+    some : (o : Option ℤ) → is_some (larger n o) ≡ true
+    some None = refl
+    some (Some m) = either (int_lt m n)
+      where
+        either : (b : Bool) → is_some (if b then Some n else Some m) ≡ true
+        either true = refl
+        either false = refl
+
+    go : (k : CallKind) → is_remembered true (noted k n numbers) ≡ true
+    go Dirty = rw (some numbers.dirty) refl
+    go Weak = rw (some numbers.clean, or_true (is_some numbers.dirty)) refl
+    go Strong = rw (some numbers.strong) (or_true (is_some numbers.dirty || is_some (larger n numbers.clean)))
+
+numbered-with : (o : ObjId) (numbers : Numbers) (es : List ObjectEntry) → is_remembered true numbers ≡ true → each_has_number es ≡ true → each_has_number (with_numbers o numbers es) ≡ true
+numbered-with o numbers [] f h = rw f refl
+numbered-with o numbers (e ∷ es) f h = let two = and_parts (has_number e) (each_has_number es) h in go (same_id e.object o) two.0 two.1 (numbered-with o numbers es f two.1)
+  where
+    go : (a : Bool) → has_number e ≡ true → each_has_number es ≡ true → each_has_number (with_numbers o numbers es) ≡ true →
+        each_has_number (if a then record { object = e.object; numbers = numbers } ∷ es else e ∷ with_numbers o numbers es) ≡ true
+    go true x y rest = and_from (is_remembered true numbers) (each_has_number es) f y
+    go false x y rest = and_from (has_number e) (each_has_number (with_numbers o numbers es)) x rest
+
+numbered-objects : (kind : CallKind) (n : ℤ) (os : List ObjId) (es : List ObjectEntry) → each_has_number es ≡ true → each_has_number (objects_noted kind n os es) ≡ true
+numbered-objects kind n [] es h = h
+numbered-objects kind n (o ∷ os) es h = numbered-objects kind n os (object_noted kind n o es) (numbered-with o (noted kind n (numbers_of es o)) es (number-noted kind n (numbers_of es o)) h)
+
+pub numbered-after : (left : Bool) (kind : CallKind) (n : ℤ) (os : List ObjId) (es : List ObjectEntry) → each_has_number es ≡ true → each_has_number (objects_after left kind n os es) ≡ true
+numbered-after left kind n os es h = counted (counts_lem kind left) (if left then es else tenure_forgotten es) (before left)
+  where
+    before : (b : Bool) → each_has_number (if b then es else tenure_forgotten es) ≡ true
+    before true = h
+    before false = numbered-forgotten es
+
+    counted : (b : Bool) (ds : List ObjectEntry) → each_has_number ds ≡ true → each_has_number (if b then objects_noted kind n os ds else ds) ≡ true
+    counted true ds x = numbered-objects kind n os ds x
+    counted false ds x = x
+
+numbered-lapsed : (k : ℕ) (e : Entry) → each_has_number e.objects ≡ true → each_has_number (lapsed k e).objects ≡ true
+numbered-lapsed k e h = go (nat_lt k e.until)
+  where
+    go : (b : Bool) → each_has_number (if b then e else record e { objects = tenure_forgotten e.objects }).objects ≡ true
+    go true = h
+    go false = numbered-forgotten e.objects
+
+pub numbered-lapse : (k : ℕ) (es : List Entry) → all_numbered es ≡ true → all_numbered (after_lapse k es) ≡ true
+numbered-lapse k es h = each-filtered is_numbered (is_entry_kept k) (map (lapsed k) es) (each-map is_numbered (lapsed k) (numbered-lapsed k) es h)
+
+pub numbered-without : (o : ObjId) (es : List Entry) → all_numbered es ≡ true → all_numbered (map (entry_without o) es) ≡ true
+numbered-without o es h = each-map is_numbered (entry_without o) (λ e x. each-filtered has_number (λ y. not (same_id y.object o)) e.objects x) es h
+
+pub numbered-noted : (at lease : ℕ) (kind : CallKind) (c : Client) (n : ℤ) (os : List ObjId) (es : List Entry) → all_numbered es ≡ true →
+    all_numbered (after_lapse at (with_entry (entry_after lease kind n os at (entry_of es c)) es)) ≡ true
+numbered-noted at lease kind c n os es h =
+    numbered-lapse at (with_entry (entry_after lease kind n os at (entry_of es c)) es)
+    (each-with is_numbered (entry_after lease kind n os at (entry_of es c)) es (numbered-after (has_time_left at (entry_of es c)) kind n os (entry_of es c).objects (each-entry is_numbered es c refl h)) h)
 
 -- ---- fewer pairs
 
@@ -257,7 +342,7 @@ remembered-entry lease t kind n os e once =
     member o false false x h = h
 
 -- One client's entry in place of its own, or one more.
-sum-with : (f : Entry → ℕ) → ((c : Client) → f (no_entry c) ≡ 0) → (e : Entry) (es : List Entry) → is_in_order es ≡ true →
+pub sum-with : (f : Entry → ℕ) → ((c : Client) → f (no_entry c) ≡ 0) → (e : Entry) (es : List Entry) → is_in_order es ≡ true →
     sum_by f (with_entry e es) + f (entry_of es e.client) ≡ sum_by f es + f e
 sum-with f none e [] order = let a = none e.client in let b = sum_by-cons f e [] in omega arith
 sum-with f none e (d ∷ es) order =

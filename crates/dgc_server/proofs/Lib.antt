@@ -16,3 +16,8 @@ pub mod Told
 pub mod Trimmed
 pub mod Without
 pub mod Kept
+pub mod Search
+pub mod HolderLaws
+pub mod IndexLaws
+pub mod SumLaws
+pub mod MarkLaws

@@ -1,14 +1,13 @@
 -- After a lapse nothing is kept that time has taken.
 use Rattle.std.proofs.Common.{◌≡◌, ℕ, List, [], ◌∷◌, refl, sym, subst, cond, map}
-use Rattle.std.specs.Prelude.{ℤ, Bool, true, false, ◌&&◌, ◌||◌, not, filter, is_some, nat_lt, if◌then◌else◌}
+use Rattle.std.specs.Prelude.{ℤ, Bool, true, false, not, filter, is_some, nat_lt, if◌then◌else◌}
 use Rattle.std.specs.List.{list_all}
 use Rattle.std.proofs.lemmas.Bool.{and_from}
 use Rattle.object_ids.specs.declared.ids.ObjId.{ObjId}
 use Rattle.object_ids.specs.Client.{Client}
 use Rattle.history.specs.declared.calls.CallKind.{CallKind}
 use Rattle.history.proofs.ListLemmas.{and_true}
-use Rattle.dgc_server.specs.declared.entry.ObjectEntry.{ObjectEntry}
-use Rattle.dgc_server.specs.Entry.{Entry, has_strong, strong_only, tenure_forgotten, lapsed, is_entry_kept, is_empty, is_strong_alone, is_needed}
+use Rattle.dgc_server.specs.Entry.{ObjectEntry, Entry, has_strong, strong_only, tenure_forgotten, lapsed, is_entry_kept, is_empty, is_strong_alone, is_needed}
 use Rattle.dgc_server.specs.Table.{entry_of, with_entry, after_lapse}
 use Rattle.dgc_server.specs.Stands.{LeaseTable, IsTrimmed, entry_after, table_after}
 

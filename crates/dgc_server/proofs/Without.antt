@@ -10,9 +10,8 @@ use Rattle.history.specs.declared.calls.Call.{Call}
 use Rattle.history.specs.Leases.{is_dirty, is_strong, is_naming, lease_end, tenure, calls_of, has_time_left as has_time}
 use Rattle.history.proofs.ListLemmas.{list_any-filter, and_false}
 use Rattle.dgc_server.specs.declared.numbers.Numbers.{Numbers}
-use Rattle.dgc_server.specs.declared.entry.ObjectEntry.{ObjectEntry}
 use Rattle.dgc_server.specs.Numbers.{no_numbers, larger}
-use Rattle.dgc_server.specs.Entry.{Entry, numbers_of, entry_without}
+use Rattle.dgc_server.specs.Entry.{ObjectEntry, Entry, numbers_of, entry_without}
 use Rattle.dgc_server.specs.Table.{entry_of}
 use Rattle.dgc_server.specs.Counts.{without}
 use Rattle.dgc_server.specs.Stands.{LeaseTable, StandsFor, EntryStands, top, is_dirty_for, is_clean_for, is_strong_for}
@@ -108,7 +107,7 @@ top-without o p k h (x ∷ calls) =
     go false a b t = refl
 
 -- The numbers of an object: none for the one that is taken out.
-numbers-without : (o p : ObjId) (es : List ObjectEntry) → numbers_of (filter (λ x. not (same_id x.object o)) es) p ≡ (if same_id p o then no_numbers else numbers_of es p)
+pub numbers-without : (o p : ObjId) (es : List ObjectEntry) → numbers_of (filter (λ x. not (same_id x.object o)) es) p ≡ (if same_id p o then no_numbers else numbers_of es p)
 numbers-without o p [] = go (same_id p o)
   where
     go : (b : Bool) → no_numbers ≡ (if b then no_numbers else no_numbers)

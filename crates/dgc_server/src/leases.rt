@@ -4,11 +4,13 @@ ghost use Rattle.history.specs.declared.calls.Call.{Call};
 ghost use Rattle.history.specs.declared.limits.TheConstants.{MAX_CLIENTS, MAX_PAIRS};
 ghost use Rattle.history.specs.Leases.{is_dirty_kind, is_held, holders, pairs, lease_rows};
 ghost use Rattle.dgc_server.specs.Counts.{dirty_call, clean_call, clean_kind, without, clients_with_call, pairs_with_call};
-ghost use Rattle.dgc_server.specs.Stands.{IsSound, IsTrimmed, StandsFor, ForEachLog, entry_after, table_after};
-ghost use Rattle.dgc_server.specs.Table.{entry_of, clients_after, pairs_after};
+ghost use Rattle.dgc_server.specs.Stands.{IsSound, IsTrimmed, StandsFor, ForEachLog, table_after};
+ghost use Rattle.dgc_server.specs.Index.{sums_at};
+ghost use Rattle.dgc_server.specs.Table.{clients_after, pairs_after};
 
-use crate::entry::ClientEntry;
-use crate::table;
+use crate::entry::{ClientEntry, LeaseCall};
+use crate::holders::{Counts, count_of, forget, pass, touch_all};
+use crate::table::{self, Sums};
 use history::limits::{MAX_CLIENTS, MAX_PAIRS};
 use history::{CallKind, LeaseList};
 use object_ids::{ObjId, ObjIds, Vmid};
@@ -44,16 +46,25 @@ pub struct Leases {
     lease: u64,
     moment: u64,
     entries: Vec<ClientEntry>,
+    /// No lease that has time left at the moment ends before this one; nothing is said where it is not later.
+    next: u64,
+    /// How many clients hold each object at the moment.
+    counts: Counts,
+    /// How many clients have time left at the moment, and how many pairs are remembered.
+    sums: Sums,
 }
 
 impl Model for Leases {
     ghost use Rattle.dgc_server.specs.Stands.{LeaseTable, IsSound};
+    ghost use Rattle.std.specs.Prelude.{◌≡◌};
+    ghost use Rattle.dgc_server.specs.Index.{IsIndexed, sums_at};
 
     ghost Value = { LeaseTable };
 
     ghost view = { λ a. record { lease = a.lease; moment = a.moment; entries = a.entries.items } };
 
-    ghost invariant = { λ a. IsSound a.lease a.moment a.entries.items };
+    ghost invariant = { λ a. IsSound a.lease a.moment a.entries.items × IsIndexed a.moment a.next a.counts a.entries.items
+        × (a.sums ≡ sums_at a.moment a.entries.items) };
 }
 
 impl Leases {
@@ -68,6 +79,12 @@ impl Leases {
             lease: lease_ms,
             moment: 0,
             entries: Vec::new(alloc),
+            next: u64::MAX,
+            counts: Counts::new(alloc),
+            sums: Sums {
+                leased: 0,
+                pairs: 0,
+            },
         }
     }
 
@@ -78,8 +95,11 @@ impl Leases {
         ensures freed { IsTrimmed self.new }
         ensures stands { ForEachLog self.old (λ lease moment calls. StandsFor lease self.new (max now moment) calls) }
     {
-        self.moment = now.max(self.moment);
-        table::lapse(&mut self.entries, self.moment);
+        let at = now.max(self.moment);
+        let bound = self.next;
+        self.next = pass(&mut self.entries, &mut self.counts, bound, self.moment, at);
+        self.sums = table::sums_after(self.sums, &self.entries, at, at < bound);
+        self.moment = at;
     }
 
     /// Notes a dirty call (Java RMI Specification, chapter 9: `DGC.dirty`), and answers the duration of the
@@ -108,7 +128,8 @@ impl Leases {
         ensures err { OnErr result (self.new ≡ self.old) }
     {
         let at = self.at(now);
-        if table::clients_after(&self.entries, client, at) as u64 > MAX_CLIENTS {
+        let sums = self.sums_by(at);
+        if table::clients_after(&self.entries, client, at, sums.leased) as u64 > MAX_CLIENTS {
             return Err(LeaseFault::Clients);
         }
         self.note(client, &number, objects, CallKind::Dirty, at)?;
@@ -144,7 +165,12 @@ impl Leases {
     pub fn is_held(&self, object: ObjId, now: u64) -> bool
         ensures { ForEachLog self.now (λ lease moment calls. result ≡ is_held lease (max now moment) calls object) }
     {
-        table::is_held(&self.entries, &object, self.at(now))
+        let at = self.at(now);
+        if at < self.next {
+            count_of(&self.counts, &object) > 0
+        } else {
+            table::is_held(&self.entries, &object, at)
+        }
     }
 
     /// How many clients hold an object at this moment. A moment before the greatest one is read as the
@@ -159,10 +185,14 @@ impl Leases {
     /// Forgets that calls named this object: it is as if no call so far had. An object counts from its last
     /// `drop_object` on. The calls themselves stay, so that each lease ends when it did. It takes no memory.
     pub fn drop_object(&mut self, object: ObjId)
-        ensures { ForEachLog self.old (λ lease moment calls.
+        ensures fewer { length self.new.entries ≤ length self.old.entries }
+        ensures stands { ForEachLog self.old (λ lease moment calls.
             StandsFor lease self.new moment (map (without object) calls)) }
     {
         table::drop_object(&mut self.entries, &object);
+        forget(&mut self.counts, &object);
+        self.sums = table::sums_at(&self.entries, self.moment);
+        self.next = 0;
     }
 
     /// How many pairs of a client and an object are remembered at this moment: those of clients with time
@@ -192,6 +222,20 @@ impl Leases {
         now.max(self.moment)
     }
 
+    /// How many clients have time left at a moment that is no earlier than the greatest one, and how many pairs
+    /// are remembered. Where nothing is due it looks at no client.
+    fn sums_by(&self, at: u64) -> Sums
+        requires { self.now.moment ≤ at }
+        ensures value { result ≡ sums_at at self.now.entries }
+        ensures few { (result.leased ≤ 65536) × (result.pairs ≤ 262144) }
+    {
+        if at < self.next {
+            self.sums
+        } else {
+            table::sums_at(&self.entries, at)
+        }
+    }
+
     /// Notes a call at a moment, if the pairs that it brings can be remembered.
     fn note(
         &mut self,
@@ -213,42 +257,36 @@ impl Leases {
         ensures err { OnErr result (self.new ≡ self.old) }
     {
         let named = objects.as_slice();
-        if table::pairs_after(&self.entries, client, kind, named, at) > MAX_PAIRS as u128 {
+        let pairs = self.sums_by(at).pairs;
+        if table::pairs_after(self.alloc, &self.entries, client, kind, named, at, pairs)
+            > MAX_PAIRS as u128
+        {
             return Err(LeaseFault::Pairs);
         }
-        let next = self.entry_after(client, number, named, kind, at)?;
-        table::put(&mut self.entries, next)?;
-        table::lapse(&mut self.entries, at);
+        touch_all(&mut self.counts, named)?;
+        let call = LeaseCall {
+            kind,
+            number,
+            objects: named,
+            at,
+        };
+        let before = table::own_sums(&self.entries, client, self.moment);
+        table::note(
+            self.alloc,
+            &mut self.entries,
+            &mut self.counts,
+            client,
+            &call,
+            self.lease,
+            self.moment,
+        )?;
+        let after = table::own_sums(&self.entries, client, self.moment);
+        let with = table::sums_with(self.sums, before, after);
+        let bound = table::bound_with(&self.entries, client, self.next, at);
+        self.next = pass(&mut self.entries, &mut self.counts, bound, self.moment, at);
+        self.sums = table::sums_after(with, &self.entries, at, at < bound);
         self.moment = at;
         Ok(())
-    }
-
-    /// What is kept of a client after a call at a moment.
-    fn entry_after(
-        &self,
-        client: &Vmid,
-        number: &i64,
-        named: &[ObjId],
-        kind: CallKind,
-        at: u64,
-    ) -> Result<ClientEntry, AllocError>
-        requires { at < 2 ^ 62 }
-        ensures { IfOk result (λ next. let before = entry_of self.now.entries client.now in
-            next ≡ entry_after self.now.lease kind number.now named.now at before) }
-    {
-        let end = at + self.lease;
-        match table::find(&self.entries, client) {
-            Some(entry) => {
-                let left = entry.has_time_left(at);
-                let until = until_after(kind, end, entry.until());
-                entry.noted(self.alloc, kind, number, named, left, until)
-            }
-            None => {
-                let entry = ClientEntry::fresh(self.alloc, client.copy(self.alloc)?);
-                let until = until_after(kind, end, entry.until());
-                entry.noted(self.alloc, kind, number, named, false, until)
-            }
-        }
     }
 }
 
@@ -260,15 +298,5 @@ fn clean_kind(strong: bool) -> CallKind
         CallKind::Strong
     } else {
         CallKind::Weak
-    }
-}
-
-/// The end of a lease after a call: a dirty moves it.
-fn until_after(kind: CallKind, end: u64, until: u64) -> u64
-    ensures { result ≡ (if is_dirty_kind kind then end else until) }
-{
-    match kind {
-        CallKind::Dirty => end,
-        CallKind::Weak | CallKind::Strong => until,
     }
 }

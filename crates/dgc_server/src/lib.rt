@@ -3,7 +3,9 @@
 #![tactic(auto)]
 
 mod entry;
+mod holders;
 mod leases;
+mod marks;
 mod numbers;
 mod table;
 

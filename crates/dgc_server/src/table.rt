@@ -1,57 +1,146 @@
 //! Lists of clients, in the order of clients.
-ghost use Rattle.std.specs.Prelude.{◌≡◌, ◌<◌, ◌≤◌, ◌^◌, length, filter, map, sum_by, nat_lt, insert, slice_set, OnOk, OnErr, IfOk, unwrap_or, MatchResult, if◌then◌else◌};
-ghost use Rattle.std.specs.List.{list_any};
+ghost use Rattle.std.specs.Prelude.{◌≡◌, true, ◌+◌, ◌<◌, ◌≤◌, ◌^◌, length, filter, map, sum_by, nat_lt, min, insert, slice_set, OnOk, OnErr, IfOk, IsTrue, unwrap_or, MatchResult, vec_len, vec_capacity, slice_index_or, if◌then◌else◌};
+ghost use Rattle.std.specs.List.{list_any, list_all};
 ghost use Rattle.std.specs.Option.{option_copied};
+ghost use Rattle.object_ids.specs.declared.ids.ObjId.{ObjId};
 ghost use Rattle.object_ids.specs.Client.{Client};
-ghost use Rattle.dgc_server.specs.Numbers.{is_dirty_highest, is_remembered};
-ghost use Rattle.dgc_server.specs.Entry.{Entry, numbers_of, lapsed, entry_without, is_entry_kept, has_time_left, entry_holds, remembered_of, row_of};
+ghost use Rattle.dgc_server.specs.Entry.{Entry, each_has_number, is_in, lapsed, entry_without, is_entry_kept, has_time_left, entry_holds, remembered_of, row_of};
+ghost use Rattle.dgc_server.specs.Stands.{each_once, is_in_order, entry_after};
+ghost use Rattle.dgc_server.specs.Index.{held_at, has_count, ends_later, sums_at, entry_sums};
+ghost use Rattle.dgc_server.specs.Table.{remembered as remembered_at};
 ghost use Rattle.dgc_server.specs.Table.{entry_of, no_entry, IsPlaceOf, with_entry, after_lapse, remembered, clients_after, fresh_pairs, pairs_after};
 
-use crate::entry::{ClientEntry, counts, fresh_count};
+use crate::entry::{ClientEntry, LeaseCall};
+use crate::holders::Counts;
+use crate::marks::{Marks, counts_for, fresh_count};
 use history::{CallKind, LeaseList, LeaseRow};
 use object_ids::{ObjId, Vmid};
 use std::alloc::{AllocError, Global};
 use std::cmp::Ordering;
 
+/// How many clients have time left, and how many pairs are remembered.
+#[derive(Clone, Copy, Debug)]
+pub struct Sums {
+    pub leased: usize,
+    pub pairs: u128,
+}
+
 /// The entry of a client, if it has one.
 pub fn find<'a>(entries: &'a [ClientEntry], client: &Vmid) -> Option<&'a ClientEntry>
+    requires { IsTrue (is_in_order entries.now) }
     ensures { let other = no_entry client.now in
         entry_of entries.now client.now ≡ unwrap_or (option_copied result) other }
 {
-    for entry in entries {
-        if entry.is_of(client) {
-            return Some(entry);
-        }
+    match place_of(entries, client) {
+        Ok(i) => Some(&entries[i]),
+        Err(_place) => None,
     }
-    None
 }
 
 /// Where a client's entry is, or where it would be inserted.
 fn place_of(entries: &[ClientEntry], client: &Vmid) -> Result<usize, usize>
+    requires { IsTrue (is_in_order entries.now) }
     ensures bound { MatchResult result (λ i. i < length entries.now) (λ i. i ≤ length entries.now) }
     ensures place { IsPlaceOf entries.now client.now result }
+    ensures entry { MatchResult result (λ i. (d : Entry) → entry_of entries.now client.now ≡ slice_index_or entries.now i d)
+        (λ i. entry_of entries.now client.now ≡ no_entry client.now) }
 {
-    for (i, entry) in entries.iter().enumerate() {
-        match client.compare(entry.client()) {
-            Ordering::Less => return Err(i),
-            Ordering::Equal => return Ok(i),
-            Ordering::Greater => {}
+    let mut low: usize = 0;
+    let mut high: usize = entries.len();
+    while low < high {
+        let middle = low + (high - low) / 2;
+        match client.compare(entries[middle].client()) {
+            Ordering::Less => high = middle,
+            Ordering::Equal => return Ok(middle),
+            Ordering::Greater => low = middle + 1,
         }
     }
-    Err(entries.len())
+    Err(low)
 }
 
-/// Puts a client's entry in the place of the one that it had, or inserts it. After a refusal the
-/// list is as it was.
-pub fn put(entries: &mut Vec<ClientEntry>, next: ClientEntry) -> Result<(), AllocError>
-    ensures ok { OnOk result (entries.new.items ≡ with_entry next entries.old.items) }
+/// Notes a call of a client, by which a lease of this duration begins if it is a dirty. The counts are those of the moment `from`. It is
+/// refused only for want of memory, and then all is as it was.
+pub fn note(
+    alloc: Global,
+    entries: &mut Vec<ClientEntry>,
+    counts: &mut Counts,
+    client: &Vmid,
+    call: &LeaseCall<'_>,
+    lease: u64,
+    from: u64,
+) -> Result<(), AllocError>
+    requires later { from ≤ call.now.at }
+    requires early { call.now.at < 2 ^ 62 }
+    requires some { 1 ≤ lease }
+    requires short { lease ≤ 2 ^ 40 }
+    requires ordered { IsTrue (is_in_order entries.old.items) }
+    requires once { IsTrue (list_all (λ e. each_once e.objects) entries.old.items) }
+    requires few { length (filter (has_time_left from) entries.old.items) ≤ 65536 }
+    requires has { (o : ObjId) → is_in o call.now.objects.now ≡ true → has_count counts.old o ≡ true }
+    requires counted { (o : ObjId) → held_at counts.old o ≡ length (filter (entry_holds from o) entries.old.items) }
+    ensures ok { OnOk result (entries.new.items ≡ with_entry
+        (entry_after lease call.now.kind call.now.number.now call.now.objects.now call.now.at (entry_of entries.old.items client.now)) entries.old.items) }
+    ensures counted { OnOk result ((o : ObjId) → held_at counts.new o ≡ length (filter (entry_holds from o) entries.new.items)) }
     ensures err { OnErr result (entries.new.items ≡ entries.old.items) }
+    ensures same { OnErr result (counts.new ≡ counts.old) }
 {
-    match place_of(entries, next.client()) {
-        Ok(i) => entries[i] = next,
-        Err(i) => entries.insert(i, next)?,
+    match place_of(entries, client) {
+        Ok(place) => entries[place].note(counts, call, lease, from),
+        Err(place) => {
+            entries.reserve(1)?;
+            let mut entry = ClientEntry::fresh(alloc, client)?;
+            entry.note(counts, call, lease, from)?;
+            insert_within(entries, place, entry);
+            Ok(())
+        }
     }
-    Ok(())
+}
+
+/// Inserts an entry, for which there is room.
+fn insert_within(entries: &mut Vec<ClientEntry>, place: usize, entry: ClientEntry)
+    requires room { vec_len entries.old < vec_capacity entries.old }
+    requires within { place ≤ vec_len entries.old }
+    ensures { entries.new.items ≡ insert entries.old.items place entry }
+{
+    match entries.insert(place, entry) {
+        Ok(()) => {}
+        Err(_refused) => {}
+    }
+}
+
+/// A moment before which no lease ends, where none ended before another one and this client's entry was noted since; 0 where nothing
+/// can be said.
+pub fn bound_with(entries: &[ClientEntry], client: &Vmid, bound: u64, at: u64) -> u64
+    requires { IsTrue (is_in_order entries.now) }
+    ensures { let entry = entry_of entries.now client.now in result ≡ (if has_time_left at entry then min bound entry.until else 0) }
+{
+    match find(entries, client) {
+        Some(entry) if entry.has_time_left(at) => bound.min(entry.until()),
+        _ => 0,
+    }
+}
+
+/// A moment before which no lease ends that has time left at this one.
+pub fn least_end(entries: &[ClientEntry], at: u64) -> u64
+    ensures { IsTrue (list_all (ends_later at result) entries.now) }
+{
+    let mut least = u64::MAX;
+    for entry in entries {
+        least = least_with(least, entry, at);
+    }
+    least
+}
+
+/// The lesser of a moment and the end of a lease, if it has time left.
+fn least_with(least: u64, entry: &ClientEntry, at: u64) -> u64
+    ensures least { result ≤ least }
+    ensures ends { IsTrue (ends_later at result entry.now) }
+{
+    if entry.has_time_left(at) {
+        least.min(entry.until())
+    } else {
+        least
+    }
 }
 
 /// Forgets the tenures whose leases are over, and the clients of which nothing is left.
@@ -124,6 +213,7 @@ fn clients_with_time_left(entries: &[ClientEntry], at: u64) -> usize
 
 /// Whether a client has time left.
 pub fn is_leased(entries: &[ClientEntry], client: &Vmid, at: u64) -> bool
+    requires { IsTrue (is_in_order entries.now) }
     ensures { result ≡ has_time_left at (entry_of entries.now client.now) }
 {
     match find(entries, client) {
@@ -132,20 +222,87 @@ pub fn is_leased(entries: &[ClientEntry], client: &Vmid, at: u64) -> bool
     }
 }
 
-/// How many clients have time left after a dirty of this one.
-pub fn clients_after(entries: &[ClientEntry], client: &Vmid, at: u64) -> usize
+/// How many clients have time left after a dirty of this one, where so many have now.
+pub fn clients_after(entries: &[ClientEntry], client: &Vmid, at: u64, leased: usize) -> usize
+    requires ordered { IsTrue (is_in_order entries.now) }
+    requires counted { leased ≡ length (filter (has_time_left at) entries.now) }
+    requires few { leased ≤ 65536 }
     ensures { result ≡ clients_after entries.now client.now at }
 {
-    let count = clients_with_time_left(entries, at);
     if is_leased(entries, client, at) {
-        count
+        leased
     } else {
-        count + 1
+        leased + 1
     }
+}
+
+/// The sums over all entries at a moment.
+pub fn sums_at(entries: &[ClientEntry], at: u64) -> Sums
+    requires { IsTrue (list_all (λ e. each_has_number e.objects) entries.now) }
+    ensures { result ≡ sums_at at entries.now }
+{
+    Sums {
+        leased: clients_with_time_left(entries, at),
+        pairs: remembered_pairs(entries, at),
+    }
+}
+
+/// What a client's entry adds to the sums.
+fn sums_of(entry: &ClientEntry, at: u64) -> Sums
+    requires { IsTrue (each_has_number entry.now.objects) }
+    ensures value { result ≡ entry_sums at entry.now }
+    ensures small { (result.leased ≤ 1) × (result.pairs < 2 ^ 64) }
+{
+    let leased = if entry.has_time_left(at) { 1 } else { 0 };
+    Sums {
+        leased,
+        pairs: entry.remembered(at) as u128,
+    }
+}
+
+/// What a client's own entry adds to the sums.
+pub fn own_sums(entries: &[ClientEntry], client: &Vmid, at: u64) -> Sums
+    requires ordered { IsTrue (is_in_order entries.now) }
+    requires noted { IsTrue (list_all (λ e. each_has_number e.objects) entries.now) }
+    ensures value { result ≡ entry_sums at (entry_of entries.now client.now) }
+    ensures small { (result.leased ≤ 1) × (result.pairs < 2 ^ 64) }
+{
+    match find(entries, client) {
+        Some(entry) => sums_of(entry, at),
+        None => Sums {
+            leased: 0,
+            pairs: 0,
+        },
+    }
+}
+
+/// The sums once a client's entry adds something else.
+pub fn sums_with(sums: Sums, before: Sums, after: Sums) -> Sums
+    requires leased { before.leased ≤ sums.leased }
+    requires pairs { before.pairs ≤ sums.pairs }
+    requires few { (sums.leased ≤ 65536) × (sums.pairs ≤ 262144) }
+    requires small { (after.leased ≤ 1) × (after.pairs < 2 ^ 64) }
+    ensures leased { result.leased + before.leased ≡ sums.leased + after.leased }
+    ensures pairs { result.pairs + before.pairs ≡ sums.pairs + after.pairs }
+{
+    Sums {
+        leased: sums.leased - before.leased + after.leased,
+        pairs: sums.pairs - before.pairs + after.pairs,
+    }
+}
+
+/// The sums after time has passed, which are the same where nothing was due.
+pub fn sums_after(sums: Sums, entries: &[ClientEntry], at: u64, is_quiet: bool) -> Sums
+    requires quiet { is_quiet ≡ true → sums ≡ sums_at at entries.now }
+    requires noted { IsTrue (list_all (λ e. each_has_number e.objects) entries.now) }
+    ensures { result ≡ sums_at at entries.now }
+{
+    if is_quiet { sums } else { sums_at(entries, at) }
 }
 
 /// How many pairs of a client and an object are remembered.
 pub fn remembered_pairs(entries: &[ClientEntry], at: u64) -> u128
+    requires { IsTrue (list_all (λ e. each_has_number e.objects) entries.now) }
     ensures value { result ≡ remembered at entries.now }
     ensures small { result < 2 ^ 127 }
 {
@@ -158,33 +315,42 @@ pub fn remembered_pairs(entries: &[ClientEntry], at: u64) -> u128
 
 /// How many pairs a call of this kind brings that were not remembered.
 fn fresh_pairs(
+    alloc: Global,
     entries: &[ClientEntry],
     client: &Vmid,
     kind: CallKind,
     named: &[ObjId],
     at: u64,
 ) -> usize
+    requires { IsTrue (is_in_order entries.now) }
     ensures { result ≡ fresh_pairs at entries.now client.now kind named.now }
 {
     match find(entries, client) {
-        Some(entry) if counts(kind, entry.has_time_left(at)) => entry.fresh_among(named, at),
+        Some(entry) if counts_for(kind, entry.has_time_left(at)) => {
+            entry.fresh_among(alloc, named, at)
+        }
         Some(_) => 0,
-        None if counts(kind, false) => fresh_count(&[], named, false),
+        None if counts_for(kind, false) => fresh_count(alloc, &Marks::new(alloc), named, false),
         None => 0,
     }
 }
 
-/// How many pairs are remembered after a call of this kind.
+/// How many pairs are remembered after a call of this kind, where so many are now.
 pub fn pairs_after(
+    alloc: Global,
     entries: &[ClientEntry],
     client: &Vmid,
     kind: CallKind,
     named: &[ObjId],
     at: u64,
+    remembered: u128,
 ) -> u128
+    requires ordered { IsTrue (is_in_order entries.now) }
+    requires counted { remembered ≡ remembered_at at entries.now }
+    requires few { remembered ≤ 262144 }
     ensures { result ≡ pairs_after at entries.now client.now kind named.now }
 {
-    remembered_pairs(entries, at) + fresh_pairs(entries, client, kind, named, at) as u128
+    remembered + fresh_pairs(alloc, entries, client, kind, named, at) as u128
 }
 
 /// The clients with time left, in order, with the ends of their leases.

@@ -1,9 +1,11 @@
 pub mod Dropped
+pub mod KeptLaws
 pub mod RowLaws
 pub mod Parts
 pub mod Places
 pub mod Sifting
 pub mod Sound
 pub mod StandLaws
+pub mod ThereLaws
 pub mod WaitLaws
 pub mod WaitSteps

@@ -1,6 +1,6 @@
 -- A list of some items of another, in their order.
-use Rattle.std.proofs.Common.{◌≡◌, inl, inr, ℕ, ◌+◌, ◌≤◌, List, [], ◌∷◌, ◌++◌, length, map, refl, ap, sym, subst, ◌∙◌, arith, suc}
-use Rattle.std.specs.Prelude.{Bool, true, false, ◌&&◌, int_lt}
+use Rattle.std.proofs.Common.{◌≡◌, inl, inr, ◌≤◌, List, [], ◌∷◌, ◌++◌, length, map, refl, ap, ◌∙◌, arith, suc}
+use Rattle.std.specs.Prelude.{Bool, true, int_lt}
 use Rattle.std.specs.List.{list_all}
 use Rattle.std.proofs.lemmas.Bool.{and_parts, and_from}
 use Rattle.object_ids.specs.declared.ids.ObjId.{ObjId}

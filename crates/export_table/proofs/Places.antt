@@ -1,16 +1,14 @@
 -- Where an object stands among rows, and what a change there makes of them.
-use Rattle.std.proofs.Common.{◌≡◌, ℕ, ◌+◌, ◌<◌, List, [], ◌∷◌, ◌++◌, length, map, take, drop, get_or, refl, ap, sym, subst, ◌∙◌, cond, Some, None, suc, add-one}
-use Rattle.std.specs.Prelude.{ℤ, Bool, true, false, ◌&&◌, ◌||◌, IsTrue, find, int_lt, slice_set, Option, if◌then◌else◌}
-use Rattle.std.specs.List.{list_any, list_all}
+use Rattle.std.proofs.Common.{◌≡◌, ℕ, ◌+◌, ◌<◌, List, [], ◌∷◌, ◌++◌, length, take, drop, get_or, refl, ap, sym, subst, ◌∙◌, cond, Some, None, suc, add-one}
+use Rattle.std.specs.Prelude.{ℤ, Bool, true, false, ◌||◌, int_lt, slice_set, if◌then◌else◌}
+use Rattle.std.specs.List.{list_all}
 use Rattle.std.specs.Ordering.{int_cmp}
-use Rattle.std.specs.declared.cmp.Ordering.{Ordering}
 use Rattle.std.specs.declared.cmp.Ordering.TheVariants.{Less, Equal, Greater}
 use Rattle.std.proofs.Math.Seq.{drop-cons}
 use Rattle.std.proofs.lemmas.Bool.{and_parts}
 use Rattle.std.proofs.lemmas.Cmp.{int_cmp_total, tied_itself}
 use Rattle.std.proofs.lemmas.List.{take-append-drop, take-set, drop-set, get_or_default}
 use Rattle.object_ids.specs.declared.ids.ObjId.{ObjId}
-use Rattle.object_ids.specs.Same.{same_id}
 use Rattle.object_ids.proofs.Exact.{same_id-equal}
 use Rattle.export_table.specs.declared.rows.Export.{Export}
 use Rattle.export_table.specs.Rows.{is_of, is_exported, row_of, ids, is_rising, changed, IsPlace}

@@ -1,20 +1,20 @@
 -- Laws of the export table: of one object after each change, of the objects that a withdrawal leaves, and of the references that await.
-use Rattle.std.proofs.Common.{◌≡◌, ℕ, ◌+◌, ◌<◌, ◌≤◌, List, [], ◌∷◌, ◌++◌, map, refl, ap, sym, subst, ◌∙◌, arith, cond, Option, Some, None}
-use Rattle.std.specs.Prelude.{ℤ, pos, max, Bool, true, false, ◌&&◌, ◌||◌, not, filter, find, int_lt, nat_lt, option_map, unwrap_or, if◌then◌else◌}
+use Rattle.std.proofs.Common.{◌≡◌, ℕ, ◌+◌, ◌≤◌, List, [], ◌∷◌, refl, ap, sym, ◌∙◌, arith, cond, Option, Some, None}
+use Rattle.std.specs.Prelude.{pos, max, Bool, true, false, ◌&&◌, ◌||◌, not, filter, int_lt, nat_lt, option_map, if◌then◌else◌}
 use Rattle.std.specs.List.{list_any, list_all}
-use Rattle.std.proofs.lemmas.Bool.{and_parts, and_from, lt-ltb, ltb-true}
+use Rattle.std.proofs.lemmas.Bool.{and_parts, lt-ltb, ltb-true}
 use Rattle.std.proofs.lemmas.List.Folds.{list_any-append}
 use Rattle.object_ids.specs.declared.ids.Uid.{Uid}
 use Rattle.object_ids.specs.declared.ids.ObjId.{ObjId}
 use Rattle.object_ids.specs.Same.{same_id, same_uid}
-use Rattle.object_ids.proofs.Exact.{same_id-equal, same_id-self, same_uid-equal, same_uid-self}
+use Rattle.object_ids.proofs.Exact.{same_id-equal, same_uid-equal}
 use Rattle.history.specs.Places.{id_at}
-use Rattle.history.proofs.ListLemmas.{AllOnce, list_any-filter, list_any-same, or_false, and_false}
+use Rattle.history.proofs.ListLemmas.{AllOnce, list_any-filter, or_false, and_false}
 use Rattle.export_table.specs.declared.rows.Export.{Export}
 use Rattle.export_table.specs.declared.waits.Wait.{Wait}
-use Rattle.export_table.specs.Rows.{is_of, row_of, is_exported, kind_of, running_of, pins_of, ids, is_rising, is_given, changed, begun, ended, is_row_kept, withdrawn}
+use Rattle.export_table.specs.Rows.{is_of, row_of, is_exported, kind_of, ids, is_rising, is_given, changed, is_row_kept, withdrawn}
 use Rattle.export_table.specs.Waits.{is_wait_of, goes_on, waiting, is_waiting, until_of, listed, acknowledged}
-use Rattle.export_table.proofs.Places.{row-none, changed-none, not_below}
+use Rattle.export_table.proofs.Places.{row-none, not_below}
 
 -- ---- the order of the objects
 

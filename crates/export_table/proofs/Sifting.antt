@@ -1,5 +1,5 @@
 -- Rows of which those that are kept are moved to the front, while the identifiers of the others are noted.
-use Rattle.std.proofs.Common.{◌≡◌, ℕ, ◌+◌, ◌<◌, ◌≤◌, List, [], ◌∷◌, ◌++◌, length, map, take, drop, get_or, refl, ap, sym, subst, ◌∙◌, arith, cond, suc, add-one, append_assoc, append-nil}
+use Rattle.std.proofs.Common.{◌≡◌, ℕ, ◌+◌, ◌<◌, ◌≤◌, List, [], ◌∷◌, ◌++◌, length, take, drop, get_or, refl, ap, sym, subst, ◌∙◌, arith, cond, suc, add-one, append_assoc, append-nil}
 use Rattle.std.specs.Prelude.{Bool, true, false, not, filter, slice_set}
 use Rattle.std.proofs.Math.Seq.{drop-cons}
 use Rattle.std.proofs.lemmas.List.{take_more, take_more_set, drop-set-lt, length-set, map-append, take_all}

@@ -1,6 +1,6 @@
 -- What holds of each table stays as rows and waits change.
 use Rattle.std.proofs.Common.{◌≡◌, inl, inr, ℕ, ◌+◌, ◌<◌, ◌≤◌, ◌^◌, List, [], ◌∷◌, ◌++◌, length, map, refl, ap, sym, subst, ◌∙◌, arith, cond, suc, length-append}
-use Rattle.std.specs.Prelude.{ℤ, pos, negsuc, max, Bool, true, false, ◌&&◌, ◌||◌, not, IsTrue, filter, int_lt, if◌then◌else◌}
+use Rattle.std.specs.Prelude.{ℤ, pos, negsuc, max, Bool, true, false, ◌&&◌, ◌||◌, not, filter, int_lt, if◌then◌else◌}
 use Rattle.std.specs.List.{list_any, list_all}
 use Rattle.std.proofs.lemmas.Bool.{and_parts, and_from, lt-ltb, ltb-true}
 use Rattle.std.proofs.lemmas.List.{map-append}

@@ -1,6 +1,6 @@
 -- An export table stands for a history: what waits in it, and what its rows count.
-use Rattle.std.proofs.Common.{◌≡◌, ℕ, suc, ◌+◌, ◌-◌, ◌<◌, ◌≤◌, List, [], ◌∷◌, ◌++◌, length, refl, ap, sym, subst, ◌∙◌, cond, map, max, arith, Option, Some, None, append-nil}
-use Rattle.std.specs.Prelude.{Bool, true, false, not, ◌&&◌, ◌||◌, ◌==◌, filter, find, flat_map, nat_lt, if◌then◌else◌, option_map, option_to_list, unwrap_or}
+use Rattle.std.proofs.Common.{◌≡◌, ℕ, suc, ◌+◌, ◌-◌, ◌≤◌, List, [], ◌∷◌, ◌++◌, length, refl, ap, sym, subst, ◌∙◌, cond, map, max, arith, Some, append-nil}
+use Rattle.std.specs.Prelude.{Bool, true, false, not, ◌&&◌, ◌||◌, filter, find, flat_map, nat_lt, if◌then◌else◌, option_map, option_to_list, unwrap_or}
 use Rattle.std.specs.List.{list_any}
 use Rattle.object_ids.specs.declared.ids.Uid.{Uid}
 use Rattle.object_ids.specs.declared.ids.ObjId.{ObjId}
@@ -9,7 +9,7 @@ use Rattle.object_ids.proofs.Exact.{same_id-equal, same_id-self}
 use Rattle.history.specs.declared.asks.SpaceConfig.{SpaceConfig}
 use Rattle.history.specs.declared.asks.Event.{Event}
 use Rattle.history.specs.declared.asks.Ask.{Ask}
-use Rattle.history.specs.declared.asks.Ask.TheVariants.{Begin, Finish, Abandon, Ack, Lookup}
+use Rattle.history.specs.declared.asks.Ask.TheVariants.{Finish, Abandon, Ack, Lookup}
 use Rattle.history.specs.declared.places.Place.{Place}
 use Rattle.history.specs.declared.places.Exported.{Exported}
 use Rattle.history.specs.declared.places.Returned.{Returned}
@@ -21,7 +21,7 @@ use Rattle.history.proofs.ListLemmas.{list_any-map}
 use Rattle.history.proofs.Partitions.{one_if}
 use Rattle.history.proofs.RunningLaws.{running_calls-push}
 use Rattle.history.proofs.TableLaws.{ask-place_of, places-push}
-use Rattle.dgc_server.proofs.Distinct.{Decides, turned}
+use Rattle.dgc_server.proofs.Distinct.{turned}
 use Rattle.export_table.specs.declared.rows.Export.{Export}
 use Rattle.export_table.specs.declared.waits.Wait.{Wait}
 use Rattle.export_table.specs.Rows.{is_of, is_exported, kind_of, running_of, changed, begun, ended}

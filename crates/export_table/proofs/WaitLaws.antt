@@ -1,6 +1,6 @@
 -- Returned references that await their acknowledgement, as moments until which they await, and lists that stand for them.
-use Rattle.std.proofs.Common.{◌≡◌, ℕ, ◌+◌, ◌<◌, ◌≤◌, inl, inr, List, [], ◌∷◌, ◌++◌, length, refl, ap, sym, ◌∙◌, cond, map, max, arith, Option, Some, None}
-use Rattle.std.specs.Prelude.{Bool, true, false, ◌&&◌, ◌||◌, not, filter, find, nat_lt, if◌then◌else◌, option_map, unwrap_or, reverse}
+use Rattle.std.proofs.Common.{◌≡◌, ℕ, ◌+◌, ◌<◌, ◌≤◌, inl, inr, List, [], ◌∷◌, ◌++◌, length, refl, ap, sym, ◌∙◌, cond, map, max, arith}
+use Rattle.std.specs.Prelude.{Bool, true, false, ◌&&◌, ◌||◌, filter, nat_lt, if◌then◌else◌, reverse}
 use Rattle.std.specs.List.{list_any}
 use Rattle.std.proofs.str.Laws.{order}
 use Rattle.std.proofs.lemmas.Bool.{lt-ltb, le-ltb, or_parts}
@@ -12,15 +12,15 @@ use Rattle.history.specs.declared.asks.Event.{Event}
 use Rattle.history.specs.declared.places.Place.{Place}
 use Rattle.history.specs.declared.places.Returned.{Returned}
 use Rattle.history.specs.Awaiting.{same_returned, returns, is_ack_of, awaits, awaiting, awaiting_of, until_of}
-use Rattle.history.specs.Lists.{distinct, option_any}
+use Rattle.history.specs.Lists.{distinct}
 use Rattle.history.specs.Places.{now}
 use Rattle.history.specs.Table.{place_of, places_back, places}
-use Rattle.history.proofs.AwaitingLaws.{returned-equality, awaits-returned, awaits-acknowledged, awaits-passed, awaiting-member, awaiting-once}
-use Rattle.history.proofs.ListLemmas.{AllOnce, IsEquality, AllOnce-distinct, AllOnce-filter, length-members, list_any-distinct, same_test, and_true, and_false}
+use Rattle.history.proofs.AwaitingLaws.{returned-equality, awaiting-member, awaiting-once}
+use Rattle.history.proofs.ListLemmas.{AllOnce, IsEquality, AllOnce-distinct, AllOnce-filter, length-members, list_any-distinct, same_test, and_false}
 use Rattle.history.proofs.TableLaws.{IsNumbered, index-place_of, adds-place, places_back-numbered, moment-place_of, now-push, places-numbered}
 use Rattle.dgc_server.proofs.Distinct.{Decides, any-filtered, turned}
 use Rattle.dgc_server.proofs.Outputs.{no_time}
-use Rattle.export_table.specs.Stands.{until_in, waits_once, WaitsFor, WaitsStand}
+use Rattle.export_table.specs.Stands.{until_in, waits_once, WaitsStand}
 
 -- ---- how many items a list has, each counted once
 

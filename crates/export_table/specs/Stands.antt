@@ -1,23 +1,25 @@
 -- The history that an export table stands for: its waits are the returned references of the history that await their acknowledgement, and its
 -- rows have objects of the history, each with how many calls of it run.
-use Rattle.std.specs.Prelude.{◌≡◌, ◌≤◌, ℕ, ◌+◌, max, Bool, true, List, [], ◌∷◌, ◌++◌, length, map, find, if◌then◌else◌, Option, Some, None, option_map, unwrap_or}
+use Rattle.std.specs.Prelude.{◌≡◌, ◌≤◌, ℕ, ◌+◌, max, Bool, true, false, nat_lt, List, [], ◌∷◌, ◌++◌, length, map, if◌then◌else◌, Some}
 use Rattle.object_ids.specs.declared.ids.ObjId.{ObjId}
 use Rattle.object_ids.specs.declared.ids.Uid.{Uid}
 use Rattle.history.specs.declared.asks.Ask.{Ask}
-use Rattle.history.specs.declared.asks.Ask.TheVariants.{Begin, Finish, Abandon, Ack}
+use Rattle.history.specs.declared.asks.Ask.TheVariants.{Open, Begin, Finish, Abandon, Ack}
 use Rattle.history.specs.declared.asks.Event.{Event}
 use Rattle.history.specs.declared.asks.SpaceConfig.{SpaceConfig}
 use Rattle.history.specs.declared.places.Exported.{Exported}
 use Rattle.history.specs.declared.places.Place.{Place}
 use Rattle.history.specs.declared.places.Returned.{Returned}
-use Rattle.history.specs.Awaiting.{same_returned, return_uid, awaits, awaiting, awaiting_of as awaiting_to, until_of}
-use Rattle.history.specs.Places.{has, now}
-use Rattle.history.specs.Running.{running_calls}
-use Rattle.history.specs.Table.{is_effective, place_of, places}
+use Rattle.history.specs.Awaiting.{same_returned, returned, return_uid, is_ack_of, awaits, awaiting, awaiting_of as awaiting_to, until_of}
+use Rattle.history.specs.LeaseCalls.{lease_calls}
+use Rattle.history.specs.Names.{is_named}
+use Rattle.history.specs.Places.{has, now, next, id_at}
+use Rattle.history.specs.Running.{begins_any, ends_any, running_calls}
+use Rattle.history.specs.Table.{is_effective, is_kept, place_of, places}
 use Rattle.history.proofs.ListLemmas.{AllOnce}
 use Rattle.export_table.specs.declared.rows.Export.{Export}
 use Rattle.export_table.specs.declared.waits.Wait.{Wait}
-use Rattle.export_table.specs.Rows.{running_of, changed, begun, ended}
+use Rattle.export_table.specs.Rows.{running_of, new_row, changed, begun, ended, is_row_kept, held_by}
 use Rattle.export_table.specs.Waits.{waiting, is_waiting, awaiting_of, listed_each, acknowledged}
 
 -- ---- waits
@@ -94,6 +96,12 @@ AckEnds = (config : SpaceConfig) (events : List Event) (e : Event) (uid : Uid) (
     AreWaits config.ack_ms (now (places config events)) (places config events) waits →
     AreWaits config.ack_ms (max e.moment (now (places config events))) (places config (events ++ e ∷ [])) (acknowledged uid waits)
 
+-- An event that returns no references and is no acknowledgement leaves the waits.
+abbrev pub OthersLeaveWaits : Type 0
+OthersLeaveWaits = (config : SpaceConfig) (events : List Event) (e : Event) (waits : List Wait) → returned (place_of config (places config events) e) ≡ [] → ((u : Uid) → is_ack_of u e.ask ≡ false) →
+    AreWaits config.ack_ms (now (places config events)) (places config events) waits →
+    AreWaits config.ack_ms (max e.moment (now (places config events))) (places config (events ++ e ∷ [])) waits
+
 -- ---- laws of rows
 
 -- A row says how many calls of its object run.
@@ -115,3 +123,46 @@ EndsCallOf o _ = ⊥
 abbrev pub EndCounts : Type 0
 EndCounts = (config : SpaceConfig) (events : List Event) (e : Event) (o : ObjId) (objects : List Exported) → EndsCallOf o e.ask → is_effective config (places config events) e.by e.ask ≡ true →
     changed ended o (rows_of (places config events) objects) ≡ rows_of (places config (events ++ e ∷ [])) objects
+
+-- An event that begins no call and ends none leaves the rows.
+abbrev pub OthersLeaveRows : Type 0
+OthersLeaveRows = (config : SpaceConfig) (events : List Event) (e : Event) (objects : List Exported) → ((o : ObjId) → begins_any o (place_of config (places config events) e) ≡ false) → ((o : ObjId) → ends_any o (place_of config (places config events) e) ≡ false) →
+    rows_of (places config events) objects ≡ rows_of (places config (events ++ e ∷ [])) objects
+
+-- ---- laws of what is added
+
+-- The kinds of the objects that an ask exports, and whether they are pinned.
+abbrev pub kinds_exported : Bool → Ask → List ℕ
+kinds_exported effective (Open kind pinned) = kind ∷ []
+kinds_exported effective (Finish object made listed uid) = if effective then made else []
+kinds_exported effective _ = []
+
+abbrev pub is_exported_pinned : Ask → Bool
+is_exported_pinned (Open kind pinned) = pinned
+is_exported_pinned _ = false
+
+-- The rows of objects of these kinds that are added one after the other, the first of them as the space's k-th.
+abbrev pub added_rows : Uid → ℕ → Bool → List ℕ → List Export
+added_rows space k pinned [] = []
+added_rows space k pinned (kind ∷ kinds) = new_row (id_at space k) kind pinned ∷ added_rows space (k + 1) pinned kinds
+
+-- The objects that an event exports have the rows with which they are added: they are numbered on from all that were added before, and no call of
+-- them runs.
+abbrev pub ExportsAreAdded : Type 0
+ExportsAreAdded = (config : SpaceConfig) (events : List Event) (e : Event) →
+    rows_of (places config (events ++ e ∷ [])) (place_of config (places config events) e).exported_here
+    ≡ added_rows config.uid (next (places config events)) (is_exported_pinned e.ask) (kinds_exported (is_effective config (places config events) e.by e.ask) e.ask)
+
+-- As many more objects were ever exported as were added.
+abbrev pub ExportsAreCounted : Type 0
+ExportsAreCounted = (config : SpaceConfig) (events : List Event) (e : Event) →
+    next (places config (events ++ e ∷ [])) ≡ next (places config events) + length (kinds_exported (is_effective config (places config events) e.by e.ask) e.ask)
+
+-- ---- the law of what is kept
+
+-- A row is kept exactly where the history keeps its object, where a pin of it stands exactly if a name does.
+abbrev pub RowsAreKept : Type 0
+RowsAreKept = (config : SpaceConfig) (events : List Event) (waits : List Wait) (x : Exported) (pins : ℕ) → nat_lt 0 pins ≡ is_named (places config events) x.id →
+    AreWaits config.ack_ms (now (places config events)) (places config events) waits →
+    is_row_kept (now (places config events)) (held_by config.lease_ms (now (places config events)) (lease_calls (places config events))) waits (record (row_of (places config events) x) { pins = pins })
+    ≡ is_kept config (places config events) x

@@ -1,22 +1,37 @@
 //! Laws of export tables: that what their calls do to waits and rows is what an event does to a history. Each function does nothing, and its
 //! contract is the law.
-ghost use Rattle.export_table.specs.Stands.{NoneAwaits, WaitingAwaits, WaitingStands, ReturnLists, AckEnds, RowsCount, BeginCounts, EndCounts};
+ghost use Rattle.export_table.specs.Stands.{NoneAwaits, WaitingAwaits, WaitingStands, ReturnLists, AckEnds, OthersLeaveWaits, RowsCount, BeginCounts, EndCounts, OthersLeaveRows, ExportsAreAdded, ExportsAreCounted, RowsAreKept};
 
 /// The waits that calls of a table leave stand for the references of a history that await their acknowledgement: where nothing was returned
 /// none wait; a return lists its references (`wait_for`), an acknowledgement ends the waits of its return (`ack`), and as time passes those that
-/// ended are forgotten (`withdraw`). What waits then is what awaits.
+/// ended are forgotten (`withdraw`). Other events leave them. What waits then is what awaits.
 pub fn waits_are_awaiting()
     ensures none { NoneAwaits }
     ensures awaits { WaitingAwaits }
     ensures time { WaitingStands }
     ensures returns { ReturnLists }
     ensures acknowledges { AckEnds }
+    ensures others { OthersLeaveWaits }
 {}
 
 /// The rows that calls of a table leave count the running calls of a history: a call that begins is one more (`begin`), and one that ends is
-/// one less (`end`).
+/// one less (`end`). Other events leave them.
 pub fn rows_count_running()
     ensures counts { RowsCount }
     ensures begins { BeginCounts }
     ensures ends { EndCounts }
+    ensures others { OthersLeaveRows }
+{}
+
+/// The objects that an event exports have the rows that `add` makes of them, one call after the other: they are numbered on from all that were
+/// added before, and no call of them runs.
+pub fn exports_are_added()
+    ensures rows { ExportsAreAdded }
+    ensures count { ExportsAreCounted }
+{}
+
+/// What `withdraw` keeps is what the collector keeps: at the present moment a row is kept, by its pins and calls, by the waits and by the clients
+/// that hold its object, exactly where the history keeps the object.
+pub fn rows_are_kept()
+    ensures { RowsAreKept }
 {}

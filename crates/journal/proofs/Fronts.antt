@@ -3,7 +3,7 @@ use Rattle.std.proofs.Common.{◌≡◌, ℕ, List, [], ◌∷◌, ◌++◌, Res
 use Rattle.std.specs.List.{join_with_byte}
 use Rattle.std.proofs.lemmas.List.Concat.{flat_map-append}
 use Rattle.std.proofs.Common.{ℤ, T, leb, w64, to_z, of_z}
-use Rattle.std.specs.Prelude.{FitsSigned}
+use Rattle.std.specs.Prelude.{FitsSigned, OnOk}
 use mir.Syntax.{Width}
 use mir.Val.{hbits}
 use Rattle.std.proofs.Math.Facts.{sfits_widen}
@@ -14,6 +14,11 @@ use Rattle.journal.specs.Putting.{AppendsFront}
 pub on_err : {T E Q : Type 0} (r : Result T E) → Q → OnErr r Q
 on_err (Ok x) q = tt
 on_err (Err e) q = q
+
+-- A fact holds of an answer where it holds.
+pub on_ok : {T E Q : Type 0} (r : Result T E) → Q → OnOk r Q
+on_ok (Ok x) q = q
+on_ok (Err e) q = tt
 
 -- A text was refused after what stands before it.
 pub front_at : (old before text after mid new whole : List ℕ) → mid ≡ old ++ before → whole ≡ before ++ (text ++ after) → AppendsFront mid text new → AppendsFront old whole new

@@ -1,5 +1,6 @@
 -- Lines of an outline, by what they say.
-use Rattle.std.specs.Prelude.{ℕ, List, [], ◌∷◌, codes, decimal}
+use Rattle.std.specs.Prelude.{ℕ, List, [], ◌∷◌, codes, decimal, FitsSigned}
+use Rattle.std.specs.Int.{w64}
 use Rattle.std.specs.Fmt.{signed_decimal}
 use Rattle.object_ids.specs.declared.ids.Uid.{Uid}
 use Rattle.object_ids.specs.declared.ids.ObjId.{ObjId}
@@ -7,7 +8,8 @@ use Rattle.history.specs.Texts.{line, uid_text, client_text, object_text, name_t
 use Rattle.journal.specs.declared.outline.Word.{Word}
 use Rattle.journal.specs.declared.outline.Word.TheVariants.{Text, Number, Signed, Object, Client, Name, Kinds, Objects}
 use Rattle.journal.specs.declared.outline.Word.TheVariants.{Uid as Identifier}
-use Rattle.journal.specs.Written.{list_text, objects_text}
+use Rattle.journal.specs.Grammar.{IsUid, IsClient, IsName}
+use Rattle.journal.specs.Written.{list_text, objects_text, IsObject, AreKinds, AreObjects}
 
 -- The text of a word.
 abbrev pub word_text : Word → List ℕ
@@ -20,6 +22,18 @@ word_text (Signed n) = signed_decimal n
 word_text (Identifier uid) = uid_text uid
 word_text (Kinds kinds) = list_text decimal kinds.now
 word_text (Objects space objects) = objects_text space objects.now
+
+-- The numbers of a word are within their types' ranges.
+abbrev pub WordFits : Word → Type 0
+WordFits (Text text) = Unit {0}
+WordFits (Number n) = Unit {0}
+WordFits (Object space object) = IsObject object
+WordFits (Client client) = IsClient client.now
+WordFits (Name name) = IsName name.now
+WordFits (Signed n) = FitsSigned w64 n
+WordFits (Identifier uid) = IsUid uid
+WordFits (Kinds kinds) = AreKinds kinds.now
+WordFits (Objects space objects) = AreObjects objects.now
 
 -- A word that is not the first of its line stands after a space.
 abbrev pub further_text : Word → List ℕ

@@ -86,10 +86,13 @@ pub record IsObject (object : ObjId) : Type 0 where
 abbrev pub AreObjects : List ObjId → Type 0
 AreObjects objects = AllByRecursion IsObject objects
 
+abbrev pub AreKinds : List ℕ → Type 0
+AreKinds kinds = AllByRecursion (λ kind. kind < 2 ^ 32) kinds
+
 abbrev pub AskFits : Ask → Type 0
 AskFits (Open kind pinned) = kind < 2 ^ 32
 AskFits (Begin object) = IsObject object
-AskFits (Finish object made listed uid) = IsObject object × AllByRecursion (λ kind. kind < 2 ^ 32) made × AreObjects listed × IsUid uid
+AskFits (Finish object made listed uid) = IsObject object × AreKinds made × AreObjects listed × IsUid uid
 AskFits (Abandon object) = IsObject object
 AskFits (Dirty client number asked objects) = IsClient client × FitsSigned w64 number × FitsSigned w64 asked × AreObjects objects
 AskFits (Clean client number objects strong) = IsClient client × FitsSigned w64 number × AreObjects objects

@@ -2,7 +2,7 @@
 ghost use Rattle.std.specs.Prelude.{◌≡◌, ◌∷◌, ◌++◌, decimal, flat_map, OnOk, OnErr};
 ghost use Rattle.history.specs.Texts.{object_text};
 ghost use Rattle.journal.specs.Putting.{AppendsFront};
-ghost use Rattle.journal.specs.Written.{list_text, objects_text, further_kind, further_object};
+ghost use Rattle.journal.specs.Written.{list_text, objects_text, further_kind, further_object, IsObject, AreKinds, AreObjects};
 
 use crate::put::{put_decimal, put_object};
 use mod_utf::list::ByteList;
@@ -16,6 +16,7 @@ const SEPARATOR: u8 = b',';
 pub(crate) fn put_kinds(out: &mut ByteList, kinds: &[u32]) -> Result<(), AllocError>
     ensures ok { OnOk result (out.new ≡ out.old ++ list_text decimal kinds.now) }
     ensures err { OnErr result (AppendsFront out.old (list_text decimal kinds.now) out.new) }
+    ensures fits { OnOk result (AreKinds kinds.now) }
 {
     let Some((first, others)) = kinds.split_first() else {
         return out.push(b'-');
@@ -28,6 +29,7 @@ pub(crate) fn put_kinds(out: &mut ByteList, kinds: &[u32]) -> Result<(), AllocEr
 fn put_further_kinds(out: &mut ByteList, kinds: &[u32]) -> Result<(), AllocError>
     ensures ok { OnOk result (out.new ≡ out.old ++ flat_map further_kind kinds.now) }
     ensures err { OnErr result (AppendsFront out.old (flat_map further_kind kinds.now) out.new) }
+    ensures fits { OnOk result (AreKinds kinds.now) }
 {
     for kind in kinds {
         put_further_kind(out, *kind)?;
@@ -52,6 +54,7 @@ pub(crate) fn put_objects(
 ) -> Result<(), AllocError>
     ensures ok { OnOk result (out.new ≡ out.old ++ objects_text space objects.now) }
     ensures err { OnErr result (AppendsFront out.old (objects_text space objects.now) out.new) }
+    ensures fits { OnOk result (AreObjects objects.now) }
 {
     let Some((first, others)) = objects.split_first() else {
         return out.push(b'-');
@@ -64,6 +67,7 @@ pub(crate) fn put_objects(
 fn put_further_objects(out: &mut ByteList, space: Uid, objects: &[ObjId]) -> Result<(), AllocError>
     ensures ok { OnOk result (out.new ≡ out.old ++ flat_map (further_object space) objects.now) }
     ensures err { OnErr result (AppendsFront out.old (flat_map (further_object space) objects.now) out.new) }
+    ensures fits { OnOk result (AreObjects objects.now) }
 {
     for object in objects {
         put_further_object(out, space, *object)?;
@@ -75,6 +79,7 @@ fn put_further_objects(out: &mut ByteList, space: Uid, objects: &[ObjId]) -> Res
 fn put_further_object(out: &mut ByteList, space: Uid, object: ObjId) -> Result<(), AllocError>
     ensures ok { OnOk result (out.new ≡ out.old ++ further_object space object) }
     ensures err { OnErr result (AppendsFront out.old (further_object space object) out.new) }
+    ensures fits { OnOk result (IsObject object) }
 {
     out.push(SEPARATOR)?;
     put_object(out, space, object)

@@ -1,10 +1,12 @@
 //! The lines of an outline. After a refusal, which comes only for want of memory, a front of the line stands appended.
-ghost use Rattle.std.specs.Prelude.{◌≡◌, ◌++◌, map, flat_map, OnOk, OnErr};
-ghost use Rattle.std.specs.List.{join_with_byte};
+ghost use Rattle.std.specs.Prelude.{◌≡◌, ◌++◌, map, flat_map, Some, OnOk, OnErr};
+ghost use Rattle.std.specs.List.{AllByRecursion, join_with_byte};
 ghost use Rattle.history.specs.Texts.{line};
-ghost use Rattle.history.specs.Outline.{object_line, lease_line, withdrawal_line};
+ghost use Rattle.history.specs.Names.{stands_for};
+ghost use Rattle.history.specs.Outline.{object_line, lease_line, name_line, withdrawal_line};
+ghost use Rattle.history.specs.Places.{History};
 ghost use Rattle.journal.specs.Putting.{AppendsFront};
-ghost use Rattle.journal.specs.Rows.{word_text, further_text, events_text, named_text};
+ghost use Rattle.journal.specs.Rows.{word_text, further_text, events_text, named_text, WordFits};
 
 use crate::listed::{put_kinds, put_objects};
 use crate::put::{put_client, put_decimal, put_name, put_object, put_signed, put_uid};
@@ -50,6 +52,7 @@ pub fn put_line(out: &mut ByteList, words: &[Word]) -> Result<(), AllocError>
 pub(crate) fn put_words(out: &mut ByteList, words: &[Word]) -> Result<(), AllocError>
     ensures ok { OnOk result (out.new ≡ out.old ++ join_with_byte 32 (map word_text words.now)) }
     ensures err { OnErr result (AppendsFront out.old (join_with_byte 32 (map word_text words.now)) out.new) }
+    ensures fits { OnOk result (AllByRecursion WordFits words.now) }
 {
     let Some((first, others)) = words.split_first() else {
         return Ok(());
@@ -62,6 +65,7 @@ pub(crate) fn put_words(out: &mut ByteList, words: &[Word]) -> Result<(), AllocE
 fn put_further_words(out: &mut ByteList, words: &[Word]) -> Result<(), AllocError>
     ensures ok { OnOk result (out.new ≡ out.old ++ flat_map further_text words.now) }
     ensures err { OnErr result (AppendsFront out.old (flat_map further_text words.now) out.new) }
+    ensures fits { OnOk result (AllByRecursion WordFits words.now) }
 {
     for word in words {
         put_further_word(out, word)?;
@@ -73,6 +77,7 @@ fn put_further_words(out: &mut ByteList, words: &[Word]) -> Result<(), AllocErro
 fn put_further_word(out: &mut ByteList, word: &Word) -> Result<(), AllocError>
     ensures ok { OnOk result (out.new ≡ out.old ++ further_text word.now) }
     ensures err { OnErr result (AppendsFront out.old (further_text word.now) out.new) }
+    ensures fits { OnOk result (WordFits word.now) }
 {
     out.push(b' ')?;
     put_word(out, word)
@@ -82,6 +87,7 @@ fn put_further_word(out: &mut ByteList, word: &Word) -> Result<(), AllocError>
 fn put_word(out: &mut ByteList, word: &Word) -> Result<(), AllocError>
     ensures ok { OnOk result (out.new ≡ out.old ++ word_text word.now) }
     ensures err { OnErr result (AppendsFront out.old (word_text word.now) out.new) }
+    ensures fits { OnOk result (WordFits word.now) }
 {
     match word {
         Word::Text(text) => out.append(*text),
@@ -213,6 +219,9 @@ pub fn put_name_line(
 ) -> Result<(), AllocError>
     ensures ok { OnOk result (out.new ≡ out.old ++ named_text config.uid name.now object) }
     ensures err { OnErr result (AppendsFront out.old (named_text config.uid name.now object) out.new) }
+
+    // It is the line of the name in the outline of each history in which the name stands for the object.
+    ensures named { (h : History) → stands_for h name.now ≡ Some object → OnOk result (out.new ≡ out.old ++ name_line config h name.now) }
 {
     put_line(
         out,

@@ -1,9 +1,11 @@
 //! Writing what lines name. After a refusal, which comes only for want of memory, a front of the text stands appended.
-ghost use Rattle.std.specs.Prelude.{◌≡◌, ◌<◌, ◌∷◌, ◌++◌, false, decimal, flat_map, OnOk, OnErr};
+ghost use Rattle.std.specs.Prelude.{◌≡◌, ◌<◌, ◌^◌, ◌∷◌, ◌++◌, false, decimal, flat_map, OnOk, OnErr};
+ghost use Rattle.std.specs.List.{AllByRecursion};
 ghost use Rattle.std.specs.Fmt.{signed_decimal, digit_glyph};
 ghost use Rattle.history.specs.Texts.{hex_byte, uid_text, address_text, client_text, object_text, unit_text, name_text};
 ghost use Rattle.journal.specs.Putting.{AppendsFront};
-ghost use Rattle.journal.specs.Grammar.{long_text};
+ghost use Rattle.journal.specs.Grammar.{long_text, IsUid, IsClient, IsName};
+ghost use Rattle.journal.specs.Written.{IsObject};
 
 use crate::name::is_plain;
 use history::Name;
@@ -38,6 +40,7 @@ pub fn put_signed(out: &mut ByteList, n: i64) -> Result<(), AllocError>
 pub fn put_uid(out: &mut ByteList, uid: Uid) -> Result<(), AllocError>
     ensures ok { OnOk result (out.new ≡ out.old ++ uid_text uid) }
     ensures err { OnErr result (AppendsFront out.old (uid_text uid) out.new) }
+    ensures fits { OnOk result (IsUid uid) }
 {
     put_signed(out, uid.unique as i64)?;
     put_after_slash(out, uid.time)?;
@@ -57,6 +60,7 @@ fn put_after_slash(out: &mut ByteList, n: i64) -> Result<(), AllocError>
 pub fn put_hex(out: &mut ByteList, bytes: &[u8]) -> Result<(), AllocError>
     ensures ok { OnOk result (out.new ≡ out.old ++ flat_map hex_byte bytes.now) }
     ensures err { OnErr result (AppendsFront out.old (flat_map hex_byte bytes.now) out.new) }
+    ensures fits { OnOk result (AllByRecursion (λ b. b < 2 ^ 8) bytes.now) }
 {
     for byte in bytes {
         put_hex_byte(out, *byte)?;
@@ -88,6 +92,7 @@ fn hex_digit(value: u8) -> u8
 fn put_address(out: &mut ByteList, addr: &ByteList) -> Result<(), AllocError>
     ensures ok { OnOk result (out.new ≡ out.old ++ address_text addr.now) }
     ensures err { OnErr result (AppendsFront out.old (address_text addr.now) out.new) }
+    ensures fits { OnOk result (AllByRecursion (λ b. b < 2 ^ 8) addr.now) }
 {
     if addr.is_empty() {
         out.push(b'-')
@@ -100,6 +105,7 @@ fn put_address(out: &mut ByteList, addr: &ByteList) -> Result<(), AllocError>
 pub fn put_client(out: &mut ByteList, client: &Vmid) -> Result<(), AllocError>
     ensures ok { OnOk result (out.new ≡ out.old ++ client_text client.now) }
     ensures err { OnErr result (AppendsFront out.old (client_text client.now) out.new) }
+    ensures fits { OnOk result (IsClient client.now) }
 {
     put_address(out, client.addr())?;
     out.push(b'@')?;
@@ -110,6 +116,7 @@ pub fn put_client(out: &mut ByteList, client: &Vmid) -> Result<(), AllocError>
 pub fn put_object(out: &mut ByteList, space: Uid, object: ObjId) -> Result<(), AllocError>
     ensures ok { OnOk result (out.new ≡ out.old ++ object_text space object) }
     ensures err { OnErr result (AppendsFront out.old (object_text space object) out.new) }
+    ensures fits { OnOk result (IsObject object) }
 {
     if object.space.is_same(&space) {
         put_signed(out, object.number)
@@ -122,6 +129,7 @@ pub fn put_object(out: &mut ByteList, space: Uid, object: ObjId) -> Result<(), A
 fn put_long_object(out: &mut ByteList, object: ObjId) -> Result<(), AllocError>
     ensures ok { OnOk result (out.new ≡ out.old ++ long_text object) }
     ensures err { OnErr result (AppendsFront out.old (long_text object) out.new) }
+    ensures fits { OnOk result (IsObject object) }
 {
     put_signed(out, object.number)?;
     out.push(b':')?;
@@ -152,6 +160,7 @@ fn put_unit(out: &mut ByteList, unit: u16) -> Result<(), AllocError>
 pub fn put_units(out: &mut ByteList, units: &[u16]) -> Result<(), AllocError>
     ensures ok { OnOk result (out.new ≡ out.old ++ flat_map unit_text units.now) }
     ensures err { OnErr result (AppendsFront out.old (flat_map unit_text units.now) out.new) }
+    ensures fits { OnOk result (AllByRecursion (λ u. u < 2 ^ 16) units.now) }
 {
     for unit in units {
         put_unit(out, *unit)?;
@@ -163,6 +172,7 @@ pub fn put_units(out: &mut ByteList, units: &[u16]) -> Result<(), AllocError>
 pub fn put_name(out: &mut ByteList, name: &Name) -> Result<(), AllocError>
     ensures ok { OnOk result (out.new ≡ out.old ++ name_text name.now) }
     ensures err { OnErr result (AppendsFront out.old (name_text name.now) out.new) }
+    ensures fits { OnOk result (IsName name.now) }
 {
     out.push(b'"')?;
     put_units(out, name.units().as_slice())?;

@@ -1,11 +1,13 @@
 //! Writing the lines of a journal. After a refusal, which comes only for want of memory, a front of the line stands appended.
-ghost use Rattle.std.specs.Prelude.{◌≡◌, ◌∷◌, ◌++◌, [], codes, decimal, OnOk, OnErr};
+ghost use Rattle.std.specs.Prelude.{◌≡◌, ◌∷◌, ◌++◌, ◌<◌, ◌^◌, [], codes, decimal, FitsSigned, OnOk, OnErr};
+ghost use Rattle.std.specs.Int.{w64};
 ghost use Rattle.std.specs.List.{join_with_byte};
 ghost use Rattle.std.specs.Fmt.{signed_decimal};
 ghost use Rattle.history.specs.Texts.{uid_text, client_text, object_text, name_text};
-ghost use Rattle.journal.specs.Grammar.{SpellsConfig, SpellsEvent};
+ghost use Rattle.history.specs.declared.limits.TheConstants.{END_OF_TIME};
+ghost use Rattle.journal.specs.Grammar.{SpellsConfig, SpellsEvent, IsUid, IsClient, IsName};
 ghost use Rattle.journal.specs.Putting.{AppendsFront};
-ghost use Rattle.journal.specs.Written.{list_text, objects_text, pinned_text, strong_text, ask_words, config_text, event_text, ended, ConfigFits, EventFits};
+ghost use Rattle.journal.specs.Written.{list_text, objects_text, pinned_text, strong_text, ask_words, config_text, event_text, ended, IsObject, AreKinds, AreObjects, AskFits, ConfigFits, EventFits};
 
 use crate::outline::{Word, put_line, put_words};
 use crate::put::put_decimal;
@@ -40,6 +42,9 @@ pub fn put_event_line(out: &mut ByteList, space: Uid, event: &Event) -> Result<(
     ensures text { OnOk result (out.new ≡ out.old ++ ended (event_text space event.now)) }
     ensures err { OnErr result (AppendsFront out.old (ended (event_text space event.now)) out.new) }
     ensures spelled { EventFits event.now → SpellsEvent space event.now (event_text space event.now) }
+
+    // The numbers of an event that was written are within their ranges, where its moment is below the end of time.
+    ensures fits { OnOk result (event.now.moment < END_OF_TIME → EventFits event.now) }
 {
     put_event(out, space, event)?;
     out.push(b'\n')
@@ -48,6 +53,7 @@ pub fn put_event_line(out: &mut ByteList, space: Uid, event: &Event) -> Result<(
 fn put_event(out: &mut ByteList, space: Uid, event: &Event) -> Result<(), AllocError>
     ensures ok { OnOk result (out.new ≡ out.old ++ event_text space event.now) }
     ensures err { OnErr result (AppendsFront out.old (event_text space event.now) out.new) }
+    ensures fits { OnOk result (event.now.moment < END_OF_TIME → EventFits event.now) }
 {
     put_leading(out, u64::from(event.by))?;
     put_leading(out, event.moment)?;
@@ -67,6 +73,7 @@ fn put_leading(out: &mut ByteList, n: u64) -> Result<(), AllocError>
 fn put_ask(out: &mut ByteList, space: Uid, ask: &Ask) -> Result<(), AllocError>
     ensures ok { OnOk result (out.new ≡ out.old ++ join_with_byte 32 (ask_words space ask.now)) }
     ensures err { OnErr result (AppendsFront out.old (join_with_byte 32 (ask_words space ask.now)) out.new) }
+    ensures fits { OnOk result (AskFits ask.now) }
 {
     match ask {
         Ask::Open { kind, pinned } => put_open(out, *kind, *pinned),
@@ -103,6 +110,7 @@ fn put_ask(out: &mut ByteList, space: Uid, ask: &Ask) -> Result<(), AllocError>
 fn put_open(out: &mut ByteList, kind: u32, pinned: bool) -> Result<(), AllocError>
     ensures ok { OnOk result (out.new ≡ out.old ++ join_with_byte 32 (codes "open" ∷ decimal kind ∷ pinned_text pinned ∷ [])) }
     ensures err { OnErr result (AppendsFront out.old (join_with_byte 32 (codes "open" ∷ decimal kind ∷ pinned_text pinned ∷ [])) out.new) }
+    ensures fits { OnOk result (kind < 2 ^ 32) }
 {
     let pinned: &[u8] = if pinned { b"pinned" } else { b"free" };
     put_words(
@@ -124,6 +132,7 @@ fn put_of_object(
 ) -> Result<(), AllocError>
     ensures ok { OnOk result (out.new ≡ out.old ++ join_with_byte 32 (keyword.now ∷ object_text space object ∷ [])) }
     ensures err { OnErr result (AppendsFront out.old (join_with_byte 32 (keyword.now ∷ object_text space object ∷ [])) out.new) }
+    ensures fits { OnOk result (IsObject object) }
 {
     put_words(out, &[Word::Text(keyword), Word::Object { space, object }])
 }
@@ -140,6 +149,7 @@ fn put_finish<'a>(
         codes "finish" ∷ object_text space object ∷ list_text decimal made.now ∷ objects_text space listed.now ∷ uid_text uid ∷ [])) }
     ensures err { OnErr result (AppendsFront out.old (join_with_byte 32 (
         codes "finish" ∷ object_text space object ∷ list_text decimal made.now ∷ objects_text space listed.now ∷ uid_text uid ∷ [])) out.new) }
+    ensures fits { OnOk result (IsObject object × AreKinds made.now × AreObjects listed.now × IsUid uid) }
 {
     put_words(
         out,
@@ -168,6 +178,7 @@ fn put_dirty<'a>(
         codes "dirty" ∷ client_text client.now ∷ signed_decimal number ∷ signed_decimal asked ∷ objects_text space objects.now ∷ [])) }
     ensures err { OnErr result (AppendsFront out.old (join_with_byte 32 (
         codes "dirty" ∷ client_text client.now ∷ signed_decimal number ∷ signed_decimal asked ∷ objects_text space objects.now ∷ [])) out.new) }
+    ensures fits { OnOk result (IsClient client.now × FitsSigned w64 number × FitsSigned w64 asked × AreObjects objects.now) }
 {
     put_words(
         out,
@@ -193,6 +204,7 @@ fn put_clean<'a>(
         codes "clean" ∷ client_text client.now ∷ signed_decimal number ∷ strong_text strong ∷ objects_text space objects.now ∷ [])) }
     ensures err { OnErr result (AppendsFront out.old (join_with_byte 32 (
         codes "clean" ∷ client_text client.now ∷ signed_decimal number ∷ strong_text strong ∷ objects_text space objects.now ∷ [])) out.new) }
+    ensures fits { OnOk result (IsClient client.now × FitsSigned w64 number × AreObjects objects.now) }
 {
     let strength: &[u8] = if strong { b"strong" } else { b"weak" };
     put_words(
@@ -217,6 +229,7 @@ fn put_binding<'a>(
 ) -> Result<(), AllocError>
     ensures ok { OnOk result (out.new ≡ out.old ++ join_with_byte 32 (keyword.now ∷ name_text name.now ∷ object_text space object ∷ [])) }
     ensures err { OnErr result (AppendsFront out.old (join_with_byte 32 (keyword.now ∷ name_text name.now ∷ object_text space object ∷ [])) out.new) }
+    ensures fits { OnOk result (IsName name.now × IsObject object) }
 {
     put_words(
         out,
@@ -231,6 +244,7 @@ fn put_binding<'a>(
 fn put_lookup(out: &mut ByteList, name: &Name, uid: Uid) -> Result<(), AllocError>
     ensures ok { OnOk result (out.new ≡ out.old ++ join_with_byte 32 (codes "lookup" ∷ name_text name.now ∷ uid_text uid ∷ [])) }
     ensures err { OnErr result (AppendsFront out.old (join_with_byte 32 (codes "lookup" ∷ name_text name.now ∷ uid_text uid ∷ [])) out.new) }
+    ensures fits { OnOk result (IsName name.now × IsUid uid) }
 {
     put_words(
         out,

@@ -9,7 +9,7 @@ use std::cmp::Ordering;
 use std::marker::Model;
 
 /// An identifier that is unique on the machine that made it (`java.rmi.server.UID`).
-#[derive(Clone, Copy, Debug, PartialEq, Eq)]
+#[derive(Clone, Copy, Debug, PartialEq, Eq, Hash)]
 pub struct Uid {
     /// What tells apart the virtual machines that run at one time.
     pub unique: i32,
@@ -20,7 +20,7 @@ pub struct Uid {
 }
 
 /// The identifier of an exported object (`java.rmi.server.ObjID`).
-#[derive(Clone, Copy, Debug, PartialEq, Eq)]
+#[derive(Clone, Copy, Debug, PartialEq, Eq, Hash)]
 pub struct ObjId {
     /// The object's number, from 0 to 15 for objects that are known to all.
     pub number: i64,

@@ -18,8 +18,7 @@ use Rattle.history.specs.Places.{has, now, id_at, exported_from, next}
 use Rattle.history.specs.Replies.{ids}
 use Rattle.history.specs.Running.{is_begin_of, is_end_of, running, running_calls}
 use Rattle.history.specs.Table.{is_effective, exports, lists, table, place_of, places}
-use Rattle.history.proofs.ListLemmas.{Every, Every-weaker, list_any-length, and_false}
-use Rattle.history.proofs.NumberLaws.{has-self}
+use Rattle.history.proofs.ListLemmas.{Every, list_any-length, and_false}
 use Rattle.history.proofs.Partitions.{one_if}
 use Rattle.history.proofs.TableLaws.{ask-place_of}
 use Rattle.export_table.specs.declared.rows.Export.{Export}
@@ -31,7 +30,8 @@ use Rattle.space.specs.Acts.{effective_by, acted, acted_runs, new_rows, new_ids,
 use Rattle.space.specs.Built.{IsBuilt}
 use Rattle.space.specs.Runs.{RunsStand, caller_of, object_of, is_run}
 use Rattle.export_table.specs.Stands.{WaitsStand, reference_of, end_of, references, rows_of}
-use Rattle.space.proofs.NextLaws.{new-not-old, not-exported-nowhere, not-there-runs-none}
+use Rattle.export_table.proofs.KeptLaws.{added-rows}
+use Rattle.export_table.proofs.ThereLaws.{new-runs-none}
 use Rattle.space.proofs.Quiet.{opened_by, adds-built}
 use Rattle.space.proofs.RunSteps.{runs-begin, runs-end, runs-other, abandon-ends, finish-ends}
 use Rattle.std.proofs.lemmas.Bool.{ltb-true}
@@ -42,13 +42,6 @@ use Rattle.export_table.proofs.StandLaws.{begun-row, count-push, ended-row, expo
 -- ---- the rows
 
 -- THE ROWS after an ask.
-new-rows : (space : Uid) (k place : ℕ) (new : ObjId → ℕ) (kinds : List ℕ) → Every (λ (x : Exported). new x.id ≡ 0) (exported_from space k place false kinds) →
-    new_rows space k kinds ≡ map (row_with new) (exported_from space k place false kinds)
-new-rows space k place new [] none = refl
-new-rows space k place new (kind ∷ kinds) none =
-    ap (λ (n : ℕ). record { id = id_at space k; kind = kind; pinned = false; running = n; pins = 0 } ∷ new_rows space (k + 1) kinds) (sym none.0)
-    ∙ ap (λ l. row_with new (record { id = id_at space k; kind = kind; pinned = false; place = place }) ∷ l) (new-rows space (k + 1) place new kinds none.1)
-
 acted-rows : (config : SpaceConfig) (old new : ObjId → ℕ) (objects : List Exported) (t : ExportTable) (place : ℕ) (effective : Bool) (now_at : ℕ) (a : Ask) → IsBuilt a →
     ((o : ObjId) → new o + one_if (effective && is_end_of o a) ≡ old o + one_if (effective && is_begin_of o a)) →
     t.space ≡ config.uid → t.rows ≡ map (row_with old) objects → Every (λ (x : Exported). new x.id ≡ 0) (opened_by config t.added place effective a) →
@@ -92,7 +85,7 @@ acted-rows config old new objects t place effective now_at a b step space rows n
         ap (λ l. changed ended o l ++ new_rows t.space t.added made) rows
         ∙ ap (λ l. l ++ new_rows t.space t.added made) (row-changed old new ended o (λ x. ended-row old new o x (same_id x.id o) (less x)) objects)
         ∙ ap (λ v. map (row_with new) objects ++ new_rows v t.added made) space
-        ∙ ap (λ l. map (row_with new) objects ++ l) (new-rows config.uid t.added place new made none)
+        ∙ ap (λ l. map (row_with new) objects ++ l) (sym (added-rows config.uid t.added place new false made none))
         ∙ sym (map-append (row_with new) objects (exported_from config.uid t.added place false made))
       where
         less : (x : Exported) → new x.id + one_if (same_id x.id o) ≡ old x.id
@@ -104,37 +97,6 @@ acted-rows config old new objects t place effective now_at a b step space rows n
     go (Lookup x y) b effective s none = absurd b
     go ListNames b effective s none = absurd b
 
-opened-begins-none : (o : ObjId) (effective : Bool) (a : Ask) (x : Exported) (more : List Exported) (config : SpaceConfig) (k place : ℕ) → opened_by config k place effective a ≡ x ∷ more → is_begin_of o a ≡ false
-opened-begins-none o effective (Open kind pinned) x more config k place e = refl
-opened-begins-none o effective (Begin y) x more config k place e = absurd (cc)
-opened-begins-none o effective (Finish y z w v) x more config k place e = refl
-opened-begins-none o effective _ x more config k place e = absurd (cc)
-
--- No call of a new object runs.
-new-runs-none : (config : SpaceConfig) (events : List Event) (e : Event) → IsBuilt e.ask →
-    Every (λ (x : Exported). running_calls (place_of config (places config events) e ∷ places config events) x.id ≡ 0) (place_of config (places config events) e).exported_here
-unfolding one_if
-new-runs-none config events e b =
-    Every-weaker (λ (x : Exported). has (place_of config (places config events) e).exported_here x.id ≡ true) _
-    (λ x there. (let old = not-there-runs-none config events x.id (not-exported-nowhere config events x.id (new-not-old config events e x.id there)) in
-    let step = count-push config events e x.id in one x.id (opened e.ask refl x.id there) old step))
-    (place_of config (places config events) e).exported_here (has-self (place_of config (places config events) e).exported_here)
-  where
-    opened : (a : Ask) → e.ask ≡ a → (o : ObjId) → has (place_of config (places config events) e).exported_here o ≡ true → is_begin_of o e.ask ≡ false
-    opened a s o there = go (opened_by config (next (places config events)) (length (places config events)) (is_effective config (places config events) e.by e.ask) e.ask) refl
-      where
-        go : (xs : List Exported) → opened_by config (next (places config events)) (length (places config events)) (is_effective config (places config events) e.by e.ask) e.ask ≡ xs → is_begin_of o e.ask ≡ false
-        go [] n = absurd (let never : has (place_of config (places config events) e).exported_here o ≡ false = ap (λ l. has l o) (adds-built config (places config events) e b ∙ n) in cc)
-        go (x ∷ more) n = opened-begins-none o (is_effective config (places config events) e.by e.ask) e.ask x more config (next (places config events)) (length (places config events)) n
-
-    one : (o : ObjId) → is_begin_of o e.ask ≡ false → running_calls (places config events) o ≡ 0 →
-        running_calls (place_of config (places config events) e ∷ places config events) o + one_if (is_effective config (places config events) e.by e.ask && is_end_of o e.ask)
-        ≡ running_calls (places config events) o + one_if (is_effective config (places config events) e.by e.ask && is_begin_of o e.ask) →
-        running_calls (place_of config (places config events) e ∷ places config events) o ≡ 0
-    one o begins none s =
-        let never : one_if (is_effective config (places config events) e.by e.ask && is_begin_of o e.ask) ≡ 0 = ap (λ v. one_if (is_effective config (places config events) e.by e.ask && v)) begins ∙ ap one_if (and_false (is_effective config (places config events) e.by e.ask)) in
-        omega (arith, s, never, none)
-
 pub rows-act : (config : SpaceConfig) (events : List Event) (e : Event) (t : ExportTable) (at : ℕ) → IsBuilt e.ask → t.space ≡ config.uid → t.added ≡ next (places config events) →
     t.rows ≡ rows_of (places config events) (table config (places config events)) →
     (acted (is_effective config (places config events) e.by e.ask) at e.ask t).rows
@@ -144,7 +106,7 @@ rows-act config events e t at b space count rows =
     ap (λ n. opened_by config n (length (places config events)) (is_effective config (places config events) e.by e.ask) e.ask) count ∙ sym (adds-built config (places config events) e b) in
     let P : List Exported → Type 0 = λ l. Every (λ (x : Exported). running_calls (place_of config (places config events) e ∷ places config events) x.id ≡ 0) l in
     acted-rows config (running_calls (places config events)) (running_calls (place_of config (places config events) e ∷ places config events)) (table config (places config events)) t (length (places config events))
-    (is_effective config (places config events) e.by e.ask) at e.ask b (count-push config events e) space rows (subst P (sym adds) (new-runs-none config events e b))
+    (is_effective config (places config events) e.by e.ask) at e.ask b (count-push config events e) space rows (subst P (sym adds) (new-runs-none config events e))
     ∙ ap (λ l. rows_of (place_of config (places config events) e ∷ places config events) (table config (places config events) ++ l)) adds
 
 -- ---- the objects that are returned

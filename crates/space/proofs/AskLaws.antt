@@ -30,7 +30,7 @@ use Rattle.space.specs.Kept.{Keeps}
 use Rattle.space.specs.Runs.{is_run, is_run_on, object_of}
 use Rattle.export_table.specs.Stands.{WaitsStand, reference_of, end_of}
 use Rattle.space.proofs.AwaitLaws.{new-length, return-few}
-use Rattle.space.proofs.ObjectLaws.{running-there}
+use Rattle.export_table.proofs.ThereLaws.{running-there}
 use Rattle.space.proofs.TurnLaws.{IsAsked, is-effective, keeps-room}
 use Rattle.export_table.proofs.StandLaws.{running-there as rows-running, running-few}
 

@@ -31,7 +31,8 @@ use Rattle.space.specs.Kept.{IsWithin}
 use Rattle.export_table.specs.Stands.{WaitsStand, reference_of, end_of, references, rows_of}
 use Rattle.space.proofs.Acting.{new-ids, live-same, returned-is, returned-finish}
 use Rattle.space.proofs.Named.{any-ids}
-use Rattle.space.proofs.NextLaws.{new-not-old, not-exported-nowhere, not-there-awaits}
+use Rattle.export_table.proofs.ThereLaws.{new-not-old, not-exported-nowhere}
+use Rattle.space.proofs.NextLaws.{not-there-awaits}
 use Rattle.space.proofs.ObjectLaws.{awaits-earlier, filter-there}
 use Rattle.space.proofs.Quiet.{opened_by, adds-built}
 use Rattle.space.proofs.ReferenceLaws.{awaiting-counted-with}

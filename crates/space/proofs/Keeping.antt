@@ -1,6 +1,6 @@
 -- What is kept after one more event, and what a turn answers.
 use Rattle.std.proofs.Common.{◌≡◌, ℕ, suc, ◌+◌, ◌<◌, ◌≤◌, ◌^◌, inl, inr, List, [], ◌∷◌, ◌++◌, length, refl, ap, sym, subst, ◌∙◌, cond, map, arith, max, drop, Some, None, Ok, Err, length-append}
-use Rattle.std.specs.Prelude.{Bool, true, false, not, ◌&&◌, ◌||◌, reverse, filter, find, nat_lt, if◌then◌else◌, Option, is_some, option_map, unwrap_or}
+use Rattle.std.specs.Prelude.{Bool, true, false, not, ◌||◌, reverse, filter, find, nat_lt, if◌then◌else◌, Option, is_some, option_map, unwrap_or}
 use Rattle.std.specs.List.{list_any}
 use Rattle.std.proofs.lemmas.List.{reverse-append, map-append, drop-append-le, drop_all}
 use Rattle.object_ids.specs.declared.ids.ObjId.{ObjId}
@@ -30,10 +30,9 @@ use Rattle.history.proofs.StepLaws.{IsLegal-step}
 use Rattle.history.proofs.TableLaws.{places-push, places-numbered, length-places, now-push, table-place, units-push, ask-place_of, index-place_of}
 use Rattle.dgc_server.specs.Stands.{LeaseTable, StandsFor}
 use Rattle.export_table.specs.declared.rows.Export.{Export}
-use Rattle.export_table.specs.declared.waits.Wait.{Wait}
 use Rattle.export_table.specs.Rows.{is_row_kept as row_kept, held_by, without_all, withdrawn as rows_withdrawn, is_exported}
 use Rattle.export_table.specs.Table.{ExportTable}
-use Rattle.export_table.specs.Waits.{waiting, is_awaited}
+use Rattle.export_table.specs.Waits.{waiting}
 use Rattle.space.specs.declared.runs.Run.{Run}
 use Rattle.space.specs.Acts.{opens, new_ids, reply_at, started_reply, withdrawal_at, told_after, room_refusal, await_refusal, lease_refusal, first_of_two, Agrees}
 use Rattle.space.specs.Built.{IsBuilt}
@@ -47,6 +46,7 @@ use Rattle.space.proofs.LiveLaws.{gone_of}
 use Rattle.space.proofs.NextLaws.{live-next, kept-next, gone-next, withdrawn-ids}
 use Rattle.space.proofs.Quiet.{IsQuiet, quiet-place, quiet, adds-length, not-named}
 use Rattle.space.proofs.Room.{refusal-is}
+use Rattle.export_table.proofs.KeptLaws.{refs-awaited}
 use Rattle.export_table.proofs.WaitLaws.{refs-await, waiting_refs}
 use Rattle.export_table.proofs.StandLaws.{waits-going, kind-is, exported-has}
 use Rattle.history.specs.Awaiting.{awaits}
@@ -76,15 +76,6 @@ gone-rows h p q (x ∷ xs) e = go (p (row_of h x)) (q x) e.0 (gone-rows h p q xs
     go false false e r = ap (λ l. x.id ∷ l) r
     go true false e r = absurd (cc)
     go false true e r = absurd (cc)
-
-refs-awaited : (t : ℕ) (o : ObjId) (ws : List Wait) → list_any (λ r. same_id r.object o) (waiting_refs reference_of end_of t ws) ≡ is_awaited t o ws
-refs-awaited t o [] = refl
-refs-awaited t o (w ∷ ws) = go (nat_lt t w.until) (refs-awaited t o ws)
-  where
-    go : (b : Bool) → list_any (λ r. same_id r.object o) (waiting_refs reference_of end_of t ws) ≡ is_awaited t o ws →
-        list_any (λ r. same_id r.object o) (map reference_of (cond b (w ∷ filter (λ v. nat_lt t (end_of v)) ws) (filter (λ v. nat_lt t (end_of v)) ws))) ≡ ((b && same_id w.object o) || is_awaited t o ws)
-    go true e = ap (λ v. same_id w.object o || v) e
-    go false e = e
 
 objects-told : (n : ℕ) (os : List ObjId) → map (λ (w : Withdrawal). w.object) (map (withdrawal_at n) os) ≡ os
 objects-told n [] = refl

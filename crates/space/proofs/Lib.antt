@@ -12,6 +12,7 @@ pub mod FirstLaws
 pub mod Found
 pub mod Fresh
 pub mod Keeping
+pub mod LegalLaws
 pub mod LimitLaws
 pub mod ListLaws
 pub mod LiveLaws

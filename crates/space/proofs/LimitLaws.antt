@@ -41,7 +41,7 @@ use Rattle.space.specs.Kept.{live_calls, IsWithin}
 use Rattle.space.proofs.Clients.{distinct-fewer, client-equality, left-more}
 use Rattle.space.proofs.LiveLaws.{pairs-live, new_pairs-live, left-live}
 use Rattle.space.proofs.Named.{NamesOnly, call-names, calls-names, naming-has, any-ids, lease_calls-push}
-use Rattle.space.proofs.NextLaws.{new-not-old}
+use Rattle.export_table.proofs.ThereLaws.{new-not-old}
 use Rattle.space.proofs.Pairs.{pair-equality, any-pairs_with, remembered-named, remembered-earlier, pair-after}
 use Rattle.export_table.proofs.WaitLaws.{awaits-until, numbered-place, distinct-same}
 use Rattle.dgc_server.proofs.Steps.{earlier}

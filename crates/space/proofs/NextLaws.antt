@@ -1,14 +1,12 @@
 -- The table, the live calls and what is kept, from one event to the next, generic in the ask.
-use Rattle.std.proofs.Common.{◌≡◌, ℕ, ◌+◌, ◌<◌, inl, inr, List, [], ◌∷◌, ◌++◌, length, refl, ap, sym, subst, ◌∙◌, map, max, arith}
+use Rattle.std.proofs.Common.{◌≡◌, ℕ, List, [], ◌∷◌, ◌++◌, length, refl, ap, sym, subst, ◌∙◌, map, max}
 use Rattle.std.specs.Prelude.{Bool, true, false, ◌||◌, nat_lt}
 use Rattle.std.specs.List.{list_any}
-use Rattle.std.proofs.str.Laws.{order}
-use Rattle.std.proofs.lemmas.Bool.{or_left, or_right, or_cases}
+use Rattle.std.proofs.lemmas.Bool.{or_left, or_right}
 use Rattle.std.proofs.lemmas.List.Folds.{list_any-append}
-use Rattle.object_ids.specs.declared.ids.Uid.{Uid}
 use Rattle.object_ids.specs.declared.ids.ObjId.{ObjId}
 use Rattle.object_ids.specs.Same.{same_id}
-use Rattle.object_ids.proofs.Exact.{same_id-equal, same_id-self}
+use Rattle.object_ids.proofs.Exact.{same_id-self}
 use Rattle.history.specs.declared.asks.SpaceConfig.{SpaceConfig}
 use Rattle.history.specs.declared.asks.Event.{Event}
 use Rattle.history.specs.declared.calls.Call.{Call}
@@ -18,7 +16,7 @@ use Rattle.history.specs.Awaiting.{same_returned, awaits, is_awaited}
 use Rattle.history.specs.LeaseCalls.{call_with, lease_calls}
 use Rattle.history.specs.Leases.{is_naming, is_held}
 use Rattle.history.specs.Names.{is_named}
-use Rattle.history.specs.Places.{has, now, added, id_at}
+use Rattle.history.specs.Places.{has, now, added}
 use Rattle.history.specs.Replies.{ids, gone}
 use Rattle.history.specs.Running.{running_calls}
 use Rattle.history.specs.Table.{is_pinned, is_kept, table, place_of, places, withdrawn}
@@ -26,30 +24,16 @@ use Rattle.history.proofs.AlikeCalls.{AllAlike, is_held-alike}
 use Rattle.history.proofs.AwaitingLaws.{is_awaited-members}
 use Rattle.history.proofs.GoneLaws.{pending, gone-push}
 use Rattle.history.proofs.ListLemmas.{Every, Every-append, Every-weaker}
-use Rattle.history.proofs.NumberLaws.{NumberedFrom, NumberedFrom-apart, adds-numbered, added-numbered, has-smaller, has-self, AllApart, table-apart, table-exported}
+use Rattle.history.proofs.NumberLaws.{NumberedFrom-apart, adds-numbered, has-self, AllApart, table-apart, table-exported}
 use Rattle.history.proofs.RunningLaws.{is_running-calls}
 use Rattle.history.proofs.TableLaws.{places-numbered, table-place, now-push, withdrawn-place}
 use Rattle.space.specs.Kept.{live_calls}
 use Rattle.space.proofs.LiveLaws.{IsNext, gone_of, without_all, live-push, told-alike}
 use Rattle.space.proofs.Named.{calls-names, naming-has, lease_calls-push}
-use Rattle.space.proofs.ObjectLaws.{running-there, named-there, awaited-there}
+use Rattle.export_table.proofs.ThereLaws.{old-not-new, new-not-old, not-exported-nowhere}
+use Rattle.space.proofs.ObjectLaws.{named-there, awaited-there}
 
 -- ---- the table is the next one
-
--- An object of a numbered list is one of its numbers.
-numbered-has : (space : Uid) (k : ℕ) (xs : List Exported) (y : ObjId) → NumberedFrom space k xs → has xs y ≡ true → (m : ℕ) × (y ≡ id_at space m) × (m < k + length xs)
-numbered-has space k [] y n h = absurd (cc)
-numbered-has space k (x ∷ xs) y n h = elim (or_cases (same_id x.id y) (has xs y) h) [
-  | inl here ↦ (k, sym (same_id-equal x.id y here) ∙ n.0, omega arith)
-  | inr there ↦ (let rest = numbered-has space (k + 1) xs y n.1 there in (rest.0, rest.1, (let l = rest.2 in omega arith)))
-]
-
--- What was exported before is not new.
-pub old-not-new : (config : SpaceConfig) (events : List Event) (e : Event) (y : ObjId) → has (added (places config events)) y ≡ true → has (place_of config (places config events) e).exported_here y ≡ false
-old-not-new config events e y h =
-    let some = numbered-has config.uid 0 (added (places config events)) y (added-numbered config events) h in
-    ap (has (place_of config (places config events) e).exported_here) some.1
-    ∙ has-smaller config.uid some.0 (length (added (places config events))) (place_of config (places config events) e).exported_here (adds-numbered config (places config events) e) (let l = some.2 in omega arith)
 
 -- A list whose objects are apart, before another of other objects.
 apart-append : (xs ys : List Exported) → AllApart xs → AllApart ys → ((y : ObjId) → has xs y ≡ true → has ys y ≡ false) → AllApart (xs ++ ys)
@@ -102,27 +86,6 @@ live-next config events e =
     (is_kept config (place_of config (places config events) e ∷ places config events)) (is-next config events e) (max e.moment (now (places config events))) e.ask (lease_calls (places config events)) (calls-names (places config events))
 
 -- ---- new objects were nowhere before
-
-pub new-not-old : (config : SpaceConfig) (events : List Event) (e : Event) (y : ObjId) → has (place_of config (places config events) e).exported_here y ≡ true → has (added (places config events)) y ≡ false
-new-not-old config events e y h = go (has (added (places config events)) y) refl
-  where
-    go : (b : Bool) → has (added (places config events)) y ≡ b → b ≡ false
-    go false t = refl
-    go true t = absurd (let never = old-not-new config events e y t in cc)
-
-pub not-exported-nowhere : (config : SpaceConfig) (events : List Event) (y : ObjId) → has (added (places config events)) y ≡ false → has (table config (places config events)) y ≡ false
-not-exported-nowhere config events y h = go (has (table config (places config events)) y) refl
-  where
-    go : (b : Bool) → has (table config (places config events)) y ≡ b → b ≡ false
-    go false t = refl
-    go true t = absurd (let there = table-exported config (places config events) y t in cc)
-
--- No call of one runs.
-pub not-there-runs-none : (config : SpaceConfig) (events : List Event) (y : ObjId) → has (table config (places config events)) y ≡ false → running_calls (places config events) y ≡ 0
-not-there-runs-none config events y h = elim (order 0 (running_calls (places config events) y)) [
-  | inl runs ↦ absurd (let there = running-there config events y runs in cc)
-  | inr none ↦ omega arith
-]
 
 -- No call names one.
 pub not-exported-named : (config : SpaceConfig) (events : List Event) (y : ObjId) → has (added (places config events)) y ≡ false → list_any (is_naming y) (lease_calls (places config events)) ≡ false

@@ -1,9 +1,8 @@
 -- Objects of the table, generic in the ask: what keeps an object is in the table, new objects are nowhere before, and what leaves the table.
-use Rattle.std.proofs.Common.{◌≡◌, ℕ, ◌+◌, ◌<◌, ◌≤◌, inl, inr, List, [], ◌∷◌, ◌++◌, length, refl, ap, sym, subst, ◌∙◌, cond, map, arith, Option, Some, None}
-use Rattle.std.specs.Prelude.{Bool, true, false, ◌&&◌, ◌||◌, filter, nat_lt, reverse, if◌then◌else◌, is_some, is_none, option_to_list, flat_map}
+use Rattle.std.proofs.Common.{◌≡◌, ℕ, ◌≤◌, inl, inr, List, [], ◌∷◌, ◌++◌, refl, ap, sym, ◌∙◌, cond, map, arith, Option, Some, None}
+use Rattle.std.specs.Prelude.{Bool, true, false, ◌&&◌, ◌||◌, filter, nat_lt, if◌then◌else◌, is_some, is_none, option_to_list, flat_map}
 use Rattle.std.specs.List.{list_any}
-use Rattle.std.proofs.lemmas.Bool.{lt-ltb, and_parts, or_left, or_right, or_cases}
-use Rattle.std.proofs.lemmas.List.{reverse-reverse}
+use Rattle.std.proofs.lemmas.Bool.{and_parts, or_left, or_right, or_cases}
 use Rattle.std.proofs.lemmas.List.Folds.{list_any-append}
 use Rattle.object_ids.specs.declared.ids.Uid.{Uid}
 use Rattle.object_ids.specs.declared.ids.ObjId.{ObjId}
@@ -12,7 +11,7 @@ use Rattle.object_ids.proofs.Exact.{same_id-equal, same_id-self}
 use Rattle.history.specs.declared.asks.SpaceConfig.{SpaceConfig}
 use Rattle.history.specs.declared.asks.Event.{Event}
 use Rattle.history.specs.declared.asks.Ask.{Ask}
-use Rattle.history.specs.declared.asks.Ask.TheVariants.{Begin, Finish, Bind, Rebind, Lookup}
+use Rattle.history.specs.declared.asks.Ask.TheVariants.{Finish, Bind, Rebind, Lookup}
 use Rattle.history.specs.declared.places.Place.{Place}
 use Rattle.history.specs.declared.places.Exported.{Exported}
 use Rattle.history.specs.declared.places.Returned.{Returned}
@@ -22,100 +21,15 @@ use Rattle.history.specs.Leases.{is_held}
 use Rattle.history.specs.Lists.{option_any}
 use Rattle.history.specs.Names.{object_bound, changes_name, is_bind_of, is_unbind_of, stands_for, names, is_name_of, is_named}
 use Rattle.history.specs.Places.{has, now}
-use Rattle.history.specs.Running.{running, running_calls, is_running}
+use Rattle.history.specs.Running.{running, is_running}
 use Rattle.history.specs.Table.{is_pinned, is_kept, table, is_effective, exports, lists, place_of, places}
 use Rattle.history.proofs.AwaitingLaws.{returned-equality, awaits-acknowledged, awaits-passed, awaits-none, awaiting-member}
-use Rattle.history.proofs.ListLemmas.{reverse-cons}
 use Rattle.history.proofs.NameLaws.{stands_for-push, stands_for-none, names-member, bytes-equality}
-use Rattle.history.proofs.Partitions.{one_if}
-use Rattle.history.proofs.RunningLaws.{begins_any, ends_any, running_calls-difference, running_calls-push, is_running-calls}
-use Rattle.history.proofs.TableLaws.{places-numbered, places-push, places-none, table-place, now-push}
+use Rattle.history.proofs.TableLaws.{places-push, places-none, now-push}
 use Rattle.dgc_server.proofs.Steps.{earlier}
 use Rattle.space.proofs.Named.{any-ids}
+use Rattle.export_table.proofs.ThereLaws.{by-events, stays, in-front}
 use Rattle.export_table.proofs.WaitLaws.{awaits-until, numbered-place}
-
--- ---- from event to event
-
--- What holds of no events, and of one more where it held before, holds of all lists of events.
-pub by-events : (P : List Event → Type 0) → P [] → ((events : List Event) (e : Event) → P events → P (events ++ e ∷ [])) → (events : List Event) → P events
-by-events P nothing more events = subst P (reverse-reverse events) (go (reverse events))
-  where
-    go : (es : List Event) → P (reverse es)
-    go [] = nothing
-    go (e ∷ es) = subst P (sym (reverse-cons e es)) (more (reverse es) e (go es))
-
--- ---- an object that is kept stays
-
-has-kept : (test : Exported → Bool) (xs : List Exported) (o : ObjId) → ((x : Exported) → x.id ≡ o → test x ≡ true) → has xs o ≡ true → has (filter test xs) o ≡ true
-has-kept test [] o k h = absurd (cc)
-has-kept test (x ∷ xs) o k h = go (test x) (same_id x.id o) refl refl h (has-kept test xs o k)
-  where
-    go : (a b : Bool) → test x ≡ a → same_id x.id o ≡ b → (b || has xs o) ≡ true → (has xs o ≡ true → has (filter test xs) o ≡ true) → has (cond a (x ∷ filter test xs) (filter test xs)) o ≡ true
-    go true true e f h rest = rw f refl
-    go true false e f h rest = rw f (rest h)
-    go false true e f h rest = absurd (let yes = k x (same_id-equal x.id o f) in cc)
-    go false false e f h rest = rest h
-
--- An object of the table, or a new one, that is kept after an event is in the table then.
-pub stays : (config : SpaceConfig) (events : List Event) (e : Event) (o : ObjId) →
-    ((x : Exported) → x.id ≡ o → is_kept config (place_of config (places config events) e ∷ places config events) x ≡ true) →
-    has (table config (places config events) ++ (place_of config (places config events) e).exported_here) o ≡ true →
-    has (table config (place_of config (places config events) e ∷ places config events)) o ≡ true
-stays config events e o k h =
-    ap (λ l. has l o) (table-place config (places config events) e (places-numbered config events))
-    ∙ has-kept (is_kept config (place_of config (places config events) e ∷ places config events)) (table config (places config events) ++ (place_of config (places config events) e).exported_here) o k h
-
-in-front : (xs ys : List Exported) (o : ObjId) → has xs o ≡ true → has (xs ++ ys) o ≡ true
-in-front xs ys o h = list_any-append (λ (x : Exported). same_id x.id o) xs ys ∙ or_left (has xs o) (has ys o) h
-
--- ---- running calls are of objects of the table
-
-begun-there : (config : SpaceConfig) (h : List Place) (e : Event) (o : ObjId) → begins_any o (place_of config h e) ≡ true → has (table config h) o ≡ true
-unfolding place_of is_effective
-begun-there config h e o b = go e.ask b
-  where
-    never : (v : Bool) → (v && false) ≡ true → has (table config h) o ≡ true
-    never true t = absurd (cc)
-    never false t = absurd (cc)
-
-    go : (a : Ask) → begins_any o (place_of config h (record e { ask = a })) ≡ true → has (table config h) o ≡ true
-    go (Begin x) t = let two = and_parts (has (table config h) x) (same_id x o) t in ap (has (table config h)) (sym (same_id-equal x o two.1)) ∙ two.0
-    go a t = never (place_of config h (record e { ask = a })).effective t
-
-kept-running : (config : SpaceConfig) (h : List Place) (x : Exported) → 0 < running_calls h x.id → is_kept config h x ≡ true
-unfolding is_kept is_pinned
-kept-running config h x r = rw (is_running-calls h x.id ∙ lt-ltb 0 (running_calls h x.id) r) (go x.pinned (is_named h x.id) (is_awaited config.ack_ms (now h) h x.id) (is_held config.lease_ms (now h) (lease_calls h) x.id))
-  where
-    go : (a b c d : Bool) → (((a || b) || true) || c || d) ≡ true
-    go true b c d = refl
-    go false true c d = refl
-    go false false c d = refl
-
-ran-before : (after before : ℕ) (ends begins : Bool) → after + one_if ends ≡ before + one_if begins → begins ≡ false → 0 < after → 0 < before
-unfolding one_if
-ran-before after before ends true e b r = absurd (cc)
-ran-before after before ends false e b r = omega arith
-
-pub running-there : (config : SpaceConfig) (events : List Event) (o : ObjId) → 0 < running_calls (places config events) o → has (table config (places config events)) o ≡ true
-running-there config = by-events
-    (λ events. (o : ObjId) → 0 < running_calls (places config events) o → has (table config (places config events)) o ≡ true) none more
-  where
-    none : (o : ObjId) → 0 < running_calls (places config []) o → has (table config (places config [])) o ≡ true
-    none o r = absurd (let all = running_calls-difference config [] o in
-        let empty : length (filter (begins_any o) (places config [])) ≡ 0 = ap (λ h. length (filter (begins_any o) h)) (places-none config) in omega arith)
-
-    more : (events : List Event) (e : Event) → ((o : ObjId) → 0 < running_calls (places config events) o → has (table config (places config events)) o ≡ true) →
-        (o : ObjId) → 0 < running_calls (places config (events ++ e ∷ [])) o → has (table config (places config (events ++ e ∷ []))) o ≡ true
-    more events e ih o r =
-        ap (λ h. has (table config h) o) (places-push config events e) ∙ stays config events e o (λ x i. kept-running config (place_of config (places config events) e ∷ places config events) x (let same = ap (running_calls (place_of config (places config events) e ∷ places config events)) i in let r = runs in omega arith))
-        (in-front (table config (places config events)) (place_of config (places config events) e).exported_here o (before (begins_any o (place_of config (places config events) e)) refl))
-      where
-        runs : 0 < running_calls (place_of config (places config events) e ∷ places config events) o
-        runs = let same = ap (λ h. running_calls h o) (places-push config events e) in omega arith
-
-        before : (b : Bool) → begins_any o (place_of config (places config events) e) ≡ b → has (table config (places config events)) o ≡ true
-        before true t = begun-there config (places config events) e o t
-        before false t = ih o (ran-before (running_calls (place_of config (places config events) e ∷ places config events) o) (running_calls (places config events) o) (ends_any o (place_of config (places config events) e)) (begins_any o (place_of config (places config events) e)) (running_calls-push config events e o) t runs)
 
 -- ---- names stand for objects of the table
 

@@ -1,5 +1,5 @@
 -- The summary and the journal, by what is kept.
-use Rattle.std.proofs.Common.{◌≡◌, ℕ, suc, List, [], ◌∷◌, ◌++◌, length, refl, ap, sym, subst, ◌∙◌, arith, map, max, flat_map}
+use Rattle.std.proofs.Common.{◌≡◌, ℕ, suc, ◌<◌, ◌^◌, List, [], ◌∷◌, ◌++◌, length, refl, ap, sym, subst, ◌∙◌, arith, map, max, flat_map}
 use Rattle.std.specs.Prelude.{pos}
 use Rattle.std.specs.List.{AllByRecursion}
 use Rattle.history.specs.declared.asks.SpaceConfig.{SpaceConfig}
@@ -17,7 +17,8 @@ use Rattle.history.specs.Outline.{events_line, summary}
 use Rattle.history.specs.Places.{now}
 use Rattle.history.specs.Replies.{ids}
 use Rattle.history.specs.Table.{table, places, withdrawals}
-use Rattle.history.proofs.TableLaws.{length-places}
+use Rattle.history.specs.declared.limits.TheConstants.{END_OF_TIME}
+use Rattle.history.proofs.TableLaws.{length-places, places-push, now-push}
 use Rattle.journal.specs.Rows.{events_text}
 use Rattle.journal.specs.Grammar.{SpellsConfig, JournalText}
 use Rattle.journal.specs.Written.{ended, config_text, event_line, journal_text, ConfigFits, EventFits}
@@ -35,6 +36,7 @@ use Rattle.space.proofs.LiveLaws.{left-live}
 use Rattle.space.proofs.Quiet.{quiet, no-names}
 use Rattle.space.proofs.RowLaws.{pairs-counted-live}
 use Rattle.export_table.proofs.StandLaws.{awaiting-counted}
+use Rattle.export_table.proofs.ThereLaws.{by-events}
 
 -- ---- counts
 
@@ -122,16 +124,39 @@ journalled config events start first second s v empty one two =
     let P : SpaceHistory → Type 0 = λ x. second ≡ journal_text x.configuration x.events in
     subst P v (two ∙ ap (λ (t : List ℕ). t ++ flat_map (event_line config.uid) events) (one ∙ ap (λ (t : List ℕ). t ++ ended (config_text config)) empty))
 
+-- No event of a history is of a later moment than its greatest.
+moments-early : (config : SpaceConfig) (events : List Event) → now (places config events) < 2 ^ 62 → AllByRecursion (λ e. e.moment < END_OF_TIME) events
+moments-early config = by-events (λ events. now (places config events) < 2 ^ 62 → AllByRecursion (λ e. e.moment < END_OF_TIME) events) (λ early. tt) more
+  where
+    last : (es : List Event) (e : Event) → AllByRecursion (λ x. x.moment < END_OF_TIME) es → e.moment < END_OF_TIME → AllByRecursion (λ x. x.moment < END_OF_TIME) (es ++ e ∷ [])
+    last [] e all one = (one, tt)
+    last (x ∷ es) e all one = (all.0, last es e all.1 one)
+
+    more : (events : List Event) (e : Event) → (now (places config events) < 2 ^ 62 → AllByRecursion (λ x. x.moment < END_OF_TIME) events) →
+        now (places config (events ++ e ∷ [])) < 2 ^ 62 → AllByRecursion (λ x. x.moment < END_OF_TIME) (events ++ e ∷ [])
+    more events e rest early =
+        let time : now (places config (events ++ e ∷ [])) ≡ max e.moment (now (places config events)) = ap now (places-push config events e) ∙ now-push config (places config events) e in
+        last events e (rest (omega (arith, time, early))) (omega (arith, time, early))
+
+-- The numbers of its events are within their ranges, where their moments bound them.
+pub events-fit : (config : SpaceConfig) (events : List Event) (moment : ℕ) → moment ≡ now (places config events) → moment < 2 ^ 62
+    → AllByRecursion (λ e. e.moment < END_OF_TIME → EventFits e) events → AllByRecursion EventFits events
+events-fit config events moment is early fit = both events (moments-early config events (omega (arith, is, early))) fit
+  where
+    both : (es : List Event) → AllByRecursion (λ e. e.moment < END_OF_TIME) es → AllByRecursion (λ e. e.moment < END_OF_TIME → EventFits e) es → AllByRecursion EventFits es
+    both [] moments all = tt
+    both (e ∷ es) moments all = (all.0 moments.0, both es moments.1 all.1)
+
 -- It is the journal of the configuration and the events.
 pub journal_spelled : (config : SpaceConfig) (events : List Event) (text : List ℕ) (s : SpaceHistory) → record { configuration = config; events = events } ≡ s → HasDurations config
-    → (ConfigFits config → SpellsConfig config (config_text config)) → text ≡ journal_text s.configuration s.events
-    → s.configuration.uid.count ≡ pos 0 → AllByRecursion EventFits s.events → JournalText text s.configuration s.events
-journal_spelled config events text s v durations spells is =
-    let P : SpaceHistory → Type 0 = λ x. text ≡ journal_text x.configuration x.events → x.configuration.uid.count ≡ pos 0 → AllByRecursion EventFits x.events → JournalText text x.configuration x.events in
+    → (ConfigFits config → SpellsConfig config (config_text config)) → AllByRecursion EventFits events → text ≡ journal_text s.configuration s.events
+    → s.configuration.uid.count ≡ pos 0 → JournalText text s.configuration s.events
+journal_spelled config events text s v durations spells fit is =
+    let P : SpaceHistory → Type 0 = λ x. text ≡ journal_text x.configuration x.events → x.configuration.uid.count ≡ pos 0 → JournalText text x.configuration x.events in
     subst P v of_config is
   where
-    of_config : text ≡ journal_text config events → config.uid.count ≡ pos 0 → AllByRecursion EventFits events → JournalText text config events
-    of_config same count fit =
+    of_config : text ≡ journal_text config events → config.uid.count ≡ pos 0 → JournalText text config events
+    of_config same count =
         let first = spells (record { some_lease = durations.some_lease; short_lease = durations.short_lease; some_ack = durations.some_ack; short_ack = durations.short_ack; count = count }) in
         let Q : List ℕ → Type 0 = λ t. JournalText t config events in
         subst Q (sym same) (journal_after config events first fit)

@@ -31,7 +31,7 @@ use Rattle.export_table.specs.Waits.{waiting, is_waiting, listed_each, acknowled
 use Rattle.export_table.specs.declared.waits.Wait.{Wait}
 use Rattle.space.specs.declared.runs.Run.{Run}
 use Rattle.space.specs.Runs.{is_run, without_first}
-use Rattle.export_table.specs.Stands.{reference_of, references}
+use Rattle.export_table.specs.Stands.{reference_of, references, added_rows}
 
 abbrev pub event_of : ℕ → ℕ → Ask → Event
 event_of by moment ask = record { by = by; moment = moment; ask = ask }
@@ -53,8 +53,7 @@ opens effective _ = 0
 
 -- Objects of these kinds as they are added, and their identifiers, the first of them as the space's k-th.
 abbrev pub new_rows : Uid → ℕ → List ℕ → List Export
-new_rows space k [] = []
-new_rows space k (kind ∷ kinds) = new_row (id_at space k) kind false ∷ new_rows space (k + 1) kinds
+new_rows space k kinds = added_rows space k false kinds
 
 abbrev pub new_ids : Uid → ℕ → List ℕ → List ObjId
 new_ids space k [] = []
@@ -114,7 +113,7 @@ reply_at config k rows effective _ = Done
 abbrev pub withdrawal_at : ℕ → ObjId → Withdrawal
 withdrawal_at place o = record { object = o; place = place }
 
--- How many withdrawals are told as gone after an ask, of so many then.
+-- How many of all withdrawals were told as gone, once an ask is answered: all, but after an Abandon only those told before it.
 abbrev pub told_after : ℕ → ℕ → Ask → ℕ
 told_after told all ask = if is_abandon ask then told else all
 

@@ -5,6 +5,7 @@ pub mod Built
 pub mod Entries
 pub mod Faults
 pub mod Kept
+pub mod Legal
 pub mod Lists
 pub mod Noted
 pub mod Ports

@@ -31,7 +31,8 @@ pub record TakesFront (config : SpaceConfig) (h events : List Event) (turns : Li
   pub taken : Takes config h front turns h2
   pub stops : Stops config h2 rest refused
 
--- After the history h these events are taken, the one after the other, and the collector keeps and withdraws at each as it is to.
+-- After the history h these events are taken, the one after the other, and leave the history h2. At each of them the history's table keeps what
+-- there is a reason to keep, and the rest is withdrawn.
 abbrev pub CollectsEach : SpaceConfig → List Event → List Event → List Event → Type 0
 CollectsEach config h [] h2 = h2 ≡ h
 CollectsEach config h (e ∷ events) h2 = (next : List Event) × Collects config h e next × CollectsEach config next events h2

@@ -11,8 +11,9 @@ use Rattle.space.specs.Ports.{begins, ends, Went}
 abbrev pub is_call_of : ObjId → ObjId → Bool
 is_call_of o object = same_id object o
 
--- These are objects of running calls of a connection: no more than the history says, and all that the entries show, which know of no
--- call that ran before them. There is room for as many further entries as there are such calls.
+-- A port's entries are tied to its space by a list of objects, one for each call that the entries show running: of each object as many calls as the
+-- entries begin and don't end, and no more than the connection runs by the history. Calls that ran before the port was made are in no entry, and not in
+-- the list. There is room for an entry that ends each of the listed calls.
 pub record IsTied (by : ℕ) (s : SpaceHistory) (entries : List Asked) (room : ℕ) : Type 0 where
   pub calls : List ObjId
   pub run : (o : ObjId) → length (filter (is_call_of o) calls) ≤ running (places s.configuration s.events) by o

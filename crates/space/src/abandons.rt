@@ -22,7 +22,7 @@ impl Space {
         ensures events { self.new.events ≡ self.old.events ++ event_of by moment (Abandon object) ∷ [] }
         ensures config { self.new.configuration ≡ self.old.configuration }
 
-        // The table keeps what there is a reason to keep, and the rest is withdrawn.
+        // The history's table keeps what there is a reason to keep, and the rest is withdrawn. This follows from `step`.
         ensures collector { Collects self.old.configuration self.old.events (event_of by moment (Abandon object)) self.new.events }
 
         // It is taken: no limit refuses it.

@@ -186,7 +186,8 @@ fn started_reply(kind: Option<u32>) -> Reply
     }
 }
 
-/// How many withdrawals are told as gone after an ask, of so many then. An Abandon is told none.
+/// How many of a space's withdrawals were told as gone, once an ask is answered: all there are then, but after an Abandon, which is told
+/// none, only those that were told before it.
 pub(crate) fn told_after(told: usize, all: usize, ask: &Ask) -> usize
     ensures { result ≡ told_after told all ask.now }
 {

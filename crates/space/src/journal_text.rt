@@ -1,7 +1,8 @@
 //! The journal and the summary of a space.
-ghost use Rattle.std.specs.Prelude.{◌≡◌, ◌++◌, flat_map, pos, OnOk, IfOk};
+ghost use Rattle.std.specs.Prelude.{◌≡◌, ◌<◌, ◌++◌, flat_map, pos, OnOk, IfOk};
 ghost use Rattle.std.specs.List.{AllByRecursion};
 ghost use Rattle.history.specs.Outline as lines;
+ghost use Rattle.history.specs.declared.limits.TheConstants.{END_OF_TIME};
 ghost use Rattle.journal.specs.Grammar.{JournalText};
 ghost use Rattle.journal.specs.Written as written;
 ghost use Rattle.space.specs.Summary.{counts_text};
@@ -15,12 +16,11 @@ use mod_utf::list::ByteList;
 use object_ids::Uid;
 use std::alloc::{AllocError, Global};
 
-/// The journal of a space: a line of its configuration, then a line for each event that it took, in order. It spells this configuration,
-/// where its identifier's count is 0, and these events, where their numbers are within their ranges.
+/// The journal of a space: a line of its configuration, then a line for each event that it took, in order. It spells these events and
+/// this configuration, where its identifier's count is 0.
 pub fn journal(alloc: Global, space: &Space) -> Result<ByteList, AllocError>
     ensures text { IfOk result (λ text. text ≡ written.journal_text space.now.configuration space.now.events) }
-    ensures spelled { IfOk result (λ text. space.now.configuration.uid.count ≡ pos 0 → AllByRecursion written.EventFits space.now.events
-        → JournalText text space.now.configuration space.now.events) }
+    ensures spelled { IfOk result (λ text. space.now.configuration.uid.count ≡ pos 0 → JournalText text space.now.configuration space.now.events) }
 {
     let mut text = ByteList::new(alloc);
     put_first_line(&mut text, &space.tables.config)?;
@@ -30,7 +30,8 @@ pub fn journal(alloc: Global, space: &Space) -> Result<ByteList, AllocError>
 
 /// Appends the lines of events.
 fn put_events(text: &mut ByteList, space: Uid, events: &[Event]) -> Result<(), AllocError>
-    ensures { OnOk result (text.new ≡ text.old ++ flat_map (written.event_line space) events.now) }
+    ensures text { OnOk result (text.new ≡ text.old ++ flat_map (written.event_line space) events.now) }
+    ensures fits { OnOk result (AllByRecursion (λ e. e.moment < END_OF_TIME → written.EventFits e) events.now) }
 {
     for event in events {
         put_event_line(text, space, event)?;

@@ -74,7 +74,8 @@ impl Space {
         requires built { IsBuilt ask }
         ensures step { Step self.old.configuration self.old.events (record { by = by; moment = moment; ask = ask }) result self.new.events }
 
-        // The table keeps what there is a reason to keep, and the rest is withdrawn.
+        // The history's table keeps what there is a reason to keep, and the rest is withdrawn. This follows from `step`; that the
+        // objects which the space has exported are those of that table is said by `kind_of`, `exported` and `outline`.
         ensures collector { OnOk result (Collects self.old.configuration self.old.events (event_of by moment ask) self.new.events) }
         ensures config { self.new.configuration ≡ self.old.configuration }
         ensures err { OnErr result (self.new ≡ self.old) }
@@ -98,10 +99,12 @@ impl Space {
         count(&self.tables.runs, by, &object) as u32
     }
 
-    /// How many events there are. They are a legal history: what turns leave of the empty one.
+    /// How many events there are. They are a legal history, what turns leave of the empty one, and none of them is of a
+    /// later moment than 2^62 - 1.
     pub fn len(&self) -> u64
         ensures value { result ≡ length self.now.events }
         ensures legal { IsLegal self.now.configuration self.now.events }
+        ensures early { place_words.now (places self.now.configuration self.now.events) < 2 ^ 62 }
     {
         self.tables.events.len() as u64
     }

@@ -7,7 +7,7 @@ loop-object-init c lease moment calls s = dropped-none lease moment c.args.lease
 pub loop-object-preserved : goal.loop-object-preserved
 loop-object-preserved c lease moment calls s =
     dropped-more lease moment c.drop_object.new.self calls c.args.objects.now c.loop-object.object-index _ c.loop-object-test.true
-    (c.drop_object.ensures lease moment _ (c.loop-object.invariant lease moment calls s))
+    (c.drop_object.ensures.stands lease moment _ (c.loop-object.invariant lease moment calls s))
 
 pub returns : goal.returns
 returns c lease moment calls s =

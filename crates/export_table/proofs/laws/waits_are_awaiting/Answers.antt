@@ -1,3 +1,4 @@
+use Rattle.export_table.proofs.KeptLaws.{others-leave-waits}
 use Rattle.export_table.proofs.StandLaws.{none-awaits, waiting-awaits, waiting-stands, return-lists, ack-ends}
 use Rattle.export_table.proofs.laws.waits_are_awaiting.Goals as goal
 
@@ -15,3 +16,6 @@ returns-clause-returns c = return-lists
 
 pub returns-clause-acknowledges : goal.returns-clause-acknowledges
 returns-clause-acknowledges c = ack-ends
+
+pub returns-clause-others : goal.returns-clause-others
+returns-clause-others c = others-leave-waits

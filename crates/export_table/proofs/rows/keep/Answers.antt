@@ -1,6 +1,6 @@
-use Rattle.std.proofs.Common.{◌≡◌, ◌+◌, ◌≤◌, ◌<◌, length, max, rules, refl, ap, sym, subst, ◌∙◌, arith}
-use Rattle.std.specs.Prelude.{vec_len, vec_capacity}
-use Rattle.export_table.specs.Rows.{is_row_kept, held_by, IsPart}
+use Rattle.std.proofs.Common.{◌≡◌, ◌<◌, length, max, rules, refl, sym, ◌∙◌, arith}
+use Rattle.std.specs.Prelude.{vec_len}
+use Rattle.export_table.specs.Rows.{is_row_kept, held_by}
 use Rattle.export_table.proofs.Sifting.{moved-start, moved-skip, moved-take, moved-all, sifted-start, sifted-skip, sifted-take, sifted-rows, sifted-gone}
 use Rattle.export_table.proofs.rows.keep.Goals as goal
 use Rattle.export_table.proofs.rows.keep.Goals.{then-is_row_kept, else-is_row_kept}

@@ -1,7 +1,7 @@
-use Rattle.std.proofs.Common.{◌++◌, List, ℕ, flat_map, ap, sym, ◌∙◌}
+use Rattle.std.proofs.Common.{◌++◌, List, ℕ, flat_map, ap, sym, subst, ◌∙◌}
 use Rattle.std.proofs.lemmas.Result.{on_ok_weaker, on_err_weaker}
 use Rattle.history.specs.Texts.{object_text}
-use Rattle.journal.specs.Written.{objects_text, further_object}
+use Rattle.journal.specs.Written.{objects_text, further_object, AreObjects}
 use Rattle.journal.proofs.Fronts.{on_err, front_first, front_last, then_more, joined_further}
 use Rattle.journal.proofs.listed.put_objects.Goals as goal
 
@@ -26,3 +26,7 @@ returns-in_err-put_object-clause-err c =
     let whole = ap (objects_text c.args.space) c.in-Some.ensures.cases.0 ∙ joined_further 44 text c.in-Some.first.now c.in-Some.others.now in
     on_err c.from_residual.result (front_first c.args.out.now (text c.in-Some.first.now) (flat_map further c.in-Some.others.now) c.put_object.new.out
     (objects_text c.args.space c.args.objects.now) whole (c.in_err-put_object.ensures {u = tt}).err)
+
+pub returns-clause-fits : goal.returns-clause-fits
+returns-clause-fits c =
+    on_ok_weaker c.put_further_objects.result (λ others. subst AreObjects (sym c.in-Some.ensures.cases.0) ((c.in_ok-put_object.ensures {u = tt}).fits, others)) c.put_further_objects.ensures.fits

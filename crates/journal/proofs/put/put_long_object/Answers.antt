@@ -2,7 +2,7 @@ use Rattle.std.proofs.Common.{ℤ, ◌∷◌, [], ◌++◌, refl, ap, ◌∙◌,
 use Rattle.std.specs.Prelude.{FitsSigned}
 use Rattle.std.specs.Fmt.{signed_decimal}
 use Rattle.std.proofs.lemmas.Int.{to_z-of_z}
-use Rattle.std.proofs.lemmas.Result.{on_err_weaker}
+use Rattle.std.proofs.lemmas.Result.{on_ok_weaker, on_err_weaker}
 use Rattle.history.specs.Texts.{uid_text}
 use Rattle.journal.specs.Grammar.{long_text}
 use Rattle.journal.proofs.Fronts.{on_err, front_first, front_last, then_more}
@@ -23,3 +23,8 @@ returns-clause-err c =
     let one = (c.in_ok-put_signed.ensures {u = tt}).ok ∙ ap (λ (z : ℤ). c.args.out.now ++ signed_decimal z) (to_z-of_z w64 o.number fits) in
     let two = then_more c.args.out.now (signed_decimal o.number) c.put_signed.new.out (58 ∷ []) c.push.new.self one (c.in_ok-push.ensures {u = tt}).ok in
     on_err_weaker c.put_uid.result (front_last c.args.out.now (signed_decimal o.number ++ 58 ∷ []) (uid_text o.space) c.push.new.self c.put_uid.new.out (long_text o) two refl) c.put_uid.ensures.err
+
+pub returns-clause-fits : goal.returns-clause-fits
+returns-clause-fits c =
+    let number : FitsSigned w64 c.args.object.number = search rules in
+    on_ok_weaker c.put_uid.result (λ space. record { number = number; space = space }) c.put_uid.ensures.fits

@@ -4,7 +4,7 @@ use Rattle.std.specs.Int.{w16}
 use Rattle.std.specs.Fmt.{signed_decimal}
 use Rattle.std.proofs.lemmas.Int.{to_z-of_z}
 use Rattle.std.proofs.lemmas.Result.{on_ok_weaker, on_err_weaker}
-use Rattle.journal.proofs.Fronts.{on_err, front_at, then_more, widened}
+use Rattle.journal.proofs.Fronts.{on_ok, on_err, front_at, then_more, widened}
 use Rattle.journal.proofs.put.put_uid.Goals as goal
 
 pub returns-in_err-put_after_slash-clause-err : goal.returns-in_err-put_after_slash-clause-err
@@ -46,3 +46,10 @@ returns-clause-err c =
     let refused = rw (widened w16 c.args.uid.count fits_n tt) at c.put_after_slash-2.ensures.err in
     on_err_weaker c.put_after_slash-2.result (front_at out (u ++ 47 ∷ t) (47 ∷ n) [] c.put_after_slash.new.out c.put_after_slash-2.new.out (u ++ 47 ∷ (t ++ 47 ∷ n)) two
     (sym (append_assoc u (47 ∷ t) (47 ∷ n)) ∙ ap (λ (x : List ℕ). (u ++ 47 ∷ t) ++ 47 ∷ x) (sym (append-nil n)))) refused
+
+pub returns-clause-fits : goal.returns-clause-fits
+returns-clause-fits c =
+    let unique : FitsSigned w32 c.args.uid.unique = search rules in
+    let time : FitsSigned w64 c.args.uid.time = search rules in
+    let count : FitsSigned w16 c.args.uid.count = search rules in
+    on_ok c.put_after_slash-2.result (record { unique = unique; time = time; count = count })

@@ -5,8 +5,8 @@ use Rattle.history.specs.declared.calls.CallKind.TheVariants.{Dirty}
 use Rattle.history.specs.declared.limits.TheConstants.{MAX_CLIENTS, MAX_PAIRS}
 use Rattle.dgc_server.specs.declared.leases.LeaseFault.TheVariants.{Clients, Pairs}
 use Rattle.dgc_server.specs.Counts.{dirty_call, clients_with_call, pairs_with_call}
-use Rattle.dgc_server.specs.Stands.{LeaseTable, IsTrimmed, entry_after, table_after}
-use Rattle.dgc_server.specs.Table.{entry_of, with_entry, clients_after, pairs_after}
+use Rattle.dgc_server.specs.Stands.{LeaseTable, table_after}
+use Rattle.dgc_server.specs.Table.{clients_after, pairs_after}
 use Rattle.dgc_server.proofs.Trimmed.{trimmed-noted}
 use Rattle.dgc_server.proofs.Told.{call-told, pairs-told, clients-told, error-is, error-same}
 use Rattle.dgc_server.proofs.leases.Leases.dirty.Goals as goal

@@ -1,0 +1,170 @@
+-- Objects of the table of a history: running calls are of them, and what an event exports was nowhere before.
+use Rattle.std.proofs.Common.{true≢false, ◌≡◌, ℕ, ◌+◌, ◌<◌, inl, inr, List, [], ◌∷◌, ◌++◌, length, refl, ap, sym, subst, ◌∙◌, cond, arith}
+use Rattle.std.specs.Prelude.{Bool, true, false, ◌&&◌, ◌||◌, filter, reverse}
+use Rattle.std.proofs.str.Laws.{order}
+use Rattle.std.proofs.lemmas.Bool.{lt-ltb, and_parts, or_left, or_cases}
+use Rattle.std.proofs.lemmas.List.{reverse-reverse}
+use Rattle.std.proofs.lemmas.List.Folds.{list_any-append}
+use Rattle.object_ids.specs.declared.ids.Uid.{Uid}
+use Rattle.object_ids.specs.declared.ids.ObjId.{ObjId}
+use Rattle.object_ids.specs.Same.{same_id}
+use Rattle.object_ids.proofs.Exact.{same_id-equal}
+use Rattle.history.specs.declared.asks.SpaceConfig.{SpaceConfig}
+use Rattle.history.specs.declared.asks.Event.{Event}
+use Rattle.history.specs.declared.asks.Ask.{Ask}
+use Rattle.history.specs.declared.asks.Ask.TheVariants.{Begin}
+use Rattle.history.specs.declared.places.Place.{Place}
+use Rattle.history.specs.declared.places.Exported.{Exported}
+use Rattle.history.specs.Awaiting.{is_awaited}
+use Rattle.history.specs.LeaseCalls.{lease_calls}
+use Rattle.history.specs.Leases.{is_held}
+use Rattle.history.specs.Names.{is_named}
+use Rattle.history.specs.Places.{has, now, added, id_at}
+use Rattle.history.specs.Running.{begins_any, ends_any, running_calls}
+use Rattle.history.specs.Table.{is_pinned, is_kept, is_effective, table, place_of, places}
+use Rattle.history.proofs.ListLemmas.{Every, Every-weaker, reverse-cons}
+use Rattle.history.proofs.NumberLaws.{NumberedFrom, adds-numbered, added-numbered, has-smaller, has-self, table-exported}
+use Rattle.history.proofs.Partitions.{one_if}
+use Rattle.history.proofs.RunningLaws.{running_calls-difference, running_calls-push, is_running-calls}
+use Rattle.history.proofs.TableLaws.{places-numbered, places-push, places-none, table-place}
+
+-- ---- from event to event
+
+-- What holds of no events, and of one more where it held before, holds of all lists of events.
+pub by-events : (P : List Event → Type 0) → P [] → ((events : List Event) (e : Event) → P events → P (events ++ e ∷ [])) → (events : List Event) → P events
+by-events P nothing more events = subst P (reverse-reverse events) (go (reverse events))
+  where
+    go : (es : List Event) → P (reverse es)
+    go [] = nothing
+    go (e ∷ es) = subst P (sym (reverse-cons e es)) (more (reverse es) e (go es))
+
+-- ---- an object that is kept stays
+
+has-kept : (test : Exported → Bool) (xs : List Exported) (o : ObjId) → ((x : Exported) → x.id ≡ o → test x ≡ true) → has xs o ≡ true → has (filter test xs) o ≡ true
+has-kept test [] o k h = absurd (cc)
+has-kept test (x ∷ xs) o k h = go (test x) (same_id x.id o) refl refl h (has-kept test xs o k)
+  where
+    go : (a b : Bool) → test x ≡ a → same_id x.id o ≡ b → (b || has xs o) ≡ true → (has xs o ≡ true → has (filter test xs) o ≡ true) → has (cond a (x ∷ filter test xs) (filter test xs)) o ≡ true
+    go true true e f h rest = rw f refl
+    go true false e f h rest = rw f (rest h)
+    go false true e f h rest = absurd (let yes = k x (same_id-equal x.id o f) in cc)
+    go false false e f h rest = rest h
+
+-- An object of the table, or a new one, that is kept after an event is in the table then.
+pub stays : (config : SpaceConfig) (events : List Event) (e : Event) (o : ObjId) →
+    ((x : Exported) → x.id ≡ o → is_kept config (place_of config (places config events) e ∷ places config events) x ≡ true) →
+    has (table config (places config events) ++ (place_of config (places config events) e).exported_here) o ≡ true →
+    has (table config (place_of config (places config events) e ∷ places config events)) o ≡ true
+stays config events e o k h =
+    ap (λ l. has l o) (table-place config (places config events) e (places-numbered config events))
+    ∙ has-kept (is_kept config (place_of config (places config events) e ∷ places config events)) (table config (places config events) ++ (place_of config (places config events) e).exported_here) o k h
+
+pub in-front : (xs ys : List Exported) (o : ObjId) → has xs o ≡ true → has (xs ++ ys) o ≡ true
+in-front xs ys o h = list_any-append (λ (x : Exported). same_id x.id o) xs ys ∙ or_left (has xs o) (has ys o) h
+
+-- ---- running calls are of objects of the table
+
+begun-there : (config : SpaceConfig) (h : List Place) (e : Event) (o : ObjId) → begins_any o (place_of config h e) ≡ true → has (table config h) o ≡ true
+unfolding place_of is_effective
+begun-there config h e o b = go e.ask b
+  where
+    never : (v : Bool) → (v && false) ≡ true → has (table config h) o ≡ true
+    never true t = absurd (cc)
+    never false t = absurd (cc)
+
+    go : (a : Ask) → begins_any o (place_of config h (record e { ask = a })) ≡ true → has (table config h) o ≡ true
+    go (Begin x) t = let two = and_parts (has (table config h) x) (same_id x o) t in ap (has (table config h)) (sym (same_id-equal x o two.1)) ∙ two.0
+    go a t = never (place_of config h (record e { ask = a })).effective t
+
+kept-running : (config : SpaceConfig) (h : List Place) (x : Exported) → 0 < running_calls h x.id → is_kept config h x ≡ true
+unfolding is_kept is_pinned
+kept-running config h x r = rw (is_running-calls h x.id ∙ lt-ltb 0 (running_calls h x.id) r) (go x.pinned (is_named h x.id) (is_awaited config.ack_ms (now h) h x.id) (is_held config.lease_ms (now h) (lease_calls h) x.id))
+  where
+    go : (a b c d : Bool) → (((a || b) || true) || c || d) ≡ true
+    go true b c d = refl
+    go false true c d = refl
+    go false false c d = refl
+
+ran-before : (after before : ℕ) (ends begins : Bool) → after + one_if ends ≡ before + one_if begins → begins ≡ false → 0 < after → 0 < before
+unfolding one_if
+ran-before after before ends true e b r = absurd (cc)
+ran-before after before ends false e b r = omega arith
+
+pub running-there : (config : SpaceConfig) (events : List Event) (o : ObjId) → 0 < running_calls (places config events) o → has (table config (places config events)) o ≡ true
+running-there config = by-events
+    (λ events. (o : ObjId) → 0 < running_calls (places config events) o → has (table config (places config events)) o ≡ true) none more
+  where
+    none : (o : ObjId) → 0 < running_calls (places config []) o → has (table config (places config [])) o ≡ true
+    none o r = absurd (let all = running_calls-difference config [] o in
+        let empty : length (filter (begins_any o) (places config [])) ≡ 0 = ap (λ h. length (filter (begins_any o) h)) (places-none config) in omega arith)
+
+    more : (events : List Event) (e : Event) → ((o : ObjId) → 0 < running_calls (places config events) o → has (table config (places config events)) o ≡ true) →
+        (o : ObjId) → 0 < running_calls (places config (events ++ e ∷ [])) o → has (table config (places config (events ++ e ∷ []))) o ≡ true
+    more events e ih o r =
+        ap (λ h. has (table config h) o) (places-push config events e) ∙ stays config events e o (λ x i. kept-running config (place_of config (places config events) e ∷ places config events) x (let same = ap (running_calls (place_of config (places config events) e ∷ places config events)) i in let r = runs in omega arith))
+        (in-front (table config (places config events)) (place_of config (places config events) e).exported_here o (before (begins_any o (place_of config (places config events) e)) refl))
+      where
+        runs : 0 < running_calls (place_of config (places config events) e ∷ places config events) o
+        runs = let same = ap (λ h. running_calls h o) (places-push config events e) in omega arith
+
+        before : (b : Bool) → begins_any o (place_of config (places config events) e) ≡ b → has (table config (places config events)) o ≡ true
+        before true t = begun-there config (places config events) e o t
+        before false t = ih o (ran-before (running_calls (place_of config (places config events) e ∷ places config events) o) (running_calls (places config events) o) (ends_any o (place_of config (places config events) e)) (begins_any o (place_of config (places config events) e)) (running_calls-push config events e o) t runs)
+
+-- ---- new objects were nowhere before
+
+-- An object of a numbered list is one of its numbers.
+numbered-has : (space : Uid) (k : ℕ) (xs : List Exported) (y : ObjId) → NumberedFrom space k xs → has xs y ≡ true → (m : ℕ) × (y ≡ id_at space m) × (m < k + length xs)
+numbered-has space k [] y n h = absurd (cc)
+numbered-has space k (x ∷ xs) y n h = elim (or_cases (same_id x.id y) (has xs y) h) [
+  | inl here ↦ (k, sym (same_id-equal x.id y here) ∙ n.0, omega arith)
+  | inr there ↦ (let rest = numbered-has space (k + 1) xs y n.1 there in (rest.0, rest.1, (let l = rest.2 in omega arith)))
+]
+
+-- What was exported before is not new.
+pub old-not-new : (config : SpaceConfig) (events : List Event) (e : Event) (y : ObjId) → has (added (places config events)) y ≡ true → has (place_of config (places config events) e).exported_here y ≡ false
+old-not-new config events e y h =
+    let some = numbered-has config.uid 0 (added (places config events)) y (added-numbered config events) h in
+    ap (has (place_of config (places config events) e).exported_here) some.1
+    ∙ has-smaller config.uid some.0 (length (added (places config events))) (place_of config (places config events) e).exported_here (adds-numbered config (places config events) e) (let l = some.2 in omega arith)
+
+pub new-not-old : (config : SpaceConfig) (events : List Event) (e : Event) (y : ObjId) → has (place_of config (places config events) e).exported_here y ≡ true → has (added (places config events)) y ≡ false
+new-not-old config events e y h = go (has (added (places config events)) y) refl
+  where
+    go : (b : Bool) → has (added (places config events)) y ≡ b → b ≡ false
+    go false t = refl
+    go true t = absurd (let never = old-not-new config events e y t in cc)
+
+pub not-exported-nowhere : (config : SpaceConfig) (events : List Event) (y : ObjId) → has (added (places config events)) y ≡ false → has (table config (places config events)) y ≡ false
+not-exported-nowhere config events y h = go (has (table config (places config events)) y) refl
+  where
+    go : (b : Bool) → has (table config (places config events)) y ≡ b → b ≡ false
+    go false t = refl
+    go true t = absurd (let there = table-exported config (places config events) y t in cc)
+
+-- No call of one runs.
+pub not-there-runs-none : (config : SpaceConfig) (events : List Event) (y : ObjId) → has (table config (places config events)) y ≡ false → running_calls (places config events) y ≡ 0
+not-there-runs-none config events y h = elim (order 0 (running_calls (places config events) y)) [
+  | inl runs ↦ absurd (let there = running-there config events y runs in cc)
+  | inr none ↦ omega arith
+]
+
+-- No call of a new object runs.
+pub new-runs-none : (config : SpaceConfig) (events : List Event) (e : Event) →
+    Every (λ (x : Exported). running_calls (place_of config (places config events) e ∷ places config events) x.id ≡ 0) (place_of config (places config events) e).exported_here
+unfolding one_if
+new-runs-none config events e =
+    Every-weaker (λ (x : Exported). has (place_of config (places config events) e).exported_here x.id ≡ true) _ (λ x there. one x.id there)
+    (place_of config (places config events) e).exported_here (has-self (place_of config (places config events) e).exported_here)
+  where
+    one : (o : ObjId) → has (place_of config (places config events) e).exported_here o ≡ true → running_calls (place_of config (places config events) e ∷ places config events) o ≡ 0
+    one o there = go (begins_any o (place_of config (places config events) e)) refl (running_calls-push config events e o)
+      where
+        away : has (table config (places config events)) o ≡ false
+        away = not-exported-nowhere config events o (new-not-old config events e o there)
+
+        go : (b : Bool) → begins_any o (place_of config (places config events) e) ≡ b →
+            running_calls (place_of config (places config events) e ∷ places config events) o + one_if (ends_any o (place_of config (places config events) e)) ≡ running_calls (places config events) o + one_if b →
+            running_calls (place_of config (places config events) e ∷ places config events) o ≡ 0
+        go true begins s = absurd (true≢false (sym (begun-there config (places config events) e o begins) ∙ away))
+        go false begins s = let none = not-there-runs-none config events o away in omega (arith, s, none)
