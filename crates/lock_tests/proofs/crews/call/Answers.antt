@@ -1,0 +1,9 @@
+use Rattle.std.proofs.Common.{◌≡◌, ◌∙◌, sym, true, false, rules}
+use Rattle.lock_tests.specs.Started.{started_by}
+use Rattle.lock_tests.proofs.Calls.{shown, ended_not_begun, ended_abandoned}
+use Rattle.lock_tests.proofs.crews.call.Goals as goal
+
+pub abandon-requires-clause-runs : goal.abandon-requires-clause-runs
+abandon-requires-clause-runs g c =
+    let started : started_by c.turn-answer.result ≡ true = search rules in
+    shown (g.P.Port.asked c.args.port.now) (g.P.Port.asked c.turn-answer.new.self) c.args.moment c.args.object c.turn-answer.result c.turn-answer.ensures.asked c.requires.ended started

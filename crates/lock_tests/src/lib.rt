@@ -1,0 +1,9 @@
+//! Tests of the turn lock: threads that take turns at one space, and what its history is afterwards.
+#![tactic(auto)]
+
+#[cfg(test)]
+mod crews;
+#[cfg(test)]
+mod journals;
+#[cfg(test)]
+mod turns;

@@ -1,0 +1,32 @@
+-- The laws of locks.
+use Rattle.std.proofs.Common.{ℕ, ap, ◌∙◌}
+use Rattle.history.specs.declared.asks.SpaceConfig.{SpaceConfig}
+use Rattle.history.specs.declared.asks.Ask.{Ask}
+use Rattle.history.specs.Collector.{Collects}
+use Rattle.history.specs.Steps.{turn_of}
+use Rattle.space.specs.Acts.{event_of}
+use Rattle.space.specs.Ports.{GoesBy}
+use Rattle.space.specs.declared.asked.AskedEnd.{AskedEnd}
+use Rattle.space.specs.declared.asked.AskedEnd.TheVariants.{Turned, Abandoned, Refused as Denied}
+use Rattle.space.proofs.CollectLaws.{taken-collects}
+use Rattle.turn_lock.specs.declared.view.View.{View}
+use Rattle.turn_lock.specs.Rule.{Events}
+use Rattle.turn_lock.specs.Orders.{RuleOrders, EntriesCollect, IsTaken}
+use Rattle.turn_lock.proofs.Views.{same_at}
+
+pub rule-orders : RuleOrders
+rule-orders s t k = record {
+  tail = k.tail;
+  legal = k.legal;
+  live = λ j v e some_part. let m = (k.each j v e).mine some_part in (m.numbered, m.begun, m.owned);
+  joined = λ v e p has. let h = k.ended v e p has in (h.0, λ u at. ap (λ (y : View). y.parts) (same_at t.views p.0 u h.1.0 at h.1.1) ∙ h.1.2);
+  no_others = k.strangers;
+}
+
+goes-collect : (config : SpaceConfig) (by : ℕ) (h next : Events) (m : ℕ) (a : Ask) (end : AskedEnd) → GoesBy config by h m a end next → IsTaken end → Collects config h (event_of by m a) next
+goes-collect config by h next m a (Turned turn) g t = taken-collects config h next (event_of by m a) turn g
+goes-collect config by h next m a (Abandoned place) g t = taken-collects config h next (event_of by m a) (turn_of config h (event_of by m a)) g.2
+goes-collect config by h next m a (Denied refused) g t = absurd t
+
+pub entries-collect : EntriesCollect
+entries-collect config by h next entry g t = goes-collect config by h next entry.moment entry.ask entry.end g t

@@ -1,0 +1,97 @@
+-- What the steps of one turn come to.
+use Rattle.std.proofs.Common.{◌≡◌, ℕ, ◌+◌, ◌<◌, List, [], ◌∷◌, ◌++◌, refl, sym, ap, ap₂, ◌∙◌, subst, arith, inr, Option, Some, None}
+use Rattle.std.specs.Prelude.{Result, Ok, Err, IfOk, MatchResult, OnErr}
+use Rattle.std.specs.declared.alloc.AllocError.{AllocError}
+use Rattle.atomic_table.specs.Table.{rest}
+use Rattle.object_ids.specs.declared.ids.ObjId.{ObjId}
+use Rattle.history.specs.declared.asks.SpaceConfig.{SpaceConfig}
+use Rattle.history.specs.declared.asks.Ask.{Ask}
+use Rattle.history.specs.declared.asks.Event.{Event}
+use Rattle.history.specs.declared.replies.Refused.{Refused}
+use Rattle.history.specs.declared.replies.Refused.TheVariants.{OutOfMemory}
+use Rattle.history.specs.declared.replies.Turn.{Turn}
+use Rattle.history.specs.Running.{running}
+use Rattle.history.specs.Steps.{Step}
+use Rattle.history.specs.Table.{places}
+use Rattle.space.specs.Acts.{event_of}
+use Rattle.space.specs.Balance.{AreOfOthers}
+use Rattle.space.specs.Built.{SpaceHistory}
+use Rattle.space.specs.Entries.{entry_of}
+use Rattle.space.specs.Ports.{IsAnswerTo}
+use Rattle.space.specs.declared.asked.Asked.{Asked}
+use Rattle.space.proofs.BalanceLaws.{calls-add-up}
+use Rattle.space.proofs.NotedLaws.{taken-turn, refused-turn}
+use Rattle.turn_lock.specs.declared.view.View.{View}
+use Rattle.turn_lock.specs.declared.view.Stage.TheVariants.{Idle}
+use Rattle.turn_lock.specs.Rule.{Events, Sat, MayComeTo, TurnedAt, TurnedBy, answer_of, events_after, in_hand, in_stage, no_config, own_after, space_with, told_of}
+
+-- ---- the slot
+
+abbrev Slots : Type 0
+Slots = List (ℕ × Option SpaceHistory)
+
+pub alone : (cs : Slots) (x : ℕ × Option SpaceHistory) → cs ≡ x ∷ [] → cs ≡ x ∷ rest cs
+alone cs x e = e ∙ ap (λ ds. x ∷ rest ds) (sym e)
+
+abbrev head_of : Slots → Option SpaceHistory
+head_of [] = None
+head_of (x ∷ xs) = x.1
+
+abbrev pub some_of : Option SpaceHistory → SpaceHistory
+some_of (Some h) = h
+some_of None = space_with no_config []
+
+-- The value that was taken out is the space that was there.
+pub taken : (cs : Slots) (h sp : SpaceHistory) (x : Option SpaceHistory) → cs ≡ (0, Some h) ∷ [] → cs ≡ (0, x) ∷ rest cs → x ≡ Some sp → sp ≡ h
+taken cs h sp x is got some_is = ap some_of (sym some_is ∙ (sym (ap head_of got) ∙ ap head_of is))
+
+-- The seat with another value in the slot.
+pub swapped : (m m' : Sat) (v : View) (x y : Option SpaceHistory) → m ≡ (v, (0, x) ∷ []) → m' ≡ (m.0, (0, y) ∷ rest m.1) → m' ≡ (v, (0, y) ∷ [])
+swapped m m' v x y is now = now ∙ ap (λ (n : Sat). (n.0, (0, y) ∷ rest n.1)) is
+
+-- ---- the space's answer
+
+pub space_is : (s : SpaceHistory) (config : SpaceConfig) (h : Events) → s.configuration ≡ config → s.events ≡ h → s ≡ space_with config h
+space_is s config h c e = ap₂ space_with c e
+
+pub noted_event : (noted : Result (Result Turn Refused × Asked) AllocError) (by m : ℕ) (a : Ask) → IfOk noted (λ x. x.1 ≡ entry_of m a x.0) → IfOk noted (λ x. event_of by x.1.moment x.1.ask ≡ event_of by m a)
+noted_event (Ok x) by m a h = ap (λ (n : Asked). event_of by n.moment n.ask) h
+noted_event (Err r) by m a h = tt
+
+pub noted_step : (noted : Result (Result Turn Refused × Asked) AllocError) (config : SpaceConfig) (h : Events) (s s2 : SpaceHistory) (e : Event) → s ≡ space_with config h
+    → IfOk noted (λ x. Step s.configuration s.events e x.0 s2.events) → OnErr noted (s2 ≡ s) → Step config h e (answer_of noted) s2.events
+noted_step (Ok x) config h s s2 e is step kept = subst (λ (y : SpaceHistory). Step y.configuration y.events e x.0 s2.events) is step
+noted_step (Err r) config h s s2 e is step kept = inr (refl, ap (λ (y : SpaceHistory). y.events) (kept ∙ is))
+
+pub after_step : (config : SpaceConfig) (h h2 : Events) (e : Event) (answer : Result Turn Refused) → Step config h e answer h2 → h2 ≡ events_after h e answer
+after_step config h h2 e (Ok turn) s = (taken-turn config h h2 e turn s).1
+after_step config h h2 e (Err refused) s = (refused-turn config h h2 e refused s).1
+
+-- ---- the turn
+
+-- The seat once its turn is over.
+abbrev pub after_turn : View → ℕ → Events → Event → Result Turn Refused → View
+after_turn v t h e answer = in_stage (told_of (in_hand v t h) t h e answer) Idle
+
+pub turned_at : (v w : View) (t : ℕ) (h : Events) (e : Event) (answer : Result Turn Refused) (h2 : Events) → v.stage ≡ Idle → MayComeTo v h → Step v.config h e answer h2 → w ≡ after_turn v t h e answer → TurnedAt v h e answer w
+turned_at v w t h e answer h2 idle came step is =
+    let seen : w.seen ≡ events_after h e answer = ap (λ (y : View). y.seen) is in record {
+      came = came;
+      step = subst (λ (z : Events). Step v.config h e answer z) (after_step v.config h h2 e answer step ∙ sym seen) step;
+      after = is ∙ (λ i. record v { drawn = v.drawn + 1; seen = sym seen i; own = own_after v.own e answer; stage = sym idle i });
+    }
+
+-- Other connections' events leave the calls that a connection runs.
+pub runs_there : (config : SpaceConfig) (by : ℕ) (seen others h : Events) (o : ObjId) → AreOfOthers by others → h ≡ seen ++ others → running (places config h) by o ≡ running (places config seen) by o
+runs_there config by seen others h o apart is = let sum = calls-add-up config by seen h [] o (others, apart, is) in omega (arith, sum)
+
+-- The answer of the ask's row, by the history that the space had.
+pub noted_row : (noted : Result (Result Turn Refused × Asked) AllocError) (config : SpaceConfig) (h : Events) (by : ℕ) (a : Ask) (s : SpaceHistory) → s ≡ space_with config h
+    → IfOk noted (λ x. IsAnswerTo (λ o. 0 < running (places s.configuration s.events) by o) a x.0) → IfOk noted (λ x. IsAnswerTo (λ o. 0 < running (places config h) by o) a x.0)
+noted_row noted config h by a s is row = subst (λ (y : SpaceHistory). IfOk noted (λ x. IsAnswerTo (λ o. 0 < running (places y.configuration y.events) by o) a x.0)) is row
+
+-- What a turn came to, by how its entry was made.
+pub noted_cases : (noted : Result (Result Turn Refused × Asked) AllocError) (v w : View) (before : Events) (by m : ℕ) (a : Ask) → TurnedAt v before (event_of by m a) (answer_of noted) w
+    → IfOk noted (λ x. IsAnswerTo (λ o. 0 < running (places v.config before) by o) a x.0) → MatchResult noted (λ x. TurnedBy v by m a x.0 w) (λ refused. TurnedBy v by m a (Err OutOfMemory) w)
+noted_cases (Ok x) v w before by m a t row = (before, t, row)
+noted_cases (Err r) v w before by m a t row = (before, t, tt)

@@ -1,0 +1,7 @@
+pub mod Answers
+pub mod Handles
+pub mod Lending
+pub mod Orders
+pub mod PortLaws
+pub mod Ports
+pub mod Rule

@@ -1,0 +1,235 @@
+-- The rule of the turn lock: what its words, its slot and its seats have to do with one history; and what each atomic step tells the seat
+-- that takes it.
+use Rattle.std.specs.Prelude.{◌≡◌, ◌≢◌, ◌==◌, ltb, ℕ, suc, ◌+◌, ◌-◌, ◌*◌, ◌<◌, ◌≤◌, pos, Bool, true, false, List, [], ◌∷◌, ◌++◌, length, filter, sum_by, Contains, if◌then◌else◌, Result, Ok, Err, Option, Some}
+use mathlib.Core.Option.{some, none}
+use mathlib.Core.Option as maybe
+use lib.ListN.{get_elem?}
+use Rattle.atomic_table.specs.Table.{State, Me, Step, rest}
+use Rattle.history.specs.declared.asks.SpaceConfig.{SpaceConfig}
+use Rattle.history.specs.declared.asks.Event.{Event}
+use Rattle.history.specs.declared.asks.Ask.{Ask}
+use Rattle.history.specs.declared.asks.Ask.TheVariants.{Tick}
+use Rattle.history.specs.declared.replies.Refused.{Refused}
+use Rattle.history.specs.declared.replies.Refused.TheVariants.{OutOfMemory}
+use Rattle.history.specs.declared.replies.Turn.{Turn}
+use Rattle.history.specs.Steps as history
+use Rattle.history.specs.Running.{running}
+use Rattle.history.specs.Table.{places}
+use Rattle.space.specs.Acts.{event_of}
+use Rattle.space.specs.Balance.{AreOfOthers}
+use Rattle.space.specs.Built.{SpaceHistory}
+use Rattle.space.specs.Ports.{IsAnswerTo}
+use Rattle.space.specs.declared.asked.Asked.{Asked}
+use Rattle.turn_lock.specs.declared.view.View.{View}
+use Rattle.turn_lock.specs.declared.view.Stage.{Stage}
+use Rattle.turn_lock.specs.declared.view.Stage.TheVariants.{Idle, Drawn, Called}
+
+-- ---- histories
+
+-- The events of a history, the oldest first.
+abbrev pub Events : Type 0
+Events = List Event
+
+abbrev pub StartsWith : Events → Events → Type 0
+StartsWith h front = (rest : Events) × (h ≡ front ++ rest)
+
+-- The events of a connection's number.
+abbrev pub events_by : ℕ → Events → Events
+events_by by h = filter (λ e. e.by == by) h
+
+abbrev pub longer : Events → Events → Events
+longer xs ys = if ltb (length xs) (length ys) then ys else xs
+
+abbrev pub space_with : SpaceConfig → Events → SpaceHistory
+space_with config h = record { configuration = config; events = h }
+
+-- ---- what seats know
+
+abbrev pub no_config : SpaceConfig
+no_config = record { lease_ms = 0; ack_ms = 0; uid = record { unique = pos 0; time = pos 0; count = pos 0 } }
+
+abbrev pub some_event : Event
+some_event = record { by = 0; moment = 0; ask = Tick }
+
+-- The first seat of a table round this space, which has all parts.
+abbrev pub root : SpaceHistory → View
+root s = record { number = 0; parts = 2147483649; drawn = 0; config = s.configuration; opening = s.events; seen = s.events; told = []; own = []; stage = Idle; made = 0; ended = [] }
+
+-- A seat that was joined.
+abbrev pub spent : View
+spent = record { number = 0; parts = 0; drawn = 0; config = no_config; opening = []; seen = []; told = []; own = []; stage = Idle; made = 0; ended = [] }
+
+abbrev pub in_stage : View → Stage → View
+in_stage v g = record v { stage = g }
+
+-- Of the events after the opening ones a history has just these of this number.
+abbrev pub HasOwn : Events → ℕ → Events → Events → Type 0
+HasOwn opening number own h = (tail : Events) × (h ≡ opening ++ tail) × (events_by number tail ≡ own)
+
+-- A history to which a pass may come that has seen less of it: the further events are of other connections. It is legal, and of the events
+-- after the opening ones it has just the pass's own of its number.
+pub record ComesTo (config : SpaceConfig) (number : ℕ) (opening seen own h : Events) : Type 0 where
+  pub others : Events
+  pub after : h ≡ seen ++ others
+  pub apart : AreOfOthers number others
+  pub legal : history.IsLegal config h
+  pub has_own : HasOwn opening number own h
+
+abbrev pub MayComeTo : View → Events → Type 0
+MayComeTo v h = ComesTo v.config v.number v.opening v.seen v.own h
+
+-- ---- the rule
+
+-- The slot's value, where it is at home.
+abbrev pub at_home : Bool → SpaceHistory → maybe.Option (Option SpaceHistory)
+at_home true s = none
+at_home false s = some (Some s)
+
+-- What a seat waits for: a ticket that was drawn is its own and still to be served; one that is called has the slot, and the whole history
+-- in hand.
+abbrev pub Waits : ℕ → ℕ → Bool → Events → (ℕ → ℕ) → ℕ → Stage → Type 0
+Waits ticket serving out log owner j Idle = Unit {0}
+Waits ticket serving out log owner j (Drawn t) = (serving ≤ t) × (t < ticket) × (owner t ≡ j)
+Waits ticket serving out log owner j (Called t hand) = (t ≡ serving) × (t < ticket) × (owner t ≡ j) × (hand ≡ log) × (out ≡ true)
+
+-- What a seat knows is so: its number is its place, what it has seen begins the history, and its own events are those of its number after
+-- the opening, in all of the history and in what it has seen.
+pub record KnowsOf (s : SpaceHistory) (tail : Events) (j number : ℕ) (config : SpaceConfig) (opening seen told own : Events) : Type 0 where
+  pub numbered : number ≡ j
+  pub configured : config ≡ s.configuration
+  pub opened : opening ≡ s.events
+  pub begun : StartsWith (s.events ++ tail) seen
+  pub begun_told : StartsWith (s.events ++ tail) told
+  pub owned : events_by j tail ≡ own
+  pub owned_seen : HasOwn s.events j own seen
+
+abbrev pub Knows : SpaceHistory → Events → ℕ → View → Type 0
+Knows s tail j v = KnowsOf s tail j v.number v.config v.opening v.seen v.told v.own
+
+pub record Fits (s : SpaceHistory) (tail : Events) (ticket serving : ℕ) (out : Bool) (owner : ℕ → ℕ) (j : ℕ) (v : View) : Type 0 where
+  pub mine : 0 < v.parts → Knows s tail j v
+  pub room : v.drawn ≤ 2147483648 * v.parts
+  pub still : v.parts ≡ 0 → v.stage ≡ Idle
+  pub waits : Waits ticket serving out (s.events ++ tail) owner j v.stage
+
+-- A pass that has ended made these events, and has no part any more.
+abbrev pub HasEnded : Events → List View → ℕ × Events → Type 0
+HasEnded tail views p = (events_by p.0 tail ≡ p.1) × ((u : View) × (get_elem? views p.0 ≡ some u) × (u.parts ≡ 0))
+
+-- A table round a space: the words are the tickets and the length of one history, which is legal and goes on from the space's; the slot has
+-- the space with this history, but while the pass that is called has it out; each seat knows what is so; and no event after the opening has
+-- a number that no pass has.
+pub record Kept (s : SpaceHistory) (t : State (Option SpaceHistory) View) : Type 0 where
+  pub ticket : ℕ
+  pub serving : ℕ
+  pub tail : Events
+  pub out : Bool
+  pub owner : ℕ → ℕ
+  pub words : t.words ≡ ticket ∷ serving ∷ length (s.events ++ tail) ∷ []
+  pub order : serving ≤ ticket
+  pub legal : history.IsLegal s.configuration (s.events ++ tail)
+  pub home : t.homes ≡ at_home out (space_with s.configuration (s.events ++ tail)) ∷ []
+  pub caller : out ≡ true → (v : View) × (get_elem? t.views (owner serving) ≡ some v) × (v.stage ≡ Called serving (s.events ++ tail))
+  pub each : (j : ℕ) (v : View) → get_elem? t.views j ≡ some v → Fits s tail ticket serving out owner j v
+  pub strangers : (n : ℕ) → length t.views ≤ n → events_by n tail ≡ []
+  pub drawn : sum_by (λ v. v.drawn) t.views ≡ ticket
+  pub parts : sum_by (λ v. v.parts) t.views ≡ 2147483649
+  pub counted : (v : View) → get_elem? t.views 0 ≡ some v → length t.views ≡ suc v.made
+  pub ended : (v : View) → get_elem? t.views 0 ≡ some v → (p : ℕ × Events) → Contains v.ended p → HasEnded tail t.views p
+  pub spent_ones : (v : View) → get_elem? t.views 0 ≡ some v → (j : ℕ) (u : View) → get_elem? t.views j ≡ some u → u.parts ≡ 0 → (l : Events) × Contains v.ended (j, l)
+
+-- ---- what the steps tell
+
+abbrev pub Sat : Type 0
+Sat = Me (Option SpaceHistory) View
+
+abbrev pub At : Type 0
+At = Step (Option SpaceHistory)
+
+-- The slot, with this space in it.
+abbrev pub holding : SpaceHistory → List (ℕ × Option SpaceHistory)
+holding s = (0, Some s) ∷ []
+
+abbrev pub drew : At → Sat → ℕ → Sat → Type 0
+drew st m n m' = m' ≡ (record m.0 { stage = Drawn n; drawn = m.0.drawn + 1 }, m.1)
+
+-- Where the word is the ticket, the seat has the slot with the space, and knows its history.
+abbrev pub looked : At → Sat → ℕ → Sat → Type 0
+looked st m n m' = (t : ℕ) → m.0.stage ≡ Drawn t
+    → (n ≡ t → (h : Events) × (m' ≡ (in_stage m.0 (Called n h), holding (space_with m.0.config h))) × MayComeTo m.0 h) × (n ≢ t → m' ≡ m)
+
+abbrev pub published : Event → At → Sat → ℕ → Sat → Type 0
+published e st m n m' = (t : ℕ) (h : Events) → m.0.stage ≡ Called t h → m' ≡ (record m.0 { seen = h ++ e ∷ []; own = m.0.own ++ e ∷ []; stage = Called t (h ++ e ∷ []) }, m.1)
+
+abbrev pub passed_over : At → Sat → ℕ → Sat → Type 0
+passed_over st m n m' = (t : ℕ) (h : Events) → m.0.stage ≡ Called t h → m' ≡ (record m.0 { seen = h; stage = Called t h }, m.1)
+
+abbrev pub advanced : At → Sat → ℕ → Sat → Type 0
+advanced st m n m' = m' ≡ (in_stage m.0 Idle, rest m.1)
+
+-- The longer of what was seen and what was told of is seen, which begins with both.
+abbrev pub absorbed : At → Sat → ℕ → Sat → Type 0
+absorbed st m n m' = (m' ≡ (record m.0 { seen = longer m.0.seen m.0.told }, m.1)) × StartsWith m'.0.seen m.0.seen × StartsWith m'.0.seen m.0.told
+
+abbrev pub left_of : View → View
+left_of v = record v { parts = v.parts - 1; made = v.made + 1 }
+
+abbrev pub right_of : View → View
+right_of v = record { number = v.made + 1; parts = 1; drawn = 0; config = v.config; opening = v.opening; seen = v.seen; told = []; own = []; stage = Idle; made = 0; ended = [] }
+
+abbrev pub both_of : View → View → View
+both_of v w = record v { parts = v.parts + w.parts; drawn = v.drawn + w.drawn; told = w.seen; ended = v.ended ++ (w.number, w.own) ∷ [] }
+
+-- The seat whose ticket t is served, with a history in hand.
+abbrev pub in_hand : View → ℕ → Events → View
+in_hand v t h = record v { stage = Called t h; drawn = v.drawn + 1 }
+
+-- ---- what calls do
+
+-- The root after it joined a pass.
+abbrev pub joined_of : View → View → View
+joined_of v w = record v { parts = v.parts + w.parts; drawn = v.drawn + w.drawn; seen = longer v.seen w.seen; told = w.seen; ended = v.ended ++ (w.number, w.own) ∷ [] }
+
+-- A pass's own events after this answer.
+abbrev pub own_after : Events → Event → Result Turn Refused → Events
+own_after own e (Ok turn) = own ++ e ∷ []
+own_after own e (Err refused) = own
+
+-- The history after this answer.
+abbrev pub events_after : Events → Event → Result Turn Refused → Events
+events_after h e (Ok turn) = h ++ e ∷ []
+events_after h e (Err refused) = h
+
+-- The seat once the answer to its event is published.
+abbrev pub told_of : View → ℕ → Events → Event → Result Turn Refused → View
+told_of v t h e answer = record v { seen = events_after h e answer; own = own_after v.own e answer; stage = Called t (events_after h e answer) }
+
+-- The answer of a turn with its entry.
+abbrev pub answer_of : {E : Type 0} → Result (Result Turn Refused × Asked) E → Result Turn Refused
+answer_of (Ok noted) = noted.0
+answer_of (Err refused) = Err OutOfMemory
+
+-- What a turn with this event and this answer, at this place, does to a pass: the pass may come to the history before it, of which it had
+-- seen a beginning; the answer is that of the event there; and afterwards the pass has seen that history, with the event if it was taken.
+pub record TurnedAt (v : View) (before : Events) (e : Event) (answer : Result Turn Refused) (w : View) : Type 0 where
+  pub came : MayComeTo v before
+  pub step : history.Step v.config before e answer w.seen
+  pub after : w ≡ record v { drawn = v.drawn + 1; seen = w.seen; own = own_after v.own e answer }
+
+-- A pass asked this as connection `by`, was answered so at some place, as the ask may be where the connection runs those calls, and knows this
+-- now.
+abbrev pub TurnedBy : View → ℕ → ℕ → Ask → Result Turn Refused → View → Type 0
+TurnedBy v by moment ask answer w = (before : Events) × TurnedAt v before (event_of by moment ask) answer w × IsAnswerTo (λ o. 0 < running (places v.config before) by o) ask answer
+
+-- All passes have ended: a history is legal, begins with the opening one and with what the root has seen, and its further events are the
+-- root's own, those of the passes that were joined, each pass's in its order, and no others.
+pub record Settled (s : SpaceHistory) (v : View) (h : SpaceHistory) : Type 0 where
+  pub same : h.configuration ≡ s.configuration
+  pub legal : history.IsLegal s.configuration h.events
+  pub tail : Events
+  pub begins : h.events ≡ s.events ++ tail
+  pub seen : StartsWith h.events v.seen
+  pub roots : events_by 0 tail ≡ v.own
+  pub joined : (p : ℕ × Events) → Contains v.ended p → events_by p.0 tail ≡ p.1
+  pub each : (n : ℕ) → 0 < n → n ≤ v.made → (own : Events) × Contains v.ended (n, own)
+  pub no_others : (n : ℕ) → v.made < n → events_by n tail ≡ []

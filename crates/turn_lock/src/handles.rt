@@ -1,0 +1,34 @@
+//! What callers hold.
+ghost use Rattle.std.specs.Prelude.{◌≡◌};
+
+use crate::table::{LockSeat, LockTable};
+
+/// A lock round a space, at which passes take turns in the order of their tickets.
+#[derive(Drop)]
+pub struct TurnLock {
+    pub(crate) board: LockTable,
+    ghost sized: { (board.shared.table_id.words ≡ 3) × (board.shared.table_id.slots ≡ 1) },
+}
+
+/// What one thread makes its turns with. Its number is the connection's number of its events.
+#[derive(Drop)]
+pub struct Pass {
+    pub(crate) seat: LockSeat,
+    pub(crate) number: u32,
+    pub(crate) room: u32,
+}
+
+/// The pass with number 0, which makes the others and takes them back.
+#[derive(Drop)]
+pub struct Root {
+    pub(crate) pass: Pass,
+    pub(crate) made: u32,
+    pub(crate) out: u32,
+}
+
+/// Why no pass was made.
+#[derive(Clone, Copy, Debug, PartialEq, Eq)]
+pub enum SplitFault {
+    /// 2^31 passes were made.
+    TooManyPasses,
+}

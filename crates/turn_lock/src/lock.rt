@@ -1,0 +1,196 @@
+//! What callers do with a lock.
+ghost use Rattle.std.specs.Prelude.{◌≡◌, ◌≢◌, ◌+◌, ◌<◌, ◌≤◌, ◌^◌, [], length, MatchResult, Ok, Err, IfOk};
+ghost use Rattle.history.specs.declared.asks.Ask.TheVariants.{Abandon};
+ghost use Rattle.history.specs.Running.{running};
+ghost use Rattle.history.specs.Steps.{turn_of};
+ghost use Rattle.history.specs.Table.{places};
+ghost use Rattle.space.specs.Acts.{event_of};
+ghost use Rattle.space.specs.Built.{IsBuilt};
+ghost use Rattle.space.specs.Entries.{entry_of};
+ghost use Rattle.turn_lock.specs.Rule.{Events, TurnedAt, TurnedBy, Settled, StartsWith, left_of, right_of, joined_of};
+ghost use Rattle.turn_lock.specs.Handles.{IsPassOf, IsBranchOf, IsFresh, IsRootOf, opening_of, view_of};
+
+use crate::handles::{Pass, Root, SplitFault, TurnLock};
+use crate::steps;
+use crate::table::{Absorb, Parts, TICKET};
+use atomic_table::{Refused as NoRoom, Table};
+use history::{Ask, Refused, Turn};
+use object_ids::ObjId;
+use space::{Asked, Space};
+use std::alloc::{AllocError, AllocFailed, Global};
+use std::snapshot::Snapshot;
+use std::sync::Wait;
+
+/// How many passes a lock makes at most, and how many turns a pass.
+const MOST: u32 = 2147483648;
+
+impl TurnLock {
+    /// A lock round a space, and its root. It is refused only for want of memory; then the space comes back.
+    pub fn around(alloc: Global, space: Space) -> Result<(TurnLock, Root), Space>
+        ensures { MatchResult result (λ t. IsFresh t.0 t.1 × (opening_of t.0 ≡ space)) (λ s. s ≡ space) }
+    {
+        let about = Snapshot::of(&space);
+        let length = space.len();
+        let mut slots = Vec::new(alloc);
+        if let Err(failed) = slots.push(Some(space)) {
+            let AllocFailed { value } = failed;
+            return Err(value.unwrap());
+        }
+        match Table::new(alloc, &[0, 0, length], slots, &about) {
+            Ok((board, seat)) => {
+                let pass = Pass {
+                    seat,
+                    number: 0,
+                    room: MOST,
+                };
+                let root = Root {
+                    pass,
+                    made: 0,
+                    out: 0,
+                };
+                Ok((TurnLock { board }, root))
+            }
+            Err(NoRoom { mut slots }) => Err(slots.pop().unwrap().unwrap()),
+        }
+    }
+
+    /// The space, once all passes were joined: its history is legal and begins with the one that the lock was made with and with what the
+    /// root has seen. Its further events are the root's own and those of the joined passes, each pass's in its order.
+    pub fn close(self, root: Root) -> Space
+        requires own { IsRootOf self root }
+        requires all { root.out ≡ 0 }
+        ensures settled { Settled (opening_of self) (view_of root.pass) result }
+    {
+        let TurnLock { board } = self;
+        let Root {
+            pass,
+            made: _,
+            out: _,
+        } = root;
+        let Pass {
+            seat,
+            number: _,
+            room: _,
+        } = pass;
+        let mut closed = board.close_with(seat);
+        let space = closed.take(0);
+        closed.free();
+        space.unwrap()
+    }
+}
+
+impl Root {
+    /// A pass with the next number, from 1 on, which has seen what the root has seen. TooManyPasses comes exactly where 2^31 passes were
+    /// made. It takes no memory.
+    pub fn split(&mut self, lock: &TurnLock) -> Result<Pass, SplitFault>
+        requires own { IsRootOf lock.now self.old }
+        ensures root { IsRootOf lock.now self.new }
+        ensures pass { MatchResult result
+            (λ p. IsBranchOf lock.now p × (p.room ≡ 2147483648) × (view_of p ≡ right_of (view_of self.old.pass)) × (view_of self.new.pass ≡ left_of (view_of self.old.pass))
+            × (self.new.made ≡ self.old.made + 1) × (self.new.out ≡ self.old.out + 1) × (self.new.pass.room ≡ self.old.pass.room))
+            (λ fault. (self.old.made ≡ 2147483648) × (self.new ≡ self.old)) }
+    {
+        if self.made == MOST {
+            return Err(SplitFault::TooManyPasses);
+        }
+        let seat = lock.board.shared.split_seat::<Parts>(&mut self.pass.seat);
+        self.made += 1;
+        self.out += 1;
+        Ok(Pass {
+            seat,
+            number: self.made,
+            room: MOST,
+        })
+    }
+
+    /// Takes a pass back: the root has then seen what the pass has seen, and keeps the list of its events beside its number.
+    pub fn join(&mut self, lock: &TurnLock, pass: Pass)
+        requires own { IsRootOf lock.now self.old × IsBranchOf lock.now pass }
+        requires some { 0 < self.old.out }
+        ensures root { IsRootOf lock.now self.new × (self.new.out + 1 ≡ self.old.out) }
+        ensures made { self.new.made ≡ self.old.made }
+        ensures room { self.new.pass.room ≡ self.old.pass.room }
+        ensures view { view_of self.new.pass ≡ joined_of (view_of self.old.pass) (view_of pass) }
+        ensures seen { StartsWith (view_of self.new.pass).seen (view_of self.old.pass).seen × StartsWith (view_of self.new.pass).seen (view_of pass).seen }
+    {
+        let Pass {
+            seat,
+            number: _,
+            room: _,
+        } = pass;
+        lock.board
+            .shared
+            .join_seat::<Parts>(&mut self.pass.seat, seat);
+        lock.board
+            .shared
+            .load::<Absorb>(&mut self.pass.seat, TICKET);
+        self.out -= 1;
+    }
+
+    /// How many passes were split and not joined.
+    pub fn out(&self) -> u32
+        ensures { result ≡ self.now.out }
+    {
+        self.out
+    }
+}
+
+impl Pass {
+    /// One turn, with its entry. It waits for its ticket.
+    pub(crate) fn turn<R: Wait>(
+        &mut self,
+        rt: &R,
+        lock: &TurnLock,
+        moment: u64,
+        ask: Ask,
+    ) -> Result<(Result<Turn, Refused>, Asked), AllocError>
+        requires own { IsPassOf lock.now self.old }
+        requires room { 0 < self.old.room }
+        requires moment { moment < 2 ^ 62 }
+        requires built { IsBuilt ask }
+        ensures pass { IsPassOf lock.now self.new × (self.new.room + 1 ≡ self.old.room) × (self.new.seat.id ≡ self.old.seat.id) × (self.new.number ≡ self.old.number) }
+        ensures turned { MatchResult result (λ x. TurnedBy (view_of self.old) self.old.number moment ask x.0 (view_of self.new))
+            (λ refused. TurnedBy (view_of self.old) self.old.number moment ask (Err Refused.OutOfMemory) (view_of self.new)) }
+        ensures noted { IfOk result (λ x. x.1 ≡ entry_of moment ask x.0) }
+        ensures known { IfOk result (λ x. x.0 ≢ Err Refused.OutOfMemory) }
+    {
+        let noted = steps::turn(
+            rt,
+            &lock.board.shared,
+            &mut self.seat,
+            self.number,
+            moment,
+            ask,
+        );
+        self.room -= 1;
+        noted
+    }
+
+    /// One turn that ends a call which the pass runs, without an answer, and the place of its event. It takes no memory.
+    pub(crate) fn abandon<R: Wait>(
+        &mut self,
+        rt: &R,
+        lock: &TurnLock,
+        moment: u64,
+        object: ObjId,
+    ) -> u64
+        requires own { IsPassOf lock.now self.old }
+        requires room { 0 < self.old.room }
+        requires moment { moment < 2 ^ 62 }
+        requires runs { 0 < running (places (view_of self.old).config (view_of self.old).seen) self.old.number object }
+        ensures pass { IsPassOf lock.now self.new × (self.new.room + 1 ≡ self.old.room) × (self.new.seat.id ≡ self.old.seat.id) × (self.new.number ≡ self.old.number) }
+        ensures turned { (before : Events) × TurnedAt (view_of self.old) before (event_of self.old.number moment (Abandon object)) (Ok (turn_of (view_of self.old).config before (event_of self.old.number moment (Abandon object)))) (view_of self.new)
+            × (result ≡ length before) × (0 < running (places (view_of self.old).config before) self.old.number object) }
+    {
+        let place = steps::abandon(
+            rt,
+            &lock.board.shared,
+            &mut self.seat,
+            self.number,
+            moment,
+            object,
+        );
+        self.room -= 1;
+        place
+    }
+}

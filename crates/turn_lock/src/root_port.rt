@@ -1,0 +1,87 @@
+//! The root's own pass.
+ghost use Rattle.std.specs.Prelude.{◌≡◌, ◌+◌, ◌<◌, ◌≤◌, ◌^◌, [], vec_capacity};
+ghost use Rattle.std.specs.Borrow.{sem};
+ghost use Rattle.space.specs.Ties.{IsTied};
+ghost use Rattle.space.specs.Built.{IsBuilt};
+ghost use Rattle.space.specs.Ports.{entries_of};
+ghost use Rattle.turn_lock.specs.Handles.{IsPassOf, IsRootOf, seen_space, view_of};
+ghost use Rattle.turn_lock.specs.Lending.{LendsPass};
+ghost use Rattle.turn_lock.specs.Ports.{PassWent};
+
+use crate::handles::{Pass, Root, TurnLock};
+use crate::port::{PortOver, SeatPort};
+use history::{Ask, Refused, Turn};
+use space::{AskedList, Port};
+use std::alloc::Global;
+use std::sync::Wait;
+
+impl Root {
+    /// A port over the root's own pass, number 0.
+    pub fn port<'a, R: Wait>(
+        &'a mut self,
+        rt: &'a R,
+        alloc: Global,
+        lock: &'a TurnLock,
+    ) -> SeatPort<'a, R>
+        requires own { IsRootOf lock.now self.old }
+        ensures* writes_back { sem 𝓛 (LendsPass self.entry result.pass) }
+        ensures values { (result.pass.now ≡ self.old.pass) × (result.lock.now ≡ lock.now) × (result.asked.items ≡ []) }
+        ensures ready { IsTied (view_of result.pass.now).number (seen_space (view_of result.pass.now)) result.asked.items (vec_capacity result.asked) }
+    {
+        let pass = &mut self.pass;
+        PortOver::new(rt, alloc, lock, pass)
+    }
+
+    /// The root's own pass, number 0.
+    pub fn own(&mut self) -> &mut Pass
+        ensures* writes_back { sem 𝓛 (LendsPass self.entry result) }
+        ensures value { result.now ≡ self.old.pass }
+    {
+        &mut self.pass
+    }
+
+    /// One turn of the root's own pass, and its entries: one, or none where there was no memory.
+    pub fn turn<R: Wait>(
+        &mut self,
+        rt: &R,
+        alloc: Global,
+        lock: &TurnLock,
+        moment: u64,
+        ask: Ask,
+    ) -> (Result<Turn, Refused>, AskedList)
+        requires own { IsRootOf lock.now self.old }
+        requires room { 0 < self.old.pass.room }
+        requires moment { moment < 2 ^ 62 }
+        requires built { IsBuilt ask }
+        ensures root { IsRootOf lock.now self.new }
+        ensures counts { (self.new.made ≡ self.old.made) × (self.new.out ≡ self.old.out) }
+        ensures went { PassWent self.old.pass self.new.pass result.1 }
+        ensures asked { result.1 ≡ entries_of moment ask result.0 }
+        ensures room { self.old.pass.room ≤ self.new.pass.room + 1 }
+    {
+        turned(rt, alloc, lock, self.own(), moment, ask)
+    }
+}
+
+/// One turn of a pass, and its entries.
+fn turned<R: Wait>(
+    rt: &R,
+    alloc: Global,
+    lock: &TurnLock,
+    pass: &mut Pass,
+    moment: u64,
+    ask: Ask,
+) -> (Result<Turn, Refused>, AskedList)
+    requires own { IsPassOf lock.now pass.old }
+    requires room { 0 < pass.old.room }
+    requires moment { moment < 2 ^ 62 }
+    requires built { IsBuilt ask }
+    ensures own { IsPassOf lock.now pass.new }
+    ensures went { PassWent pass.old pass.new result.1 }
+    ensures asked { result.1 ≡ entries_of moment ask result.0 }
+    ensures room { pass.old.room ≤ pass.new.room + 1 }
+{
+    let mut port = SeatPort::new(rt, alloc, lock, pass);
+    let answer = port.turn(moment, ask);
+    (answer, port.into_asked())
+}

@@ -1,0 +1,202 @@
+//! The steps of one seat.
+ghost use Rattle.std.specs.Prelude.{◌≡◌, ◌≢◌, ℕ, ◌+◌, ◌*◌, ◌<◌, ◌^◌, ◌∷◌, ◌++◌, [], Ok, Err, None, length, IfOk};
+ghost use Rattle.history.specs.declared.asks.Ask.TheVariants.{Abandon};
+ghost use Rattle.history.specs.declared.asks.Event.{Event};
+ghost use Rattle.history.specs.Running.{running};
+ghost use Rattle.history.specs.Steps.{turn_of};
+ghost use Rattle.history.specs.Table.{places};
+ghost use Rattle.space.specs.Acts.{event_of};
+ghost use Rattle.space.specs.Built.{IsBuilt};
+ghost use Rattle.space.specs.Entries.{entry_of};
+ghost use Rattle.space.specs.Ports.{IsAnswerTo};
+ghost use Rattle.turn_lock.specs.declared.view.Stage.TheVariants.{Idle, Drawn, Called};
+ghost use Rattle.turn_lock.specs.Rule.{Events, MayComeTo, TurnedAt, answer_of, events_after, holding, in_hand, in_stage, space_with, told_of};
+
+use crate::table::{
+    Advance, Draw, LENGTH, LockSeat, Look, Naming, PassOver, Publish, SERVING, SharedTable, TICKET,
+};
+use crate::waiting::{approach, pause, wake};
+use history::{Ask, Refused, Turn};
+use object_ids::ObjId;
+use space::{Asked, Space};
+use std::alloc::AllocError;
+use std::marker::Brand;
+use std::sync::Wait;
+
+/// Draws a ticket.
+fn draw(shared: &SharedTable, seat: &mut LockSeat) -> u64
+    requires table { (seat.old.table_id ≡ shared.now.table_id) × (shared.now.table_id.words ≡ 3) × (shared.now.table_id.slots ≡ 1) }
+    requires idle { (seat.old.me.0.stage ≡ Idle) × (seat.old.me.1 ≡ []) × (seat.old.me.0.drawn < 2147483648 * seat.old.me.0.parts) }
+    ensures seat { (seat.new.table_id ≡ seat.old.table_id) × (seat.new.id ≡ seat.old.id) }
+    ensures view { seat.new.me ≡ (record seat.old.me.0 { stage = Drawn result; drawn = seat.old.me.0.drawn + 1 }, []) }
+{
+    shared.fetch_add::<Draw>(seat, TICKET, 1)
+}
+
+/// Waits until the ticket is served. Then the seat has the slot.
+fn wait<R: Wait>(rt: &R, shared: &SharedTable, seat: &mut LockSeat, ticket: u64)
+    requires table { (seat.old.table_id ≡ shared.now.table_id) × (shared.now.table_id.words ≡ 3) × (shared.now.table_id.slots ≡ 1) }
+    requires drawn { (seat.old.me.0.stage ≡ Drawn ticket) × (seat.old.me.1 ≡ []) × (0 < seat.old.me.0.parts) }
+    ensures seat { (seat.new.table_id ≡ seat.old.table_id) × (seat.new.id ≡ seat.old.id) }
+    ensures view { (h : Events) × (seat.new.me ≡ (in_stage seat.old.me.0 (Called ticket h), holding (space_with seat.old.me.0.config h))) × MayComeTo seat.old.me.0 h }
+{
+    let mut looks = 0u32;
+    for _ in rt.forever() {
+        let served = shared.load::<Look>(seat, SERVING);
+        if served == ticket {
+            return;
+        }
+        pause(rt, shared, SERVING, served, looks);
+        looks = looks.saturating_add(1);
+    }
+    unreachable!()
+}
+
+/// Waits for its turn, and takes the space out of the slot.
+fn enter<R: Wait>(rt: &R, shared: &SharedTable, seat: &mut LockSeat) -> Space
+    requires table { (seat.old.table_id ≡ shared.now.table_id) × (shared.now.table_id.words ≡ 3) × (shared.now.table_id.slots ≡ 1) }
+    requires idle { (seat.old.me.0.stage ≡ Idle) × (seat.old.me.1 ≡ []) × (seat.old.me.0.drawn < 2147483648 * seat.old.me.0.parts) }
+    ensures seat { (seat.new.table_id ≡ seat.old.table_id) × (seat.new.id ≡ seat.old.id) }
+    ensures entered { (t : ℕ) × (h : Events) × MayComeTo seat.old.me.0 h × (result ≡ space_with seat.old.me.0.config h) × (seat.new.me ≡ (in_hand seat.old.me.0 t h, (0, None) ∷ [])) }
+{
+    approach(rt, shared);
+    let ticket = draw(shared, seat);
+    wait(rt, shared, seat, ticket);
+    shared.exchange(seat, 0, None).unwrap()
+}
+
+/// Publishes the length of the history with an event, which the history in hand has from now on.
+fn publish<N: Naming>(
+    shared: &SharedTable,
+    seat: &mut LockSeat,
+    by: u32,
+    moment: u64,
+    ask: &Ask,
+    space: &Space,
+)
+    requires table { (seat.old.table_id ≡ shared.now.table_id) × (shared.now.table_id.words ≡ 3) × (shared.now.table_id.slots ≡ 1) }
+    requires named { event_of by moment ask.now ≡ N.event }
+    requires called { (t : ℕ) × (h : Events) × (seat.old.me.0.stage ≡ Called t h) × (0 < seat.old.me.0.parts) × (by ≡ seat.old.me.0.number) × (space.now ≡ space_with seat.old.me.0.config (h ++ event_of by moment ask.now ∷ [])) }
+    ensures seat { (seat.new.table_id ≡ seat.old.table_id) × (seat.new.id ≡ seat.old.id) }
+    ensures view { (t : ℕ) (h : Events) → seat.old.me.0.stage ≡ Called t h → seat.new.me ≡
+        (record seat.old.me.0 { seen = h ++ event_of by moment ask.now ∷ []; own = seat.old.me.0.own ++ event_of by moment ask.now ∷ []; stage = Called t (h ++ event_of by moment ask.now ∷ []) }, seat.old.me.1) }
+{
+    shared.store::<Publish<N>>(seat, LENGTH, space.len());
+}
+
+/// Publishes the length of the history in hand, which was seen, without an event.
+fn pass_over(shared: &SharedTable, seat: &mut LockSeat, space: &Space)
+    requires table { (seat.old.table_id ≡ shared.now.table_id) × (shared.now.table_id.words ≡ 3) × (shared.now.table_id.slots ≡ 1) }
+    requires called { (t : ℕ) × (h : Events) × (seat.old.me.0.stage ≡ Called t h) × (0 < seat.old.me.0.parts) × (space.now ≡ space_with seat.old.me.0.config h) }
+    ensures seat { (seat.new.table_id ≡ seat.old.table_id) × (seat.new.id ≡ seat.old.id) }
+    ensures view { (t : ℕ) (h : Events) → seat.old.me.0.stage ≡ Called t h → seat.new.me ≡ (record seat.old.me.0 { seen = h; stage = Called t h }, seat.old.me.1) }
+{
+    shared.store::<PassOver>(seat, LENGTH, space.len());
+}
+
+/// Publishes what the answer to an event says of it.
+fn tell(
+    shared: &SharedTable,
+    seat: &mut LockSeat,
+    by: u32,
+    space: &Space,
+    answer: &Result<Turn, Refused>,
+    entry: &Asked,
+)
+    requires table { (seat.old.table_id ≡ shared.now.table_id) × (shared.now.table_id.words ≡ 3) × (shared.now.table_id.slots ≡ 1) }
+    requires called { (t : ℕ) × (h : Events) × (seat.old.me.0.stage ≡ Called t h) × (0 < seat.old.me.0.parts) × (by ≡ seat.old.me.0.number) × (space.now ≡ space_with seat.old.me.0.config (events_after h (event_of by entry.now.moment entry.now.ask) answer.now)) }
+    ensures seat { (seat.new.table_id ≡ seat.old.table_id) × (seat.new.id ≡ seat.old.id) }
+    ensures view { (t : ℕ) (h : Events) → seat.old.me.0.stage ≡ Called t h → seat.new.me ≡ (told_of seat.old.me.0 t h (event_of by entry.now.moment entry.now.ask) answer.now, seat.old.me.1) }
+{
+    match answer {
+        Ok(_turn) => publish::<Brand>(shared, seat, by, entry.moment, &entry.ask, space),
+        Err(_refused) => pass_over(shared, seat, space),
+    }
+}
+
+/// Publishes what a turn with its entry says of the event that connection `by` asked at a moment.
+fn tell_noted(
+    shared: &SharedTable,
+    seat: &mut LockSeat,
+    by: u32,
+    space: &Space,
+    noted: &Result<(Result<Turn, Refused>, Asked), AllocError>,
+)
+    requires table { (seat.old.table_id ≡ shared.now.table_id) × (shared.now.table_id.words ≡ 3) × (shared.now.table_id.slots ≡ 1) }
+    requires called { (t : ℕ) × (h : Events) × (e : Event) × (seat.old.me.0.stage ≡ Called t h) × (0 < seat.old.me.0.parts) × (by ≡ seat.old.me.0.number)
+        × IfOk noted.now (λ x. event_of by x.1.moment x.1.ask ≡ e) × (space.now ≡ space_with seat.old.me.0.config (events_after h e (answer_of noted.now))) }
+    ensures seat { (seat.new.table_id ≡ seat.old.table_id) × (seat.new.id ≡ seat.old.id) }
+    ensures view { (t : ℕ) (h : Events) (e : Event) → seat.old.me.0.stage ≡ Called t h → IfOk noted.now (λ x. event_of by x.1.moment x.1.ask ≡ e) →
+        seat.new.me ≡ (told_of seat.old.me.0 t h e (answer_of noted.now), seat.old.me.1) }
+{
+    match noted {
+        Ok((answer, entry)) => tell(shared, seat, by, space, answer, entry),
+        Err(_refused) => pass_over(shared, seat, space),
+    }
+}
+
+/// Gives the space back, and lets the next ticket be served.
+fn leave(shared: &SharedTable, seat: &mut LockSeat, space: Space)
+    requires table { (seat.old.table_id ≡ shared.now.table_id) × (shared.now.table_id.words ≡ 3) × (shared.now.table_id.slots ≡ 1) }
+    requires called { (t : ℕ) × (h : Events) × (seat.old.me.0.stage ≡ Called t h) × (0 < seat.old.me.0.parts) × (seat.old.me.1 ≡ (0, None) ∷ []) × (space ≡ space_with seat.old.me.0.config h) }
+    ensures seat { (seat.new.table_id ≡ seat.old.table_id) × (seat.new.id ≡ seat.old.id) }
+    ensures view { seat.new.me ≡ (in_stage seat.old.me.0 Idle, []) }
+{
+    drop(shared.exchange(seat, 0, Some(space)));
+    let served = shared.fetch_add::<Advance>(seat, SERVING, 1);
+    wake(shared, served.wrapping_add(1));
+}
+
+/// One turn of the pass with this number, with its entry.
+pub(crate) fn turn<R: Wait>(
+    rt: &R,
+    shared: &SharedTable,
+    seat: &mut LockSeat,
+    by: u32,
+    moment: u64,
+    ask: Ask,
+) -> Result<(Result<Turn, Refused>, Asked), AllocError>
+    requires table { (seat.old.table_id ≡ shared.now.table_id) × (shared.now.table_id.words ≡ 3) × (shared.now.table_id.slots ≡ 1) }
+    requires idle { (seat.old.me.0.stage ≡ Idle) × (seat.old.me.1 ≡ []) × (seat.old.me.0.drawn < 2147483648 * seat.old.me.0.parts) }
+    requires number { by ≡ seat.old.me.0.number }
+    requires moment { moment < 2 ^ 62 }
+    requires built { IsBuilt ask }
+    ensures seat { (seat.new.table_id ≡ seat.old.table_id) × (seat.new.id ≡ seat.old.id) × (seat.new.me.1 ≡ []) }
+    ensures turned { (before : Events) × TurnedAt seat.old.me.0 before (event_of by moment ask) (answer_of result) seat.new.me.0
+        × IfOk result (λ x. IsAnswerTo (λ o. 0 < running (places seat.old.me.0.config before) by o) ask x.0) }
+    ensures noted { IfOk result (λ x. x.1 ≡ entry_of moment ask x.0) }
+    ensures known { IfOk result (λ x. x.0 ≢ Err Refused.OutOfMemory) }
+{
+    let mut space = enter(rt, shared, seat);
+    let noted = space.turn_noted(by, moment, ask);
+    tell_noted(shared, seat, by, &space, &noted);
+    leave(shared, seat, space);
+    noted
+}
+
+/// One turn that ends a call which the pass runs, without an answer. It takes no memory, and answers the place of the event.
+pub(crate) fn abandon<R: Wait>(
+    rt: &R,
+    shared: &SharedTable,
+    seat: &mut LockSeat,
+    by: u32,
+    moment: u64,
+    object: ObjId,
+) -> u64
+    requires table { (seat.old.table_id ≡ shared.now.table_id) × (shared.now.table_id.words ≡ 3) × (shared.now.table_id.slots ≡ 1) }
+    requires idle { (seat.old.me.0.stage ≡ Idle) × (seat.old.me.1 ≡ []) × (seat.old.me.0.drawn < 2147483648 * seat.old.me.0.parts) }
+    requires number { by ≡ seat.old.me.0.number }
+    requires moment { moment < 2 ^ 62 }
+    requires runs { 0 < running (places seat.old.me.0.config seat.old.me.0.seen) by object }
+    ensures seat { (seat.new.table_id ≡ seat.old.table_id) × (seat.new.id ≡ seat.old.id) × (seat.new.me.1 ≡ []) }
+    ensures turned { (before : Events) × TurnedAt seat.old.me.0 before (event_of by moment (Abandon object)) (Ok (turn_of seat.old.me.0.config before (event_of by moment (Abandon object)))) seat.new.me.0
+        × (result ≡ length before) × (0 < running (places seat.old.me.0.config before) by object) }
+{
+    let mut space = enter(rt, shared, seat);
+    let place = space.len();
+    space.abandon(by, moment, object);
+    let ask = Ask::Abandon { object };
+    publish::<Brand>(shared, seat, by, moment, &ask, &space);
+    leave(shared, seat, space);
+    place
+}

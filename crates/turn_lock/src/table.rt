@@ -1,0 +1,125 @@
+//! The words that threads step on, and the slot with the space. Word 0 is the ticket to be drawn next, word 1 the one that is served,
+//! and word 2 the length of the history. Each struct here names what one kind of step tells the seat that takes it.
+use crate::view::View;
+use atomic_table::{Join, Play, Seat, Shared, Split, Table, TableRule};
+use space::Space;
+use std::alloc::Global;
+use std::marker::{Brand, PhantomData};
+use std::snapshot::Snapshot;
+
+/// The word with the ticket that is drawn next.
+pub(crate) const TICKET: usize = 0;
+
+/// The word with the ticket that is served.
+pub(crate) const SERVING: usize = 1;
+
+/// The word with the length of the history.
+pub(crate) const LENGTH: usize = 2;
+
+/// The rule of the table.
+pub struct Law;
+
+impl TableRule<Option<Space>, View, Snapshot<Space>> for Law {
+    ghost use Rattle.turn_lock.specs.Rule.{Kept, root};
+
+    ghost holds = { λ opening. Kept opening.value };
+
+    ghost first = { λ opening. root opening.value };
+}
+
+/// The table that a lock owns.
+pub type LockTable = Table<Option<Space>, View, Snapshot<Space>, Law, Global>;
+
+/// The part of it that all threads share.
+pub type SharedTable = Shared<Option<Space>, View, Snapshot<Space>, Law>;
+
+/// What a thread steps with.
+pub type LockSeat = Seat<Option<Space>, View>;
+
+/// The event that a step publishes.
+pub trait Naming {
+    ghost use Rattle.history.specs.declared.asks.Event.{Event};
+
+    ghost event: { Event };
+}
+
+impl Naming for Brand {
+    ghost use Rattle.turn_lock.specs.Rule.{some_event};
+
+    ghost event = { some_event };
+}
+
+/// A ticket is drawn.
+pub struct Draw;
+
+impl Play<Option<Space>, View> for Draw {
+    ghost use Rattle.turn_lock.specs.Rule.{drew};
+
+    ghost then = { drew };
+}
+
+/// The ticket that is served is looked at; where it is the seat's own, the slot goes to the seat.
+pub struct Look;
+
+impl Play<Option<Space>, View> for Look {
+    ghost use Rattle.turn_lock.specs.Rule.{looked};
+
+    ghost then = { looked };
+}
+
+/// The length is published with an event.
+pub struct Publish<N> {
+    of: PhantomData<N>,
+}
+
+impl<N: Naming> Play<Option<Space>, View> for Publish<N> {
+    ghost use Rattle.turn_lock.specs.Rule.{published};
+
+    ghost then = { published N.event };
+}
+
+/// The length is published as it was.
+pub struct PassOver;
+
+impl Play<Option<Space>, View> for PassOver {
+    ghost use Rattle.turn_lock.specs.Rule.{passed_over};
+
+    ghost then = { passed_over };
+}
+
+/// The slot goes home, and the next ticket is served.
+pub struct Advance;
+
+impl Play<Option<Space>, View> for Advance {
+    ghost use Rattle.turn_lock.specs.Rule.{advanced};
+
+    ghost then = { advanced };
+}
+
+/// The seat has seen what the seat that was joined last had seen.
+pub struct Absorb;
+
+impl Play<Option<Space>, View> for Absorb {
+    ghost use Rattle.turn_lock.specs.Rule.{absorbed};
+
+    ghost then = { absorbed };
+}
+
+/// A seat is split, or joined.
+pub struct Parts;
+
+impl Split<View> for Parts {
+    ghost use Rattle.turn_lock.specs.Rule.{left_of, right_of};
+
+    ghost left = { left_of };
+
+    ghost right = { right_of };
+}
+
+impl Join<View> for Parts {
+    ghost use Rattle.turn_lock.specs.Rule.{both_of, spent};
+
+    ghost both = { both_of };
+
+    ghost spent = { spent };
+}

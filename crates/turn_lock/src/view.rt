@@ -1,0 +1,39 @@
+//! What contracts know of a pass.
+use history::{Event, SpaceConfig};
+use std::collections::LinkedList;
+
+/// What a seat is doing.
+pub enum Stage {
+    /// It makes no turn.
+    Idle,
+    /// It waits with this ticket.
+    Drawn(u64),
+    /// Its ticket is served: it has the slot, by this ticket, and this history in hand.
+    Called(u64, LinkedList<Event>),
+}
+
+/// What a seat knows. No value of it is made: contracts speak of it.
+pub struct View {
+    /// The number of its pass, which its events have.
+    pub number: u64,
+    /// Its parts of the right to know that all passes have ended.
+    pub parts: u64,
+    /// How many tickets it counts.
+    pub drawn: u64,
+    /// The configuration of the space.
+    pub config: SpaceConfig,
+    /// The events that the space had when the lock was made.
+    pub opening: LinkedList<Event>,
+    /// The events that it has seen, from the first on.
+    pub seen: LinkedList<Event>,
+    /// What the pass that was joined last had seen.
+    pub told: LinkedList<Event>,
+    /// Its own events, in order.
+    pub own: LinkedList<Event>,
+    /// What it is doing.
+    pub stage: Stage,
+    /// How many passes were made.
+    pub made: u64,
+    /// The number of each pass that was joined, and its events.
+    pub ended: LinkedList<(u64, LinkedList<Event>)>,
+}

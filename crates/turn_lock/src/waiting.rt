@@ -1,0 +1,54 @@
+//! How a thread waits: it looks a few times, and then sleeps for a moment between two looks, so that others have its core.
+ghost use Rattle.std.specs.Prelude.{◌≡◌, ◌<◌};
+
+use crate::table::{SERVING, SharedTable, TICKET};
+use std::hint;
+use std::sync::Wait;
+use std::time::Duration;
+
+/// How often a thread looks before it sleeps.
+const LOOKS: u32 = 100;
+
+/// How often it looks before it draws a ticket though others have one.
+const PATIENCE: u32 = 2_000;
+
+/// How many microseconds it sleeps at most before it looks again.
+const NAP: u64 = 100;
+
+/// Waits after so many looks at a word, which was found to be this.
+pub(crate) fn pause<R: Wait>(rt: &R, shared: &SharedTable, word: usize, found: u64, looks: u32)
+    requires { word < shared.now.table_id.words }
+{
+    if looks < LOOKS {
+        hint::spin_loop();
+    } else {
+        shared.park_timeout(
+            rt,
+            word,
+            (found % 4_294_967_296) as u32,
+            Duration::from_micros(NAP),
+        );
+    }
+}
+
+/// Waits until no other thread has a ticket, or for some time. Then few sleep with a ticket in hand, and no turn waits for a sleeper.
+pub(crate) fn approach<R: Wait>(rt: &R, shared: &SharedTable)
+    requires { shared.now.table_id.words ≡ 3 }
+{
+    for looks in 0..PATIENCE {
+        let next = shared.peek(TICKET);
+        if shared.peek(SERVING) >= next {
+            return;
+        }
+        pause(rt, shared, TICKET, next, looks);
+    }
+}
+
+/// Wakes those that sleep with a ticket, where one was drawn that is to be served now.
+pub(crate) fn wake(shared: &SharedTable, served: u64)
+    requires { shared.now.table_id.words ≡ 3 }
+{
+    if shared.peek(TICKET) > served {
+        shared.wake_all(SERVING);
+    }
+}
