@@ -12,6 +12,8 @@ mod read_tests;
 #[cfg(test)]
 mod script;
 #[cfg(test)]
+mod shape_tests;
+#[cfg(test)]
 mod text;
 #[cfg(test)]
 mod utf_tests;

@@ -1,0 +1,32 @@
+//! Java's own objects in graphs of values: identifiers, leases, references to remote objects, lists of texts and faults, as
+//! plain values that are read from a graph and built into one (Java RMI Specification, chapters 8 to 10).
+//!
+//! Classes and fields are found by their names and types; no serialVersionUID is compared. What is built carries those of
+//! Java's own classes.
+#![tactic(auto)]
+
+mod class_part;
+mod classes;
+mod fault;
+mod fault_graphs;
+mod faults;
+mod id_lists;
+mod id_views;
+mod lease_views;
+mod leases;
+mod name_lists;
+mod ref_views;
+mod text_views;
+mod throwable;
+
+pub use fault::ShapeFault;
+pub use fault_graphs::fault_graph;
+pub use faults::put_fault;
+pub use id_lists::put_objids;
+pub use id_views::as_objids;
+pub use lease_views::{LeaseView, as_lease, as_vmid};
+pub use leases::{put_lease, put_vmid};
+pub use name_lists::put_texts;
+pub use ref_views::{LiveRef, as_live_ref};
+pub use text_views::{as_text, as_texts};
+pub use throwable::as_fault_text;
