@@ -4,4 +4,6 @@
 #![tactic(auto)]
 
 #[cfg(test)]
+mod message_tests;
+#[cfg(test)]
 mod method_tests;

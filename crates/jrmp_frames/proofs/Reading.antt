@@ -1,12 +1,15 @@
 -- How the input stops inside a part of the protocol, over plain lists.
-use Rattle.std.proofs.Common.{◌≡◌, ℕ, ◌+◌, ◌-◌, ◌*◌, ◌<◌, List, [], ◌∷◌, ◌++◌, length, take, drop, Err, arith, length-append}
+use Rattle.std.proofs.Common.{◌≡◌, ◌≢◌, refl, ℕ, ◌+◌, ◌-◌, ◌*◌, ◌<◌, List, [], ◌∷◌, ◌++◌, length, take, drop, Err, arith, length-append}
 use Rattle.std.proofs.Math.ListN.{replicate}
 use Rattle.std.proofs.lemmas.List.{length-replicate, take-append-drop}
 use Rattle.wire_io.specs.Pulled.{Place, Takes, GivesByte}
 use Rattle.wire_io.specs.declared.pull.PullEnd.{PullEnd}
 use Rattle.wire_io.proofs.Pulling.{takes_nothing, takes_more, byte_stops}
 use Rattle.jrmp_frames.specs.Frames.{header_start, IsInHeader, IsInEndpoint}
-use Rattle.jrmp_frames.specs.Gives.{StopsInside}
+use Rattle.wire_io.specs.declared.pull.PullEnd.TheVariants as ends
+use Rattle.ser_read.specs.declared.fault.StreamFault.TheVariants.{Truncated}
+use Rattle.ser_read.specs.Here.{fault_of}
+use Rattle.jrmp_frames.specs.Gives.{StopsInside, StopsIn}
 
 -- The first byte did not come.
 pub stops_at_once : (P : List ℕ → Type 0) (old new : Place) (e : PullEnd) → P [] → GivesByte old new (Err e) → StopsInside P old new e
@@ -31,6 +34,19 @@ pub stops_next : (Q : List ℕ → Type 0) (old mid new : Place) (e : PullEnd) (
 stops_next Q old mid new e front inside takes gives =
     let stops = byte_stops mid new e gives in
     record { part = front; mid = mid; inside = inside; takes = takes; stops = stops.1; memory = stops.0 }
+
+-- How the input stops, as a stream's fault.
+pub stops_in : (P : List ℕ → Type 0) (old new : Place) (e : PullEnd) → StopsInside P old new e → StopsIn P old new (fault_of e)
+stops_in P old new (ends.End at) stops = stops
+stops_in P old new (ends.Limit at) stops = stops
+stops_in P old new ends.ReadFault stops = stops
+stops_in P old new ends.OutOfMemory stops = absurd (stops.memory refl)
+
+pub not_truncated : (e : PullEnd) → ((at : ℕ) → e ≢ ends.End at) → (at : ℕ) → fault_of e ≢ Truncated at
+not_truncated (ends.End at) other here = absurd (other at refl)
+not_truncated (ends.Limit at) other here = λ same. cc
+not_truncated ends.ReadFault other here = λ same. cc
+not_truncated ends.OutOfMemory other here = λ same. cc
 
 -- A front of the header's start begins the header.
 pub front_in_header : (k : ℕ) → IsInHeader (take k header_start)

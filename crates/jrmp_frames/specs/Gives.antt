@@ -3,10 +3,15 @@ use Rattle.std.specs.Prelude.{◌≡◌, ◌≢◌, ℕ, ◌+◌, ◌<◌, List,
 use Rattle.wire_io.specs.Wire.{NothingLeft}
 use Rattle.wire_io.specs.Pulled.{Place, Takes, Stops}
 use Rattle.wire_io.specs.declared.pull.PullEnd.{PullEnd}
-use Rattle.wire_io.specs.declared.pull.PullEnd.TheVariants.{End, OutOfMemory}
+use Rattle.wire_io.specs.declared.pull.PullEnd.TheVariants as ends
+use Rattle.object_ids.specs.declared.ids.Uid.{Uid}
+use Rattle.object_ids.specs.Bytes.{bytes_of_uid}
+use Rattle.ser_read.specs.declared.fault.StreamFault.{StreamFault}
+use Rattle.ser_read.specs.declared.fault.StreamFault.TheVariants.{TooLarge, Truncated, ReadFault}
+use Rattle.ser_read.specs.declared.fault.Large.TheVariants.{Bytes}
 use Rattle.jrmp_frames.specs.Frames.{header_start, header, IsNoProtocol, IsInHeader, BreaksHeader, IsEndpoint, IsInEndpoint, code_byte, IsCode}
 use Rattle.jrmp_frames.specs.declared.fault.FrameFault.{FrameFault}
-use Rattle.jrmp_frames.specs.declared.fault.FrameFault.TheVariants.{BadHeader, UnknownProtocol, BadMessage, Pull}
+use Rattle.jrmp_frames.specs.declared.fault.FrameFault.TheVariants.{BadHeader, UnknownProtocol, BadMessage, Stream}
 use Rattle.jrmp_frames.specs.declared.header.Protocol.{Protocol}
 use Rattle.jrmp_frames.specs.declared.code.Code.{Code}
 
@@ -17,20 +22,27 @@ pub record StopsInside (IsInside : List ℕ → Type 0) (old new : Place) (e : P
   pub inside : IsInside part
   pub takes : Takes old mid part
   pub stops : Stops mid new e
-  pub memory : e ≢ OutOfMemory
+  pub memory : e ≢ ends.OutOfMemory
+
+-- The same, where the fault says how the input stops.
+abbrev pub StopsIn : (List ℕ → Type 0) → Place → Place → StreamFault → Type 0
+StopsIn IsInside old new (Truncated at) = StopsInside IsInside old new (ends.End at)
+StopsIn IsInside old new (TooLarge Bytes at) = StopsInside IsInside old new (ends.Limit at)
+StopsIn IsInside old new ReadFault = StopsInside IsInside old new ends.ReadFault
+StopsIn IsInside old new _ = ⊥
 
 -- What reading the header does.
 abbrev pub GivesHeader : Place → Place → Result Protocol FrameFault → Type 0
 GivesHeader old new (Ok protocol) = Takes old new (header protocol)
 GivesHeader old new (Err (BadHeader at)) = (k : ℕ) × (bytes : List ℕ) × (at ≡ old.at + k) × BreaksHeader k bytes × Takes old new bytes
 GivesHeader old new (Err (UnknownProtocol byte)) = IsNoProtocol byte × Takes old new (header_start ++ byte ∷ [])
-GivesHeader old new (Err (Pull e)) = StopsInside IsInHeader old new e
+GivesHeader old new (Err (Stream fault)) = StopsIn IsInHeader old new fault
 GivesHeader old new (Err (BadMessage byte at)) = ⊥
 
 -- What skipping an endpoint does.
 abbrev pub GivesEndpoint : {A : Type 0} → Place → Place → Result A FrameFault → Type 0
 GivesEndpoint old new (Ok _) = (bytes : List ℕ) × IsEndpoint bytes × Takes old new bytes
-GivesEndpoint old new (Err (Pull e)) = StopsInside IsInEndpoint old new e
+GivesEndpoint old new (Err (Stream fault)) = StopsIn IsInEndpoint old new fault
 GivesEndpoint old new (Err _) = ⊥
 
 -- What skipping n bytes does.
@@ -43,5 +55,11 @@ abbrev pub GivesCode : Place → Place → Result (Option Code) FrameFault → T
 GivesCode old new (Ok None) = Takes old new [] × NothingLeft new.left
 GivesCode old new (Ok (Some code)) = Takes old new (code_byte code ∷ [])
 GivesCode old new (Err (BadMessage byte at)) = (at ≡ old.at) × ¬ IsCode byte × Takes old new (byte ∷ [])
-GivesCode old new (Err (Pull e)) = ((at : ℕ) → e ≢ End at) × StopsInside (λ part. part ≡ []) old new e
+GivesCode old new (Err (Stream fault)) = ((at : ℕ) → fault ≢ Truncated at) × StopsIn (λ part. part ≡ []) old new fault
 GivesCode old new (Err _) = ⊥
+
+-- What reading an identifier does.
+abbrev pub GivesUid : Place → Place → Result Uid FrameFault → Type 0
+GivesUid old new (Ok uid) = Takes old new (bytes_of_uid uid)
+GivesUid old new (Err (Stream fault)) = StopsIn (λ part. length part < 14) old new fault
+GivesUid old new (Err _) = ⊥

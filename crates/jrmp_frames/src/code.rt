@@ -33,7 +33,7 @@ pub fn read_code<S: Source>(pull: &mut Pull<'_, S>) -> Result<Option<Code>, Fram
         Ok(byte) => Err(FrameFault::BadMessage { byte, at }),
         Err(end) => match end {
             PullEnd::End { at: _ } => Ok(None),
-            _ => Err(FrameFault::Pull(end)),
+            _ => Err(end.into()),
         },
     }
 }

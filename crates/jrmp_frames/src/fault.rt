@@ -1,6 +1,7 @@
 //! Why a part of the protocol could not be read.
 ghost use Rattle.std.specs.Prelude.{◌≡◌};
 
+use ser_read::StreamFault;
 use wire_io::pull::PullEnd;
 
 /// Why a part of the protocol could not be read. Positions count bytes from 0 at the connection's first byte.
@@ -12,16 +13,27 @@ pub enum FrameFault {
     UnknownProtocol { byte: u8 },
     /// The byte at this position begins no message.
     BadMessage { byte: u8, at: u64 },
-    /// No byte came where one was wanted.
-    Pull(PullEnd),
+    /// A stream could not be read, or no byte came where one was wanted.
+    Stream(StreamFault),
+}
+
+impl From<StreamFault> for FrameFault {
+    ghost use Rattle.jrmp_frames.specs.declared.fault.FrameFault.TheVariants.{Stream};
+
+    ghost from_gives = { λ inside fault. fault ≡ Stream inside };
+
+    fn from(fault: StreamFault) -> FrameFault {
+        FrameFault::Stream(fault)
+    }
 }
 
 impl From<PullEnd> for FrameFault {
-    ghost use Rattle.jrmp_frames.specs.declared.fault.FrameFault.TheVariants.{Pull};
+    ghost use Rattle.ser_read.specs.Here.{fault_of};
+    ghost use Rattle.jrmp_frames.specs.declared.fault.FrameFault.TheVariants.{Stream};
 
-    ghost from_gives = { λ end fault. fault ≡ Pull end };
+    ghost from_gives = { λ end fault. fault ≡ Stream (fault_of end) };
 
     fn from(end: PullEnd) -> FrameFault {
-        FrameFault::Pull(end)
+        FrameFault::Stream(end.into())
     }
 }

@@ -5,10 +5,17 @@ pub mod arguments;
 pub mod code;
 pub mod endpoint;
 pub mod fault;
+pub mod head;
 pub mod header;
+pub mod laws;
+pub mod message;
+pub mod uid;
 
-pub use arguments::{Arg, ArgList, Arguments};
+pub use arguments::{Arg, ArgList, Arguments, read_arguments};
 pub use code::{Code, read_code};
 pub use endpoint::{ack_bytes, skip_endpoint};
 pub use fault::FrameFault;
+pub use head::{CallHead, read_head};
 pub use header::{Protocol, read_header};
+pub use message::{Body, call_bytes, return_bytes};
+pub use uid::read_uid;

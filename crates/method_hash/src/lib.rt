@@ -7,5 +7,5 @@ mod place;
 mod system;
 
 pub use digest::{fold_hash, hash};
-pub use method::{CodeList, Method, MethodFault};
+pub use method::{CodeList, Method, MethodFault, MethodList};
 pub use system::{CollectorMethod, RegistryMethod};

@@ -56,6 +56,9 @@ pub struct Method {
     pub ghost spelled: { ∥ IsMethod text name params result ∥₁ },
 }
 
+/// A list of methods.
+pub type MethodList = Sequence<Method>;
+
 /// What was read of a method's text.
 #[derive(Drop)]
 struct Draft {

@@ -2,13 +2,13 @@ use Rattle.std.proofs.Common.{◌≡◌, ◌≢◌, ◌++◌, ◌∷◌, [], len
 use Rattle.std.proofs.lemmas.Result.{err_from_is_err_and}
 use Rattle.wire_io.proofs.Pulling.{takes_more}
 use Rattle.jrmp_frames.specs.Frames.{header_start, IsInHeader}
-use Rattle.jrmp_frames.proofs.Reading.{stops_next, front_in_header}
+use Rattle.jrmp_frames.proofs.Reading.{stops_in, stops_next, front_in_header}
 use Rattle.jrmp_frames.proofs.header.read_header.Goals as goal
 
 pub returns-in_err-byte-clause-gives : goal.returns-in_err-byte-clause-gives
 returns-in_err-byte-clause-gives g c =
     let p = err_from_is_err_and c.from_residual.result c.from_residual.ensures.1 in
-    rw (p.1, p.2) (stops_next IsInHeader _ _ _ _ _ (front_in_header c.loop-wanted.wanted-index) c.loop-wanted.invariant.0 c.in_err-byte.ensures.gives)
+    rw (p.1, p.2) (stops_in IsInHeader _ _ _ (stops_next IsInHeader _ _ _ _ _ (front_in_header c.loop-wanted.wanted-index) c.loop-wanted.invariant.0 c.in_err-byte.ensures.gives))
 
 pub returns-then-branch-wanted-clause-gives : goal.returns-then-branch-wanted-clause-gives
 returns-then-branch-wanted-clause-gives g c =

@@ -1,0 +1,12 @@
+use Rattle.std.proofs.Common.{◌≡◌, take, length}
+use Rattle.wire_io.specs.Pulled.{place, Takes}
+use Rattle.jrmp_frames.proofs.uid.read_uid.Given as goal
+
+-- So many bytes were taken.
+abbrev pub invariant-loop-i : goal.invariant-loop-i
+invariant-loop-i g l =
+    record {
+      long : length l.bytes ≡ 14;
+      takes : Takes (place g.S.Source.left g.S.Source.faults l.initial.pull) (place g.S.Source.left g.S.Source.faults l.pull) (take l.i l.bytes);
+      lent : l.pull.source.ghost_name ≡ l.initial.pull.source.ghost_name;
+    }

@@ -1,0 +1,99 @@
+//! Calls and returns as they are written.
+ghost use Rattle.std.specs.Prelude.{◌≡◌, ◌<◌, List, ◌++◌, length, IfOk, OnOk};
+ghost use Rattle.class_desc.specs.declared.field.TypeCode.{TypeCode};
+ghost use Rattle.class_desc.specs.declared.slot.Item.{Item};
+ghost use Rattle.ser_values.specs.Spelled.{joined, put_block};
+ghost use Rattle.ser_write.specs.Canonical.{blocks, contents, value_bytes, SpellFully};
+ghost use Rattle.ser_read.specs.Here.{AreBytes};
+ghost use Rattle.ser_read.specs.Asked.{Fits};
+ghost use Rattle.jrmp_frames.specs.Messages.{wants_of, args_of, items_of, nodes_of, return_front, call_message, return_message, CallBytes, ReturnBytes};
+
+use crate::head::CallHead;
+use mod_utf::list::ByteList;
+use object_ids::{Uid, uid_bytes};
+use ser_values::{Graph, Value};
+use ser_write::{put_primitive, write_blocks_onto, write_items_after};
+use std::alloc::{AllocError, Global};
+
+/// What a return carries.
+#[derive(Debug, Drop)]
+pub enum Body {
+    /// Nothing: the method has no result.
+    Void,
+    /// A number, a character or a truth value.
+    Prim(Value),
+    /// A reference, as the graph whose one item it is: a result, or an exception.
+    Tree(Graph),
+}
+
+/// The bytes of a call: the code `50`, and a stream of the head and the arguments. The arguments' graph has them alone as its items.
+/// It is refused only for want of memory.
+pub fn call_bytes(alloc: Global, head: CallHead, arguments: &Graph) -> Result<ByteList, AllocError>
+    ensures written { IfOk result (λ bytes. bytes ≡ call_message head arguments.now) }
+    ensures spelled { IfOk result (λ bytes. (params : List TypeCode) (answers : List Item) → Fits (wants_of params) answers → arguments.now.items ≡ joined answers → ∥ CallBytes head params (record { graph = arguments.now; values = args_of params answers }) bytes ∥₁) }
+{
+    let mut out = ByteList::from_slice(alloc, &[0x50, 0xAC, 0xED, 0x00, 0x05])?;
+    write_items_after(alloc, &mut out, &head.to_bytes(), arguments)?;
+    look_at(out.as_slice());
+    Ok(out)
+}
+
+/// Each is a number of 8 bits. It does nothing.
+fn look_at(bytes: &[u8])
+    ensures { AreBytes bytes.now }
+{}
+
+/// What a return begins with: `01` for a result and `02` for an exception, and an identifier.
+#[tactic(auto, unfolding(crate::specs::Messages::return_front))]
+fn return_front(normal: bool, uid: Uid) -> [u8; 15]
+    ensures { result ≡ return_front normal uid }
+{
+    let mut front = [0; 15];
+    front[0] = if normal { 1 } else { 2 };
+    front[1..].copy_from_slice(&uid_bytes(uid));
+    front
+}
+
+/// Appends bytes and those of a value as block data.
+fn put_value(
+    alloc: Global,
+    out: &mut ByteList,
+    front: &[u8],
+    value: Value,
+) -> Result<(), AllocError>
+    ensures { OnOk result (out.new ≡ out.old ++ blocks (front.now ++ value_bytes value)) }
+{
+    let mut run = ByteList::from_slice(alloc, front)?;
+    put_primitive(&mut run, value)?;
+    write_blocks_onto(out, run.as_slice())
+}
+
+/// Appends what a return begins with and its body, as the contents of a stream.
+fn put_body(alloc: Global, out: &mut ByteList, front: &[u8], body: &Body) -> Result<(), AllocError>
+    requires { 0 < length front.now }
+    ensures written { OnOk result (out.new ≡ out.old ++ contents (nodes_of body.now) (put_block front.now (items_of body.now))) }
+    ensures spelled { OnOk result (∥ SpellFully (nodes_of body.now) (put_block front.now (items_of body.now)) (contents (nodes_of body.now) (put_block front.now (items_of body.now))) ∥₁) }
+{
+    match body {
+        Body::Void => write_blocks_onto(out, front),
+        Body::Prim(value) => put_value(alloc, out, front, *value),
+        Body::Tree(graph) => write_items_after(alloc, out, front, graph),
+    }
+}
+
+/// The bytes of a return: the code `51`, and a stream of the byte that tells a result from an exception, the return's identifier, and the
+/// body. It is refused only for want of memory.
+pub fn return_bytes(
+    alloc: Global,
+    normal: bool,
+    uid: Uid,
+    body: &Body,
+) -> Result<ByteList, AllocError>
+    ensures written { IfOk result (λ bytes. bytes ≡ return_message normal uid body.now) }
+    ensures spelled { IfOk result (λ bytes. ∥ ReturnBytes normal uid body.now bytes ∥₁) }
+{
+    let mut out = ByteList::from_slice(alloc, &[0x51, 0xAC, 0xED, 0x00, 0x05])?;
+    put_body(alloc, &mut out, &return_front(normal, uid), body)?;
+    look_at(out.as_slice());
+    Ok(out)
+}

@@ -1,0 +1,22 @@
+//! Identifiers on the wire.
+ghost use Rattle.std.specs.Prelude.{◌≡◌};
+ghost use Rattle.wire_io.specs.Pulled.{place};
+ghost use Rattle.jrmp_frames.specs.Gives.{GivesUid};
+
+use crate::fault::FrameFault;
+use object_ids::{Uid, uid_of};
+use wire_io::pull::Pull;
+use wire_io::source::Source;
+
+/// Reads an identifier, as it stands in an acknowledgement of the collector: 14 bytes, whatever they are. It takes no memory.
+pub fn read_uid<S: Source>(pull: &mut Pull<'_, S>) -> Result<Uid, FrameFault>
+    ensures gives { GivesUid (place S.left S.faults pull.old) (place S.left S.faults pull.new) result }
+    ensures lent { pull.new.source.ghost_name ≡ pull.old.source.ghost_name }
+{
+    let mut bytes = [0; 14];
+    for i in 0..14 {
+        let byte = pull.byte()?;
+        bytes[i] = byte;
+    }
+    Ok(uid_of(bytes))
+}
