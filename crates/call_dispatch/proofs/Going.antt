@@ -14,7 +14,7 @@ tells_more a None (Some c) xs ys first then = absurd then
 tells_more None (Some b) (Some c) xs ys first then = absurd first
 tells_more (Some a) (Some b) (Some c) xs ys first then = then ∙ ap (λ l. l ++ ys) first ∙ append_assoc a xs ys
 
-tells_nothing : (a : Option (List Call)) → Tells a [] a
+pub tells_nothing : (a : Option (List Call)) → Tells a [] a
 tells_nothing None = tt
 tells_nothing (Some a) = sym (append-nil a)
 
@@ -28,7 +28,7 @@ leads_more moves a None (Some c) xs ys first then = absurd then
 leads_more moves None (Some b) (Some c) xs ys first then = absurd first
 leads_more moves (Some a) (Some b) (Some c) xs ys first then = moves_more moves a b c xs ys first then
 
-leads_nothing : (moves : States → Call → States → Type 0) (a : Option States) → Leads moves a [] a
+pub leads_nothing : (moves : States → Call → States → Type 0) (a : Option States) → Leads moves a [] a
 leads_nothing moves None = tt
 leads_nothing moves (Some a) = refl
 

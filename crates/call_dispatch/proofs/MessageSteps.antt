@@ -1,12 +1,12 @@
 -- The messages of a dialogue, over plain lists.
-use Rattle.std.proofs.Common.{◌≡◌, ℕ, ◌+◌, ◌^◌, ◌<◌, List, [], ◌∷◌, length, take, Option, Result, Ok, Err, refl, sym, ap, ◌∙◌, inr, arith}
+use Rattle.std.proofs.Common.{◌≡◌, ℕ, ◌+◌, ◌^◌, ◌<◌, ◌≤◌, List, [], ◌∷◌, length, take, Option, Result, Ok, Err, IfOk, refl, sym, ap, ◌∙◌, inr, arith}
 use Rattle.wire_io.specs.Wire.{with_front-nothing, with_front}
 use Rattle.wire_io.specs.Pulled.{Place}
-use Rattle.wire_io.specs.declared.pull.PullEnd.TheVariants.{End, Limit, ReadFault, OutOfMemory}
 use Rattle.jrmp_frames.specs.declared.header.Protocol.TheVariants.{Stream, SingleOp}
 use Rattle.jrmp_frames.specs.Gives.{GivesCode}
 use Rattle.jrmp_frames.specs.declared.fault.FrameFault.{FrameFault}
-use Rattle.jrmp_frames.specs.declared.fault.FrameFault.TheVariants.{BadHeader, UnknownProtocol, BadMessage, Pull}
+use Rattle.jrmp_frames.specs.declared.fault.FrameFault.TheVariants.{BadHeader, UnknownProtocol, BadMessage}
+use Rattle.jrmp_frames.specs.declared.fault.FrameFault.TheVariants as frames
 use Rattle.call_dispatch.specs.declared.outcome.Invocation.{Invocation}
 use Rattle.call_dispatch.specs.declared.outcome.Outcome.{Outcome}
 use Rattle.call_dispatch.specs.declared.end.ConnEnd.{ConnEnd}
@@ -16,19 +16,9 @@ use Rattle.call_dispatch.specs.Acts.{Call, States, Side}
 use Rattle.call_dispatch.specs.Spot.{Spot}
 use Rattle.call_dispatch.specs.Rows.{Exchange, ping, taken_by, written_by, course_by, IsOpen, GoOn}
 use Rattle.call_dispatch.specs.Dialogue.{Opening, stream, single_op, protocol_of, most_messages, Whole, opened, IsAtCode}
-use Rattle.call_dispatch.specs.Progress.{Stands, Talked, StepsTo, Writes, IsNoLimit, end_from}
+use Rattle.call_dispatch.specs.Progress.{Stands, Talked, StepsTo, Writes, end_from}
 use Rattle.call_dispatch.proofs.Going.{goes_exchanged}
-use Rattle.call_dispatch.proofs.Steps.{spot_at, talks_took, talks_stop, talks_cut, stands_more}
-
--- No limit is met in a code's place.
-pub code_in_limit : (old new : Place) (fault : FrameFault) → old.at < old.stop → GivesCode old new (Err fault) → IsNoLimit fault
-code_in_limit old new (BadHeader at) room h = tt
-code_in_limit old new (UnknownProtocol byte) room h = tt
-code_in_limit old new (BadMessage byte at) room h = tt
-code_in_limit old new (Pull (End at)) room h = tt
-code_in_limit old new (Pull (Limit at)) room h = omega (arith, h.1.stops.1.at_stop, h.1.takes.stop, h.1.takes.at, ap length h.1.inside, room)
-code_in_limit old new (Pull ReadFault) room h = tt
-code_in_limit old new (Pull OutOfMemory) room h = tt
+use Rattle.call_dispatch.proofs.Steps.{spot_at, talks_took, talks_in, talks_cut, stands_more}
 
 -- The connection ends in a code's place.
 pub code_ends : (may : Invocation → Outcome → Type 0) (moves : States → Call → States → Type 0) (terms : Terms) (start : Spot) (old new : Place) (held : Option (List ℕ)) (side : Side) (drawn sent : ℕ) (w : Whole) (fault : FrameFault)
@@ -39,12 +29,12 @@ code_ends may moves terms start old new held side drawn sent w (UnknownProtocol 
 code_ends may moves terms start old new held side drawn sent w (BadMessage byte at) stands code room h =
     talks_took may moves terms start _ _ old.at sent w (byte ∷ []) (ends.BadMessage byte at) stands h.2.left refl refl refl
     (code, h.1, h.0 ∙ stands.position, refl)
-code_ends may moves terms start old new held side drawn sent w (Pull e) stands code room (more, h) =
-    talks_stop may moves terms start old new held side drawn sent w (λ part. part ≡ []) e stands h
-    (omega (arith, ap length h.inside, room)) (λ at is. absurd (more at is)) (inr (code, h.inside))
+code_ends may moves terms start old new held side drawn sent w (frames.Stream fault) stands code room (more, h) =
+    talks_in may moves terms start old new held side drawn sent w (λ part. part ≡ []) fault stands h
+    (λ part inside. omega (arith, ap length inside, room)) (λ part inside. (λ at is. absurd (more at is), inr (code, inside)))
 
 -- Below the limit a further message may follow.
-limit_left : (opening : Opening) (exchanges : List Exchange) → IsAtCode (opened opening exchanges) → length exchanges < 2 ^ 28 → length exchanges < most_messages opening
+pub limit_left : (opening : Opening) (exchanges : List Exchange) → IsAtCode (opened opening exchanges) → length exchanges < 2 ^ 28 → length exchanges < most_messages opening
 limit_left (stream endpoint) exchanges code few = few
 limit_left single_op [] code few = omega arith
 limit_left single_op (e ∷ exchanges) code few = absurd code
@@ -74,10 +64,19 @@ one_served may moves terms start now at sent single_op e is goes stands =
 
 -- Before the first message its code is to come.
 pub opened_at_code : (opening : Opening) → IsAtCode (opened opening [])
-opened_at_code (stream endpoint) = tt
+opened_at_code (stream endpoint) = refl
 opened_at_code single_op = tt
 
 -- In the stream protocol a code is to come after each message that leaves the connection open.
 pub stream_at_code : (opening : Opening) (exchanges : List Exchange) → protocol_of opening ≡ Stream → GoOn exchanges → IsAtCode (opened opening exchanges)
 stream_at_code (stream endpoint) exchanges is goes = goes
 stream_at_code single_op exchanges is goes = absurd (cc)
+
+-- How many bytes were sent, and where a message ends.
+pub most_of : (result : Result ℕ ConnEnd) (x a b : ℕ) → a ≤ b → IfOk result (λ after. after ≤ x) → IfOk result (λ after. (after ≤ x) × (a ≤ b))
+most_of (Ok after) x a b le h = (h, le)
+most_of (Err end) x a b le h = tt
+
+pub most_on : (result : Result ℕ ConnEnd) (x a b c : ℕ) → b ≤ c → IfOk result (λ after. (after ≤ x) × (a ≤ b)) → IfOk result (λ after. (after ≤ x) × (a ≤ c))
+most_on (Ok after) x a b c le h = (h.0, omega (arith, h.1, le))
+most_on (Err end) x a b c le h = tt

@@ -1,53 +1,107 @@
--- An input and the answers of the outside have one settled dialogue: the next whole exchange is a function of them.
-use Rattle.std.proofs.Common.{◌≡◌, ℕ, ◌+◌, ◌^◌, ◌<◌, ◌≤◌, ◌⊎◌, inl, inr, List, [], ◌∷◌, ◌++◌, length, Option, Some, None, cond, eqb, true, false, ◌||◌, refl, ap, sym, subst, ◌∙◌, arith, append_assoc, append-nil, length-append, eq-eqb, zero-add}
+-- An input and the answers of the outside have one settled dialogue: the next whole exchange is decided by them, and so is where it ends.
+use Rattle.std.proofs.Common.{◌≡◌, ℕ, ◌+◌, ◌^◌, ◌<◌, ◌≤◌, ◌⊎◌, inl, inr, List, [], ◌∷◌, ◌++◌, length, drop, Option, Some, None, cond, eqb, true, false, true≢false, ◌||◌, refl, ap, sym, subst, ◌∙◌, arith, append_assoc, length-append, eq-eqb}
 use Rattle.std.proofs.lemmas.List.{append_cancel_right}
 use Rattle.std.proofs.lemmas.Grind.{flat_map-append}
 use Rattle.std.specs.List.{flat_map}
 use Rattle.wire_io.specs.Wire.{with_front}
+use Rattle.object_ids.specs.declared.ids.Uid.{Uid}
+use Rattle.jrmp_frames.specs.declared.head.CallHead.{CallHead}
 use Rattle.jrmp_frames.specs.declared.code.Code.TheVariants.{Call, Ping, DgcAck}
-use Rattle.jrmp_frames.specs.Frames.{IsCode}
+use Rattle.jrmp_frames.specs.Frames.{code_byte, IsCode}
 use Rattle.call_dispatch.specs.declared.outcome.Invocation.{Invocation}
 use Rattle.call_dispatch.specs.declared.outcome.Outcome.{Outcome}
 use Rattle.call_dispatch.specs.declared.end.ConnEnd.{ConnEnd}
-use Rattle.call_dispatch.specs.declared.end.ConnEnd.TheVariants.{Ended, BadHeader, UnknownProtocol, BadMessage, Truncated, NotBuilt, MessageLimit, ReadFault, WriteFault, OutOfMemory}
+use Rattle.call_dispatch.specs.declared.end.ConnEnd.TheVariants.{Ended, BadHeader, UnknownProtocol, BadMessage, BadStream, TooLarge, Truncated, NotBuilt, NoSuchObject, NoSuchMethod, SpaceFull, MessageLimit, ReadFault, WriteFault, OutOfMemory}
 use Rattle.call_dispatch.specs.End.{IsSettled}
 use Rattle.call_dispatch.specs.Terms.{Terms}
-use Rattle.call_dispatch.specs.Acts.{Call as WorkerCall, States}
+use Rattle.call_dispatch.specs.Acts.{Act, Call as WorkerCall, States}
+use Rattle.call_dispatch.specs.Served.{Served as Way, served_acts, IsServed}
 use Rattle.call_dispatch.specs.Spot.{Spot, Course, took, followed_by}
-use Rattle.call_dispatch.specs.Rows.{Exchange, ping, taken_by, acts_by, draws_by, IsExchange, IsChain}
-use Rattle.call_dispatch.specs.Dialogue.{Opening, stream, single_op, most_messages, opening_taken, Whole, nothing, greeted, opened, taken_in, course_in, IsAtCode, IsDone, IsUnbuilt, Ends, Dialogue}
+use Rattle.call_dispatch.specs.Rows.{Exchange, ping, served, taken_by, acts_by, draws_by, IsExchange, IsOpen, closed_by, GoOn, IsChain}
+use Rattle.call_dispatch.specs.Dialogue.{Opening, stream, single_op, most_messages, opening_taken, Whole, nothing, greeted, opened, taken_in, course_in, IsAtCode, IsDone, IsClosed, IsUnbuilt, EndsInCall, Ends, Dialogue}
 use Rattle.call_dispatch.specs.Tape.{Tick, ticks, tape}
 use Rattle.call_dispatch.specs.Progress.{Talks, Settles, Talked, Served}
-use Rattle.call_dispatch.proofs.Steps.{course_is}
+use Rattle.call_dispatch.proofs.Breaks.{same_behind}
+use Rattle.call_dispatch.proofs.CallsOne.{InCall, in_call_one, in_call_not_served, exchange_one}
 use Rattle.call_dispatch.proofs.OpeningReading.{opens, over, reading, neq-eqb, opening_passed, Reads, nothing_reads, greeted_reads}
 
--- what comes next after an opening and some exchanges: a whole exchange, with the input and the answers after it; or an end, with what is left
+-- ---- one exchange
+
+abbrev first_byte : List ℕ → ℕ
+first_byte [] = 0
+first_byte (b ∷ bytes) = b
+
+-- A Call doesn't begin as a Ping does.
+no_call : (xs ys : List ℕ) → code_byte Call ∷ xs ≡ code_byte Ping ∷ ys → ⊥
+no_call xs ys same = true≢false (ap (λ (l : List ℕ). eqb (first_byte l) 0x50) same)
+
+served_same : (b b2 : List ℕ) (h h2 : CallHead) (u u2 : Uid) (s s2 : Way) → b ≡ b2 → h ≡ h2 → u ≡ u2 → s ≡ s2 → served b h u s ≡ served b2 h2 u2 s2
+served_same b b2 h h2 u u2 s s2 bs hs us ss = ap (λ x. served x h u s) bs ∙ ap (λ x. served b2 x u s) hs ∙ ap (λ x. served b2 h2 x s) us ∙ ap (λ x. served b2 h2 u2 x) ss
+
+-- Two exchanges that begin one input and one list of answers are one.
+pub next_is_one : (terms : Terms) (drawn : ℕ) (e f : Exchange) (rest rest2 : List ℕ) (t t2 : List Tick)
+    → IsExchange terms drawn e → IsExchange terms drawn f
+    → taken_by e ++ rest ≡ taken_by f ++ rest2 → tape (acts_by e) ++ t ≡ tape (acts_by f) ++ t2
+    → (e ≡ f) × (rest ≡ rest2) × (t ≡ t2)
+next_is_one terms drawn ping ping rest rest2 t t2 is is2 input ticking = (refl, ap (drop 1) input, ticking)
+next_is_one terms drawn ping (served bytes head uid s) rest rest2 t t2 is is2 input ticking = absurd (no_call (bytes ++ rest2) rest (sym input))
+next_is_one terms drawn (served bytes head uid s) ping rest rest2 t t2 is is2 input ticking = absurd (no_call (bytes ++ rest) rest2 input)
+next_is_one terms drawn (served bytes head uid s) (served bytes2 head2 uid2 s2) rest rest2 t t2 (draw, fits, few, is) (draw2, fits2, few2, is2) input ticking =
+    let uids : uid ≡ uid2 = draw ∙ sym draw2 in
+    let behind : bytes ++ rest ≡ bytes2 ++ rest2 = ap (drop 1) input in
+    let P : Uid → Type 0 = λ u. IsServed terms.kinds head2 bytes2 u s2 in
+    let one = exchange_one terms.kinds head head2 bytes bytes2 uid s s2 rest rest2 t t2 fits fits2 is (subst P (sym uids) is2) behind (ticking ∙ ap (λ (u : Uid). tape (served_acts head2 u s2) ++ t2) (sym uids)) in
+    (served_same bytes bytes2 head head2 uid uid2 s s2 one.2 one.0 uids one.1, same_behind bytes bytes2 rest rest2 one.2 behind, one.3)
+
+-- ---- what comes next
+
+-- after an opening and some exchanges: a Ping or a Call, with the input behind its code; or an end, with what is left
 data Next : Type 0 where
-  going : Exchange → List ℕ → List Tick → Next
+  pinged : List ℕ → Next
+  calling : List ℕ → Next
   stopped : ConnEnd → List ℕ → Next
 
 -- at a code's place at `at`, where n messages were served
-abbrev code_next : ℕ → ℕ → List ℕ → List Tick → Next
-code_next n at [] t = stopped Ended []
-code_next n at (b ∷ xs) t =
+abbrev code_next : ℕ → ℕ → List ℕ → Next
+code_next n at [] = stopped Ended []
+code_next n at (b ∷ xs) =
     cond (eqb b 0x50 || (eqb b 0x52 || eqb b 0x54))
     (cond (eqb n (2 ^ 28)) (stopped MessageLimit xs)
-    (cond (eqb b 0x52) (going ping xs t) (stopped (NotBuilt b at) xs)))
+    (cond (eqb b 0x50) (calling xs) (cond (eqb b 0x52) (pinged xs) (stopped (NotBuilt b at) xs))))
     (stopped (BadMessage b at) xs)
 
--- after an opening and n exchanges
-abbrev next : Opening → ℕ → ℕ → List ℕ → List Tick → Next
-next (stream endpoint) n at xs t = code_next n at xs t
-next single_op n at xs t = cond (eqb n 0) (code_next n at xs t) (stopped Ended xs)
+-- where the connection wasn't closed
+abbrev open_next : Opening → List Exchange → ℕ → List ℕ → Next
+open_next (stream endpoint) es at xs = code_next (length es) at xs
+open_next single_op [] at xs = code_next 0 at xs
+open_next single_op (e ∷ es) at xs = stopped Ended xs
+
+abbrev unless_closed : List ℕ → Next → Option ConnEnd → Next
+unless_closed xs goes None = goes
+unless_closed xs goes (Some end) = stopped end xs
+
+abbrev next : Opening → List Exchange → List ℕ → Next
+next opening es xs = unless_closed xs (open_next opening es (length (taken_in (opened opening es))) xs) (closed_by es)
+
+-- an exchange that comes next
+abbrev went : Exchange → List ℕ → Next
+went ping xs = pinged xs
+went (served bytes head uid s) xs = calling (bytes ++ xs)
+
+code_reads : (n at : ℕ) (e : Exchange) (rest : List ℕ) → n < 2 ^ 28 → code_next n at (taken_by e ++ rest) ≡ went e rest
+code_reads n at ping rest few = let no = neq-eqb n (2 ^ 28) (λ same. omega arith) in rw no refl
+code_reads n at (served bytes head uid s) rest few = let no = neq-eqb n (2 ^ 28) (λ same. omega arith) in rw no refl
+
+open_reads : (opening : Opening) (es : List Exchange) (at : ℕ) (e : Exchange) (rest : List ℕ) → length es < most_messages opening → open_next opening es at (taken_by e ++ rest) ≡ went e rest
+open_reads (stream endpoint) es at e rest few = code_reads (length es) at e rest few
+open_reads single_op [] at e rest few = code_reads 0 at e rest (omega arith)
+open_reads single_op (f ∷ es) at e rest few = absurd (omega (arith, few))
 
 -- A whole exchange is what comes next.
-next_reads : (terms : Terms) (opening : Opening) (n at drawn : ℕ) (e : Exchange) (rest : List ℕ) (t : List Tick) → n < most_messages opening → IsExchange terms drawn e
-    → next opening n at (taken_by e ++ rest) (tape (acts_by e) ++ t) ≡ going e rest t
-next_reads terms (stream endpoint) n at drawn ping rest t few is = let no = neq-eqb n (2 ^ 28) (λ same. omega arith) in rw no refl
-next_reads terms single_op n at drawn ping rest t few is =
-    let first = eq-eqb n 0 (omega (arith, few)) in
-    let no = neq-eqb n (2 ^ 28) (λ same. omega arith) in
-    rw (first, no) refl
+next_reads : (opening : Opening) (es : List Exchange) (e : Exchange) (rest : List ℕ) → length es < most_messages opening → GoOn es → next opening es (taken_by e ++ rest) ≡ went e rest
+next_reads opening es e rest few goes =
+    ap (unless_closed (taken_by e ++ rest) (open_next opening es (length (taken_in (opened opening es))) (taken_by e ++ rest))) goes
+    ∙ open_reads opening es (length (taken_in (opened opening es))) e rest few
 
 code_told : (b : ℕ) → IsCode b → (eqb b 0x50 || (eqb b 0x52 || eqb b 0x54)) ≡ true
 code_told b (Call, is) = rw is refl
@@ -61,60 +115,136 @@ code_untold b none =
     let z = neq-eqb b 0x54 (λ is. none (DgcAck, is)) in
     rw (x, y, z) refl
 
-no_code_next : (n at byte : ℕ) (xs : List ℕ) (t : List Tick) → ¬ IsCode byte → code_next n at (byte ∷ xs) t ≡ stopped (BadMessage byte at) xs
-no_code_next n at byte xs t none = let told = code_untold byte none in rw told refl
+no_code_next : (n at byte : ℕ) (xs : List ℕ) → ¬ IsCode byte → code_next n at (byte ∷ xs) ≡ stopped (BadMessage byte at) xs
+no_code_next n at byte xs none = let told = code_untold byte none in rw told refl
 
-unbuilt_next : (n at byte : ℕ) (xs : List ℕ) (t : List Tick) → n < 2 ^ 28 → IsUnbuilt byte → code_next n at (byte ∷ xs) t ≡ stopped (NotBuilt byte at) xs
-unbuilt_next n at byte xs t few unbuilt =
-    let told = code_told byte (elim unbuilt [ inl a ↦ (Call, a) | inr b ↦ (DgcAck, b) ]) in
+unbuilt_next : (n at byte : ℕ) (xs : List ℕ) → n < 2 ^ 28 → IsUnbuilt byte → code_next n at (byte ∷ xs) ≡ stopped (NotBuilt byte at) xs
+unbuilt_next n at byte xs few unbuilt =
+    let told = code_told byte (DgcAck, unbuilt) in
     let before = neq-eqb n (2 ^ 28) (λ same. omega arith) in
-    let other = neq-eqb byte 0x52 (λ same. elim unbuilt [ inl a ↦ omega arith | inr b ↦ omega arith ]) in
-    rw (told, before, other) refl
+    let is : byte ≡ 0x54 = unbuilt in
+    let no_call = neq-eqb byte 0x50 (λ same. omega (arith, is, same)) in
+    let no_ping = neq-eqb byte 0x52 (λ same. omega (arith, is, same)) in
+    rw (told, before, no_call, no_ping) refl
 
-limit_next : (n at byte : ℕ) (xs : List ℕ) (t : List Tick) → n ≡ 2 ^ 28 → IsCode byte → code_next n at (byte ∷ xs) t ≡ stopped MessageLimit xs
-limit_next n at byte xs t full known =
+call_next : (n at : ℕ) (xs : List ℕ) → n < 2 ^ 28 → code_next n at (code_byte Call ∷ xs) ≡ calling xs
+call_next n at xs few = let no = neq-eqb n (2 ^ 28) (λ same. omega arith) in rw no refl
+
+limit_next : (n at byte : ℕ) (xs : List ℕ) → n ≡ 2 ^ 28 → IsCode byte → code_next n at (byte ∷ xs) ≡ stopped MessageLimit xs
+limit_next n at byte xs full known =
     let told = code_told byte known in
     let last = eq-eqb n (2 ^ 28) full in
     rw (told, last) refl
 
--- What comes next where a code is to come, and where nothing more is.
-at_code_next : (opening : Opening) (es : List Exchange) (at : ℕ) (xs : List ℕ) (t : List Tick) → IsAtCode (opened opening es) → next opening (length es) at xs t ≡ code_next (length es) at xs t
-at_code_next (stream endpoint) es at xs t code = refl
-at_code_next single_op [] at xs t code = refl
-at_code_next single_op (e ∷ es) at xs t code = absurd code
+-- What comes next where a code is to come, where nothing more is, and where the connection was closed.
+at_code_next : (opening : Opening) (es : List Exchange) (xs : List ℕ) → IsAtCode (opened opening es) → next opening es xs ≡ code_next (length es) (length (taken_in (opened opening es))) xs
+at_code_next (stream endpoint) es xs code = ap (unless_closed xs (code_next (length es) (length (taken_in (opened (stream endpoint) es))) xs)) code
+at_code_next single_op [] xs code = refl
+at_code_next single_op (e ∷ es) xs code = absurd code
 
-done_next : (opening : Opening) (es : List Exchange) (at : ℕ) (xs : List ℕ) (t : List Tick) → IsDone (opened opening es) → next opening (length es) at xs t ≡ stopped Ended xs
-done_next (stream endpoint) es at xs t done = absurd done
-done_next single_op [] at xs t done = absurd done
-done_next single_op (e ∷ es) at xs t done = let some = neq-eqb (length (e ∷ es)) 0 (λ same. omega arith) in rw some refl
+done_next : (opening : Opening) (es : List Exchange) (xs : List ℕ) → IsDone (opened opening es) → next opening es xs ≡ stopped Ended xs
+done_next (stream endpoint) es xs done = absurd done
+done_next single_op [] xs done = absurd done
+done_next single_op (e ∷ es) xs done = ap (unless_closed xs (stopped Ended xs)) done
+
+closed_next : (opening : Opening) (es : List Exchange) (end : ConnEnd) (xs : List ℕ) → IsClosed (opened opening es) end → next opening es xs ≡ stopped end xs
+closed_next opening es end xs closed = ap (unless_closed xs (open_next opening es (length (taken_in (opened opening es))) xs)) closed
+
+-- ---- ends
 
 -- After these exchanges came these bytes and this end, and nothing else was done.
-abbrev StopsAt : Opening → List Exchange → Course → List ℕ → ConnEnd → Type 0
-StopsAt opening es tail rest end = (more : List ℕ) × (tail ≡ took more)
-    × ((t : List Tick) → next opening (length es) (length (taken_in (opened opening es))) (more ++ rest) t ≡ stopped end rest)
+abbrev Stops : Opening → List Exchange → Course → List ℕ → ConnEnd → Type 0
+Stops opening es tail rest end = (more : List ℕ) × (tail ≡ took more) × (next opening es (more ++ rest) ≡ stopped end rest)
+
+-- After these exchanges a Call began, and reading ended in it.
+abbrev StopsInCall : Terms → Opening → List Exchange → Course → List ℕ → ConnEnd → Type 0
+StopsInCall terms opening es tail rest end = (more : List ℕ) × (tail.taken ≡ code_byte Call ∷ more) × (next opening es (code_byte Call ∷ (more ++ rest)) ≡ calling (more ++ rest))
+    × InCall terms.kinds (length (taken_in (opened opening es))) tail rest end
+
+abbrev StopsAt : Terms → Opening → List Exchange → Course → List ℕ → ConnEnd → Type 0
+StopsAt terms opening es tail rest end = Stops opening es tail rest end ⊎ StopsInCall terms opening es tail rest end
+
+-- what was taken of the Call
+taken_of : (terms : Terms) (at : ℕ) (tail : Course) (rest : List ℕ) (end : ConnEnd) → InCall terms.kinds at tail rest end → (more : List ℕ) × (tail.taken ≡ code_byte Call ∷ more)
+taken_of terms at tail rest end (inl (more, is, breaks)) = (more, ap (λ (c : Course). c.taken) is)
+taken_of terms at tail rest end (inr a) = (a.front ++ a.more, ap (λ (c : Course). c.taken) a.tail_is)
+
+call_stops : (terms : Terms) (opening : Opening) (es : List Exchange) (tail : Course) (rest : List ℕ) (end : ConnEnd) → EndsInCall terms (opened opening es) tail (Some rest) end → StopsAt terms opening es tail rest end
+call_stops terms opening es tail rest end (code, room, inside) =
+    let at : ℕ = length (taken_in (opened opening es)) in
+    let (more, taken) = taken_of terms at tail rest end inside in
+    inr (more, taken, at_code_next opening es (code_byte Call ∷ (more ++ rest)) code ∙ call_next (length es) at (more ++ rest) room, inside)
 
 opened_stops : (terms : Terms) (drawn : ℕ) (opening : Opening) (es : List Exchange) (tail : Course) (rest : List ℕ) (end : ConnEnd)
-    → Ends terms drawn (opened opening es) tail (Some rest) end → IsSettled end → StopsAt opening es tail rest end
+    → Ends terms drawn (opened opening es) tail (Some rest) end → IsSettled end → StopsAt terms opening es tail rest end
 opened_stops terms drawn opening es tail rest Ended (inl (code, left), is) settled =
     let at : ℕ = length (taken_in (opened opening es)) in
-    ([], is, (λ t. at_code_next opening es at rest t code ∙ ap (λ xs. code_next (length es) at xs t) left ∙ ap (stopped Ended) (sym left)))
-opened_stops terms drawn opening es tail rest Ended (inr done, is) settled =
-    ([], is, (λ t. done_next opening es (length (taken_in (opened opening es))) rest t done))
+    inl ([], is, at_code_next opening es rest code ∙ ap (λ xs. code_next (length es) at xs) left ∙ ap (stopped Ended) (sym left))
+opened_stops terms drawn opening es tail rest Ended (inr done, is) settled = inl ([], is, done_next opening es rest done)
 opened_stops terms drawn opening es tail rest (BadHeader at) (none, h) settled = absurd (cc)
 opened_stops terms drawn opening es tail rest (UnknownProtocol byte) (none, other, is) settled = absurd (cc)
 opened_stops terms drawn opening es tail rest (BadMessage byte at) (code, none, place, is) settled =
     let here : ℕ = length (taken_in (opened opening es)) in
-    (byte ∷ [], is, (λ t. at_code_next opening es here (byte ∷ rest) t code ∙ no_code_next (length es) here byte rest t none ∙ ap (λ n. stopped (BadMessage byte n) rest) (sym place)))
-opened_stops terms drawn opening es tail rest (Truncated at) (more, inside, left, place, is) settled = absurd inside
+    inl (byte ∷ [], is, at_code_next opening es (byte ∷ rest) code ∙ no_code_next (length es) here byte rest none ∙ ap (λ n. stopped (BadMessage byte n) rest) (sym place))
+opened_stops terms drawn opening es tail rest (BadStream kind at) inside settled = call_stops terms opening es tail rest (BadStream kind at) inside
+opened_stops terms drawn opening es tail rest (TooLarge what at) inside settled = call_stops terms opening es tail rest (TooLarge what at) inside
+opened_stops terms drawn opening es tail rest (Truncated at) (inl (more, inside, left, place, is)) settled = absurd inside
+opened_stops terms drawn opening es tail rest (Truncated at) (inr inside) settled = call_stops terms opening es tail rest (Truncated at) inside
 opened_stops terms drawn opening es tail rest (NotBuilt byte at) (code, room, unbuilt, place, is) settled =
     let here : ℕ = length (taken_in (opened opening es)) in
-    (byte ∷ [], is, (λ t. at_code_next opening es here (byte ∷ rest) t code ∙ unbuilt_next (length es) here byte rest t room unbuilt ∙ ap (λ n. stopped (NotBuilt byte n) rest) (sym place)))
+    inl (byte ∷ [], is, at_code_next opening es (byte ∷ rest) code ∙ unbuilt_next (length es) here byte rest room unbuilt ∙ ap (λ n. stopped (NotBuilt byte n) rest) (sym place))
+opened_stops terms drawn opening es tail rest (NoSuchObject id) (closed, is) settled = inl ([], is, closed_next opening es (NoSuchObject id) rest closed)
+opened_stops terms drawn opening es tail rest (NoSuchMethod operation hash) (closed, is) settled = inl ([], is, closed_next opening es (NoSuchMethod operation hash) rest closed)
+opened_stops terms drawn opening es tail rest SpaceFull (closed, is) settled = inl ([], is, closed_next opening es SpaceFull rest closed)
 opened_stops terms drawn opening es tail rest MessageLimit (code, full, (byte, known, is)) settled =
     let here : ℕ = length (taken_in (opened opening es)) in
-    (byte ∷ [], is, (λ t. at_code_next opening es here (byte ∷ rest) t code ∙ limit_next (length es) here byte rest t full known))
+    inl (byte ∷ [], is, at_code_next opening es (byte ∷ rest) code ∙ limit_next (length es) here byte rest full known)
 opened_stops terms drawn opening es tail rest ReadFault ends settled = absurd settled
 opened_stops terms drawn opening es tail rest (WriteFault sent) ends settled = absurd settled
 opened_stops terms drawn opening es tail rest OutOfMemory ends settled = absurd settled
+
+-- what comes next is the same where the input is
+next_same : (opening : Opening) (es : List Exchange) (xs ys : List ℕ) (a b : Next) → xs ≡ ys → next opening es xs ≡ a → next opening es ys ≡ b → a ≡ b
+next_same opening es xs ys a b same one two = sym one ∙ ap (next opening es) same ∙ two
+
+-- the input of a Call in which reading ended
+call_input : (tail : Course) (more rest : List ℕ) → tail.taken ≡ code_byte Call ∷ more → tail.taken ++ rest ≡ code_byte Call ∷ (more ++ rest)
+call_input tail more rest taken = ap (λ (l : List ℕ). l ++ rest) taken
+
+-- After some exchanges one end stands.
+ends_one : (terms : Terms) (opening : Opening) (es : List Exchange) (tail tail2 : Course) (rest rest2 : List ℕ) (end end2 : ConnEnd) (t t2 : List Tick) → StopsAt terms opening es tail rest end → IsSettled end
+    → StopsAt terms opening es tail2 rest2 end2 → IsSettled end2 → tail.taken ++ rest ≡ tail2.taken ++ rest2 → tape tail.acts ++ t ≡ tape tail2.acts ++ t2 → (end ≡ end2) × (tail ≡ tail2) × (rest ≡ rest2)
+ends_one terms opening es tail tail2 rest rest2 end end2 t t2 (inl (more, is, stop)) settled (inl (more2, is2, stop2)) settled2 input ticking =
+    let same_input : more ++ rest ≡ more2 ++ rest2 = sym (ap (λ (c : Course). c.taken ++ rest) is) ∙ input ∙ ap (λ (c : Course). c.taken ++ rest2) is2 in
+    let same : stopped end rest ≡ stopped end2 rest2 = next_same opening es (more ++ rest) (more2 ++ rest2) (stopped end rest) (stopped end2 rest2) same_input stop stop2 in
+    let rests : rest ≡ rest2 = cc in
+    let mores : more ≡ more2 = append_cancel_right more more2 rest2 (ap (λ (l : List ℕ). more ++ l) (sym rests) ∙ same_input) in
+    ((cc), is ∙ ap took mores ∙ sym is2, rests)
+ends_one terms opening es tail tail2 rest rest2 end end2 t t2 (inl (more, is, stop)) settled (inr (more2, taken2, calls2, inside2)) settled2 input ticking =
+    let same_input : more ++ rest ≡ code_byte Call ∷ (more2 ++ rest2) = sym (ap (λ (c : Course). c.taken ++ rest) is) ∙ input ∙ call_input tail2 more2 rest2 taken2 in
+    let same : stopped end rest ≡ calling (more2 ++ rest2) = next_same opening es (more ++ rest) (code_byte Call ∷ (more2 ++ rest2)) (stopped end rest) (calling (more2 ++ rest2)) same_input stop calls2 in
+    absurd (cc)
+ends_one terms opening es tail tail2 rest rest2 end end2 t t2 (inr (more, taken, calls, inside)) settled (inl (more2, is2, stop2)) settled2 input ticking =
+    let same_input : more2 ++ rest2 ≡ code_byte Call ∷ (more ++ rest) = sym (ap (λ (c : Course). c.taken ++ rest2) is2) ∙ sym input ∙ call_input tail more rest taken in
+    let same : stopped end2 rest2 ≡ calling (more ++ rest) = next_same opening es (more2 ++ rest2) (code_byte Call ∷ (more ++ rest)) (stopped end2 rest2) (calling (more ++ rest)) same_input stop2 calls in
+    absurd (cc)
+ends_one terms opening es tail tail2 rest rest2 end end2 t t2 (inr (more, taken, calls, inside)) settled (inr (more2, taken2, calls2, inside2)) settled2 input ticking =
+    in_call_one terms.kinds (length (taken_in (opened opening es))) tail tail2 rest rest2 end end2 t t2 inside settled inside2 settled2 input ticking
+
+stopped_went : (end : ConnEnd) (rest : List ℕ) (f : Exchange) (xs : List ℕ) → stopped end rest ≡ went f xs → ⊥
+stopped_went end rest ping xs same = cc
+stopped_went end rest (served bytes head uid s) xs same = cc
+
+-- An end doesn't stand where an exchange goes on.
+not_both : (terms : Terms) (opening : Opening) (es : List Exchange) (drawn : ℕ) (tail : Course) (rest : List ℕ) (end : ConnEnd) (f : Exchange) (xs : List ℕ) (t u : List Tick) → StopsAt terms opening es tail rest end → IsSettled end
+    → length es < most_messages opening → GoOn es → IsExchange terms drawn f → tail.taken ++ rest ≡ taken_by f ++ xs → tape tail.acts ++ t ≡ tape (acts_by f) ++ u → ⊥
+not_both terms opening es drawn tail rest end f xs t u (inl (more, is, stop)) settled few goes legal input ticking =
+    let same_input : more ++ rest ≡ taken_by f ++ xs = sym (ap (λ (c : Course). c.taken ++ rest) is) ∙ input in
+    stopped_went end rest f xs (next_same opening es (more ++ rest) (taken_by f ++ xs) (stopped end rest) (went f xs) same_input stop (next_reads opening es f xs few goes))
+not_both terms opening es drawn tail rest end ping xs t u (inr (more, taken, calls, inside)) settled few goes legal input ticking =
+    no_call (more ++ rest) xs (sym (call_input tail more rest taken) ∙ input)
+not_both terms opening es drawn tail rest end (served bytes head uid s) xs t u (inr (more, taken, calls, inside)) settled few goes (draw, fits, small, is) input ticking =
+    in_call_not_served terms.kinds (length (taken_in (opened opening es))) tail rest end head bytes uid s xs t u inside settled fits small is input ticking
 
 -- ---- exchanges
 
@@ -130,75 +260,116 @@ chain_rest terms drawn e (f ∷ es) chain = chain.2
 first_taken : (e : Exchange) (es : List Exchange) (xs : List ℕ) → flat_map taken_by (e ∷ es) ++ xs ≡ taken_by e ++ (flat_map taken_by es ++ xs)
 first_taken e es xs = append_assoc (taken_by e) (flat_map taken_by es) xs
 
+-- one list of acts, and then another
+acts_tape : (a b : List Act) (t : List Tick) → tape (a ++ b) ++ t ≡ tape a ++ (tape b ++ t)
+acts_tape a b t = ap (λ (l : List Tick). l ++ t) (flat_map-append ticks a b) ∙ append_assoc (tape a) (tape b) t
+
 first_tape : (e : Exchange) (es : List Exchange) (t : List Tick) → tape (flat_map acts_by (e ∷ es)) ++ t ≡ tape (acts_by e) ++ (tape (flat_map acts_by es) ++ t)
-first_tape e es t = ap (λ l. l ++ t) (flat_map-append ticks (acts_by e) (flat_map acts_by es)) ∙ append_assoc (tape (acts_by e)) (tape (flat_map acts_by es)) t
+first_tape e es t = acts_tape (acts_by e) (flat_map acts_by es) t
 
--- An end doesn't stand where an exchange goes on.
-not_both : (terms : Terms) (opening : Opening) (n at drawn : ℕ) (a : List ℕ) (t : List Tick) (end : ConnEnd) (rest : List ℕ) (f : Exchange) (xs : List ℕ) (u : List Tick)
-    → next opening n at a t ≡ stopped end rest → n < most_messages opening → IsExchange terms drawn f → a ≡ taken_by f ++ xs → t ≡ tape (acts_by f) ++ u → ⊥
-not_both terms opening n at drawn a t end rest f xs u stop few is input ticking =
-    let same : stopped end rest ≡ going f xs u
-    = sym stop ∙ ap (λ l. next opening n at l t) input ∙ ap (next opening n at (taken_by f ++ xs)) ticking ∙ next_reads terms opening n at drawn f xs u few is in
-    cc
+-- Behind some exchanges others follow: the first of them begins the input and the answers that are left behind the former.
+record Follows (terms : Terms) (es fs : List Exchange) (a b : List ℕ) (t u : List Tick) : Type 0 where
+  one : Exchange
+  others : List Exchange
+  is : fs ≡ es ++ one ∷ others
+  drawn : ℕ
+  legal : IsExchange terms drawn one
+  goes : GoOn es
+  input : a ≡ taken_by one ++ (flat_map taken_by others ++ b)
+  ticking : t ≡ tape (acts_by one) ++ (tape (flat_map acts_by others) ++ u)
 
--- Exchanges that begin one input and one list of answers, each followed by an end, are the same, and so is the end.
-agree : (es fs : List Exchange) (terms : Terms) (opening : Opening) (n at drawn : ℕ) (a b rest rest2 : List ℕ) (end end2 : ConnEnd) (t t2 : List Tick)
-    → IsChain terms drawn es → IsChain terms drawn fs → n + length es ≤ most_messages opening → n + length fs ≤ most_messages opening
-    → next opening (n + length es) (at + length (flat_map taken_by es)) a t ≡ stopped end rest
-    → next opening (n + length fs) (at + length (flat_map taken_by fs)) b t2 ≡ stopped end2 rest2
-    → flat_map taken_by es ++ a ≡ flat_map taken_by fs ++ b → tape (flat_map acts_by es) ++ t ≡ tape (flat_map acts_by fs) ++ t2
-    → (es ≡ fs) × (end ≡ end2) × (rest ≡ rest2) × (a ≡ b)
-agree [] [] terms opening n at drawn a b rest rest2 end end2 t t2 chain chain2 few few2 one two input ticking =
-    let same : stopped end rest ≡ stopped end2 rest2
-    = sym one ∙ ap (λ l. next opening (n + 0) (at + 0) l t) input ∙ ap (next opening (n + 0) (at + 0) b) ticking ∙ two in
-    (refl, (cc), (cc), input)
-agree [] (f ∷ fs) terms opening n at drawn a b rest rest2 end end2 t t2 chain chain2 few few2 one two input ticking =
-    absurd (not_both terms opening (n + 0) (at + 0) drawn a t end rest f (flat_map taken_by fs ++ b) (tape (flat_map acts_by fs) ++ t2) one (omega (arith, few2))
-    (chain_first terms drawn f fs chain2) (input ∙ first_taken f fs b) (ticking ∙ first_tape f fs t2))
-agree (e ∷ es) [] terms opening n at drawn a b rest rest2 end end2 t t2 chain chain2 few few2 one two input ticking =
-    absurd (not_both terms opening (n + 0) (at + 0) drawn b t2 end2 rest2 e (flat_map taken_by es ++ a) (tape (flat_map acts_by es) ++ t) two (omega (arith, few))
-    (chain_first terms drawn e es chain) (sym input ∙ first_taken e es a) (sym ticking ∙ first_tape e es t))
-agree (e ∷ es) (f ∷ fs) terms opening n at drawn a b rest rest2 end end2 t t2 chain chain2 few few2 one two input ticking =
-    let xs : List ℕ = flat_map taken_by es ++ a in
-    let ys : List ℕ = flat_map taken_by fs ++ b in
-    let u : List Tick = tape (flat_map acts_by es) ++ t in
-    let v : List Tick = tape (flat_map acts_by fs) ++ t2 in
-    let taken : taken_by e ++ xs ≡ taken_by f ++ ys = sym (first_taken e es a) ∙ input ∙ first_taken f fs b in
-    let ticked : tape (acts_by e) ++ u ≡ tape (acts_by f) ++ v = sym (first_tape e es t) ∙ ticking ∙ first_tape f fs t2 in
-    let same : going e xs u ≡ going f ys v
-    = sym (next_reads terms opening n at drawn e xs u (omega (arith, few)) (chain_first terms drawn e es chain)) ∙ ap (λ l. next opening n at l (tape (acts_by e) ++ u)) taken
-    ∙ ap (next opening n at (taken_by f ++ ys)) ticked ∙ next_reads terms opening n at drawn f ys v (omega (arith, few2)) (chain_first terms drawn f fs chain2) in
-    let ef : e ≡ f = cc in
-    let xys : xs ≡ ys = cc in
-    let uv : u ≡ v = cc in
+-- Others follow the one or the other, or they are the same.
+abbrev Compared : Terms → List Exchange → List Exchange → List ℕ → List ℕ → List Tick → List Tick → Type 0
+Compared terms es fs a b t u = Follows terms es fs a b t u ⊎ (Follows terms fs es b a u t ⊎ ((es ≡ fs) × (a ≡ b) × (t ≡ u)))
+
+-- An exchange goes on where others follow it.
+chain_open : (terms : Terms) (drawn : ℕ) (f : Exchange) (fs es : List Exchange) (one : Exchange) (others : List Exchange) → IsChain terms drawn (f ∷ fs) → fs ≡ es ++ one ∷ others → IsOpen f
+chain_open terms drawn f [] es one others chain is =
+    let long : 0 ≡ length es + length (one ∷ others) = ap (λ (l : List Exchange). length l) is ∙ length-append es (one ∷ others) in
+    absurd (omega (arith, long))
+chain_open terms drawn f (g ∷ fs) es one others chain is = chain.1
+
+goes_more : (e : Exchange) (es : List Exchange) → IsOpen e → GoOn es → GoOn (e ∷ es)
+goes_more e [] still goes = still
+goes_more e (f ∷ es) still goes = goes
+
+follows_more : (terms : Terms) (drawn : ℕ) (e f : Exchange) (es fs : List Exchange) (a b : List ℕ) (t u : List Tick) → e ≡ f → IsChain terms drawn (f ∷ fs) → Follows terms es fs a b t u → Follows terms (e ∷ es) (f ∷ fs) a b t u
+follows_more terms drawn e f es fs a b t u same chain x =
+    let P : Exchange → Type 0 = λ y. IsOpen y in
+    record {
+      one = x.one;
+      others = x.others;
+      is = ap (λ (l : List Exchange). f ∷ l) x.is ∙ ap (λ y. y ∷ (es ++ x.one ∷ x.others)) (sym same);
+      drawn = x.drawn;
+      legal = x.legal;
+      goes = goes_more e es (subst P (sym same) (chain_open terms drawn f fs es x.one x.others chain x.is)) x.goes;
+      input = x.input;
+      ticking = x.ticking;
+    }
+
+compared_more : (terms : Terms) (drawn : ℕ) (e f : Exchange) (es fs : List Exchange) (a b : List ℕ) (t u : List Tick) → e ≡ f → IsChain terms drawn (e ∷ es) → IsChain terms drawn (f ∷ fs) → Compared terms es fs a b t u → Compared terms (e ∷ es) (f ∷ fs) a b t u
+compared_more terms drawn e f es fs a b t u same chain chain2 (inl x) = inl (follows_more terms drawn e f es fs a b t u same chain2 x)
+compared_more terms drawn e f es fs a b t u same chain chain2 (inr (inl x)) = inr (inl (follows_more terms drawn f e fs es b a u t (sym same) chain x))
+compared_more terms drawn e f es fs a b t u same chain chain2 (inr (inr (more, left, handed))) = inr (inr (ap (λ x. x ∷ es) same ∙ ap (λ (l : List Exchange). f ∷ l) more, left, handed))
+
+-- Of two lists of exchanges that begin one input and one list of answers, the one begins the other.
+compared : (es fs : List Exchange) (terms : Terms) (drawn : ℕ) (a b : List ℕ) (t u : List Tick) → IsChain terms drawn es → IsChain terms drawn fs
+    → flat_map taken_by es ++ a ≡ flat_map taken_by fs ++ b → tape (flat_map acts_by es) ++ t ≡ tape (flat_map acts_by fs) ++ u → Compared terms es fs a b t u
+compared [] [] terms drawn a b t u chain chain2 input ticking = inr (inr (refl, input, ticking))
+compared [] (f ∷ fs) terms drawn a b t u chain chain2 input ticking = inl (record {
+  one = f;
+  others = fs;
+  is = refl;
+  drawn = drawn;
+  legal = chain_first terms drawn f fs chain2;
+  goes = refl;
+  input = input ∙ first_taken f fs b;
+  ticking = ticking ∙ first_tape f fs u;
+})
+compared (e ∷ es) [] terms drawn a b t u chain chain2 input ticking = inr (inl (record {
+  one = e;
+  others = es;
+  is = refl;
+  drawn = drawn;
+  legal = chain_first terms drawn e es chain;
+  goes = refl;
+  input = sym input ∙ first_taken e es a;
+  ticking = sym ticking ∙ first_tape e es t;
+}))
+compared (e ∷ es) (f ∷ fs) terms drawn a b t u chain chain2 input ticking =
+    let taken : taken_by e ++ (flat_map taken_by es ++ a) ≡ taken_by f ++ (flat_map taken_by fs ++ b) = sym (first_taken e es a) ∙ input ∙ first_taken f fs b in
+    let handed : tape (acts_by e) ++ (tape (flat_map acts_by es) ++ t) ≡ tape (acts_by f) ++ (tape (flat_map acts_by fs) ++ u) = sym (first_tape e es t) ∙ ticking ∙ first_tape f fs u in
+    let one = next_is_one terms drawn e f (flat_map taken_by es ++ a) (flat_map taken_by fs ++ b) (tape (flat_map acts_by es) ++ t) (tape (flat_map acts_by fs) ++ u)
+    (chain_first terms drawn e es chain) (chain_first terms drawn f fs chain2) taken handed in
     let P : Exchange → Type 0 = λ x. IsChain terms (drawn + draws_by x) fs in
-    let chain3 : IsChain terms (drawn + draws_by e) fs = subst P (sym ef) (chain_rest terms drawn f fs chain2) in
-    let long : length (taken_by e) ≡ length (taken_by f) = ap (λ x. length (taken_by x)) ef in
-    let count : n + length (e ∷ es) ≡ n + 1 + length es = omega arith in
-    let count2 : n + length (f ∷ fs) ≡ n + 1 + length fs = omega arith in
-    let place : at + length (taken_by e ++ flat_map taken_by es) ≡ at + length (taken_by e) + length (flat_map taken_by es) = omega (arith, length-append (taken_by e) (flat_map taken_by es)) in
-    let place2 : at + length (taken_by f ++ flat_map taken_by fs) ≡ at + length (taken_by e) + length (flat_map taken_by fs) = omega (arith, length-append (taken_by f) (flat_map taken_by fs), long) in
-    let one2 : next opening (n + 1 + length es) (at + length (taken_by e) + length (flat_map taken_by es)) a t ≡ stopped end rest
-    = ap (λ k. next opening k (at + length (taken_by e) + length (flat_map taken_by es)) a t) (sym count) ∙ ap (λ k. next opening (n + length (e ∷ es)) k a t) (sym place) ∙ one in
-    let two2 : next opening (n + 1 + length fs) (at + length (taken_by e) + length (flat_map taken_by fs)) b t2 ≡ stopped end2 rest2
-    = ap (λ k. next opening k (at + length (taken_by e) + length (flat_map taken_by fs)) b t2) (sym count2) ∙ ap (λ k. next opening (n + length (f ∷ fs)) k b t2) (sym place2) ∙ two in
-    let all = agree es fs terms opening (n + 1) (at + length (taken_by e)) (drawn + draws_by e) a b rest rest2 end end2 t t2 (chain_rest terms drawn e es chain) chain3
-    (omega (arith, few)) (omega (arith, few2)) one2 two2 xys uv in
-    (ap (λ x. x ∷ es) ef ∙ ap (λ l. f ∷ l) all.0, all.1, all.2, all.3)
+    let chain3 : IsChain terms (drawn + draws_by e) fs = subst P (sym one.0) (chain_rest terms drawn f fs chain2) in
+    compared_more terms drawn e f es fs a b t u one.0 chain chain2 (compared es fs terms (drawn + draws_by e) a b t u (chain_rest terms drawn e es chain) chain3 one.1 one.2)
 
 -- ---- dialogues
+
+-- a course, by its parts
+abbrev course_with : List ℕ → List Act → ℕ → List ℕ → Course
+course_with taken acts draws written = record { taken = taken; acts = acts; draws = draws; written = written }
+
+course_same : (t t2 : List ℕ) (a a2 : List Act) (d d2 : ℕ) (w w2 : List ℕ) → t ≡ t2 → a ≡ a2 → d ≡ d2 → w ≡ w2 → course_with t a d w ≡ course_with t2 a2 d2 w2
+course_same t t2 a a2 d d2 w w2 taken acts draws written =
+    ap (λ x. course_with x a d w) taken ∙ ap (λ x. course_with t2 x d w) acts ∙ ap (λ x. course_with t2 a2 x w) draws ∙ ap (course_with t2 a2 d2) written
 
 -- The dialogue ends in the opening.
 abbrev InOpening : Terms → Course → List ℕ → ConnEnd → Type 0
 InOpening terms c rest end = (reading terms (c.taken ++ rest) ≡ over end c.written rest) × (c.acts ≡ []) × (c.draws ≡ 0)
 
 -- The dialogue ends after an opening and some exchanges.
-abbrev AfterOpening : Terms → ℕ → Course → List ℕ → ConnEnd → Type 0
-AfterOpening terms drawn c rest end = (opening : Opening) × (es : List Exchange) × (more : List ℕ)
-    × (reading terms (c.taken ++ rest) ≡ opens opening (flat_map taken_by es ++ (more ++ rest)))
-    × (c ≡ followed_by (course_in terms (opened opening es)) (took more))
-    × IsChain terms drawn es × (length es ≤ most_messages opening)
-    × ((t : List Tick) → next opening (length es) (length (taken_in (opened opening es))) (more ++ rest) t ≡ stopped end rest)
+record AfterOpening (terms : Terms) (drawn : ℕ) (c : Course) (rest : List ℕ) (end : ConnEnd) : Type 0 where
+  opening : Opening
+  es : List Exchange
+  tail : Course
+  reads : reading terms (c.taken ++ rest) ≡ opens opening (flat_map taken_by es ++ (tail.taken ++ rest))
+  is : c ≡ followed_by (course_in terms (opened opening es)) tail
+  chain : IsChain terms drawn es
+  few : length es ≤ most_messages opening
+  stops : StopsAt terms opening es tail rest end
+  settled : IsSettled end
 
 in_opening : (terms : Terms) (w : Whole) (c tail : Course) (rest : List ℕ) (end : ConnEnd) → c ≡ followed_by (course_in terms w) tail
     → (course_in terms w).acts ≡ [] → (course_in terms w).draws ≡ 0 → Reads terms w tail rest end → InOpening terms c rest end
@@ -213,39 +384,71 @@ dialogue_splits terms drawn c rest end (nothing, tail, whole, is, ends) settled 
 dialogue_splits terms drawn c rest end (greeted, tail, whole, is, ends) settled =
     inl (in_opening terms greeted c tail rest end is refl refl (greeted_reads terms drawn tail rest end ends settled))
 dialogue_splits terms drawn c rest end (opened opening es, tail, (legal, chain, few), is, ends) settled =
-    let (more, only, stop) = opened_stops terms drawn opening es tail rest end ends settled in
-    let same : c ≡ followed_by (course_in terms (opened opening es)) (took more) = is ∙ ap (followed_by (course_in terms (opened opening es))) only in
-    let input : c.taken ++ rest ≡ opening_taken opening ++ (flat_map taken_by es ++ (more ++ rest)) =
-    ap (λ (x : Course). x.taken ++ rest) same ∙ append_assoc (opening_taken opening ++ flat_map taken_by es) more rest
-    ∙ append_assoc (opening_taken opening) (flat_map taken_by es) (more ++ rest) in
-    inr (opening, es, more, ap (reading terms) input ∙ opening_passed terms opening (flat_map taken_by es ++ (more ++ rest)) legal, same, chain, few, stop)
+    let input : c.taken ++ rest ≡ opening_taken opening ++ (flat_map taken_by es ++ (tail.taken ++ rest)) =
+    ap (λ (x : Course). x.taken ++ rest) is ∙ append_assoc (opening_taken opening ++ flat_map taken_by es) tail.taken rest
+    ∙ append_assoc (opening_taken opening) (flat_map taken_by es) (tail.taken ++ rest) in
+    inr (record {
+      opening = opening;
+      es = es;
+      tail = tail;
+      reads = ap (reading terms) input ∙ opening_passed terms opening (flat_map taken_by es ++ (tail.taken ++ rest)) legal;
+      is = is;
+      chain = chain;
+      few = few;
+      stops = opened_stops terms drawn opening es tail rest end ends settled;
+      settled = settled;
+    })
+
+-- An exchange that follows doesn't stand where the dialogue ends.
+follows_no_end : (terms : Terms) (opening : Opening) (es fs : List Exchange) (tail : Course) (rest b : List ℕ) (end : ConnEnd) (t u : List Tick) → StopsAt terms opening es tail rest end → IsSettled end → length fs ≤ most_messages opening
+    → Follows terms es fs (tail.taken ++ rest) b (tape tail.acts ++ t) u → ⊥
+follows_no_end terms opening es fs tail rest b end t u stops settled few x =
+    let long : length fs ≡ length es + length (x.one ∷ x.others) = ap (λ (l : List Exchange). length l) x.is ∙ length-append es (x.one ∷ x.others) in
+    not_both terms opening es x.drawn tail rest end x.one (flat_map taken_by x.others ++ b) t (tape (flat_map acts_by x.others) ++ u) stops settled (omega (arith, few, long)) x.goes x.legal x.input x.ticking
+
+-- what the outside handed in, in the exchanges and behind them
+tape_after : (terms : Terms) (opening : Opening) (es : List Exchange) (c tail : Course) (t : List Tick) → c ≡ followed_by (course_in terms (opened opening es)) tail → tape c.acts ++ t ≡ tape (flat_map acts_by es) ++ (tape tail.acts ++ t)
+tape_after terms opening es c tail t is = ap (λ (x : Course). tape x.acts ++ t) is ∙ acts_tape (flat_map acts_by es) tail.acts t
+
+abbrev OneEnd : ConnEnd → ConnEnd → Course → Course → List ℕ → List ℕ → Type 0
+OneEnd end end2 c c2 rest rest2 = (end ≡ end2) × (c ≡ c2) × (rest ≡ rest2)
+
+same_es : (terms : Terms) (opening : Opening) (es fs : List Exchange) (c c2 tail tail2 : Course) (rest rest2 : List ℕ) (end end2 : ConnEnd) (t u : List Tick) → es ≡ fs
+    → c ≡ followed_by (course_in terms (opened opening es)) tail → c2 ≡ followed_by (course_in terms (opened opening fs)) tail2
+    → StopsAt terms opening es tail rest end → IsSettled end → StopsAt terms opening fs tail2 rest2 end2 → IsSettled end2
+    → tail.taken ++ rest ≡ tail2.taken ++ rest2 → tape tail.acts ++ t ≡ tape tail2.acts ++ u → OneEnd end end2 c c2 rest rest2
+same_es terms opening es fs c c2 tail tail2 rest rest2 end end2 t u same is is2 stops settled stops2 settled2 input ticking =
+    let P : List Exchange → Type 0 = λ l. StopsAt terms opening l tail2 rest2 end2 in
+    let one = ends_one terms opening es tail tail2 rest rest2 end end2 t u stops settled (subst P (sym same) stops2) settled2 input ticking in
+    (one.0, is ∙ ap (λ (l : List Exchange). followed_by (course_in terms (opened opening l)) tail) same ∙ ap (followed_by (course_in terms (opened opening fs))) one.1 ∙ sym is2, one.2)
+
+after_compared : (terms : Terms) (opening : Opening) (es fs : List Exchange) (c c2 tail tail2 : Course) (rest rest2 : List ℕ) (end end2 : ConnEnd) (t u : List Tick)
+    → length es ≤ most_messages opening → length fs ≤ most_messages opening
+    → c ≡ followed_by (course_in terms (opened opening es)) tail → c2 ≡ followed_by (course_in terms (opened opening fs)) tail2
+    → StopsAt terms opening es tail rest end → IsSettled end → StopsAt terms opening fs tail2 rest2 end2 → IsSettled end2
+    → Compared terms es fs (tail.taken ++ rest) (tail2.taken ++ rest2) (tape tail.acts ++ t) (tape tail2.acts ++ u) → OneEnd end end2 c c2 rest rest2
+after_compared terms opening es fs c c2 tail tail2 rest rest2 end end2 t u few few2 is is2 stops settled stops2 settled2 (inl x) =
+    absurd (follows_no_end terms opening es fs tail rest (tail2.taken ++ rest2) end t (tape tail2.acts ++ u) stops settled few2 x)
+after_compared terms opening es fs c c2 tail tail2 rest rest2 end end2 t u few few2 is is2 stops settled stops2 settled2 (inr (inl x)) =
+    absurd (follows_no_end terms opening fs es tail2 rest2 (tail.taken ++ rest) end2 u (tape tail.acts ++ t) stops2 settled2 few x)
+after_compared terms opening es fs c c2 tail tail2 rest rest2 end end2 t u few few2 is is2 stops settled stops2 settled2 (inr (inr (same, input, ticking))) =
+    same_es terms opening es fs c c2 tail tail2 rest rest2 end end2 t u same is is2 stops settled stops2 settled2 input ticking
 
 -- Two dialogues that end after the opening.
 both_after : (terms : Terms) (drawn : ℕ) (c c2 : Course) (rest rest2 : List ℕ) (end end2 : ConnEnd) (t t2 : List Tick)
     → AfterOpening terms drawn c rest end → AfterOpening terms drawn c2 rest2 end2 → c.taken ++ rest ≡ c2.taken ++ rest2 → tape c.acts ++ t ≡ tape c2.acts ++ t2
     → (end ≡ end2) × (c ≡ c2) × (rest ≡ rest2)
-both_after terms drawn c c2 rest rest2 end end2 t t2 (opening, es, more, reads, is, chain, few, stop) (opening2, fs, more2, reads2, is2, chain2, few2, stop2) input ticking =
-    let same : opens opening (flat_map taken_by es ++ (more ++ rest)) ≡ opens opening2 (flat_map taken_by fs ++ (more2 ++ rest2)) = sym reads ∙ ap (reading terms) input ∙ reads2 in
-    let openings : opening2 ≡ opening = cc in
-    let inputs : flat_map taken_by es ++ (more ++ rest) ≡ flat_map taken_by fs ++ (more2 ++ rest2) = cc in
-    let quiet : c.acts ≡ flat_map acts_by es = ap (λ (x : Course). x.acts) is ∙ append-nil (flat_map acts_by es) in
-    let quiet2 : c2.acts ≡ flat_map acts_by fs = ap (λ (x : Course). x.acts) is2 ∙ append-nil (flat_map acts_by fs) in
-    let tapes : tape (flat_map acts_by es) ++ t ≡ tape (flat_map acts_by fs) ++ t2 = ap (λ l. tape l ++ t) (sym quiet) ∙ ticking ∙ ap (λ l. tape l ++ t2) quiet2 in
-    let at : ℕ = length (opening_taken opening) in
-    let first : next opening (0 + length es) (at + length (flat_map taken_by es)) (more ++ rest) t ≡ stopped end rest =
-    ap (λ k. next opening k (at + length (flat_map taken_by es)) (more ++ rest) t) (zero-add (length es))
-    ∙ ap (λ k. next opening (length es) k (more ++ rest) t) (sym (length-append (opening_taken opening) (flat_map taken_by es))) ∙ stop t in
-    let P : Opening → Type 0 = λ o. next o (length fs) (length (taken_in (opened o fs))) (more2 ++ rest2) t2 ≡ stopped end2 rest2 in
-    let second : next opening (0 + length fs) (at + length (flat_map taken_by fs)) (more2 ++ rest2) t2 ≡ stopped end2 rest2 =
-    ap (λ k. next opening k (at + length (flat_map taken_by fs)) (more2 ++ rest2) t2) (zero-add (length fs))
-    ∙ ap (λ k. next opening (length fs) k (more2 ++ rest2) t2) (sym (length-append (opening_taken opening) (flat_map taken_by fs))) ∙ subst P openings (stop2 t2) in
-    let Q : Opening → Type 0 = λ o. length fs ≤ most_messages o in
-    let fewer : length fs ≤ most_messages opening = subst Q openings few2 in
-    let all = agree es fs terms opening 0 at drawn (more ++ rest) (more2 ++ rest2) rest rest2 end end2 t t2 chain chain2 (omega (arith, few)) (omega (arith, fewer)) first second inputs tapes in
-    let mores : more ≡ more2 = append_cancel_right more more2 rest2 (ap (λ l. more ++ l) (sym all.2) ∙ all.3) in
-    let courses : c ≡ c2 = is ∙ ap (λ l. followed_by (course_in terms (opened opening l)) (took more)) all.0 ∙ ap (λ l. followed_by (course_in terms (opened opening fs)) (took l)) mores
-    ∙ ap (λ o. followed_by (course_in terms (opened o fs)) (took more2)) (sym openings) ∙ sym is2 in
-    (all.1, courses, all.2)
+both_after terms drawn c c2 rest rest2 end end2 t t2 a b input ticking =
+    let same : opens a.opening (flat_map taken_by a.es ++ (a.tail.taken ++ rest)) ≡ opens b.opening (flat_map taken_by b.es ++ (b.tail.taken ++ rest2)) = sym a.reads ∙ ap (reading terms) input ∙ b.reads in
+    let openings : b.opening ≡ a.opening = cc in
+    let inputs : flat_map taken_by a.es ++ (a.tail.taken ++ rest) ≡ flat_map taken_by b.es ++ (b.tail.taken ++ rest2) = cc in
+    let handed : tape (flat_map acts_by a.es) ++ (tape a.tail.acts ++ t) ≡ tape (flat_map acts_by b.es) ++ (tape b.tail.acts ++ t2) =
+    sym (tape_after terms a.opening a.es c a.tail t a.is) ∙ ticking ∙ tape_after terms b.opening b.es c2 b.tail t2 b.is in
+    let P : Opening → Type 0 = λ o. StopsAt terms o b.es b.tail rest2 end2 in
+    let Q : Opening → Type 0 = λ o. length b.es ≤ most_messages o in
+    let R : Opening → Type 0 = λ o. c2 ≡ followed_by (course_in terms (opened o b.es)) b.tail in
+    after_compared terms a.opening a.es b.es c c2 a.tail b.tail rest rest2 end end2 t t2 a.few (subst Q openings b.few) a.is (subst R openings b.is) a.stops a.settled (subst P openings b.stops) b.settled
+    (compared a.es b.es terms drawn (a.tail.taken ++ rest) (b.tail.taken ++ rest2) (tape a.tail.acts ++ t) (tape b.tail.acts ++ t2) a.chain b.chain inputs handed)
 
 -- Two dialogues that end in the opening.
 both_in : (terms : Terms) (c c2 : Course) (rest rest2 : List ℕ) (end end2 : ConnEnd) → InOpening terms c rest end → InOpening terms c2 rest2 end2 → c.taken ++ rest ≡ c2.taken ++ rest2
@@ -255,11 +458,11 @@ both_in terms c c2 rest rest2 end end2 (reads, acts, draws) (reads2, acts2, draw
     let rests : rest ≡ rest2 = cc in
     let written : c.written ≡ c2.written = cc in
     let taken : c.taken ≡ c2.taken = append_cancel_right c.taken c2.taken rest2 (ap (λ xs. c.taken ++ xs) (sym rests) ∙ input) in
-    ((cc), course_is c.taken c2.taken c.acts c2.acts c.draws c2.draws c.written c2.written taken (acts ∙ sym acts2) (draws ∙ sym draws2) written, rests)
+    ((cc), course_same c.taken c2.taken c.acts c2.acts c.draws c2.draws c.written c2.written taken (acts ∙ sym acts2) (draws ∙ sym draws2) written, rests)
 
 not_in : (terms : Terms) (drawn : ℕ) (c c2 : Course) (rest rest2 : List ℕ) (end end2 : ConnEnd) → InOpening terms c rest end → AfterOpening terms drawn c2 rest2 end2 → c.taken ++ rest ≡ c2.taken ++ rest2 → ⊥
-not_in terms drawn c c2 rest rest2 end end2 (reads, quiet, none) (opening, es, more, reads2, is, chain, few, stop) input =
-    let same : over end c.written rest ≡ opens opening (flat_map taken_by es ++ (more ++ rest2)) = sym reads ∙ ap (reading terms) input ∙ reads2 in cc
+not_in terms drawn c c2 rest rest2 end end2 (reads, quiet, none) b input =
+    let same : over end c.written rest ≡ opens b.opening (flat_map taken_by b.es ++ (b.tail.taken ++ rest2)) = sym reads ∙ ap (reading terms) input ∙ b.reads in cc
 
 -- An input and the answers of the outside have one settled dialogue.
 pub one_dialogue : (terms : Terms) (drawn : ℕ) (c c2 : Course) (rest rest2 : List ℕ) (end end2 : ConnEnd) (t t2 : List Tick)
@@ -277,17 +480,6 @@ one_dialogue terms drawn c c2 rest rest2 end end2 t t2 first settled second sett
         | inr b ↦ both_after terms drawn c c2 rest rest2 end end2 t t2 a b input ticking
       ]
     ]
-
--- Two exchanges that begin one input and one list of answers are one.
-pub next_is_one : (terms : Terms) (drawn : ℕ) (e f : Exchange) (rest rest2 : List ℕ) (t t2 : List Tick)
-    → IsExchange terms drawn e → IsExchange terms drawn f
-    → taken_by e ++ rest ≡ taken_by f ++ rest2 → tape (acts_by e) ++ t ≡ tape (acts_by f) ++ t2
-    → (e ≡ f) × (rest ≡ rest2) × (t ≡ t2)
-next_is_one terms drawn e f rest rest2 t t2 is is2 input ticking =
-    let same : going e rest t ≡ going f rest2 t2
-    = sym (next_reads terms single_op 0 0 drawn e rest t (omega arith) is) ∙ ap (λ xs. next single_op 0 0 xs (tape (acts_by e) ++ t)) input
-    ∙ ap (next single_op 0 0 (taken_by f ++ rest2)) ticking ∙ next_reads terms single_op 0 0 drawn f rest2 t2 (omega arith) is2 in
-    ((cc), (cc), (cc))
 
 -- What was taken is a front of what was told.
 front_told : (input taken : List ℕ) (left : Option (List ℕ)) → Some input ≡ with_front taken left → (rest : List ℕ) × (left ≡ Some rest) × (input ≡ taken ++ rest)

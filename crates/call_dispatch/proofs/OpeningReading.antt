@@ -4,7 +4,7 @@ use Rattle.std.proofs.lemmas.List.{drop_at, take_at, take-append-drop}
 use Rattle.std.proofs.lemmas.Bool.Decides.{eqb_tells, nat_tests}
 use Rattle.jrmp_frames.specs.Frames.{header_start, IsInHeader, BreaksHeader, IsEndpoint, IsInEndpoint, protocol_ack, protocol_not_supported}
 use Rattle.call_dispatch.specs.declared.end.ConnEnd.{ConnEnd}
-use Rattle.call_dispatch.specs.declared.end.ConnEnd.TheVariants.{Ended, BadHeader, UnknownProtocol, BadMessage, Truncated, NotBuilt, MessageLimit, ReadFault, WriteFault, OutOfMemory}
+use Rattle.call_dispatch.specs.declared.end.ConnEnd.TheVariants.{Ended, BadHeader, UnknownProtocol, BadMessage, BadStream, TooLarge, Truncated, NotBuilt, NoSuchObject, NoSuchMethod, SpaceFull, MessageLimit, ReadFault, WriteFault, OutOfMemory}
 use Rattle.call_dispatch.specs.End.{IsSettled}
 use Rattle.call_dispatch.specs.Terms.{Terms}
 use Rattle.call_dispatch.specs.Spot.{Course, took}
@@ -118,7 +118,10 @@ nothing_reads terms drawn tail rest (UnknownProtocol byte) (none, other, is) set
     reads_is terms nothing tail _ rest (UnknownProtocol byte) is
     ((let many = neq-eqb byte 0x4B other.0 in let single = neq-eqb byte 0x4C other.1 in rw (many, single) refl), refl, refl)
 nothing_reads terms drawn tail rest (BadMessage byte at) (code, none, place, is) settled = absurd code
-nothing_reads terms drawn tail rest (Truncated at) (more, inside, left, place, is) settled =
+nothing_reads terms drawn tail rest (BadStream kind at) (code, room, how) settled = absurd code
+nothing_reads terms drawn tail rest (TooLarge what at) (code, room, how) settled = absurd code
+nothing_reads terms drawn tail rest (Truncated at) (inr (code, room, how)) settled = absurd code
+nothing_reads terms drawn tail rest (Truncated at) (inl (more, inside, left, place, is)) settled =
     reads_is terms nothing tail (took more) rest (Truncated at) is (
       ap (λ xs. reading terms (more ++ xs)) left ∙ ap (reading terms) (append-nil more) ∙ header_truncated terms more inside
           ∙ ap (λ n. over (Truncated n) [] []) (sym place) ∙ ap (over (Truncated at) []) (sym left),
@@ -126,6 +129,9 @@ nothing_reads terms drawn tail rest (Truncated at) (more, inside, left, place, i
       refl,
     )
 nothing_reads terms drawn tail rest (NotBuilt byte at) (code, room, unbuilt, place, is) settled = absurd code
+nothing_reads terms drawn tail rest (NoSuchObject id) (closed, is) settled = absurd closed
+nothing_reads terms drawn tail rest (NoSuchMethod operation hash) (closed, is) settled = absurd closed
+nothing_reads terms drawn tail rest SpaceFull (closed, is) settled = absurd closed
 nothing_reads terms drawn tail rest MessageLimit (code, full, known) settled = absurd code
 nothing_reads terms drawn tail rest ReadFault ends settled = absurd settled
 nothing_reads terms drawn tail rest (WriteFault sent) ends settled = absurd settled
@@ -137,7 +143,10 @@ greeted_reads terms drawn tail rest Ended (inr done, is) settled = absurd done
 greeted_reads terms drawn tail rest (BadHeader at) (none, h) settled = absurd (cc)
 greeted_reads terms drawn tail rest (UnknownProtocol byte) (none, other, is) settled = absurd (cc)
 greeted_reads terms drawn tail rest (BadMessage byte at) (code, none, place, is) settled = absurd code
-greeted_reads terms drawn tail rest (Truncated at) (more, inside, left, place, is) settled =
+greeted_reads terms drawn tail rest (BadStream kind at) (code, room, how) settled = absurd code
+greeted_reads terms drawn tail rest (TooLarge what at) (code, room, how) settled = absurd code
+greeted_reads terms drawn tail rest (Truncated at) (inr (code, room, how)) settled = absurd code
+greeted_reads terms drawn tail rest (Truncated at) (inl (more, inside, left, place, is)) settled =
     let ack : List ℕ = protocol_ack terms.peer_host terms.peer_port in
     let here : 7 + length more ≡ at = omega (arith, place) in
     reads_is terms greeted tail (took more) rest (Truncated at) is (
@@ -147,6 +156,9 @@ greeted_reads terms drawn tail rest (Truncated at) (more, inside, left, place, i
       refl,
     )
 greeted_reads terms drawn tail rest (NotBuilt byte at) (code, room, unbuilt, place, is) settled = absurd code
+greeted_reads terms drawn tail rest (NoSuchObject id) (closed, is) settled = absurd closed
+greeted_reads terms drawn tail rest (NoSuchMethod operation hash) (closed, is) settled = absurd closed
+greeted_reads terms drawn tail rest SpaceFull (closed, is) settled = absurd closed
 greeted_reads terms drawn tail rest MessageLimit (code, full, known) settled = absurd code
 greeted_reads terms drawn tail rest ReadFault ends settled = absurd settled
 greeted_reads terms drawn tail rest (WriteFault sent) ends settled = absurd settled

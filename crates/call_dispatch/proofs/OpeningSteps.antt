@@ -2,13 +2,13 @@
 use Rattle.std.proofs.Common.{◌≡◌, ◌≢◌, ℕ, suc, zero, ◌+◌, ◌^◌, ◌<◌, ◌≤◌, List, [], ◌∷◌, ◌++◌, length, take, Option, Ok, Err, refl, ◌∙◌, ap, sym, inl, inr, arith, append-nil, zero-add, length-append, ℤ}
 use Rattle.wire_io.specs.Wire.{with_front-nothing, with_end-nothing}
 use Rattle.wire_io.specs.Pulled.{Place, Takes}
-use Rattle.wire_io.specs.declared.pull.PullEnd.TheVariants.{End, Limit, ReadFault, OutOfMemory}
 use Rattle.mod_utf.specs.Utf.{utf}
 use Rattle.jrmp_frames.specs.declared.header.Protocol.TheVariants.{Stream, SingleOp}
 use Rattle.jrmp_frames.specs.Frames.{header_start, header, IsInHeader, IsEndpoint, IsInEndpoint, protocol_ack, protocol_not_supported}
 use Rattle.jrmp_frames.specs.Gives.{GivesHeader, GivesEndpoint}
 use Rattle.jrmp_frames.specs.declared.fault.FrameFault.{FrameFault}
-use Rattle.jrmp_frames.specs.declared.fault.FrameFault.TheVariants.{BadHeader, UnknownProtocol, BadMessage, Pull}
+use Rattle.jrmp_frames.specs.declared.fault.FrameFault.TheVariants.{BadHeader, UnknownProtocol, BadMessage}
+use Rattle.jrmp_frames.specs.declared.fault.FrameFault.TheVariants as frames
 use Rattle.call_dispatch.specs.declared.outcome.Invocation.{Invocation}
 use Rattle.call_dispatch.specs.declared.outcome.Outcome.{Outcome}
 use Rattle.call_dispatch.specs.declared.end.ConnEnd.{ConnEnd}
@@ -17,9 +17,9 @@ use Rattle.call_dispatch.specs.Terms.{Terms}
 use Rattle.call_dispatch.specs.Acts.{Call, States, Side}
 use Rattle.call_dispatch.specs.Spot.{Spot, exchanged, took, Goes}
 use Rattle.call_dispatch.specs.Dialogue.{nothing, greeted, opened, stream, single_op}
-use Rattle.call_dispatch.specs.Progress.{Stands, Talked, Writes, Refuses, IsNoLimit, end_from}
+use Rattle.call_dispatch.specs.Progress.{Stands, Talked, Writes, Refuses, end_from}
 use Rattle.call_dispatch.proofs.Going.{goes_exchanged, goes_took, goes_on}
-use Rattle.call_dispatch.proofs.Steps.{spot_at, course_is, talks_on, talks_took, talks_cut, stands_nothing, stands_on, talks_stop}
+use Rattle.call_dispatch.proofs.Steps.{spot_at, course_is, talks_on, talks_took, talks_cut, stands_nothing, stands_on, talks_in}
 
 -- What begins the header is short.
 in_header_short : (part : List ℕ) → IsInHeader part → length part ≤ 6
@@ -39,17 +39,6 @@ pub ack_short : (host : List ℕ) (port : ℤ) → length (protocol_ack host por
 unfolding protocol_ack
 ack_short host port = simp (length-append) (omega arith)
 
--- No limit is met in the header.
-pub header_in_limit : (old new : Place) (fault : FrameFault) → old.at ≡ 0 → old.stop ≡ 2 ^ 62 → GivesHeader old new (Err fault) → IsNoLimit fault
-header_in_limit old new (BadHeader at) first last h = tt
-header_in_limit old new (UnknownProtocol byte) first last h = tt
-header_in_limit old new (BadMessage byte at) first last h = tt
-header_in_limit old new (Pull (End at)) first last h = tt
-header_in_limit old new (Pull (Limit at)) first last h =
-    omega (arith, h.stops.1.at_stop, h.takes.stop, h.takes.at, in_header_short h.part h.inside, first, last)
-header_in_limit old new (Pull ReadFault) first last h = tt
-header_in_limit old new (Pull OutOfMemory) first last h = tt
-
 -- The connection ends in the header.
 pub header_ends : (may : Invocation → Outcome → Type 0) (moves : States → Call → States → Type 0) (terms : Terms) (old new : Place) (held : Option (List ℕ)) (side : Side) (drawn : ℕ) (fault : FrameFault)
     → old.at ≡ 0 → old.stop ≡ 2 ^ 62 → ((byte : ℕ) → fault ≢ UnknownProtocol byte) → GivesHeader old new (Err fault)
@@ -60,9 +49,9 @@ header_ends may moves terms old new held side drawn (BadHeader at) first last to
     (refl, (bytes, rw same at breaks, refl))
 header_ends may moves terms old new held side drawn (UnknownProtocol byte) first last told h = absurd (told byte refl)
 header_ends may moves terms old new held side drawn (BadMessage byte at) first last told h = absurd h
-header_ends may moves terms old new held side drawn (Pull e) first last told h =
-    talks_stop may moves terms _ old new held side drawn 0 nothing IsInHeader e (stands_nothing may moves terms _ old.at first) h
-    (omega (arith, in_header_short h.part h.inside, first, last)) (λ at is. h.inside) (inl h.inside)
+header_ends may moves terms old new held side drawn (frames.Stream fault) first last told h =
+    talks_in may moves terms _ old new held side drawn 0 nothing IsInHeader fault (stands_nothing may moves terms _ old.at first) h
+    (λ part inside. omega (arith, in_header_short part inside, first, last)) (λ part inside. (λ at is. inside, inl inside))
 
 -- The header of the stream protocol and its acknowledgement stand.
 pub stands_greeted : (may : Invocation → Outcome → Type 0) (moves : States → Call → States → Type 0) (terms : Terms) (start before now : Spot) (at sent : ℕ)
@@ -96,18 +85,6 @@ stands_opened may moves terms start old new held side drawn sent endpoint stands
     stands_on may moves terms start _ _ old.at sent new.at sent greeted (opened (stream endpoint) []) (took endpoint) stands (is, tt, omega arith)
     (course_is _ _ _ _ _ _ _ _ (append-nil (header Stream ++ endpoint)) refl refl refl) (goes_took may moves _ _ endpoint takes.left refl refl refl) takes.at (omega arith)
 
--- No limit is met in the client's endpoint.
-pub endpoint_in_limit : (old new : Place) (fault : FrameFault)
-    → old.at + 65541 < old.stop → GivesEndpoint {A = Unit {0}} old new (Err fault) → IsNoLimit fault
-endpoint_in_limit old new (BadHeader at) room h = tt
-endpoint_in_limit old new (UnknownProtocol byte) room h = tt
-endpoint_in_limit old new (BadMessage byte at) room h = tt
-endpoint_in_limit old new (Pull (End at)) room h = tt
-endpoint_in_limit old new (Pull (Limit at)) room h =
-    omega (arith, h.stops.1.at_stop, h.takes.stop, h.takes.at, in_endpoint_short h.part h.inside, room)
-endpoint_in_limit old new (Pull ReadFault) room h = tt
-endpoint_in_limit old new (Pull OutOfMemory) room h = tt
-
 -- The connection ends in the client's endpoint.
 pub endpoint_ends : (may : Invocation → Outcome → Type 0) (moves : States → Call → States → Type 0) (terms : Terms) (start : Spot) (old new : Place) (held : Option (List ℕ)) (side : Side) (drawn sent : ℕ) (fault : FrameFault)
     → Stands may moves terms start (spot_at old held side drawn) old.at sent greeted → old.at + 65541 < old.stop
@@ -115,9 +92,9 @@ pub endpoint_ends : (may : Invocation → Outcome → Type 0) (moves : States �
 endpoint_ends may moves terms start old new held side drawn sent (BadHeader at) stands room h = absurd h
 endpoint_ends may moves terms start old new held side drawn sent (UnknownProtocol byte) stands room h = absurd h
 endpoint_ends may moves terms start old new held side drawn sent (BadMessage byte at) stands room h = absurd h
-endpoint_ends may moves terms start old new held side drawn sent (Pull e) stands room h =
-    talks_stop may moves terms start old new held side drawn sent greeted IsInEndpoint e stands h
-    (omega (arith, in_endpoint_short h.part h.inside, room)) (λ at is. h.inside) (inl h.inside)
+endpoint_ends may moves terms start old new held side drawn sent (frames.Stream fault) stands room h =
+    talks_in may moves terms start old new held side drawn sent greeted IsInEndpoint fault stands h
+    (λ part inside. omega (arith, in_endpoint_short part inside, room)) (λ part inside. (λ at is. inside, inl inside))
 
 -- No memory was there for the acknowledgement.
 pub memory_ends : (may : Invocation → Outcome → Type 0) (moves : States → Call → States → Type 0) (terms : Terms) (start now : Spot) → Goes may moves start now (took (header Stream)) → Talked may moves terms start now ends.OutOfMemory
@@ -151,8 +128,13 @@ refusal_ends may moves terms old new held now side drawn byte (ends.WriteFault s
 refusal_ends may moves terms old new held now side drawn byte ends.Ended first gives refuses = absurd refuses
 refusal_ends may moves terms old new held now side drawn byte (ends.BadHeader at) first gives refuses = absurd refuses
 refusal_ends may moves terms old new held now side drawn byte (ends.BadMessage b at) first gives refuses = absurd refuses
+refusal_ends may moves terms old new held now side drawn byte (ends.BadStream kind at) first gives refuses = absurd refuses
+refusal_ends may moves terms old new held now side drawn byte (ends.TooLarge what at) first gives refuses = absurd refuses
 refusal_ends may moves terms old new held now side drawn byte (ends.Truncated at) first gives refuses = absurd refuses
 refusal_ends may moves terms old new held now side drawn byte (ends.NotBuilt b at) first gives refuses = absurd refuses
+refusal_ends may moves terms old new held now side drawn byte (ends.NoSuchObject id) first gives refuses = absurd refuses
+refusal_ends may moves terms old new held now side drawn byte (ends.NoSuchMethod operation hash) first gives refuses = absurd refuses
+refusal_ends may moves terms old new held now side drawn byte ends.SpaceFull first gives refuses = absurd refuses
 refusal_ends may moves terms old new held now side drawn byte ends.MessageLimit first gives refuses = absurd refuses
 refusal_ends may moves terms old new held now side drawn byte ends.ReadFault first gives refuses = absurd refuses
 refusal_ends may moves terms old new held now side drawn byte ends.OutOfMemory first gives refuses = absurd refuses

@@ -1,28 +1,39 @@
 -- What steps leave as it was, one after another.
-use Rattle.std.proofs.Common.{◌≡◌, ℕ, Result, subst, ◌∙◌, arith}
+use Rattle.std.proofs.Common.{◌≡◌, ℕ, Result, ap, subst, ◌∙◌, arith}
 use Rattle.call_dispatch.specs.declared.connection.Connection.{Connection}
 use Rattle.call_dispatch.specs.declared.outcome.Invocation.{Invocation}
 use Rattle.call_dispatch.specs.declared.outcome.Outcome.{Outcome}
 use Rattle.call_dispatch.specs.declared.end.ConnEnd.{ConnEnd}
-use Rattle.call_dispatch.specs.Terms.{Terms}
+use Rattle.call_dispatch.specs.Terms.{Terms, terms_of}
 use Rattle.call_dispatch.specs.Acts.{Call, States}
-use Rattle.call_dispatch.specs.Spot.{Spot, Stays}
+use Rattle.call_dispatch.specs.Spot.{Spot, Stays, IsLent}
 use Rattle.call_dispatch.specs.Faults.{Counts, Grew}
 use Rattle.jrmp_frames.specs.declared.header.Protocol.{Protocol}
 use Rattle.call_dispatch.specs.Progress.{GoesOn, Steps}
 
-pub stays_on : {S K C P W : Type 0} (a b c : Connection S K C P W) → Stays a b → Stays b c → Stays a c
-stays_on a b c first then = record {
+-- What stays as it was is lent on.
+pub stays_lent : {S K C P W : Type 0} (a b : Connection S K C P W) → Stays a b → IsLent a b
+stays_lent a b h = record {
+  source_lent = h.source_lent;
+  sink_lent = h.sink_lent;
+  clock_lent = h.clock_lent;
+  port_lent = h.port_lent;
+  worker_lent = h.worker_lent;
+  setup_lent = h.setup_lent;
+  book = h.book;
+  terms = ap (λ lent. terms_of lent.now b.setup.now) h.book ∙ ap (terms_of a.book.now) h.setup;
+}
+
+pub lent_on : {S K C P W : Type 0} (a b c : Connection S K C P W) → IsLent a b → IsLent b c → IsLent a c
+lent_on a b c first then = record {
   source_lent = then.source_lent ∙ first.source_lent;
   sink_lent = then.sink_lent ∙ first.sink_lent;
   clock_lent = then.clock_lent ∙ first.clock_lent;
   port_lent = then.port_lent ∙ first.port_lent;
   worker_lent = then.worker_lent ∙ first.worker_lent;
   setup_lent = then.setup_lent ∙ first.setup_lent;
-  clock = then.clock ∙ first.clock;
-  port = then.port ∙ first.port;
-  worker = then.worker ∙ first.worker;
-  setup = then.setup ∙ first.setup;
+  book = then.book ∙ first.book;
+  terms = then.terms ∙ first.terms;
 }
 
 pub grew_on : (a b c : Counts) → Grew a b → Grew b c → Grew a c

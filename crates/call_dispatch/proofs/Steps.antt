@@ -6,8 +6,12 @@ use Rattle.wire_io.specs.Pulled.{Place, Takes}
 use Rattle.wire_io.specs.declared.pull.PullEnd.{PullEnd}
 use Rattle.wire_io.specs.declared.pull.PullEnd.TheVariants.{End, Limit, ReadFault, OutOfMemory}
 use Rattle.wire_io.proofs.Pulling.{takes_stop}
-use Rattle.jrmp_frames.specs.Gives.{StopsInside}
-use Rattle.jrmp_frames.specs.declared.fault.FrameFault.TheVariants.{Pull}
+use Rattle.jrmp_frames.specs.Gives.{StopsInside, StopsIn}
+use Rattle.jrmp_frames.specs.declared.fault.FrameFault.TheVariants as frames
+use Rattle.ser_read.specs.declared.fault.StreamFault.{StreamFault}
+use Rattle.ser_read.specs.declared.fault.StreamFault.TheVariants as faults
+use Rattle.ser_read.specs.declared.fault.Large.TheVariants as larges
+use Rattle.ser_read.specs.Here.{fault_of}
 use Rattle.call_dispatch.specs.declared.outcome.Invocation.{Invocation}
 use Rattle.call_dispatch.specs.declared.outcome.Outcome.{Outcome}
 use Rattle.call_dispatch.specs.declared.end.ConnEnd.{ConnEnd}
@@ -80,17 +84,35 @@ pub talks_stop : (may : Invocation → Outcome → Type 0) (moves : States → C
     (P : List ℕ → Type 0) (e : PullEnd)
     → Stands may moves terms start (spot_at old held side drawn) old.at sent w → (stops : StopsInside P old new e)
     → old.at + length stops.part < old.stop → ((at : ℕ) → e ≡ End at → IsInside w stops.part) → IsInside w stops.part ⊎ (IsAtCode w × (stops.part ≡ []))
-    → Talked may moves terms start (spot_at new held side drawn) (end_from (Pull e))
+    → Talked may moves terms start (spot_at new held side drawn) (end_from (frames.Stream (fault_of e)))
 talks_stop may moves terms start old new held side drawn sent w P (End at) stands stops room ended inside =
     let whole : Takes old new stops.part = takes_stop _ _ _ _ stops.takes stops.stops.1 in
     talks_took may moves terms start _ _ old.at sent w stops.part (ends.Truncated at) stands whole.left refl refl refl
-    (stops.part, ended at refl, stops.stops.2, omega (arith, stops.stops.0, stops.takes.at, stands.position, length-append (taken_in w) stops.part), refl)
+    (inl (stops.part, ended at refl, stops.stops.2, omega (arith, stops.stops.0, stops.takes.at, stands.position, length-append (taken_in w) stops.part), refl))
 talks_stop may moves terms start old new held side drawn sent w P (Limit at) stands stops room ended inside =
     absurd (omega (arith, stops.stops.1.at_stop, stops.takes.stop, stops.takes.at, room))
 talks_stop may moves terms start old new held side drawn sent w P ReadFault stands stops room ended inside =
     let whole : Takes old new stops.part = takes_stop _ _ _ _ stops.takes stops.stops.0 in
     talks_took may moves terms start _ _ old.at sent w stops.part ends.ReadFault stands whole.left refl refl refl (inl (stops.part, inside, refl))
 talks_stop may moves terms start old new held side drawn sent w P OutOfMemory stands stops room ended inside = absurd (stops.memory refl)
+
+-- the same, where a stream's fault says how it stopped
+pub talks_in : (may : Invocation → Outcome → Type 0) (moves : States → Call → States → Type 0) (terms : Terms) (start : Spot) (old new : Place) (held : Option (List ℕ)) (side : Side) (drawn sent : ℕ) (w : Whole)
+    (P : List ℕ → Type 0) (fault : StreamFault) → Stands may moves terms start (spot_at old held side drawn) old.at sent w → StopsIn P old new fault → ((part : List ℕ) → P part → old.at + length part < old.stop)
+    → ((part : List ℕ) → P part → ((at : ℕ) → fault ≡ faults.Truncated at → IsInside w part) × (IsInside w part ⊎ (IsAtCode w × (part ≡ [])))) → Talked may moves terms start (spot_at new held side drawn) (end_from (frames.Stream fault))
+talks_in may moves terms start old new held side drawn sent w P (faults.Truncated at) stands stops room how =
+    let x = how stops.part stops.inside in
+    talks_stop may moves terms start old new held side drawn sent w P (End at) stands stops (room stops.part stops.inside) (λ k is. x.0 at refl) x.1
+talks_in may moves terms start old new held side drawn sent w P (faults.TooLarge larges.Bytes at) stands stops room how =
+    let x = how stops.part stops.inside in
+    talks_stop may moves terms start old new held side drawn sent w P (Limit at) stands stops (room stops.part stops.inside) (λ k is. absurd cc) x.1
+talks_in may moves terms start old new held side drawn sent w P faults.ReadFault stands stops room how =
+    let x = how stops.part stops.inside in
+    talks_stop may moves terms start old new held side drawn sent w P ReadFault stands stops (room stops.part stops.inside) (λ k is. absurd cc) x.1
+talks_in may moves terms start old new held side drawn sent w P (faults.TooLarge larges.Nodes at) stands stops room how = absurd stops
+talks_in may moves terms start old new held side drawn sent w P (faults.TooLarge larges.Depth at) stands stops room how = absurd stops
+talks_in may moves terms start old new held side drawn sent w P (faults.Bad kind at) stands stops room how = absurd stops
+talks_in may moves terms start old new held side drawn sent w P faults.OutOfMemory stands stops room how = absurd stops
 
 -- ---- chains
 
@@ -118,7 +140,7 @@ draws_more (x ∷ xs) e = let more = draws_more xs e in omega (arith, more)
 
 at_code_goes : (opening : Opening) (exchanges : List Exchange) → IsAtCode (opened opening exchanges) → GoOn exchanges
 at_code_goes (stream endpoint) exchanges code = code
-at_code_goes single_op [] code = tt
+at_code_goes single_op [] code = refl
 at_code_goes single_op (e ∷ exchanges) code = absurd code
 
 -- A further exchange.

@@ -1,9 +1,15 @@
 -- What a connection does beside taking and writing bytes: turns of the space and calls of the worker, in their order.
-use Rattle.std.specs.Prelude.{◌≡◌, ℕ, ◌+◌, ℤ, List, [], ◌∷◌, ◌++◌, length, Option, None, Some}
+use Rattle.std.specs.Prelude.{◌≡◌, ℕ, ◌+◌, ℤ, List, [], ◌∷◌, ◌++◌, length, map, Option, None, Some, Result, Ok, Err}
 use Rattle.std.specs.List.{flat_map}
 use Rattle.wire_io.specs.Wire.{Gave}
 use Rattle.object_ids.specs.declared.ids.ObjId.{ObjId}
+use Rattle.history.specs.declared.asks.Ask.{Ask}
+use Rattle.history.specs.declared.replies.Turn.{Turn}
+use Rattle.history.specs.declared.replies.Refused.{Refused}
+use Rattle.history.specs.declared.replies.Refused.TheVariants.{HistoryFull, Full, OutOfMemory}
 use Rattle.space.specs.declared.asked.Asked.{Asked}
+use Rattle.space.specs.Entries.{entry_of}
+use Rattle.space.specs.Ports.{abandoned_at}
 use Rattle.call_dispatch.specs.declared.outcome.Invocation.{Invocation}
 use Rattle.call_dispatch.specs.declared.outcome.Outcome.{Outcome}
 
@@ -39,6 +45,25 @@ invocations (unreferenced object) = []
 abbrev pub States : Type 0
 States = List (ObjId × ℤ)
 
+-- ---- turns
+
+-- the worker is told of each of these objects
+abbrev pub tells_of : List ObjId → List Act
+tells_of gone = map (λ object. called (unreferenced object)) gone
+
+-- What is done at a turn that is answered so: its entry, and then the worker is told of what is gone; or there was no memory for it.
+abbrev pub acts_of : ℕ → Ask → Result Turn Refused → List Act
+acts_of moment ask (Ok turn) = asks (entry_of moment ask (Ok turn)) ∷ tells_of turn.gone
+acts_of moment ask (Err HistoryFull) = asks (entry_of moment ask (Err HistoryFull)) ∷ []
+acts_of moment ask (Err (Full kind)) = asks (entry_of moment ask (Err (Full kind))) ∷ []
+acts_of moment ask (Err OutOfMemory) = lost moment ∷ []
+
+-- A call of an object is ended without an answer, at this place of the history.
+abbrev pub abandoned : ℕ → ObjId → ℕ → Act
+abandoned moment object place = asks (abandoned_at moment object place)
+
+-- ---- what is told
+
 -- What a worker tells grows by these calls, or it tells nothing more.
 abbrev pub Tells : Option (List Call) → List Call → Option (List Call) → Type 0
 Tells before more None = Unit {0}
@@ -62,7 +87,7 @@ MayAll may [] = Unit {0}
 MayAll may (invokes call outcome ∷ more) = may call outcome × MayAll may more
 MayAll may (unreferenced object ∷ more) = MayAll may more
 
--- what the port, the clock and the worker of a connection show
+-- what is shown beside the bytes and the draw: a port's entries, a clock's moments, and a worker's count, calls and state
 pub record Side : Type 0 where
   pub asked : List Asked
   pub given : Option (List ℕ)
@@ -78,3 +103,11 @@ pub record Led (may : Invocation → Outcome → Type 0) (moves : States → Cal
   pub may_all : MayAll may (flat_map calls acts)
   pub seen : Tells before.seen (flat_map calls acts) after.seen
   pub state : Leads moves before.state (flat_map calls acts) after.state
+
+-- A turn was made at some moment, and the worker told what is gone.
+abbrev pub TakesTurn : (Invocation → Outcome → Type 0) → (States → Call → States → Type 0) → Side → Side → Ask → Result Turn Refused → Type 0
+TakesTurn may moves before after ask answer = (moment : ℕ) × Led may moves before after (acts_of moment ask answer)
+
+-- A call of an object was ended without an answer.
+abbrev pub GivesUp : (Invocation → Outcome → Type 0) → (States → Call → States → Type 0) → Side → Side → ObjId → Type 0
+GivesUp may moves before after object = (moment place : ℕ) × Led may moves before after (abandoned moment object place ∷ [])

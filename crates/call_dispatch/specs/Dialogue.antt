@@ -1,6 +1,6 @@
 -- The dialogue of one connection (Java RMI Specification, 10.2), as a relation between whole lists: the bytes taken, what was
 -- done, the bytes that the source has left then, the bytes written and the end. It is an opening, whole exchanges and an end.
-use Rattle.std.specs.Prelude.{◌≡◌, ℕ, ◌+◌, ◌^◌, ◌<◌, ◌≤◌, ◌⊎◌, List, [], ◌∷◌, ◌++◌, length, take, Option}
+use Rattle.std.specs.Prelude.{◌≡◌, ℕ, ◌+◌, ◌^◌, ◌<◌, ◌≤◌, ◌⊎◌, List, [], ◌∷◌, ◌++◌, length, take, slice_get, Option, Some, Ok}
 use Rattle.std.specs.List.{flat_map}
 use Rattle.wire_io.specs.Wire.{NothingLeft}
 use Rattle.jrmp_frames.specs.declared.header.Protocol.{Protocol}
@@ -8,10 +8,24 @@ use Rattle.jrmp_frames.specs.declared.header.Protocol.TheVariants.{Stream, Singl
 use Rattle.jrmp_frames.specs.declared.code.Code.TheVariants.{Call, DgcAck}
 use Rattle.jrmp_frames.specs.Frames.{header_start, header, IsNoProtocol, IsInHeader, BreaksHeader, IsEndpoint, IsInEndpoint, protocol_ack, protocol_not_supported, code_byte, IsCode}
 use Rattle.call_dispatch.specs.declared.end.ConnEnd.{ConnEnd}
-use Rattle.call_dispatch.specs.declared.end.ConnEnd.TheVariants.{Ended, BadHeader, UnknownProtocol, BadMessage, Truncated, NotBuilt, MessageLimit, ReadFault, WriteFault, OutOfMemory}
+use Rattle.call_dispatch.specs.declared.end.ConnEnd.TheVariants.{Ended, BadHeader, UnknownProtocol, BadMessage, BadStream, TooLarge, Truncated, NotBuilt, NoSuchObject, NoSuchMethod, SpaceFull, MessageLimit, ReadFault, WriteFault, OutOfMemory}
+use Rattle.history.specs.declared.asks.Ask.TheVariants.{Begin}
+use Rattle.history.specs.declared.replies.Reply.TheVariants.{Started}
+use Rattle.history.specs.declared.replies.Turn.{Turn}
+use Rattle.method_hash.specs.declared.method.Method.{Method}
+use Rattle.ser_read.specs.Wants.{serve_to_close}
+use Rattle.ser_read.specs.Heading.{inside_block}
+use Rattle.jrmp_frames.specs.declared.head.CallHead.{CallHead}
+use Rattle.jrmp_frames.specs.Messages.{head_bytes, wants_of}
+use Rattle.jrmp_frames.specs.Calls.{head_at}
+use Rattle.call_dispatch.specs.declared.book.Kind.{Kind}
+use Rattle.call_dispatch.specs.Book.{methods_of}
+use Rattle.call_dispatch.specs.Acts.{acts_of, abandoned}
+use Rattle.call_dispatch.specs.Inside.{BreaksAt}
+use Rattle.call_dispatch.specs.Served.{EndsWithHead, FitsHead, IsMethodOf}
 use Rattle.call_dispatch.specs.Terms.{Terms}
 use Rattle.call_dispatch.specs.Spot.{Course, exchanged, took, followed_by}
-use Rattle.call_dispatch.specs.Rows.{Exchange, taken_by, acts_by, draws_by, written_by, draws_in, course_by, IsExchange, GoOn, IsChain, IsCut}
+use Rattle.call_dispatch.specs.Rows.{Exchange, taken_by, acts_by, draws_by, written_by, draws_in, course_by, most_bytes, IsExchange, closed_by, GoOn, IsChain, IsCut}
 
 -- an opening: what stands before the first message. The stream protocol's has the client's endpoint.
 pub data Opening : Type 0 where
@@ -96,6 +110,11 @@ abbrev pub IsDone : Whole → Type 0
 IsDone (opened single_op (e ∷ exchanges)) = GoOn (e ∷ exchanges)
 IsDone _ = ⊥
 
+-- The connection ended with the answer to the last message.
+abbrev pub IsClosed : Whole → ConnEnd → Type 0
+IsClosed (opened opening exchanges) end = closed_by exchanges ≡ Some end
+IsClosed _ end = ⊥
+
 -- These bytes, after what stands whole, are a front of what is to come next in the opening, and not all of it.
 abbrev pub IsInside : Whole → List ℕ → Type 0
 IsInside nothing more = IsInHeader more
@@ -106,19 +125,13 @@ IsInside (opened opening exchanges) more = ⊥
 abbrev pub IsNext : Terms → ℕ → Whole → Exchange → Type 0
 IsNext terms drawn w e = IsAtCode w × (count_of w < 2 ^ 28) × IsExchange terms (drawn + draws_in (exchanges_in w)) e
 
--- What came after what stands whole is an exchange that was cut: a front of its message was taken, nothing was written, and its acts
--- were cut.
+-- What came after what stands whole is an exchange that was cut: its message was taken, its acts were cut, and nothing was written.
 pub record IsCutIn (terms : Terms) (drawn : ℕ) (w : Whole) (tail : Course) (e : Exchange) : Type 0 where
   pub next : IsNext terms drawn w e
-  pub later : List ℕ
-  pub message : taken_by e ≡ tail.taken ++ later
-  pub acts : IsCut (acts_by e) tail.acts
+  pub message : tail.taken ≡ taken_by e
+  pub acts : IsCut [] (acts_by e) tail.acts
   pub draws : tail.draws ≤ draws_by e
   pub written : tail.written ≡ []
-
--- A read failed in the next message, behind its first byte.
-abbrev pub IsCutByRead : Terms → ℕ → Whole → Course → Type 0
-IsCutByRead terms drawn w tail = (e : Exchange) × (cut : IsCutIn terms drawn w tail e) × (cut.acts.fails ≡ []) × (0 < length tail.taken) × (length tail.taken < length (taken_by e))
 
 -- There was no memory for the next exchange. Only one that does something beside taking and writing bytes takes any.
 abbrev pub IsCutByMemory : Terms → ℕ → Whole → Course → Type 0
@@ -142,7 +155,44 @@ IsAnswered terms drawn w c = IsGreeting terms w c ⊎ (((byte : ℕ) × IsRefuse
 
 -- This byte is the code of a message that isn't served yet.
 abbrev pub IsUnbuilt : ℕ → Type 0
-IsUnbuilt byte = (byte ≡ code_byte Call) ⊎ (byte ≡ code_byte DgcAck)
+IsUnbuilt byte = byte ≡ code_byte DgcAck
+
+-- ---- inside a Call
+
+-- Reading ends in the head of a Call that begins at a position.
+abbrev pub EndsInHead : ℕ → Course → Option (List ℕ) → ConnEnd → Type 0
+EndsInHead at tail rest end = (more : List ℕ) × (tail ≡ took (code_byte Call ∷ more)) × BreaksAt head_at (at + 1) (at + most_bytes) more rest end
+
+-- Reading ends in the arguments of a Call that begins at a position: its head was read, its Begin answered, its method found, and it is given up.
+pub record EndsInArguments (kinds : List Kind) (at : ℕ) (tail : Course) (rest : Option (List ℕ)) (end : ConnEnd) : Type 0 where
+  pub head : CallHead
+  pub numbers : FitsHead head
+  pub front : List ℕ
+  pub left : ℕ
+  pub heading : EndsWithHead head front left
+  pub moment : ℕ
+  pub turn : Turn
+  pub kind : ℕ
+  pub started : turn.reply ≡ Started kind
+  pub place : ℕ
+  pub known : IsMethodOf kinds kind head place
+  pub method : Method
+  pub method_is : slice_get (methods_of kinds kind) place ≡ Some method
+  pub more : List ℕ
+  pub breaks : BreaksAt (λ last. serve_to_close last (wants_of method.params) (inside_block (head_bytes head) left)) (at + 1 + length front) (at + most_bytes) more rest end
+  pub moment2 : ℕ
+  pub place2 : ℕ
+  pub tail_is : tail ≡ record {
+    taken = code_byte Call ∷ front ++ more;
+    acts = acts_of moment (Begin head.id) (Ok turn) ++ abandoned moment2 head.id place2 ∷ [];
+    draws = 0;
+    written = [];
+  }
+
+-- Reading ends in a Call.
+abbrev pub EndsInCall : Terms → Whole → Course → Option (List ℕ) → ConnEnd → Type 0
+EndsInCall terms w tail rest end = IsAtCode w × (count_of w < 2 ^ 28)
+    × (EndsInHead (length (taken_in w)) tail rest end ⊎ EndsInArguments terms.kinds (length (taken_in w)) tail rest end)
 
 -- Where each end stands: what stands whole, what came after it, and what is left.
 abbrev pub Ends : Terms → ℕ → Whole → Course → Option (List ℕ) → ConnEnd → Type 0
@@ -152,18 +202,24 @@ Ends terms drawn w tail rest (UnknownProtocol byte) = IsRefused w byte tail
 Ends terms drawn w tail rest (BadMessage byte at) =
     IsAtCode w × ¬ IsCode byte × (at ≡ length (taken_in w)) × (tail ≡ took (byte ∷ []))
 Ends terms drawn w tail rest (Truncated at) =
-    (more : List ℕ) × IsInside w more × NothingLeft rest × (at ≡ length (taken_in w ++ more)) × (tail ≡ took more)
+    ((more : List ℕ) × IsInside w more × NothingLeft rest × (at ≡ length (taken_in w ++ more)) × (tail ≡ took more)) ⊎ EndsInCall terms w tail rest (Truncated at)
+Ends terms drawn w tail rest (NoSuchObject id) = IsClosed w (NoSuchObject id) × (tail ≡ took [])
+Ends terms drawn w tail rest (NoSuchMethod operation hash) = IsClosed w (NoSuchMethod operation hash) × (tail ≡ took [])
+Ends terms drawn w tail rest SpaceFull = IsClosed w SpaceFull × (tail ≡ took [])
+Ends terms drawn w tail rest (BadStream kind at) = EndsInCall terms w tail rest (BadStream kind at)
+Ends terms drawn w tail rest (TooLarge what at) = EndsInCall terms w tail rest (TooLarge what at)
 Ends terms drawn w tail rest (NotBuilt byte at) =
     IsAtCode w × (count_of w < 2 ^ 28) × IsUnbuilt byte × (at ≡ length (taken_in w)) × (tail ≡ took (byte ∷ []))
 Ends terms drawn w tail rest MessageLimit =
     IsAtCode w × (count_of w ≡ 2 ^ 28) × ((byte : ℕ) × IsCode byte × (tail ≡ took (byte ∷ [])))
 Ends terms drawn w tail rest ReadFault =
-    ((more : List ℕ) × (IsInside w more ⊎ (IsAtCode w × (more ≡ []))) × (tail ≡ took more)) ⊎ IsCutByRead terms drawn w tail
+    ((more : List ℕ) × (IsInside w more ⊎ (IsAtCode w × (more ≡ []))) × (tail ≡ took more)) ⊎ EndsInCall terms w tail rest ReadFault
 Ends terms drawn w tail rest (WriteFault sent) =
     (c : Course) × (part : ℕ) × IsAnswered terms drawn w c × (part < length c.written)
     × (sent ≡ length (written_in terms w) + part) × (tail ≡ record c { written = take part c.written })
 Ends terms drawn w tail rest OutOfMemory =
-    ((more : List ℕ) × (w ≡ nothing) × ((more ≡ []) ⊎ (more ≡ header Stream)) × (tail ≡ took more)) ⊎ IsCutByMemory terms drawn w tail
+    ((more : List ℕ) × (w ≡ nothing) × ((more ≡ []) ⊎ (more ≡ header Stream)) × (tail ≡ took more))
+    ⊎ (IsCutByMemory terms drawn w tail ⊎ EndsInCall terms w tail rest OutOfMemory)
 
 -- The dialogue: what stands whole, what came after it, and the end.
 abbrev pub Dialogue : Terms → ℕ → Course → Option (List ℕ) → ConnEnd → Type 0

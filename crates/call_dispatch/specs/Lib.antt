@@ -1,5 +1,6 @@
 pub mod Terms
 pub mod Acts
+pub mod Recording
 pub mod Spot
 pub mod Faults
 pub mod Rows
@@ -7,5 +8,11 @@ pub mod End
 pub mod Dialogue
 pub mod Tape
 pub mod Laws
+pub mod Book
+pub mod Returns
+pub mod Served
+pub mod Invoked
+pub mod Inside
 pub mod Progress
+pub mod Serving
 pub mod Words

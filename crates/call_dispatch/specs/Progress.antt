@@ -1,12 +1,13 @@
 -- How far a connection has come, for the functions that serve it step by step.
 use Rattle.std.specs.Prelude.{◌≡◌, ℕ, ◌+◌, ◌<◌, ◌^◌, List, [], ◌∷◌, ◌++◌, length, take, Option, Some, Result, Ok, Err}
-use Rattle.wire_io.specs.Wire.{with_end}
-use Rattle.wire_io.specs.declared.pull.PullEnd.TheVariants.{End, Limit, ReadFault, OutOfMemory}
+use Rattle.wire_io.specs.Wire.{with_front, with_end}
+use Rattle.ser_read.specs.declared.fault.StreamFault.TheVariants as faults
 use Rattle.jrmp_frames.specs.declared.fault.FrameFault.{FrameFault}
-use Rattle.jrmp_frames.specs.declared.fault.FrameFault.TheVariants.{BadHeader, UnknownProtocol, BadMessage, Pull}
+use Rattle.jrmp_frames.specs.declared.fault.FrameFault.TheVariants.{BadHeader, UnknownProtocol, BadMessage, Stream}
 use Rattle.jrmp_frames.specs.declared.header.Protocol.{Protocol}
-use Rattle.jrmp_frames.specs.declared.header.Protocol.TheVariants.{Stream}
-use Rattle.jrmp_frames.specs.Frames.{header, protocol_not_supported}
+use Rattle.jrmp_frames.specs.declared.header.Protocol.TheVariants as protocols
+use Rattle.jrmp_frames.specs.declared.code.Code.TheVariants as codes
+use Rattle.jrmp_frames.specs.Frames.{header, protocol_not_supported, code_byte}
 use Rattle.call_dispatch.specs.declared.opening.Opened.{Opened}
 use Rattle.call_dispatch.specs.declared.outcome.Invocation.{Invocation}
 use Rattle.call_dispatch.specs.declared.outcome.Outcome.{Outcome}
@@ -16,7 +17,7 @@ use Rattle.call_dispatch.specs.End.{IsSettled}
 use Rattle.call_dispatch.specs.Terms.{Terms}
 use Rattle.call_dispatch.specs.Acts.{Call, States}
 use Rattle.call_dispatch.specs.Spot.{Spot, Course, took, Goes}
-use Rattle.call_dispatch.specs.Rows.{Exchange, IsOpen}
+use Rattle.call_dispatch.specs.Rows.{Exchange, IsOpen, most_bytes}
 use Rattle.call_dispatch.specs.Dialogue.{Opening, protocol_of, Whole, opened, IsWhole, taken_in, written_in, course_in, IsAtCode, Dialogue}
 use Rattle.call_dispatch.specs.Tape.{Tick, tape}
 
@@ -59,7 +60,7 @@ Opens may moves terms start now at (Err end) = Talked may moves terms start now 
 
 -- Wherever the header of the stream protocol was just taken, an opening comes to stand whole, or the connection ends in it.
 abbrev pub OpensStream : (Invocation → Outcome → Type 0) → (States → Call → States → Type 0) → Terms → Spot → Spot → ℕ → Result Opened ConnEnd → Type 0
-OpensStream may moves terms before now at result = (start : Spot) → Goes may moves start before (took (header Stream)) → Opens may moves terms start now at result
+OpensStream may moves terms before now at result = (start : Spot) → Goes may moves start before (took (header protocols.Stream)) → Opens may moves terms start now at result
 
 -- What refusing the protocol with this byte does: the client is told, or that one byte can't be written.
 abbrev pub Refuses : ℕ → Option (List ℕ) → Option (List ℕ) → ConnEnd → Type 0
@@ -84,22 +85,37 @@ Steps may moves terms before now at sent served at2 result = (start : Spot) (ope
     → length exchanges ≡ served → IsAtCode (opened opening exchanges) → Stands may moves terms start before at sent (opened opening exchanges)
     → StepsTo may moves terms start now at2 opening exchanges result
 
+-- A Call's code was taken, and nothing of the Call else: the connection stands behind `first`, where its exchanges before stand, at this
+-- position and with this limit of the message.
+pub record IsCoded (may : Invocation → Outcome → Type 0) (moves : States → Call → States → Type 0) (terms : Terms) (start first before : Spot) (at stop sent : ℕ) (opening : Opening) (exchanges : List Exchange) : Type 0 where
+  pub few : length exchanges < 2 ^ 28
+  pub code : IsAtCode (opened opening exchanges)
+  pub place : ℕ
+  pub stands : Stands may moves terms start first place sent (opened opening exchanges)
+  pub left : first.wires.left ≡ with_front (code_byte codes.Call ∷ []) before.wires.left
+  pub held : before.wires.held ≡ first.wires.held
+  pub side : before.side ≡ first.side
+  pub drawn : before.drawn ≡ first.drawn
+  pub position : at ≡ place + 1
+  pub limit : stop ≡ place + most_bytes
+
+-- Wherever the connection began and a Call's code was just taken, its exchange comes to stand, or the dialogue ends.
+abbrev pub ServesCall : (Invocation → Outcome → Type 0) → (States → Call → States → Type 0) → Terms → Spot → Spot → ℕ → ℕ → ℕ → ℕ → Result ℕ ConnEnd → Type 0
+ServesCall may moves terms before now at stop sent at2 result = (start first : Spot) (opening : Opening) (exchanges : List Exchange)
+    → IsCoded may moves terms start first before at stop sent opening exchanges → StepsTo may moves terms start now at2 opening exchanges result
+
 -- What writing an answer after `sent` bytes does: it is written whole, or some front of it, and then the sink fails.
 abbrev pub Writes : Option (List ℕ) → Option (List ℕ) → ℕ → List ℕ → Result ℕ ConnEnd → Type 0
 Writes before after sent answer (Ok sent2) = (after ≡ with_end before answer) × (sent2 ≡ sent + length answer)
 Writes before after sent answer (Err end) = (part : ℕ) × (part < length answer) × (end ≡ ends.WriteFault (sent + part)) × (after ≡ with_end before (take part answer))
-
--- No limit of a mark was met.
-abbrev pub IsNoLimit : FrameFault → Type 0
-IsNoLimit (Pull (Limit at)) = ⊥
-IsNoLimit _ = Unit {0}
 
 -- the end that a fault in reading makes
 abbrev pub end_from : FrameFault → ConnEnd
 end_from (BadHeader at) = ends.BadHeader at
 end_from (UnknownProtocol byte) = ends.UnknownProtocol byte
 end_from (BadMessage byte at) = ends.BadMessage byte at
-end_from (Pull (End at)) = ends.Truncated at
-end_from (Pull (Limit at)) = ends.Truncated at
-end_from (Pull ReadFault) = ends.ReadFault
-end_from (Pull OutOfMemory) = ends.OutOfMemory
+end_from (Stream (faults.Bad kind at)) = ends.BadStream kind at
+end_from (Stream (faults.TooLarge what at)) = ends.TooLarge what at
+end_from (Stream (faults.Truncated at)) = ends.Truncated at
+end_from (Stream faults.ReadFault) = ends.ReadFault
+end_from (Stream faults.OutOfMemory) = ends.OutOfMemory

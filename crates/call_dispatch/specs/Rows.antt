@@ -1,35 +1,50 @@
 -- The table of exchanges: what each message takes, does, draws and writes, and how a row is cut.
-use Rattle.std.specs.Prelude.{◌≡◌, ℕ, ◌+◌, Bool, false, List, [], ◌∷◌, ◌++◌, ◌⊎◌}
+use Rattle.std.specs.Prelude.{◌≡◌, ℕ, ◌+◌, ◌^◌, ◌≤◌, List, [], ◌∷◌, ◌++◌, ◌⊎◌, length, Option, None}
 use Rattle.std.specs.List.{flat_map}
 use Rattle.object_ids.specs.declared.ids.ObjId.{ObjId}
 use Rattle.space.specs.declared.asked.Asked.{Asked}
+use Rattle.space.specs.declared.asked.AskedEnd.{AskedEnd}
+use Rattle.space.specs.declared.asked.AskedEnd.TheVariants.{Abandoned}
 use Rattle.space.specs.Ports.{abandoned_at, Shows}
-use Rattle.jrmp_frames.specs.declared.code.Code.TheVariants.{Ping}
+use Rattle.object_ids.specs.declared.ids.Uid.{Uid}
+use Rattle.object_ids.specs.Draw.{uid_drawn}
+use Rattle.jrmp_frames.specs.declared.head.CallHead.{CallHead}
+use Rattle.jrmp_frames.specs.declared.code.Code.TheVariants.{Ping, Call}
 use Rattle.jrmp_frames.specs.Frames.{code_byte, ping_ack}
 use Rattle.call_dispatch.specs.declared.outcome.Outcome.TheVariants.{OutOfMemory}
+use Rattle.call_dispatch.specs.declared.end.ConnEnd.{ConnEnd}
 use Rattle.call_dispatch.specs.Terms.{Terms}
 use Rattle.call_dispatch.specs.Acts.{Act, asks, lost, called, invokes, unreferenced, entries}
+use Rattle.call_dispatch.specs.Served.{FitsHead, Served, served_acts, served_written, served_closes, IsServed}
 use Rattle.call_dispatch.specs.Spot.{Course}
 
 -- a row of the table: the bytes of the message, what is done at it in order, how many identifiers are drawn, the bytes of
--- the answer, and whether the connection ends with it
+-- the answer, and the end of the connection, where it ends with this answer
 pub record Row : Type 0 where
   pub message : List ℕ
   pub acts : List Act
   pub draws : ℕ
   pub written : List ℕ
-  pub closes : Bool
+  pub closes : Option ConnEnd
 
--- an exchange: one message of the client, and what is done at it
+-- an exchange: one message of the client, and what is done at it. A Call has the bytes behind its code, its head, and the identifier of its Return.
 pub data Exchange : Type 0 where
   ping : Exchange
+  served : List ℕ → CallHead → Uid → Served → Exchange
 
 abbrev pub row_of : Exchange → Row
-row_of ping = record { message = code_byte Ping ∷ []; acts = []; draws = 0; written = ping_ack; closes = false }
+row_of ping = record { message = code_byte Ping ∷ []; acts = []; draws = 0; written = ping_ack; closes = None }
+row_of (served bytes head uid s) =
+    record { message = code_byte Call ∷ bytes; acts = served_acts head uid s; draws = 1; written = served_written uid s; closes = served_closes head s }
 
--- Where so many identifiers were drawn, it may come so: what it holds of the outside's answers fits its message.
+-- how many bytes a message has at most
+abbrev pub most_bytes : ℕ
+most_bytes = 2 ^ 24
+
+-- Where so many identifiers were drawn, it may come so: what it holds of the outside's answers fits its message, which has not too many bytes.
 abbrev pub IsExchange : Terms → ℕ → Exchange → Type 0
 IsExchange terms drawn ping = Unit {0}
+IsExchange terms drawn (served bytes head uid s) = (uid ≡ uid_drawn terms.unique terms.time drawn) × FitsHead head × (1 + length bytes ≤ most_bytes) × IsServed terms.kinds head bytes uid s
 
 abbrev pub taken_by : Exchange → List ℕ
 taken_by e = (row_of e).message
@@ -54,13 +69,17 @@ course_by e = record { taken = taken_by e; acts = acts_by e; draws = draws_by e;
 
 -- The connection goes on after it.
 abbrev pub IsOpen : Exchange → Type 0
-IsOpen e = (row_of e).closes ≡ false
+IsOpen e = (row_of e).closes ≡ None
 
--- After these exchanges the connection goes on: the last of them doesn't close it.
+-- the end with which the last of some exchanges closes the connection, where it does
+abbrev pub closed_by : List Exchange → Option ConnEnd
+closed_by [] = None
+closed_by (e ∷ []) = (row_of e).closes
+closed_by (e ∷ f ∷ more) = closed_by (f ∷ more)
+
+-- After these exchanges the connection goes on.
 abbrev pub GoOn : List Exchange → Type 0
-GoOn [] = Unit {0}
-GoOn (e ∷ []) = IsOpen e
-GoOn (e ∷ f ∷ more) = GoOn (f ∷ more)
+GoOn exchanges = closed_by exchanges ≡ None
 
 -- Where so many identifiers were drawn, these exchanges may come one after the other, each where it stands, and none after
 -- one that closes the connection.
@@ -71,16 +90,23 @@ IsChain terms drawn (e ∷ f ∷ more) = IsExchange terms drawn e × IsOpen e ×
 
 -- ---- cuts
 
+-- what a turn leaves for which there was no memory: its moment. Ending a call without an answer takes none.
+abbrev pub lost_at : ℕ → AskedEnd → List Act
+lost_at moment (Abandoned place) = []
+lost_at moment _ = lost moment ∷ []
+
 -- what an act leaves for which there was no memory
 abbrev pub failed : Act → List Act
-failed (asks entry) = lost entry.moment ∷ []
+failed (asks entry) = lost_at entry.moment entry.end
 failed (lost moment) = []
 failed (called (invokes call outcome)) = called (invokes call OutOfMemory) ∷ []
 failed (called (unreferenced object)) = []
 
--- There was no memory for the next act, or another thing ended the row before it.
+-- There was no memory for the next act, or another thing ended the row before it. Nothing ends it before the worker is told of an object: that
+-- takes no memory.
 abbrev pub IsFailed : List Act → List Act → Type 0
 IsFailed [] fails = fails ≡ []
+IsFailed (called (unreferenced object) ∷ later) fails = ⊥
 IsFailed (act ∷ later) fails = (fails ≡ []) ⊎ (fails ≡ failed act)
 
 -- A call that these entries show running is given up by an Abandon, and nothing else is done.
@@ -89,14 +115,14 @@ IsGivenUp shown [] = (o : ObjId) → Shows shown o → ⊥
 IsGivenUp shown (asks entry ∷ []) = (o : ObjId) × (moment place : ℕ) × Shows shown o × (entry ≡ abandoned_at moment o place)
 IsGivenUp shown _ = ⊥
 
--- These acts are a row's that was cut: the row's acts up to the cut, what the next one leaves where there was no memory for it, and an
--- Abandon where a call runs then.
-pub record IsCut (row acts : List Act) : Type 0 where
+-- These acts are those of a row, or of its rest after these entries, that was cut: its acts up to the cut, what the next one leaves where there
+-- was no memory for it, and an Abandon where a call runs then.
+pub record IsCut (shown : List Asked) (row acts : List Act) : Type 0 where
   pub front : List Act
   pub later : List Act
   pub fails : List Act
   pub given_up : List Act
   pub whole : row ≡ front ++ later
   pub failing : IsFailed later fails
-  pub giving_up : IsGivenUp (flat_map entries front) given_up
+  pub giving_up : IsGivenUp (shown ++ flat_map entries front) given_up
   pub is : acts ≡ front ++ fails ++ given_up

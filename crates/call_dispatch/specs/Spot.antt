@@ -6,6 +6,7 @@ use Rattle.call_dispatch.specs.declared.setup.Setup.{Setup}
 use Rattle.call_dispatch.specs.declared.connection.Connection.{Connection}
 use Rattle.call_dispatch.specs.declared.outcome.Invocation.{Invocation}
 use Rattle.call_dispatch.specs.declared.outcome.Outcome.{Outcome}
+use Rattle.call_dispatch.specs.Terms.{terms_of}
 use Rattle.call_dispatch.specs.Acts.{Act, Call, States, Side, Led}
 
 -- the place of a connection: its wires, what its port, clock and worker show, and how many identifiers were drawn
@@ -13,6 +14,12 @@ pub record Spot : Type 0 where
   pub wires : Wires
   pub side : Side
   pub drawn : ℕ
+
+-- what the port, the clock and the worker of a connection show
+abbrev pub side_of : {S K C P W : Type 0} → (C → Option (List ℕ)) → (P → List Asked)
+    → (W → ℕ) → (W → Option (List Call)) → (W → Option States) → Connection S K C P W → Side
+side_of given asked invoked seen state c =
+    record { asked = asked c.port.now; given = given c.clock.now; invoked = invoked c.worker.now; seen = seen c.worker.now; state = state c.worker.now }
 
 -- the place of what a connection is served with, by what each shows
 abbrev pub spot : {S K C P W : Type 0} → (S → Option (List ℕ)) → (K → Option (List ℕ)) → (C → Option (List ℕ)) → (P → List Asked)
@@ -55,6 +62,17 @@ pub record Goes (may : Invocation → Outcome → Type 0) (moves : States → Ca
   pub led : Led may moves before.side after.side c.acts
   pub drawn : after.drawn ≡ before.drawn + c.draws
 
+-- A step borrows the same things before and after, and leaves the terms.
+pub record IsLent {S K C P W : Type 0} (old new : Connection S K C P W) : Type 0 where
+  pub source_lent : new.pull.source.ghost_name ≡ old.pull.source.ghost_name
+  pub sink_lent : new.sink.ghost_name ≡ old.sink.ghost_name
+  pub clock_lent : new.clock.ghost_name ≡ old.clock.ghost_name
+  pub port_lent : new.port.ghost_name ≡ old.port.ghost_name
+  pub worker_lent : new.worker.ghost_name ≡ old.worker.ghost_name
+  pub setup_lent : new.setup.ghost_name ≡ old.setup.ghost_name
+  pub book : new.book ≡ old.book
+  pub terms : terms_of new.book.now new.setup.now ≡ terms_of old.book.now old.setup.now
+
 -- A step borrows the same things before and after, and leaves the clock, the port, the worker and the setup as they were.
 pub record Stays {S K C P W : Type 0} (old new : Connection S K C P W) : Type 0 where
   pub source_lent : new.pull.source.ghost_name ≡ old.pull.source.ghost_name
@@ -63,6 +81,7 @@ pub record Stays {S K C P W : Type 0} (old new : Connection S K C P W) : Type 0 
   pub port_lent : new.port.ghost_name ≡ old.port.ghost_name
   pub worker_lent : new.worker.ghost_name ≡ old.worker.ghost_name
   pub setup_lent : new.setup.ghost_name ≡ old.setup.ghost_name
+  pub book : new.book ≡ old.book
   pub clock : new.clock.now ≡ old.clock.now
   pub port : new.port.now ≡ old.port.now
   pub worker : new.worker.now ≡ old.worker.now

@@ -1,10 +1,11 @@
 //! What a connection is served with.
+use crate::book::Book;
 use crate::setup::Setup;
 use wire_io::Pull;
 
 /// What a connection is served with: all of it is lent, and it owns no memory.
 #[derive(Drop)]
-pub struct Connection<'s, 'k, 'c, 'p, 'w, 'u, S, K, C, P, W> {
+pub struct Connection<'s, 'k, 'c, 'p, 'w, 'u, 'b, S, K, C, P, W> {
     /// Where the client's bytes come from.
     pub pull: Pull<'s, S>,
     /// Where the answers go.
@@ -15,6 +16,8 @@ pub struct Connection<'s, 'k, 'c, 'p, 'w, 'u, S, K, C, P, W> {
     pub port: &'p mut P,
     /// Who does what calls ask for.
     pub worker: &'w mut W,
+    /// The kinds of objects that can be called.
+    pub book: &'b Book,
     /// What the connection is told beforehand, and how many identifiers were drawn.
     pub setup: &'u mut Setup,
 }

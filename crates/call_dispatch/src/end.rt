@@ -1,9 +1,10 @@
 //! How a connection ends.
 ghost use Rattle.std.specs.Prelude.{◌≡◌};
-ghost use Rattle.call_dispatch.specs.Progress.{IsNoLimit, end_from};
+ghost use Rattle.call_dispatch.specs.Progress.{end_from};
 
 use jrmp_frames::fault::FrameFault;
-use wire_io::pull::PullEnd;
+use object_ids::ObjId;
+use ser_read::{Large, StreamFault, StreamKind};
 
 /// How a connection ended. Positions count bytes from 0 at the connection's first byte.
 #[derive(Clone, Copy, Debug, PartialEq, Eq)]
@@ -16,10 +17,20 @@ pub enum ConnEnd {
     UnknownProtocol { byte: u8 },
     /// The byte at this position, where a message's code is wanted, is none.
     BadMessage { byte: u8, at: u64 },
+    /// The stream of a Call is none. The position is that of the construct's code, except where the kind says another.
+    BadStream { kind: StreamKind, at: u64 },
+    /// There is too much in a message: of bytes at the first one past its limit, of nodes and levels at the construct's code.
+    TooLarge { what: Large, at: u64 },
     /// The input ended inside the opening or a message. The position is the input's length.
     Truncated { at: u64 },
     /// The byte at this position is the code of a message that isn't served yet.
     NotBuilt { byte: u8, at: u64 },
+    /// A Call named an object that is not exported, and the client was told so.
+    NoSuchObject { id: ObjId },
+    /// A Call named a method that its object's kind doesn't have, and the client was told so.
+    NoSuchMethod { operation: i32, hash: i64 },
+    /// There was no room for the call in the space's history, and the client was told so.
+    SpaceFull,
     /// So many messages as one connection may have were served, and a further one began.
     MessageLimit,
     /// The source failed, and its count of faults rose.
@@ -42,30 +53,38 @@ impl ConnEnd {
             ConnEnd::BadHeader { at: _ } => 2,
             ConnEnd::UnknownProtocol { byte: _ } => 2,
             ConnEnd::BadMessage { byte: _, at: _ } => 2,
+            ConnEnd::BadStream { kind: _, at: _ } => 2,
             ConnEnd::Truncated { at: _ } => 2,
             ConnEnd::NotBuilt { byte: _, at: _ } => 2,
             ConnEnd::ReadFault => 3,
             ConnEnd::WriteFault { sent: _ } => 4,
             ConnEnd::OutOfMemory => 5,
+            ConnEnd::TooLarge { what: _, at: _ } => 6,
+            ConnEnd::SpaceFull => 6,
             ConnEnd::MessageLimit => 6,
+            ConnEnd::NoSuchObject { id: _ } => 7,
+            ConnEnd::NoSuchMethod {
+                operation: _,
+                hash: _,
+            } => 7,
         }
     }
 }
 
 /// The end that a fault in reading makes.
 pub fn end_of(fault: FrameFault) -> ConnEnd
-    requires { IsNoLimit fault }
     ensures { result ≡ end_from fault }
 {
     match fault {
         FrameFault::BadHeader { at } => ConnEnd::BadHeader { at },
         FrameFault::UnknownProtocol { byte } => ConnEnd::UnknownProtocol { byte },
         FrameFault::BadMessage { byte, at } => ConnEnd::BadMessage { byte, at },
-        FrameFault::Pull(end) => match end {
-            PullEnd::End { at } => ConnEnd::Truncated { at },
-            PullEnd::Limit { at: _ } => unreachable!(),
-            PullEnd::ReadFault => ConnEnd::ReadFault,
-            PullEnd::OutOfMemory => ConnEnd::OutOfMemory,
+        FrameFault::Stream(inside) => match inside {
+            StreamFault::Bad { kind, at } => ConnEnd::BadStream { kind, at },
+            StreamFault::TooLarge { what, at } => ConnEnd::TooLarge { what, at },
+            StreamFault::Truncated { at } => ConnEnd::Truncated { at },
+            StreamFault::ReadFault => ConnEnd::ReadFault,
+            StreamFault::OutOfMemory => ConnEnd::OutOfMemory,
         },
     }
 }

@@ -1,4 +1,5 @@
 //! Laws of dialogues.
+ghost use Rattle.call_dispatch.specs.Invoked.{CallIsInvokedOnce};
 ghost use Rattle.call_dispatch.specs.Laws.{NextIsOne, OneDialogue};
 
 /// Two exchanges that may come at one place, and begin one input and one list of the outside's answers, are one.
@@ -10,4 +11,10 @@ pub fn next_is_one()
 /// An input and the answers of the outside have one settled dialogue.
 pub fn one_dialogue()
     ensures { OneDialogue }
+{}
+
+/// Each Call is invoked at most once, with the graph that it spells.
+#[tactic(auto, using(crate::proofs::Invoking::call_is_invoked_once))]
+pub fn call_is_invoked_once()
+    ensures { CallIsInvokedOnce }
 {}

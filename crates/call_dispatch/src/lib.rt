@@ -2,19 +2,26 @@
 #![tactic(auto)]
 
 mod answer;
+pub mod book;
+mod calls;
 mod connection;
 pub mod end;
 pub mod laws;
 mod messages;
 mod opening;
 pub mod outcome;
+pub mod recording;
+mod returns;
 pub mod serve;
 pub mod setup;
+mod turns;
 pub mod words;
 pub mod worker;
 
+pub use book::{Book, BookFault, Kind, KindList};
 pub use end::ConnEnd;
 pub use outcome::{Invocation, Outcome, OutcomeList};
+pub use recording::{Recorded, RecordingWorker};
 pub use serve::serve_connection;
 pub use setup::Setup;
 pub use worker::{SilentWorker, Worker};

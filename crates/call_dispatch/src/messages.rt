@@ -1,18 +1,23 @@
 //! The messages of a connection, after its opening.
-ghost use Rattle.std.specs.Prelude.{◌≡◌, ◌<◌, ◌≤◌, ◌+◌, ◌^◌, IfOk, OnOk};
+ghost use Rattle.std.specs.Prelude.{◌≡◌, ◌<◌, ◌≤◌, ◌+◌, ◌^◌, pos, ◌<ℤ◌, length, IfOk, OnOk};
+ghost use Rattle.space.specs.Balance.{Balanced};
 ghost use Rattle.jrmp_frames.specs.declared.header.Protocol.TheVariants.{Stream, SingleOp};
 ghost use Rattle.call_dispatch.specs.Faults.{counts_of, Blames, BlamesIn};
-ghost use Rattle.call_dispatch.specs.Spot.{spot_of, Stays};
+ghost use Rattle.call_dispatch.specs.Spot.{spot_of, IsLent};
 ghost use Rattle.call_dispatch.specs.Terms.{terms_of};
-ghost use Rattle.call_dispatch.specs.Progress.{GoesOn, Steps};
+ghost use Rattle.call_dispatch.specs.Progress.{GoesOn, Steps, ServesCall};
+ghost use Rattle.call_dispatch.specs.Serving.{Sends};
 
 use crate::answer::write_answer;
+use crate::calls::answer_call;
 use crate::connection::Connection;
 use crate::end::{ConnEnd, end_of};
 use crate::opening::Opened;
+use crate::returns::Answer;
 use crate::worker::Worker;
-use jrmp_frames::{Code, Protocol, read_code};
+use jrmp_frames::{Code, Protocol, read_code, read_head};
 use space::Port;
+use std::alloc::Global;
 use wire_io::{Clock, Sink, Source};
 
 /// How many messages a connection has at most.
@@ -23,37 +28,57 @@ const MESSAGE_BYTES: u64 = 1 << 24;
 
 /// Serves the messages after an opening, until the connection ends.
 pub fn serve_messages<S: Source, K: Sink, C: Clock, P: Port, W: Worker>(
+    alloc: Global,
     connection: &mut Connection<S, K, C, P, W>,
     opened: Opened,
 ) -> ConnEnd
     requires at { connection.old.pull.at < 2 ^ 17 }
     requires sent { opened.sent < 2 ^ 17 }
-    ensures goes_on { GoesOn W.may W.moves (terms_of connection.old.setup.now) opened.protocol
+    requires time { connection.old.setup.now.draw.time <ℤ pos (2 ^ 61) }
+    requires drawn { connection.old.setup.now.draw.drawn < 2 ^ 64 }
+    requires ready { P.ready connection.old.port.now }
+    requires room { 2 ^ 30 ≤ P.room_of connection.old.port.now }
+    requires balanced { Balanced (P.asked connection.old.port.now) }
+    requires calls { W.calls connection.old.worker.now < 2 ^ 61 }
+    ensures goes_on { GoesOn W.may W.moves (terms_of connection.old.book.now connection.old.setup.now) opened.protocol
         (spot_of S.left K.held C.given P.asked W.calls W.seen W.state connection.old)
         (spot_of S.left K.held C.given P.asked W.calls W.seen W.state connection.new) connection.old.pull.at opened.sent result }
-    ensures stays { Stays connection.old connection.new }
+    ensures lent { IsLent connection.old connection.new }
+    ensures balanced { Balanced (P.asked connection.new.port.now) }
+    ensures ready { P.ready connection.new.port.now }
+    ensures leads { P.leads connection.old.port.now connection.new.port.now }
     ensures blames { Blames (counts_of S.faults K.faults connection.old) (counts_of S.faults K.faults connection.new) result }
 {
     match opened.protocol {
-        Protocol::Stream => serve_many(connection, opened.sent),
-        Protocol::SingleOp => serve_one(connection, opened.sent),
+        Protocol::Stream => serve_many(alloc, connection, opened.sent),
+        Protocol::SingleOp => serve_one(alloc, connection, opened.sent),
     }
 }
 
 /// Serves one message, if there is one. So many bytes were sent before.
 fn serve_one<S: Source, K: Sink, C: Clock, P: Port, W: Worker>(
+    alloc: Global,
     connection: &mut Connection<S, K, C, P, W>,
     before: u64,
 ) -> ConnEnd
     requires at { connection.old.pull.at < 2 ^ 17 }
     requires sent { before < 2 ^ 17 }
-    ensures goes_on { GoesOn W.may W.moves (terms_of connection.old.setup.now) SingleOp
+    requires time { connection.old.setup.now.draw.time <ℤ pos (2 ^ 61) }
+    requires drawn { connection.old.setup.now.draw.drawn < 2 ^ 64 }
+    requires ready { P.ready connection.old.port.now }
+    requires room { 2 ^ 30 ≤ P.room_of connection.old.port.now }
+    requires balanced { Balanced (P.asked connection.old.port.now) }
+    requires calls { W.calls connection.old.worker.now < 2 ^ 61 }
+    ensures goes_on { GoesOn W.may W.moves (terms_of connection.old.book.now connection.old.setup.now) SingleOp
         (spot_of S.left K.held C.given P.asked W.calls W.seen W.state connection.old)
         (spot_of S.left K.held C.given P.asked W.calls W.seen W.state connection.new) connection.old.pull.at before result }
-    ensures stays { Stays connection.old connection.new }
+    ensures lent { IsLent connection.old connection.new }
+    ensures balanced { Balanced (P.asked connection.new.port.now) }
+    ensures ready { P.ready connection.new.port.now }
+    ensures leads { P.leads connection.old.port.now connection.new.port.now }
     ensures blames { Blames (counts_of S.faults K.faults connection.old) (counts_of S.faults K.faults connection.new) result }
 {
-    match serve_message(connection, 0, before) {
+    match serve_message(alloc, connection, 0, before) {
         Ok(_sent) => ConnEnd::Ended,
         Err(end) => end,
     }
@@ -61,21 +86,31 @@ fn serve_one<S: Source, K: Sink, C: Clock, P: Port, W: Worker>(
 
 /// Serves messages until the connection ends. So many bytes were sent before.
 fn serve_many<S: Source, K: Sink, C: Clock, P: Port, W: Worker>(
+    alloc: Global,
     connection: &mut Connection<S, K, C, P, W>,
     before: u64,
 ) -> ConnEnd
     requires at { connection.old.pull.at < 2 ^ 17 }
     requires sent { before < 2 ^ 17 }
-    ensures goes_on { GoesOn W.may W.moves (terms_of connection.old.setup.now) Stream
+    requires time { connection.old.setup.now.draw.time <ℤ pos (2 ^ 61) }
+    requires drawn { connection.old.setup.now.draw.drawn < 2 ^ 64 }
+    requires ready { P.ready connection.old.port.now }
+    requires room { 2 ^ 30 ≤ P.room_of connection.old.port.now }
+    requires balanced { Balanced (P.asked connection.old.port.now) }
+    requires calls { W.calls connection.old.worker.now < 2 ^ 61 }
+    ensures goes_on { GoesOn W.may W.moves (terms_of connection.old.book.now connection.old.setup.now) Stream
         (spot_of S.left K.held C.given P.asked W.calls W.seen W.state connection.old)
         (spot_of S.left K.held C.given P.asked W.calls W.seen W.state connection.new) connection.old.pull.at before result }
-    ensures stays { Stays connection.old connection.new }
+    ensures lent { IsLent connection.old connection.new }
+    ensures balanced { Balanced (P.asked connection.new.port.now) }
+    ensures ready { P.ready connection.new.port.now }
+    ensures leads { P.leads connection.old.port.now connection.new.port.now }
     ensures blames { Blames (counts_of S.faults K.faults connection.old) (counts_of S.faults K.faults connection.new) result }
 {
     let mut sent = before;
     let mut served: u32 = 0;
     loop {
-        match serve_message(connection, served, sent) {
+        match serve_message(alloc, connection, served, sent) {
             Ok(after) => sent = after,
             Err(end) => return end,
         }
@@ -86,6 +121,7 @@ fn serve_many<S: Source, K: Sink, C: Clock, P: Port, W: Worker>(
 /// Serves the next message, where so many were served and so many bytes sent before. It answers how many bytes were sent
 /// by then, or the end of the connection.
 fn serve_message<S: Source, K: Sink, C: Clock, P: Port, W: Worker>(
+    alloc: Global,
     connection: &mut Connection<S, K, C, P, W>,
     served: u32,
     sent: u64,
@@ -93,12 +129,24 @@ fn serve_message<S: Source, K: Sink, C: Clock, P: Port, W: Worker>(
     requires at { connection.old.pull.at < 2 ^ 61 }
     requires sent { sent < 2 ^ 61 }
     requires served { served ≤ 2 ^ 28 }
-    ensures steps { Steps W.may W.moves (terms_of connection.old.setup.now)
+    requires time { connection.old.setup.now.draw.time <ℤ pos (2 ^ 61) }
+    requires drawn { connection.old.setup.now.draw.drawn < 2 ^ 65 }
+    requires ready { P.ready connection.old.port.now }
+    requires room { 2 < P.room_of connection.old.port.now }
+    requires balanced { Balanced (P.asked connection.old.port.now) }
+    requires calls { W.calls connection.old.worker.now < 2 ^ 62 }
+    ensures steps { Steps W.may W.moves (terms_of connection.old.book.now connection.old.setup.now)
         (spot_of S.left K.held C.given P.asked W.calls W.seen W.state connection.old)
         (spot_of S.left K.held C.given P.asked W.calls W.seen W.state connection.new) connection.old.pull.at sent served connection.new.pull.at result }
     ensures going { OnOk result (served < 2 ^ 28) }
     ensures most { IfOk result (λ after. (after ≤ sent + 2 ^ 30) × (connection.new.pull.at ≤ connection.old.pull.at + 2 ^ 24)) }
-    ensures stays { Stays connection.old connection.new }
+    ensures lent { IsLent connection.old connection.new }
+    ensures balanced { Balanced (P.asked connection.new.port.now) }
+    ensures ready { P.ready connection.new.port.now }
+    ensures leads { P.leads connection.old.port.now connection.new.port.now }
+    ensures room { P.room_of connection.old.port.now ≤ P.room_of connection.new.port.now + 3 }
+    ensures calls { W.calls connection.new.worker.now ≤ W.calls connection.old.worker.now + 1 }
+    ensures drawn { connection.new.setup.now.draw.drawn ≤ connection.old.setup.now.draw.drawn + 1 }
     ensures blames { BlamesIn (counts_of S.faults K.faults connection.old) (counts_of S.faults K.faults connection.new) result }
 {
     connection.pull.mark(MESSAGE_BYTES);
@@ -113,7 +161,57 @@ fn serve_message<S: Source, K: Sink, C: Clock, P: Port, W: Worker>(
     }
     match code {
         Code::Ping => write_answer(connection.sink, &[0x53], sent),
-        Code::Call => Err(ConnEnd::NotBuilt { byte: 0x50, at }),
+        Code::Call => serve_call(alloc, connection, sent),
         Code::DgcAck => Err(ConnEnd::NotBuilt { byte: 0x54, at }),
+    }
+}
+
+/// Serves a Call, whose code was just taken, and so many bytes were sent before. It answers how many bytes were sent by then, or the end
+/// of the connection.
+fn serve_call<S: Source, K: Sink, C: Clock, P: Port, W: Worker>(
+    alloc: Global,
+    connection: &mut Connection<S, K, C, P, W>,
+    sent: u64,
+) -> Result<u64, ConnEnd>
+    requires sent { sent < 2 ^ 61 }
+    requires time { connection.old.setup.now.draw.time <ℤ pos (2 ^ 61) }
+    requires drawn { connection.old.setup.now.draw.drawn < 2 ^ 65 }
+    requires ready { P.ready connection.old.port.now }
+    requires room { 2 < P.room_of connection.old.port.now }
+    requires balanced { Balanced (P.asked connection.old.port.now) }
+    requires calls { W.calls connection.old.worker.now < 2 ^ 62 }
+    ensures serves { ServesCall W.may W.moves (terms_of connection.old.book.now connection.old.setup.now)
+        (spot_of S.left K.held C.given P.asked W.calls W.seen W.state connection.old)
+        (spot_of S.left K.held C.given P.asked W.calls W.seen W.state connection.new) connection.old.pull.at connection.old.pull.stop sent connection.new.pull.at result }
+    ensures most { IfOk result (λ after. (after ≤ sent + 2 ^ 30) × (connection.new.pull.at ≤ connection.old.pull.stop)) }
+    ensures lent { IsLent connection.old connection.new }
+    ensures balanced { Balanced (P.asked connection.new.port.now) }
+    ensures ready { P.ready connection.new.port.now }
+    ensures leads { P.leads connection.old.port.now connection.new.port.now }
+    ensures room { P.room_of connection.old.port.now ≤ P.room_of connection.new.port.now + 3 }
+    ensures calls { W.calls connection.new.worker.now ≤ W.calls connection.old.worker.now + 1 }
+    ensures drawn { connection.new.setup.now.draw.drawn ≤ connection.old.setup.now.draw.drawn + 1 }
+    ensures blames { BlamesIn (counts_of S.faults K.faults connection.old) (counts_of S.faults K.faults connection.new) result }
+{
+    match read_head(alloc, &mut connection.pull) {
+        Ok((head, reader)) => {
+            let answer = answer_call(alloc, connection, head, reader)?;
+            send(connection.sink, answer, sent)
+        }
+        Err(fault) => Err(end_of(fault)),
+    }
+}
+
+/// Sends an answer, where so many bytes were sent before. It answers how many were sent by then, or the end of the connection.
+fn send<K: Sink>(sink: &mut K, answer: Answer, sent: u64) -> Result<u64, ConnEnd>
+    requires sent { sent < 2 ^ 61 }
+    requires short { length answer.bytes ≤ 2 ^ 30 }
+    ensures sends { Sends (K.held sink.old) (K.held sink.new) (K.faults sink.old) (K.faults sink.new) sent answer result }
+    ensures most { IfOk result (λ after. after ≤ sent + 2 ^ 30) }
+{
+    let after = write_answer(sink, answer.bytes.as_slice(), sent)?;
+    match answer.close {
+        Some(end) => Err(end),
+        None => Ok(after),
     }
 }

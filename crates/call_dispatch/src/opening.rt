@@ -38,7 +38,7 @@ pub fn open_connection<S: Source, K: Sink, C: Clock, P: Port, W: Worker>(
     requires host { length (utf connection.old.setup.now.peer_host) ≤ 255 }
     requires at { connection.old.pull.at ≡ 0 }
     requires stop { connection.old.pull.stop ≡ 2 ^ 62 }
-    ensures opens { Opens W.may W.moves (terms_of connection.old.setup.now)
+    ensures opens { Opens W.may W.moves (terms_of connection.old.book.now connection.old.setup.now)
         (spot_of S.left K.held C.given P.asked W.calls W.seen W.state connection.old)
         (spot_of S.left K.held C.given P.asked W.calls W.seen W.state connection.new) connection.new.pull.at result }
     ensures stays { Stays connection.old connection.new }
@@ -65,7 +65,7 @@ fn open_stream<S: Source, K: Sink, C: Clock, P: Port, W: Worker>(
     requires host { length (utf connection.old.setup.now.peer_host) ≤ 255 }
     requires at { connection.old.pull.at ≡ 7 }
     requires stop { connection.old.pull.stop ≡ 2 ^ 62 }
-    ensures opens { OpensStream W.may W.moves (terms_of connection.old.setup.now)
+    ensures opens { OpensStream W.may W.moves (terms_of connection.old.book.now connection.old.setup.now)
         (spot_of S.left K.held C.given P.asked W.calls W.seen W.state connection.old)
         (spot_of S.left K.held C.given P.asked W.calls W.seen W.state connection.new) connection.new.pull.at result }
     ensures stays { Stays connection.old connection.new }

@@ -1,8 +1,11 @@
 //! What a worker is asked to do, and how that comes out.
+ghost use Rattle.std.specs.Prelude.{◌≡◌, IfOk};
+
 use jrmp_frames::Arguments;
-use mod_utf::list::{Sequence, Units};
+use mod_utf::list::{Sequence, TryCopy, Units};
 use object_ids::ObjId;
 use ser_values::{Graph, Value};
+use std::alloc::{AllocError, Global};
 
 /// A call of a method, as a worker gets it.
 #[derive(Debug, Drop)]
@@ -38,3 +41,24 @@ pub enum Outcome {
 
 /// A list of outcomes.
 pub type OutcomeList = Sequence<Outcome>;
+
+/// A copy of a graph, which equals its source. It is refused only for want of memory.
+fn copy_graph(alloc: Global, graph: &Graph) -> Result<Graph, AllocError>
+    ensures { IfOk result (λ copy. copy ≡ graph.now) }
+{
+    graph.copy(alloc)
+}
+
+impl TryCopy for Outcome {
+    fn try_copy(&self, alloc: Global) -> Result<Outcome, AllocError> {
+        Ok(match self {
+            Outcome::Void => Outcome::Void,
+            Outcome::Prim(value) => Outcome::Prim(*value),
+            Outcome::Tree(graph) => Outcome::Tree(copy_graph(alloc, graph)?),
+            Outcome::NewRemote(kind) => Outcome::NewRemote(*kind),
+            Outcome::OldRemote(object, kind) => Outcome::OldRemote(*object, *kind),
+            Outcome::Fault(message) => Outcome::Fault(message.copy(alloc)?),
+            Outcome::OutOfMemory => Outcome::OutOfMemory,
+        })
+    }
+}

@@ -6,10 +6,11 @@ ghost use Rattle.space.specs.Balance.{Balanced};
 ghost use Rattle.space.specs.declared.asked.Asked.{Asked};
 ghost use Rattle.call_dispatch.specs.End.{IsWriteFault};
 ghost use Rattle.call_dispatch.specs.Faults.{counts_of, Blames};
-ghost use Rattle.call_dispatch.specs.Spot.{spot, spot_of, Stays};
+ghost use Rattle.call_dispatch.specs.Spot.{spot, spot_of, IsLent};
 ghost use Rattle.call_dispatch.specs.Terms.{terms_of};
 ghost use Rattle.call_dispatch.specs.Progress.{Talked, Served};
 
+use crate::book::Book;
 use crate::connection::Connection;
 use crate::end::ConnEnd;
 use crate::messages::serve_messages;
@@ -21,13 +22,14 @@ use std::alloc::Global;
 use wire_io::{Clock, Pull, Sink, Source};
 
 /// Serves a connection: the bytes of `source` are taken from its first to its end, and answered in `sink`. Turns are made at
-/// `port` at the moments of `clock`, and calls are done by `worker`. Today only Ping is served, which needs none of the three.
+/// `port` at the moments of `clock`, and calls are done by `worker`, of the kinds of objects in `book`.
 ///
 /// Its conditions are those under which calls can be served: both hosts take at most 255 bytes as modified UTF, the port is between two
 /// calls, has room for 2^30 of them and shows no call running, the worker was invoked fewer than 2^61 times, and fewer than 2^64 identifiers
 /// were drawn, from a moment below 2^61 on.
 ///
-/// No byte is taken but those of the dialogue, whose every answer is written before the next message is taken.
+/// No byte is taken but those of the dialogue, whose every answer is written before the next message is taken. Each Call is invoked at most
+/// once, with the graph that it spells ([`crate::laws::call_is_invoked_once`]).
 pub fn serve_connection<S: Source, K: Sink, C: Clock, P: Port, W: Worker>(
     alloc: Global,
     source: &mut S,
@@ -35,6 +37,7 @@ pub fn serve_connection<S: Source, K: Sink, C: Clock, P: Port, W: Worker>(
     clock: &mut C,
     port: &mut P,
     worker: &mut W,
+    book: &Book,
     setup: &mut Setup,
 ) -> ConnEnd
     requires peer_host { length (utf setup.old.peer_host) ≤ 255 }
@@ -48,7 +51,7 @@ pub fn serve_connection<S: Source, K: Sink, C: Clock, P: Port, W: Worker>(
 
     // What was taken, done, drawn and written is a dialogue with the end, and the only one of the input and of what the outside
     // answered, unless something outside failed.
-    ensures dialogue { Served W.may W.moves (terms_of setup.old)
+    ensures dialogue { Served W.may W.moves (terms_of book.now setup.old)
         (spot S.left K.held C.given P.asked W.calls W.seen W.state source.old sink.old clock.old port.old worker.old setup.old)
         (spot S.left K.held C.given P.asked W.calls W.seen W.state source.new sink.new clock.new port.new worker.new setup.new) result }
 
@@ -56,7 +59,7 @@ pub fn serve_connection<S: Source, K: Sink, C: Clock, P: Port, W: Worker>(
     ensures balanced { (more : List Asked) × (P.asked port.new ≡ P.asked port.old ++ more) × Balanced more }
     ensures ready { P.ready port.new }
     ensures leads { P.leads port.old port.new }
-    ensures terms { terms_of setup.new ≡ terms_of setup.old }
+    ensures terms { terms_of book.now setup.new ≡ terms_of book.now setup.old }
 
     // The outside's failures.
     ensures read_fault { result ≡ ConnEnd.ReadFault → Rose (S.faults source.old) (S.faults source.new) }
@@ -71,6 +74,7 @@ pub fn serve_connection<S: Source, K: Sink, C: Clock, P: Port, W: Worker>(
         clock,
         port,
         worker,
+        book,
         setup,
     };
     talk(alloc, &mut connection)
@@ -84,14 +88,23 @@ fn talk<S: Source, K: Sink, C: Clock, P: Port, W: Worker>(
     requires host { length (utf connection.old.setup.now.peer_host) ≤ 255 }
     requires at { connection.old.pull.at ≡ 0 }
     requires stop { connection.old.pull.stop ≡ 2 ^ 62 }
-    ensures dialogue { Talked W.may W.moves (terms_of connection.old.setup.now)
+    requires time { connection.old.setup.now.draw.time <ℤ pos (2 ^ 61) }
+    requires drawn { connection.old.setup.now.draw.drawn < 2 ^ 64 }
+    requires ready { P.ready connection.old.port.now }
+    requires room { 2 ^ 30 ≤ P.room_of connection.old.port.now }
+    requires balanced { Balanced (P.asked connection.old.port.now) }
+    requires calls { W.calls connection.old.worker.now < 2 ^ 61 }
+    ensures dialogue { Talked W.may W.moves (terms_of connection.old.book.now connection.old.setup.now)
         (spot_of S.left K.held C.given P.asked W.calls W.seen W.state connection.old)
         (spot_of S.left K.held C.given P.asked W.calls W.seen W.state connection.new) result }
-    ensures stays { Stays connection.old connection.new }
+    ensures lent { IsLent connection.old connection.new }
+    ensures balanced { Balanced (P.asked connection.new.port.now) }
+    ensures ready { P.ready connection.new.port.now }
+    ensures leads { P.leads connection.old.port.now connection.new.port.now }
     ensures blames { Blames (counts_of S.faults K.faults connection.old) (counts_of S.faults K.faults connection.new) result }
 {
     match open_connection(alloc, connection) {
-        Ok(opened) => serve_messages(connection, opened),
+        Ok(opened) => serve_messages(alloc, connection, opened),
         Err(end) => end,
     }
 }

@@ -2,7 +2,7 @@
 use Rattle.std.proofs.Common.{ℕ, List, refl, sym, subst, ◌⊎◌, inl, inr}
 use Rattle.wire_io.specs.Wire.{Wires}
 use Rattle.call_dispatch.specs.declared.end.ConnEnd.{ConnEnd}
-use Rattle.call_dispatch.specs.declared.end.ConnEnd.TheVariants.{Ended, BadHeader, UnknownProtocol, BadMessage, Truncated, NotBuilt, MessageLimit, ReadFault, WriteFault, OutOfMemory}
+use Rattle.call_dispatch.specs.declared.end.ConnEnd.TheVariants.{Ended, BadHeader, UnknownProtocol, BadMessage, BadStream, TooLarge, Truncated, NotBuilt, NoSuchObject, NoSuchMethod, SpaceFull, MessageLimit, ReadFault, WriteFault, OutOfMemory}
 use Rattle.call_dispatch.specs.End.{status_of, IsSettled}
 use Rattle.rmi_cli.specs.Answer.{ServesExactly, AnswersExactly, IsOutside}
 use Rattle.rmi_cli.specs.Told.{Told, TellsExactly, Tells}
@@ -13,7 +13,12 @@ settled_or_outside Ended = inl tt
 settled_or_outside (BadHeader at) = inl tt
 settled_or_outside (UnknownProtocol byte) = inl tt
 settled_or_outside (BadMessage byte at) = inl tt
+settled_or_outside (BadStream kind at) = inl tt
+settled_or_outside (TooLarge what at) = inl tt
 settled_or_outside (Truncated at) = inl tt
+settled_or_outside (NoSuchObject id) = inl tt
+settled_or_outside (NoSuchMethod operation hash) = inl tt
+settled_or_outside SpaceFull = inl tt
 settled_or_outside (NotBuilt byte at) = inl tt
 settled_or_outside MessageLimit = inl tt
 settled_or_outside ReadFault = inr (inl refl)
@@ -23,10 +28,10 @@ settled_or_outside OutOfMemory = inr (inr (inr refl))
 -- A connection that went as its settled dialogue says is told so.
 pub told_settles : (seed : List ℕ) (old new : Wires) (told : Told) (result : ConnEnd) → ServesExactly seed old new result → Tells told (Answered result) → AnswersExactly seed old new told
 unfolding ServesExactly AnswersExactly
-told_settles seed old new told result settles (inr memory) other rest end is dialogue settled = inr (inr (inr memory.1.0))
-told_settles seed old new told result settles (inl tells) other rest end is dialogue settled =
+told_settles seed old new told result settles (inr memory) other rest end is dialogue quiet settled = inr (inr (inr memory.1.0))
+told_settles seed old new told result settles (inl tells) other rest end is dialogue quiet settled =
     elim (settled_or_outside result) [
-      | inl ok ↦ let went = settles other rest end is dialogue settled ok in
+      | inl ok ↦ let went = settles other rest end is dialogue quiet settled ok in
           let P : ConnEnd → Type 0 = λ x. TellsExactly told (Answered x) in inl (subst P went.0 tells, went.1, went.2)
       | inr not ↦ inr (subst IsOutside (sym tells.0) not)
     ]

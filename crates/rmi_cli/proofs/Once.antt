@@ -217,7 +217,7 @@ within old new told (ends.BadLine n) (taken, whole, bad, held) tells input answe
     inl (at_whole old new told input taken answer (Err (BadLine n)) left whole known tt replays bad tells (held ∙ sym (with_end-nothing old.held)))
 within old new told ends.Refused (taken, whole, refused, held) tells input answer left short replays known =
     inl (at_whole old new told input taken answer (Err RefusedTurn) left whole known tt replays refused tells (held ∙ sym (with_end-nothing old.held)))
-within old new told (ends.TooLarge limit) (is, (front, long, front_is), held) tells input answer left short replays known =
+within old new told (ends.TooLarge limit) (is, (front, long, most, front_is), held) tells input answer left short replays known =
     absurd (omega (arith, front_short input front new.left (sym left ∙ front_is), long, short))
 within old new told (ends.NotShown fault) e tells input answer left short replays known = absurd e
 within old new told ends.ReadFault e tells input answer left short replays known = inr (inl tells.0)

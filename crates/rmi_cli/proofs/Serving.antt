@@ -1,5 +1,5 @@
 -- What serving one connection over a space of its own says.
-use Rattle.std.proofs.Common.{◌≡◌, ℕ, List, [], ◌++◌, Option, Some, refl, ap, sym, subst, ◌∙◌, inl}
+use Rattle.std.proofs.Common.{◌≡◌, ℕ, List, [], ◌++◌, Option, Some, refl, ap, sym, subst, ◌∙◌, inl, append-nil}
 use Rattle.std.specs.List.{flat_map}
 use Rattle.wire_io.specs.Wire.{Wires, with_end, with_front-nothing, with_end-nothing, Gave-nothing}
 use Rattle.history.specs.declared.asks.SpaceConfig.{SpaceConfig}
@@ -15,10 +15,9 @@ use Rattle.call_dispatch.specs.Terms.{Terms}
 use Rattle.call_dispatch.specs.Acts.{Act, Call, States, entries}
 use Rattle.call_dispatch.specs.Spot.{Spot, Course, took}
 use Rattle.call_dispatch.specs.Dialogue.{nothing, Dialogue}
-use Rattle.call_dispatch.specs.Tape.{tape}
+use Rattle.call_dispatch.specs.Tape.{Tick, tape}
 use Rattle.call_dispatch.specs.Progress.{Served, Settles}
-use Rattle.call_dispatch.proofs.Quiet.{quiet_dialogue}
-use Rattle.rmi_cli.specs.Answer.{answer_terms, answer_space, ServesOne, ServesExactly}
+use Rattle.rmi_cli.specs.Answer.{answer_terms, answer_space, IsOnly, ServesOne, ServesExactly}
 
 -- a space that had no events
 abbrev pub without_events : SpaceConfig → SpaceHistory
@@ -42,30 +41,37 @@ went_is seed by s s2 asked asked2 acts one fresh none led leads =
     let R : List Asked → Type 0 = λ l. Went (answer_space seed) 1 [] l s2.events in
     subst R same (subst Q one (subst P fresh leads.went))
 
+-- What settles a course on these terms settles it on the same.
+only_is : (terms : Terms) (seed : List ℕ) (start now : Spot) (c : Course) (result : ConnEnd) → terms ≡ answer_terms seed → start.drawn ≡ 0
+    → Settles terms start now c result → IsOnly seed start.wires now.wires c result
+unfolding Settles
+only_is terms seed start now c result same none settles other rest end t t2 told dialogue settled settled2 answers =
+    settles other rest end t t2 told (dialogue_is (answer_terms seed) terms 0 start.drawn other (Some rest) end (sym same) (sym none) dialogue) settled settled2 answers
+
 -- A connection that was served on the terms of the seed, over a space that had no events.
 pub serves_one : (may : Invocation → Outcome → Type 0) (moves : States → Call → States → Type 0) (seed : List ℕ) (terms : Terms) (start now : Spot) (by : ℕ) (s s2 : SpaceHistory) (end : ConnEnd)
-    → terms ≡ answer_terms seed → start.drawn ≡ 0 → start.side.asked ≡ [] → by ≡ 1 → s ≡ without_events (answer_space seed)
-    → Leads by s start.side.asked s2 now.side.asked → Served may moves terms start now end
+    → terms ≡ answer_terms seed → start.drawn ≡ 0 → start.side.asked ≡ [] → by ≡ 1
+    → s ≡ without_events (answer_space seed) → Leads by s start.side.asked s2 now.side.asked → Served may moves terms start now end
     → ServesOne seed start.wires now.wires start.side.given now.side.given end
-serves_one may moves seed terms start now by s s2 end same none empty one fresh leads served = record {
+serves_one may moves seed terms start now by s s2 end same none empty one opened leads served = record {
   course = served.course;
   left = served.talks.goes.left;
   held = served.talks.goes.held;
   dialogue = dialogue_is terms (answer_terms seed) start.drawn 0 served.course now.wires.left end same none served.talks.dialogue;
+  only = only_is terms seed start now served.course end same none served.settles;
   given = served.talks.goes.led.given;
   events = s2.events;
-  went = went_is seed by s s2 start.side.asked now.side.asked served.course.acts one fresh empty served.talks.goes.led.asked leads;
+  went = went_is seed by s s2 start.side.asked now.side.asked served.course.acts one opened empty served.talks.goes.led.asked leads;
 }
 
--- It went as each settled dialogue of its input says: no message that is served makes a turn.
+-- It went as each settled dialogue of its input says that has no acts.
 pub serves_exactly : (may : Invocation → Outcome → Type 0) (moves : States → Call → States → Type 0) (seed : List ℕ) (terms : Terms) (start now : Spot) (result : ConnEnd)
     → terms ≡ answer_terms seed → start.drawn ≡ 0 → Served may moves terms start now result → ServesExactly seed start.wires now.wires result
-unfolding ServesExactly Settles
-serves_exactly may moves seed terms start now result same none served other rest end told dialogue settled settled2 =
-    let first : Dialogue terms start.drawn other (Some rest) end = dialogue_is (answer_terms seed) terms 0 start.drawn other (Some rest) end (sym same) (sym none) dialogue in
-    let quiet : served.course.acts ≡ [] = quiet_dialogue terms start.drawn served.course now.wires.left result served.talks.dialogue settled2 in
-    let quiet2 : other.acts ≡ [] = quiet_dialogue terms start.drawn other (Some rest) end first settled in
-    let went = served.settles other rest end [] [] told first settled settled2 (ap (λ a. tape a ++ []) (quiet ∙ sym quiet2)) in
+unfolding ServesExactly
+serves_exactly may moves seed terms start now result same none served other rest end told dialogue quiet settled settled2 =
+    let given : List Tick = tape served.course.acts in
+    let answers : tape served.course.acts ++ [] ≡ tape other.acts ++ given = append-nil given ∙ sym (ap (λ a. tape a ++ given) quiet) in
+    let went = only_is terms seed start now served.course result same none served.settles other rest end [] given told dialogue settled settled2 answers in
     (went.0, went.2, served.talks.goes.held ∙ ap (λ (x : Course). with_end start.wires.held x.written) went.1)
 
 -- No memory was there at all.
@@ -75,6 +81,7 @@ memory_at_once seed start given = record {
   left = sym (with_front-nothing start.left);
   held = sym (with_end-nothing start.held);
   dialogue = (nothing, took [], tt, refl, inl ([], refl, inl refl, refl));
+  only = λ other rest end t t2 told dialogue settled settled2 answers. absurd settled2;
   given = Gave-nothing given;
   events = [];
   went = refl;
@@ -82,4 +89,4 @@ memory_at_once seed start given = record {
 
 pub memory_unsettled : (seed : List ℕ) (start : Wires) → ServesExactly seed start start OutOfMemory
 unfolding ServesExactly
-memory_unsettled seed start other rest end told dialogue settled settled2 = absurd settled2
+memory_unsettled seed start other rest end told dialogue quiet settled settled2 = absurd settled2

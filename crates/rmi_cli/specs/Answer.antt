@@ -10,6 +10,7 @@ use Rattle.call_dispatch.specs.declared.end.ConnEnd.{ConnEnd}
 use Rattle.call_dispatch.specs.End.{IsSettled}
 use Rattle.call_dispatch.specs.Terms.{Terms}
 use Rattle.call_dispatch.specs.Acts.{entries, moments}
+use Rattle.call_dispatch.specs.Tape.{Tick, tape}
 use Rattle.call_dispatch.specs.Spot.{Course}
 use Rattle.call_dispatch.specs.Dialogue.{Dialogue}
 use Rattle.rmi_cli.specs.Told.{Told, TellsExactly, Tells}
@@ -20,7 +21,7 @@ abbrev pub low_signed : ℕ → ℤ
 low_signed word = cast_signed w32 (word % 2 ^ 32)
 
 -- The terms of the connection, by the seed: it has the number 1, its peer is 127.0.0.1, port 1234, its own end is 127.0.0.1, port 1099,
--- and clients may not bind names.
+-- clients may not bind names, and no kinds of objects are known.
 abbrev pub answer_terms : List ℕ → Terms
 answer_terms seed = record {
   by = 1;
@@ -32,6 +33,7 @@ answer_terms seed = record {
   mark = to_be_bytes w64 (slice_index seed 2);
   unique = low_signed ((slice_index seed 0 + 1) % 2 ^ 64);
   time = pos (slice_index seed 1 % 2 ^ 61);
+  kinds = [];
 }
 
 -- What the space keeps to, by the seed: leases of 600,000 milliseconds, and 300,000 to acknowledge a result.
@@ -42,21 +44,30 @@ answer_space seed = record {
   uid = record { unique = low_signed (slice_index seed 2); time = pos (slice_index seed 3 % 2 ^ 61); count = pos 0 };
 }
 
+-- This course is the only one of its input and of what the outside answered: where the input was told and a settled dialogue stands for it,
+-- in which the outside's answers begin as those that were given here, as far as both go, the connection went so, unless something outside failed.
+abbrev pub IsOnly : List ℕ → Wires → Wires → Course → ConnEnd → Type 0
+IsOnly seed old new course result = (other : Course) (rest : List ℕ) (end : ConnEnd) (t t2 : List Tick)
+    → old.left ≡ Some (other.taken ++ rest) → Dialogue (answer_terms seed) 0 other (Some rest) end → IsSettled end → IsSettled result
+    → tape course.acts ++ t ≡ tape other.acts ++ t2 → (result ≡ end) × (course ≡ other) × (new.left ≡ Some rest)
+
 -- One connection was served: what was taken, done and written is a dialogue with the end, on the terms of the seed, before which nothing was
--- drawn. The clock gave the moments of its turns, and these are the events of a space that had none.
+-- drawn, and the only one of the input and the outside's answers. The clock gave the moments of its turns, and these are the events of a space
+-- that had none.
 pub record ServesOne (seed : List ℕ) (old new : Wires) (gave gave2 : Option (List ℕ)) (end : ConnEnd) : Type 0 where
   pub course : Course
   pub left : old.left ≡ with_front course.taken new.left
   pub held : new.held ≡ with_end old.held course.written
   pub dialogue : Dialogue (answer_terms seed) 0 course new.left end
+  pub only : IsOnly seed old new course end
   pub given : Gave gave gave2 (flat_map moments course.acts)
   pub events : List Event
   pub went : Went (answer_space seed) 1 [] (flat_map entries course.acts) events
 
--- Where a settled dialogue stands for the input that was told, the connection went so, unless something outside failed.
+-- Where a settled dialogue without acts stands for the input that was told, the connection went so, unless something outside failed.
 unfoldable pub ServesExactly : List ℕ → Wires → Wires → ConnEnd → Type 0
 ServesExactly seed old new result = (other : Course) (rest : List ℕ) (end : ConnEnd)
-    → old.left ≡ Some (other.taken ++ rest) → Dialogue (answer_terms seed) 0 other (Some rest) end → IsSettled end → IsSettled result
+    → old.left ≡ Some (other.taken ++ rest) → Dialogue (answer_terms seed) 0 other (Some rest) end → other.acts ≡ [] → IsSettled end → IsSettled result
     → (result ≡ end) × (new.left ≡ Some rest) × (new.held ≡ with_end old.held other.written)
 
 -- One connection was served, and its end is told.
@@ -67,9 +78,9 @@ Answers seed old new given given2 told = (end : ConnEnd) × ServesOne seed old n
 abbrev pub IsOutside : ℕ → Type 0
 IsOutside status = (status ≡ 3) ⊎ ((status ≡ 4) ⊎ (status ≡ 5))
 
--- Where a settled dialogue stands for the input that was told, it is the one that was had: its rest is left, its output
--- was written, and its end is told; unless the outside failed.
+-- Where a settled dialogue that neither makes a turn nor invokes anything stands for the input that was told, it is the one that was had: its
+-- rest is left, its output was written, and its end is told; unless the outside failed.
 unfoldable pub AnswersExactly : List ℕ → Wires → Wires → Told → Type 0
 AnswersExactly seed old new told = (other : Course) (rest : List ℕ) (end : ConnEnd)
-    → old.left ≡ Some (other.taken ++ rest) → Dialogue (answer_terms seed) 0 other (Some rest) end → IsSettled end
+    → old.left ≡ Some (other.taken ++ rest) → Dialogue (answer_terms seed) 0 other (Some rest) end → other.acts ≡ [] → IsSettled end
     → (TellsExactly told (Answered end) × (new.left ≡ Some rest) × (new.held ≡ with_end old.held other.written)) ⊎ IsOutside told.status

@@ -1,5 +1,5 @@
 -- What `rmi replay` takes and writes.
-use Rattle.std.specs.Prelude.{◌≡◌, ◌≢◌, ℕ, ◌<◌, ◌≤◌, ◌⊎◌, List, [], length, take, Some, Result, Ok, Err}
+use Rattle.std.specs.Prelude.{◌≡◌, ◌≢◌, ℕ, ◌+◌, ◌<◌, ◌≤◌, ◌⊎◌, List, [], length, take, Some, Result, Ok, Err}
 use Rattle.wire_io.specs.Wire.{Wires, with_front, with_end, NothingLeft}
 use Rattle.rmi_cli.specs.Answer.{IsOutside}
 use Rattle.rmi_cli.specs.Replay.{Outlines, IsBadLine, IsRefused, Replays}
@@ -19,9 +19,9 @@ pub record TakesWhole (old new : Wires) (input : List ℕ) : Type 0 where
   pub nothing : NothingLeft new.left
   pub short : length input ≤ journal_bytes
 
--- Some front of the input was taken, and nothing was written.
+-- Some front of the input was taken, at most 4,096 bytes more than the limit, and nothing was written.
 abbrev pub TakesFront : Wires → Wires → Type 0
-TakesFront old new = (front : List ℕ) × (old.left ≡ with_front front new.left) × (new.held ≡ old.held)
+TakesFront old new = (front : List ℕ) × (length front ≤ journal_bytes + 4096) × (old.left ≡ with_front front new.left) × (new.held ≡ old.held)
 
 -- What each end says of the input, and what was written.
 abbrev pub ReplayEnds : Wires → Wires → RunEnd → Type 0
@@ -32,7 +32,7 @@ ReplayEnds old new (Answered end) = ⊥
 ReplayEnds old new (BadLine line) = (input : List ℕ) × TakesWhole old new input × IsBadLine input line × (new.held ≡ old.held)
 ReplayEnds old new Refused = (input : List ℕ) × TakesWhole old new input × IsRefused input × (new.held ≡ old.held)
 ReplayEnds old new (TooLarge limit) =
-    (limit ≡ journal_bytes) × ((front : List ℕ) × (journal_bytes < length front) × (old.left ≡ with_front front new.left)) × (new.held ≡ old.held)
+    (limit ≡ journal_bytes) × ((front : List ℕ) × (journal_bytes < length front) × (length front ≤ journal_bytes + 4096) × (old.left ≡ with_front front new.left)) × (new.held ≡ old.held)
 ReplayEnds old new (NotShown fault) = ⊥
 ReplayEnds old new ReadFault = TakesFront old new
 ReplayEnds old new WriteFault =

@@ -1,11 +1,11 @@
 //! `answer` over the program's input and output.
-ghost use Rattle.std.specs.Prelude.{◌≡◌, ◌≤◌, ◌%◌, ◌^◌, codes, IfOk, length};
+ghost use Rattle.std.specs.Prelude.{◌≡◌, ◌≤◌, ◌%◌, ◌^◌, [], codes, IfOk, length};
 ghost use Rattle.wire_io.specs.Wire.{Rose, wires};
 ghost use Rattle.call_dispatch.specs.End.{IsWriteFault};
 ghost use Rattle.call_dispatch.specs.Terms.{terms_of};
 ghost use Rattle.rmi_cli.specs.Answer.{low_signed, answer_terms, answer_space, ServesOne, ServesExactly};
 
-use call_dispatch::{ConnEnd, Setup, SilentWorker, serve_connection};
+use call_dispatch::{Book, BookFault, ConnEnd, KindList, Setup, SilentWorker, serve_connection};
 use mod_utf::list::Units;
 use object_ids::{Uid, UidDraw};
 use space::{DirectPort, Space, SpaceConfig};
@@ -15,8 +15,15 @@ use wire_io::{Clock, Sink, Source};
 /// Below this a moment is drawn from the seed, in milliseconds.
 const MOMENTS: u64 = 1 << 61;
 
+/// What a connection is told beforehand, and the kinds of objects that it knows.
+#[derive(Drop)]
+struct Ground {
+    setup: Setup,
+    book: Book,
+}
+
 /// Serves the input and the output as one connection, over a space of its own, at the moments of the clock. Its identifiers and its
-/// space's are made from the seed. The peer is 127.0.0.1, port 1234.
+/// space's are made from the seed. The peer is 127.0.0.1, port 1234. Nothing is exported yet, so that each call is of no such object.
 pub fn answer_input<S: Source, K: Sink, C: Clock>(
     alloc: Global,
     source: &mut S,
@@ -32,8 +39,8 @@ pub fn answer_input<S: Source, K: Sink, C: Clock>(
     ensures read_fault { result ≡ ConnEnd.ReadFault → Rose (S.faults source.old) (S.faults source.new) }
     ensures write_fault { IsWriteFault result → Rose (K.faults sink.old) (K.faults sink.new) }
 {
-    let mut setup = match setup_of(alloc, seed) {
-        Ok(setup) => setup,
+    let mut ground = match ground_of(alloc, seed) {
+        Ok(ground) => ground,
         Err(_) => return ConnEnd::OutOfMemory,
     };
     let mut space = Space::fresh(alloc, &config_of(seed));
@@ -46,13 +53,35 @@ pub fn answer_input<S: Source, K: Sink, C: Clock>(
         clock,
         &mut port,
         &mut worker,
-        &mut setup,
+        &ground.book,
+        &mut ground.setup,
     )
+}
+
+/// What the connection is told beforehand, and no kinds.
+fn ground_of(alloc: Global, seed: &[u64; 4]) -> Result<Ground, AllocError>
+    ensures terms { IfOk result (λ ground. terms_of ground.book ground.setup ≡ answer_terms seed.now) }
+    ensures drawn { IfOk result (λ ground. ground.setup.draw.drawn ≡ 0) }
+{
+    let setup = setup_of(alloc, seed)?;
+    let book = no_kinds(alloc)?;
+    Ok(Ground { setup, book })
+}
+
+/// The book without kinds.
+pub fn no_kinds(alloc: Global) -> Result<Book, AllocError>
+    ensures { IfOk result (λ book. book ≡ []) }
+{
+    match Book::new(alloc, KindList::new(alloc)) {
+        Ok(book) => Ok(book),
+        Err(BookFault::OutOfMemory) => Err(AllocError),
+        Err(BookFault::FloatMethod { kind: _, method: _ }) => unreachable!(),
+    }
 }
 
 /// What the connection is told beforehand.
 pub fn setup_of(alloc: Global, seed: &[u64; 4]) -> Result<Setup, AllocError>
-    ensures terms { IfOk result (λ setup. terms_of setup ≡ answer_terms seed.now) }
+    ensures terms { IfOk result (λ setup. terms_of [] setup ≡ answer_terms seed.now) }
     ensures drawn { IfOk result (λ setup. setup.draw.drawn ≡ 0) }
 {
     Ok(Setup {

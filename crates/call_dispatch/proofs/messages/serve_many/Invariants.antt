@@ -1,26 +1,34 @@
 use Rattle.std.proofs.Common.{◌≡◌, ◌+◌, ◌*◌, ◌-◌, ◌^◌, ◌≤◌, List, [], length}
 use Rattle.jrmp_frames.specs.declared.header.Protocol.TheVariants.{Stream}
+use Rattle.space.specs.Balance.{Balanced}
 use Rattle.call_dispatch.specs.Terms.{terms_of}
-use Rattle.call_dispatch.specs.Spot.{Spot, spot_of, Stays}
+use Rattle.call_dispatch.specs.Spot.{Spot, spot_of, IsLent}
 use Rattle.call_dispatch.specs.Faults.{counts_of, Grew}
 use Rattle.call_dispatch.specs.Rows.{Exchange, GoOn}
 use Rattle.call_dispatch.specs.Dialogue.{Opening, protocol_of, opened}
 use Rattle.call_dispatch.specs.Progress.{Stands}
 use Rattle.call_dispatch.proofs.messages.serve_many.Given as goal
 
--- So many exchanges stand, and the connection goes on; each took and wrote at most so much.
+-- So many exchanges stand, and the connection goes on; each took and wrote at most so much, made at most three turns, invoked the worker at
+-- most once and drew at most one identifier.
 abbrev pub invariant-loop-after : goal.invariant-loop-after
 invariant-loop-after g l = ((start : Spot) (opening : Opening) → protocol_of opening ≡ Stream
-    → Stands g.W.Worker.may g.W.Worker.moves (terms_of l.initial.connection.setup.now) start
+    → Stands g.W.Worker.may g.W.Worker.moves (terms_of l.initial.connection.book.now l.initial.connection.setup.now) start
     (spot_of g.S.Source.left g.K.Sink.held g.C.Clock.given g.P.Port.asked g.W.Worker.calls g.W.Worker.seen g.W.Worker.state l.initial.connection) l.initial.connection.pull.at l.before (opened opening [])
     → (exchanges : List Exchange) × (length exchanges ≡ l.served) × GoOn exchanges
-    × Stands g.W.Worker.may g.W.Worker.moves (terms_of l.initial.connection.setup.now) start
+    × Stands g.W.Worker.may g.W.Worker.moves (terms_of l.initial.connection.book.now l.initial.connection.setup.now) start
     (spot_of g.S.Source.left g.K.Sink.held g.C.Clock.given g.P.Port.asked g.W.Worker.calls g.W.Worker.seen g.W.Worker.state l.connection) l.connection.pull.at l.sent (opened opening exchanges))
     × (l.served ≤ 2 ^ 28)
     × (l.connection.pull.at ≤ l.initial.connection.pull.at + 2 ^ 24 * l.served)
     × (l.sent ≤ l.before + 2 ^ 30 * l.served)
-    × Stays l.initial.connection l.connection
+    × IsLent l.initial.connection l.connection
     × Grew (counts_of g.S.Source.faults g.K.Sink.faults l.initial.connection) (counts_of g.S.Source.faults g.K.Sink.faults l.connection)
+    × Balanced (g.P.Port.asked l.connection.port.now)
+    × g.P.Port.ready l.connection.port.now
+    × g.P.Port.leads l.initial.connection.port.now l.connection.port.now
+    × (g.P.Port.room_of l.initial.connection.port.now ≤ g.P.Port.room_of l.connection.port.now + 3 * l.served)
+    × (g.W.Worker.calls l.connection.worker.now ≤ g.W.Worker.calls l.initial.connection.worker.now + l.served)
+    × (l.connection.setup.now.draw.drawn ≤ l.initial.connection.setup.now.draw.drawn + l.served)
 
 abbrev pub decreases-loop-after : goal.decreases-loop-after
 decreases-loop-after g l = 2 ^ 28 - l.served

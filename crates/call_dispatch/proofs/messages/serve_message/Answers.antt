@@ -1,8 +1,10 @@
-use Rattle.std.proofs.Common.{◌+◌, ◌∙◌, sym, ap, refl, arith, [], inl, inr}
+use Rattle.std.proofs.Common.{◌+◌, ◌∙◌, sym, ap, refl, arith, [], inl}
+use Rattle.call_dispatch.specs.Spot.{spot_of}
 use Rattle.call_dispatch.specs.Dialogue.{opened}
 use Rattle.call_dispatch.specs.declared.end.ConnEnd.TheVariants as ends
 use Rattle.call_dispatch.proofs.Steps.{talks_took}
-use Rattle.call_dispatch.proofs.MessageSteps.{code_ends, code_in_limit, ping_steps}
+use Rattle.call_dispatch.proofs.MessageSteps.{code_ends, ping_steps, most_on}
+use Rattle.call_dispatch.proofs.Blaming.{blames_from}
 use Rattle.call_dispatch.proofs.messages.serve_message.Goals as goal
 
 pub returns-in-Ok-None-clause-steps : goal.returns-in-Ok-None-clause-steps
@@ -10,9 +12,6 @@ returns-in-Ok-None-clause-steps g c start opening exchanges count code stands =
     let gives = rw c.in-Ok-None.field-0-is at c.in-Ok-None.ensures.gives in
     talks_took _ _ _ start _ _ _ _ (opened opening exchanges) [] ends.Ended stands (ap g.S.Source.left (sym c.mark.ensures.source) ∙ gives.0.left) refl refl refl
     (inl (code, gives.1), refl)
-
-pub end_of-requires : goal.end_of-requires
-end_of-requires g c = code_in_limit _ _ c.in-Err.fault (omega (arith, c.mark.ensures.at, c.mark.ensures.stop, c.requires.at)) c.in-Err.ensures.gives
 
 pub returns-in-Err-clause-steps : goal.returns-in-Err-clause-steps
 returns-in-Err-clause-steps g c start opening exchanges count code stands =
@@ -33,14 +32,35 @@ returns-in-Ping-clause-steps g c start opening exchanges count code stands =
     (omega (arith, count, c.requires.served, c.if-served-eq-MESSAGES.false)) (ap g.S.Source.left (sym c.mark.ensures.source) ∙ gives.left) refl refl
     (gives.at ∙ ap (λ n. n + 1) c.mark.ensures.at) c.write_answer.ensures.writes
 
-pub returns-in-Call-clause-steps : goal.returns-in-Call-clause-steps
-returns-in-Call-clause-steps g c start opening exchanges count code stands =
-    let gives = rw c.in-Call.is at (rw c.in-Ok-Some.field-0-is at c.in-Ok-Some.ensures.gives) in
-    talks_took _ _ _ start _ _ _ _ (opened opening exchanges) _ (ends.NotBuilt _ _) stands (ap g.S.Source.left (sym c.mark.ensures.source) ∙ gives.left) refl refl refl
-    (code, omega (arith, count, c.requires.served, c.if-served-eq-MESSAGES.false), inl refl, c.mark.ensures.at ∙ stands.position, refl)
-
 pub returns-in-DgcAck-clause-steps : goal.returns-in-DgcAck-clause-steps
 returns-in-DgcAck-clause-steps g c start opening exchanges count code stands =
     let gives = rw c.in-DgcAck.is at (rw c.in-Ok-Some.field-0-is at c.in-Ok-Some.ensures.gives) in
     talks_took _ _ _ start _ _ _ _ (opened opening exchanges) _ (ends.NotBuilt _ _) stands (ap g.S.Source.left (sym c.mark.ensures.source) ∙ gives.left) refl refl refl
-    (code, omega (arith, count, c.requires.served, c.if-served-eq-MESSAGES.false), inr refl, c.mark.ensures.at ∙ stands.position, refl)
+    (code, omega (arith, count, c.requires.served, c.if-served-eq-MESSAGES.false), refl, c.mark.ensures.at ∙ stands.position, refl)
+
+pub returns-in-Call-clause-steps : goal.returns-in-Call-clause-steps
+returns-in-Call-clause-steps g c start opening exchanges count code stands =
+    let gives = rw c.in-Call.is at (rw c.in-Ok-Some.field-0-is at c.in-Ok-Some.ensures.gives) in
+    c.serve_call.ensures.serves start (spot_of g.S.Source.left g.K.Sink.held g.C.Clock.given g.P.Port.asked g.W.Worker.calls g.W.Worker.seen g.W.Worker.state c.args.connection.now) opening exchanges (record {
+      few = omega (arith, count, c.requires.served, c.if-served-eq-MESSAGES.false);
+      code = code;
+      place = c.args.connection.now.pull.at;
+      stands = stands;
+      left = ap g.S.Source.left (sym c.mark.ensures.source) ∙ gives.left;
+      held = refl;
+      side = refl;
+      drawn = refl;
+      position = gives.at ∙ ap (λ n. n + 1) c.mark.ensures.at;
+      limit = omega (arith, gives.stop, c.mark.ensures.stop, c.requires.at);
+    })
+
+pub returns-in-Call-clause-most : goal.returns-in-Call-clause-most
+returns-in-Call-clause-most g c =
+    let gives = rw c.in-Call.is at (rw c.in-Ok-Some.field-0-is at c.in-Ok-Some.ensures.gives) in
+    most_on c.serve_call.result _ _ _ _ (omega (arith, gives.stop, c.mark.ensures.stop, c.requires.at)) c.serve_call.ensures.most
+
+pub returns-in-Call-clause-blames : goal.returns-in-Call-clause-blames
+returns-in-Call-clause-blames g c =
+    let gives = rw c.in-Call.is at (rw c.in-Ok-Some.field-0-is at c.in-Ok-Some.ensures.gives) in
+    let faults = rw c.mark.ensures.source at gives.faults in
+    blames_from _ _ _ _ c.serve_call.result faults c.serve_call.ensures.blames

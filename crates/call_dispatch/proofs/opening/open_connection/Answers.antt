@@ -3,7 +3,7 @@ use Rattle.jrmp_frames.specs.Frames.{header}
 use Rattle.jrmp_frames.specs.declared.header.Protocol.TheVariants.{Stream}
 use Rattle.call_dispatch.specs.Dialogue.{single_op}
 use Rattle.call_dispatch.proofs.Going.{goes_took}
-use Rattle.call_dispatch.proofs.OpeningSteps.{header_in_limit, header_ends, stands_single, refusal_ends}
+use Rattle.call_dispatch.proofs.OpeningSteps.{header_ends, stands_single, refusal_ends}
 use Rattle.call_dispatch.proofs.opening.open_connection.Goals as goal
 
 pub open_stream-requires-clause-at : goal.open_stream-requires-clause-at
@@ -18,9 +18,6 @@ pub returns-in-Ok-SingleOp-clause-opens : goal.returns-in-Ok-SingleOp-clause-ope
 returns-in-Ok-SingleOp-clause-opens g c =
     let takes = rw c.in-Ok-SingleOp.field-0-is at c.in-Ok-SingleOp.ensures.gives in
     (single_op, refl, omega (arith, takes.at, c.requires.at), omega arith, stands_single _ _ _ _ _ _ _ _ c.requires.at takes)
-
-pub end_of-requires : goal.end_of-requires
-end_of-requires g c = header_in_limit _ _ c.in-Err.fault c.requires.at c.requires.stop c.in-Err.ensures.gives
 
 pub returns-in_default-clause-opens : goal.returns-in_default-clause-opens
 returns-in_default-clause-opens g c =

@@ -2,7 +2,7 @@ use Rattle.std.proofs.Common.{◌≡◌, ◌∙◌, arith, refl}
 use Rattle.std.proofs.lemmas.Result.{err_from_is_err_and}
 use Rattle.jrmp_frames.specs.Frames.{protocol_ack}
 use Rattle.call_dispatch.specs.Dialogue.{stream}
-use Rattle.call_dispatch.proofs.OpeningSteps.{memory_ends, ack_short, endpoint_short, stands_greeted, greeting_cut, stands_opened, endpoint_in_limit, endpoint_ends}
+use Rattle.call_dispatch.proofs.OpeningSteps.{memory_ends, ack_short, endpoint_short, stands_greeted, greeting_cut, stands_opened, endpoint_ends}
 use Rattle.call_dispatch.proofs.opening.open_stream.Goals as goal
 
 pub returns-in_default-clause-opens : goal.returns-in_default-clause-opens
@@ -27,9 +27,6 @@ returns-in-Ok-skip_endpoint-clause-opens g c start goes =
       omega (arith, writes.1, ack_short c.args.connection.now.setup.now.peer_host c.args.connection.now.setup.now.peer_port, c.requires.host),
       stands_opened _ _ _ start _ _ _ _ _ _ endpoint greets rest is,
     )
-
-pub end_of-requires : goal.end_of-requires
-end_of-requires g c = endpoint_in_limit _ _ c.in-Err.fault (omega (arith, c.requires.at, c.requires.stop)) c.in-Err.ensures.gives
 
 pub returns-clause-opens : goal.returns-clause-opens
 returns-clause-opens g c start goes =

@@ -1,20 +1,39 @@
-use Rattle.std.proofs.Common.{◌∙◌, [], sym, ap, refl, append-nil}
+use Rattle.std.proofs.Common.{◌∙◌, sym}
+use Rattle.std.specs.List.{flat_map}
+use Rattle.call_dispatch.specs.Acts.{entries}
+use Rattle.call_dispatch.proofs.Balancing.{balanced_more}
 use Rattle.call_dispatch.proofs.OneReading.{talked_served}
 use Rattle.call_dispatch.proofs.serve.serve_connection.Goals as goal
 
 pub returns-clause-dialogue : goal.returns-clause-dialogue
 returns-clause-dialogue g c =
-    let stays = c.talk.ensures.stays in
-    let source = c.source-1.given.1 (sym (stays.source_lent ∙ c.new-pull.ensures.lent)) in
-    let sink = c.sink-1.given.1 (sym stays.sink_lent) in
-    let clock = c.clock-1.given.1 (sym stays.clock_lent) in
-    let port = c.port-1.given.1 (sym stays.port_lent) in
-    let worker = c.worker-1.given.1 (sym stays.worker_lent) in
-    let setup = c.setup-1.given.1 (sym stays.setup_lent) in
+    let lent = c.talk.ensures.lent in
+    let source = c.source-1.given.1 (sym (lent.source_lent ∙ c.new-pull.ensures.lent)) in
+    let sink = c.sink-1.given.1 (sym lent.sink_lent) in
+    let clock = c.clock-1.given.1 (sym lent.clock_lent) in
+    let port = c.port-1.given.1 (sym lent.port_lent) in
+    let worker = c.worker-1.given.1 (sym lent.worker_lent) in
+    let setup = c.setup-1.given.1 (sym lent.setup_lent) in
     let talked = rw c.new-pull.ensures.source at c.talk.ensures.dialogue in
     rw (source, sink, clock, port, worker, setup) (talked_served _ _ _ _ _ c.talk.result talked)
 
 pub returns-clause-balanced : goal.returns-clause-balanced
 returns-clause-balanced g c =
-    let port = c.port-1.given.1 (sym c.talk.ensures.stays.port_lent) in
-    ([], ap g.P.Port.asked (port ∙ c.talk.ensures.stays.port) ∙ sym (append-nil (g.P.Port.asked c.args.port.now)), λ o. refl)
+    let port = c.port-1.given.1 (sym c.talk.ensures.lent.port_lent) in
+    let (course, talks) = c.talk.ensures.dialogue in
+    rw port (flat_map entries course.acts, talks.goes.led.asked, balanced_more (g.P.Port.asked c.args.port.now) (flat_map entries course.acts) (g.P.Port.asked c.talk.new.connection.port.now) talks.goes.led.asked c.requires.balanced c.talk.ensures.balanced)
+
+pub returns-clause-ready : goal.returns-clause-ready
+returns-clause-ready g c =
+    let port = c.port-1.given.1 (sym c.talk.ensures.lent.port_lent) in
+    rw port c.talk.ensures.ready
+
+pub returns-clause-leads : goal.returns-clause-leads
+returns-clause-leads g c =
+    let port = c.port-1.given.1 (sym c.talk.ensures.lent.port_lent) in
+    rw port c.talk.ensures.leads
+
+pub returns-clause-terms : goal.returns-clause-terms
+returns-clause-terms g c =
+    let setup = c.setup-1.given.1 (sym c.talk.ensures.lent.setup_lent) in
+    rw setup (rw c.talk.ensures.lent.book at c.talk.ensures.lent.terms)

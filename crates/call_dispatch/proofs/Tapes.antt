@@ -1,0 +1,63 @@
+-- What the outside handed in at the acts of a Call.
+use Rattle.std.proofs.Common.{◌≡◌, ℕ, List, [], ◌∷◌, ◌++◌, Option, Ok, refl, ap, ◌∙◌}
+use Rattle.std.proofs.lemmas.Grind.{flat_map-append}
+use Rattle.class_desc.specs.declared.field.TypeCode.{TypeCode}
+use Rattle.object_ids.specs.declared.ids.ObjId.{ObjId}
+use Rattle.object_ids.specs.declared.ids.Uid.{Uid}
+use Rattle.history.specs.declared.asks.Ask.{Ask}
+use Rattle.history.specs.declared.asks.Ask.TheVariants.{Begin}
+use Rattle.history.specs.declared.replies.Turn.{Turn}
+use Rattle.history.specs.declared.replies.Refused.TheVariants as refusals
+use Rattle.space.specs.declared.asked.AskedEnd.TheVariants.{Turned, Abandoned, Refused as Denied}
+use Rattle.jrmp_frames.specs.declared.head.CallHead.{CallHead}
+use Rattle.call_dispatch.specs.declared.book.Kind.{Kind}
+use Rattle.call_dispatch.specs.declared.outcome.Outcome.{Outcome}
+use Rattle.call_dispatch.specs.Acts.{Act, tells_of, acts_of}
+use Rattle.call_dispatch.specs.Served.{Conclusion, finished, denied, faulted, finish_of, conclusion_acts, IsConclusion, Running, unknown, ran, running_acts, IsRunning, Served, absent, refused, begun, served_acts, IsServed}
+use Rattle.call_dispatch.specs.Tape.{Tick, answered, gave, ticks, tape}
+
+-- Telling the worker of what is gone hands nothing in.
+told_tape : (gone : List ObjId) → tape (tells_of gone) ≡ []
+told_tape [] = refl
+told_tape (object ∷ gone) = told_tape gone
+
+-- A turn that was answered hands in its answer, and then what the later acts do.
+pub turn_tape : (moment : ℕ) (ask : Ask) (turn : Turn) (later : List Act) → tape (acts_of moment ask (Ok turn) ++ later) ≡ answered moment (Turned turn) ∷ tape later
+turn_tape moment ask turn later =
+    ap (λ (l : List Tick). answered moment (Turned turn) ∷ l) (flat_map-append ticks (tells_of turn.gone) later ∙ ap (λ (l : List Tick). l ++ tape later) (told_tape turn.gone))
+
+turn_alone : (moment : ℕ) (ask : Ask) (turn : Turn) → tape (acts_of moment ask (Ok turn)) ≡ answered moment (Turned turn) ∷ []
+turn_alone moment ask turn = ap (λ (l : List Tick). answered moment (Turned turn) ∷ l) (told_tape turn.gone)
+
+abbrev pub conclusion_ticks : Conclusion → List Tick
+conclusion_ticks (finished moment turn) = answered moment (Turned turn) ∷ []
+conclusion_ticks (denied moment refusal moment2 place) = answered moment (Denied refusal) ∷ answered moment2 (Abandoned place) ∷ []
+conclusion_ticks (faulted moment place) = answered moment (Abandoned place) ∷ []
+
+abbrev pub running_ticks : Running → List Tick
+running_ticks (unknown moment place) = answered moment (Abandoned place) ∷ []
+running_ticks (ran place arguments outcome conclusion) = gave outcome ∷ conclusion_ticks conclusion
+
+abbrev pub served_ticks : Served → List Tick
+served_ticks (absent moment turn) = answered moment (Turned turn) ∷ []
+served_ticks (refused moment) = answered moment (Denied refusals.HistoryFull) ∷ []
+served_ticks (begun moment turn kind running) = answered moment (Turned turn) ∷ running_ticks running
+
+conclusion_tape : (object : ObjId) (uid : Uid) (returned : Option TypeCode) (outcome : Outcome) (c : Conclusion) → IsConclusion uid returned outcome c → tape (conclusion_acts object uid c) ≡ conclusion_ticks c
+conclusion_tape object uid returned outcome (finished moment turn) is = turn_alone moment (finish_of object uid) turn
+conclusion_tape object uid returned outcome (denied moment refusals.HistoryFull moment2 place) is = refl
+conclusion_tape object uid returned outcome (denied moment (refusals.Full kind) moment2 place) is = refl
+conclusion_tape object uid returned outcome (denied moment refusals.OutOfMemory moment2 place) is = absurd (is.1 refl)
+conclusion_tape object uid returned outcome (faulted moment place) is = refl
+
+running_tape : (kinds : List Kind) (head : CallHead) (kind : ℕ) (bytes : List ℕ) (uid : Uid) (r : Running) → IsRunning kinds head kind bytes uid r → tape (running_acts head uid kind r) ≡ running_ticks r
+running_tape kinds head kind bytes uid (unknown moment place) is = refl
+running_tape kinds head kind bytes uid (ran place arguments outcome conclusion) (known, (method, method_is, call, concluded)) =
+    ap (λ (l : List Tick). gave outcome ∷ l) (conclusion_tape head.id uid method.result outcome conclusion concluded)
+
+-- What a Call's acts hand in.
+pub served_tape : (kinds : List Kind) (head : CallHead) (bytes : List ℕ) (uid : Uid) (s : Served) → IsServed kinds head bytes uid s → tape (served_acts head uid s) ≡ served_ticks s
+served_tape kinds head bytes uid (absent moment turn) is = turn_alone moment (Begin head.id) turn
+served_tape kinds head bytes uid (refused moment) is = refl
+served_tape kinds head bytes uid (begun moment turn kind running) (started, is) =
+    turn_tape moment (Begin head.id) turn (running_acts head uid kind running) ∙ ap (λ (l : List Tick). answered moment (Turned turn) ∷ l) (running_tape kinds head kind bytes uid running is)

@@ -1,0 +1,26 @@
+use Rattle.std.proofs.Common.{refl}
+use Rattle.call_dispatch.specs.Served.{faulted}
+use Rattle.call_dispatch.proofs.Balancing.{give_up_balances}
+use Rattle.call_dispatch.proofs.Cutting.{memory_concludes}
+use Rattle.call_dispatch.proofs.calls.conclude.Goals as goal
+
+pub returns-in-Ok-Exceptional-clause-concludes : goal.returns-in-Ok-Exceptional-clause-concludes
+returns-in-Ok-Exceptional-clause-concludes g c =
+    let (moment, place, led) = c.give_up.ensures.led in
+    let prepared = rw c.next_uid-uid.ensures.uid at (rw c.in-Ok-Exceptional.field-0-is at c.in-Ok-Exceptional.ensures.prepares) in
+    (faulted moment place, (prepared.0, prepared.1), led, prepared.2, refl)
+
+pub returns-in-Ok-Exceptional-clause-balanced : goal.returns-in-Ok-Exceptional-clause-balanced
+returns-in-Ok-Exceptional-clause-balanced g c =
+    let (moment, place, led) = c.give_up.ensures.led in
+    rw led.asked (give_up_balances c.args.object moment place (g.P.Port.asked c.args.connection.now.port.now) c.requires.runs)
+
+pub returns-in-Err-clause-concludes : goal.returns-in-Err-clause-concludes
+returns-in-Err-clause-concludes g c =
+    let (moment, place, led) = c.give_up-in-Err.ensures.led in
+    memory_concludes _ _ c.args.object _ c.args.returned c.args.outcome _ _ moment place led
+
+pub returns-in-Err-clause-balanced : goal.returns-in-Err-clause-balanced
+returns-in-Err-clause-balanced g c =
+    let (moment, place, led) = c.give_up-in-Err.ensures.led in
+    rw led.asked (give_up_balances c.args.object moment place (g.P.Port.asked c.args.connection.now.port.now) c.requires.runs)

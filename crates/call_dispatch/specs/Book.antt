@@ -1,0 +1,62 @@
+-- Kinds of objects and their methods.
+use Rattle.std.specs.Prelude.{◌≡◌, ◌≤◌, ◌<◌, ◌^◌, ◌||◌, ℕ, ℤ, Bool, true, false, List, [], length, map, All, Option, Some, None, slice_get}
+use Rattle.std.specs.List.{list_any, position}
+use Rattle.std.specs.Ordering.{int_eq}
+use Rattle.mod_utf.specs.Utf.{utf}
+use Rattle.class_desc.specs.declared.field.TypeCode.{TypeCode}
+use Rattle.class_desc.specs.declared.field.TypeCode.TheVariants as codes
+use Rattle.method_hash.specs.declared.method.Method.{Method}
+use Rattle.method_hash.specs.Hash.{hash_of}
+use Rattle.call_dispatch.specs.declared.book.Kind.{Kind}
+use Rattle.call_dispatch.specs.declared.book.BookFault.{BookFault}
+use Rattle.call_dispatch.specs.declared.book.BookFault.TheVariants.{FloatMethod, OutOfMemory}
+
+-- ---- floats and doubles
+
+abbrev pub is_float : TypeCode → Bool
+is_float codes.D = true
+is_float codes.F = true
+is_float _ = false
+
+abbrev pub returns_float : Option TypeCode → Bool
+returns_float (Some code) = is_float code
+returns_float None = false
+
+-- A parameter or the result of the method is a float or a double.
+abbrev pub uses_float : Method → Bool
+uses_float method = list_any is_float method.params || returns_float method.result
+
+-- Some method of the kind does.
+abbrev pub has_float : Kind → Bool
+has_float kind = list_any uses_float kind.methods
+
+-- ---- methods
+
+abbrev pub methods_in : Option Kind → List Method
+methods_in (Some kind) = kind.methods
+methods_in None = []
+
+-- The methods of the kind at a place; a kind that is no place has none.
+abbrev pub methods_of : List Kind → ℕ → List Method
+methods_of kinds kind = methods_in (slice_get kinds kind)
+
+-- The place of the first method that has this hash, counted from 0, if one has it.
+abbrev pub first_with : ℤ → List Method → Option ℕ
+first_with hash methods = position (λ method. int_eq (hash_of method.text) hash) methods
+
+abbrev pub hashes_of : Kind → List ℤ
+hashes_of kind = map (λ method. hash_of method.text) kind.methods
+
+-- ---- books
+
+-- Why these kinds make no book: the first kind that has such a method, and the first such method of it; or there was no memory.
+abbrev pub FaultsBook : List Kind → BookFault → Type 0
+FaultsBook kinds (FloatMethod kind method) = (position has_float kinds ≡ Some kind) × (position uses_float (methods_of kinds kind) ≡ Some method)
+FaultsBook kinds OutOfMemory = Unit {0}
+
+-- The hashes are those of the kinds' methods, of which there are not too many.
+pub record IsBook (kinds : List Kind) (hashes : List (List ℤ)) : Type 0 where
+  pub same : hashes ≡ map hashes_of kinds
+  pub few_kinds : length kinds < 2 ^ 32
+  pub few_methods : All (λ kind. length kind.methods < 2 ^ 32) kinds
+  pub interfaces : All (λ kind. length (utf kind.interface) ≤ 65535) kinds

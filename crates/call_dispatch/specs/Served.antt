@@ -1,0 +1,144 @@
+-- What is done at a call of an object that is exported.
+use Rattle.std.specs.Prelude.{◌≡◌, ◌≢◌, ℕ, ℤ, negsuc, ◌⊎◌, true, false, List, [], ◌∷◌, ◌++◌, slice_get, Option, None, Some, Ok, Err, FitsSigned}
+use Rattle.std.specs.Int.{w16, w32, w64}
+use Rattle.class_desc.specs.declared.field.TypeCode.{TypeCode}
+use Rattle.method_hash.specs.declared.method.Method.{Method}
+use Rattle.object_ids.specs.declared.ids.ObjId.{ObjId}
+use Rattle.object_ids.specs.declared.ids.Uid.{Uid}
+use Rattle.history.specs.declared.asks.Ask.{Ask}
+use Rattle.history.specs.declared.asks.Ask.TheVariants.{Begin, Finish}
+use Rattle.history.specs.declared.replies.Reply.TheVariants.{Started, NoObject}
+use Rattle.history.specs.declared.replies.Turn.{Turn}
+use Rattle.history.specs.declared.replies.Refused.{Refused}
+use Rattle.history.specs.declared.replies.Refused.TheVariants as refusals
+use Rattle.space.specs.Ports.{is_finished}
+use Rattle.jrmp_frames.specs.declared.arguments.Arguments.{Arguments}
+use Rattle.ser_read.specs.Heading.{EndsInBlock}
+use Rattle.jrmp_frames.specs.declared.head.CallHead.{CallHead}
+use Rattle.jrmp_frames.specs.Messages.{head_bytes, CallBytes}
+use Rattle.call_dispatch.specs.declared.book.Kind.{Kind}
+use Rattle.call_dispatch.specs.declared.end.ConnEnd.{ConnEnd}
+use Rattle.call_dispatch.specs.declared.end.ConnEnd.TheVariants as ends
+use Rattle.call_dispatch.specs.declared.outcome.Invocation.{Invocation}
+use Rattle.call_dispatch.specs.declared.outcome.Outcome.{Outcome}
+use Rattle.call_dispatch.specs.declared.outcome.Outcome.TheVariants.{OutOfMemory}
+use Rattle.call_dispatch.specs.Acts.{Act, called, invokes, acts_of, abandoned}
+use Rattle.call_dispatch.specs.Book.{methods_of, first_with}
+use Rattle.call_dispatch.specs.Returns.{fault_return, normal_return, fits, no_object, no_method, full, fault_message}
+
+-- The bytes, which stand behind a Call's code, end with this head: the stream's magic number and version, and then whole blocks and a front of
+-- one, with so many of its bytes left, which hold the head's 34 bytes.
+pub record EndsWithHead (head : CallHead) (bytes : List ℕ) (left : ℕ) : Type 0 where
+  pub contents : List ℕ
+  pub headed : bytes ≡ 0xAC ∷ 0xED ∷ 0x00 ∷ 0x05 ∷ contents
+  pub ends : EndsInBlock 34 contents (head_bytes head) left
+
+-- the same, whatever is left of the present block
+abbrev pub IsHeadOf : CallHead → List ℕ → Type 0
+IsHeadOf head bytes = (left : ℕ) × EndsWithHead head bytes left
+
+-- The head's numbers are in range, so that its bytes tell them.
+pub record FitsHead (head : CallHead) : Type 0 where
+  pub number : FitsSigned w64 head.id.number
+  pub unique : FitsSigned w32 head.id.space.unique
+  pub time : FitsSigned w64 head.id.space.time
+  pub count : FitsSigned w16 head.id.space.count
+  pub operation : FitsSigned w32 head.operation
+  pub hash : FitsSigned w64 head.hash
+
+-- How a running call goes on once its worker answered: Finish is answered at a moment; or it is refused, and the call is given up at a
+-- moment and a place of the history; or the outcome is a fault or doesn't fit, and the call is given up.
+pub data Conclusion : Type 0 where
+  finished : ℕ → Turn → Conclusion
+  denied : ℕ → Refused → ℕ → ℕ → Conclusion
+  faulted : ℕ → ℕ → Conclusion
+
+-- the turn that ends a call with its Return
+abbrev pub finish_of : ObjId → Uid → Ask
+finish_of object uid = Finish object [] [] uid
+
+abbrev pub conclusion_acts : ObjId → Uid → Conclusion → List Act
+conclusion_acts object uid (finished moment turn) = acts_of moment (finish_of object uid) (Ok turn)
+conclusion_acts object uid (denied moment refused moment2 place) = acts_of moment (finish_of object uid) (Err refused) ++ abandoned moment2 object place ∷ []
+conclusion_acts object uid (faulted moment place) = abandoned moment object place ∷ []
+
+abbrev pub conclusion_written : Uid → Outcome → Conclusion → List ℕ
+conclusion_written uid outcome (finished moment turn) = normal_return uid outcome
+conclusion_written uid outcome (denied moment refused moment2 place) = fault_return uid (full refused)
+conclusion_written uid outcome (faulted moment place) = fault_return uid (fault_message uid outcome)
+
+-- It may come so of an outcome of a method with this result.
+abbrev pub IsConclusion : Uid → Option TypeCode → Outcome → Conclusion → Type 0
+IsConclusion uid result outcome (finished moment turn) = (fits uid result outcome ≡ true) × (is_finished turn.reply ≡ true)
+IsConclusion uid result outcome (denied moment refused moment2 place) = (fits uid result outcome ≡ true) × (refused ≢ refusals.OutOfMemory)
+IsConclusion uid result outcome (faulted moment place) = (fits uid result outcome ≡ false) × (outcome ≢ OutOfMemory)
+
+-- ---- a Call
+
+-- How a running call goes on: its kind has no such method, and it is given up at a moment and a place of the history; or the worker is
+-- invoked, with the method's place and the arguments, and the call is concluded.
+pub data Running : Type 0 where
+  unknown : ℕ → ℕ → Running
+  ran : ℕ → Arguments → Outcome → Conclusion → Running
+
+abbrev pub invocation_of : ObjId → ℕ → ℕ → Arguments → Invocation
+invocation_of object kind method arguments = record { object = object; kind = kind; method = method; arguments = arguments }
+
+abbrev pub running_acts : CallHead → Uid → ℕ → Running → List Act
+running_acts head uid kind (unknown moment place) = abandoned moment head.id place ∷ []
+running_acts head uid kind (ran method arguments outcome conclusion) =
+    called (invokes (invocation_of head.id kind method arguments) outcome) ∷ conclusion_acts head.id uid conclusion
+
+abbrev pub running_written : Uid → Running → List ℕ
+running_written uid (unknown moment place) = fault_return uid no_method
+running_written uid (ran method arguments outcome conclusion) = conclusion_written uid outcome conclusion
+
+abbrev pub running_closes : CallHead → Running → Option ConnEnd
+running_closes head (unknown moment place) = Some (ends.NoSuchMethod head.operation head.hash)
+running_closes head (ran method arguments outcome conclusion) = None
+
+-- A call is made by its method's hash, beside the operation -1.
+abbrev pub minus_one : ℤ
+minus_one = negsuc 0
+
+-- The kind's method at this place is the first with the head's hash.
+abbrev pub IsMethodOf : List Kind → ℕ → CallHead → ℕ → Type 0
+IsMethodOf kinds kind head place = (head.operation ≡ minus_one) × (first_with head.hash (methods_of kinds kind) ≡ Some place)
+
+-- The kind has no method for the head.
+abbrev pub HasNoMethod : List Kind → ℕ → CallHead → Type 0
+HasNoMethod kinds kind head = (head.operation ≢ minus_one) ⊎ (first_with head.hash (methods_of kinds kind) ≡ None)
+
+-- It may come so where these bytes were taken of the Call behind its code.
+abbrev pub IsRunning : List Kind → CallHead → ℕ → List ℕ → Uid → Running → Type 0
+IsRunning kinds head kind bytes uid (unknown moment place) = IsHeadOf head bytes × HasNoMethod kinds kind head
+IsRunning kinds head kind bytes uid (ran place arguments outcome conclusion) = IsMethodOf kinds kind head place
+    × ((method : Method) × (slice_get (methods_of kinds kind) place ≡ Some method) × CallBytes head method.params arguments (0x50 ∷ bytes)
+    × IsConclusion uid method.result outcome conclusion)
+
+-- What is done at a Call's head: Begin is answered that there is no such object; or it is refused; or the call of an object of this kind runs.
+pub data Served : Type 0 where
+  absent : ℕ → Turn → Served
+  refused : ℕ → Served
+  begun : ℕ → Turn → ℕ → Running → Served
+
+abbrev pub served_acts : CallHead → Uid → Served → List Act
+served_acts head uid (absent moment turn) = acts_of moment (Begin head.id) (Ok turn)
+served_acts head uid (refused moment) = acts_of moment (Begin head.id) (Err refusals.HistoryFull)
+served_acts head uid (begun moment turn kind running) = acts_of moment (Begin head.id) (Ok turn) ++ running_acts head uid kind running
+
+abbrev pub served_written : Uid → Served → List ℕ
+served_written uid (absent moment turn) = fault_return uid no_object
+served_written uid (refused moment) = fault_return uid (full refusals.HistoryFull)
+served_written uid (begun moment turn kind running) = running_written uid running
+
+abbrev pub served_closes : CallHead → Served → Option ConnEnd
+served_closes head (absent moment turn) = Some (ends.NoSuchObject head.id)
+served_closes head (refused moment) = Some ends.SpaceFull
+served_closes head (begun moment turn kind running) = running_closes head running
+
+-- It may come so at the Call of which these bytes were taken behind its code. What is taken of a Call that closes the connection ends with its head.
+abbrev pub IsServed : List Kind → CallHead → List ℕ → Uid → Served → Type 0
+IsServed kinds head bytes uid (absent moment turn) = IsHeadOf head bytes × (turn.reply ≡ NoObject)
+IsServed kinds head bytes uid (refused moment) = IsHeadOf head bytes
+IsServed kinds head bytes uid (begun moment turn kind running) = (turn.reply ≡ Started kind) × IsRunning kinds head kind bytes uid running

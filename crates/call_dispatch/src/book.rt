@@ -1,0 +1,222 @@
+//! The kinds of objects that a connection serves, and how a call finds a method of theirs.
+ghost use Rattle.std.specs.Prelude.{◌≡◌, ◌≤◌, ◌<◌, ◌^◌, ◌||◌, All, None, Some, length, map, option_map, slice_get, IfOk, IfErr};
+ghost use Rattle.std.specs.List.{list_any, position};
+ghost use Rattle.std.specs.Ordering.{int_eq};
+ghost use Rattle.mod_utf.specs.Utf.{utf};
+ghost use Rattle.method_hash.specs.Hash.{hash_of};
+ghost use Rattle.call_dispatch.specs.Book.{is_float, returns_float, uses_float, has_float, methods_of, first_with, hashes_of, FaultsBook};
+ghost use Rattle.call_dispatch.specs.declared.book.BookFault.TheVariants.{OutOfMemory};
+
+use class_desc::TypeCode;
+use method_hash::{Method, MethodList, hash};
+use mod_utf::list::{I64List, Sequence, Units};
+use std::alloc::{AllocError, AllocFailed, Global};
+use std::marker::Model;
+
+/// A kind of objects.
+#[derive(Debug, Drop)]
+pub struct Kind {
+    /// The name of the interface by which clients know its objects.
+    pub interface: Units,
+    /// The methods that clients may call.
+    pub methods: MethodList,
+}
+
+/// A list of kinds.
+pub type KindList = Sequence<Kind>;
+
+/// Why kinds make no book.
+#[derive(Clone, Copy, Debug, PartialEq, Eq)]
+pub enum BookFault {
+    /// This method of this kind, each counted from 0, is the first that has a parameter or a result of the type `float` or `double`.
+    FloatMethod { kind: u32, method: u32 },
+    /// There was no memory.
+    OutOfMemory,
+}
+
+impl From<AllocError> for BookFault {
+    ghost use Rattle.call_dispatch.specs.declared.book.BookFault.TheVariants.{OutOfMemory};
+
+    ghost from_gives = { λ _ fault. fault ≡ OutOfMemory };
+
+    fn from(_error: AllocError) -> BookFault {
+        BookFault::OutOfMemory
+    }
+}
+
+impl<T: Drop> From<AllocFailed<T>> for BookFault {
+    ghost use Rattle.call_dispatch.specs.declared.book.BookFault.TheVariants.{OutOfMemory};
+
+    ghost from_gives = { λ _ fault. fault ≡ OutOfMemory };
+
+    fn from(_error: AllocFailed<T>) -> BookFault {
+        BookFault::OutOfMemory
+    }
+}
+
+/// The kinds of objects that are served, with the hashes of their methods. Contracts see it as the list of its kinds.
+#[derive(Debug, Drop)]
+pub struct Book {
+    kinds: KindList,
+    hashes: Sequence<I64List>,
+}
+
+impl Model for Book {
+    ghost use Rattle.std.specs.Prelude.{List};
+    ghost use Rattle.call_dispatch.specs.declared.book.Kind.{Kind};
+    ghost use Rattle.call_dispatch.specs.Book.{IsBook};
+
+    ghost Value = { List Kind };
+
+    ghost view = { λ b. b.kinds };
+
+    ghost invariant = { λ b. IsBook b.kinds b.hashes };
+}
+
+/// Whether values of the type are floats or doubles.
+fn is_float(code: TypeCode) -> bool
+    ensures { result ≡ is_float code }
+{
+    match code {
+        TypeCode::D | TypeCode::F => true,
+        _ => false,
+    }
+}
+
+/// Whether a result is a float or a double.
+fn returns_float(returned: Option<TypeCode>) -> bool
+    ensures { result ≡ returns_float returned }
+{
+    match returned {
+        Some(code) => is_float(code),
+        None => false,
+    }
+}
+
+/// Whether some parameter is a float or a double.
+fn takes_float(params: &[TypeCode]) -> bool
+    ensures { result ≡ list_any is_float params.now }
+{
+    params.iter().any(|code| is_float(*code))
+}
+
+/// Whether a method has a parameter or a result that is a float or a double.
+fn uses_float(method: &Method) -> bool
+    ensures { result ≡ uses_float method.now }
+{
+    takes_float(method.params.as_slice()) || returns_float(method.result)
+}
+
+/// The first of these methods that has a parameter or a result that is a float or a double.
+fn first_float(methods: &[Method]) -> Option<usize>
+    ensures { result ≡ position uses_float methods.now }
+{
+    methods.iter().position(|method| uses_float(method))
+}
+
+/// Whether a kind has such a method.
+fn has_float(kind: &Kind) -> bool
+    ensures { result ≡ has_float kind.now }
+{
+    kind.methods
+        .as_slice()
+        .iter()
+        .any(|method| uses_float(method))
+}
+
+/// The first kind that has such a method.
+fn first_kind(kinds: &[Kind]) -> Option<usize>
+    ensures { result ≡ position has_float kinds.now }
+{
+    kinds.iter().position(|kind| has_float(kind))
+}
+
+/// The hashes of a kind's methods.
+fn hashes_in(alloc: Global, kind: &Kind) -> Result<I64List, AllocError>
+    ensures { IfOk result (λ hashes. hashes ≡ hashes_of kind.now) }
+{
+    let mut hashes = I64List::new(alloc);
+    for method in kind.methods.as_slice() {
+        hashes.push(hash(method))?;
+    }
+    Ok(hashes)
+}
+
+/// The hashes of the methods of each kind.
+fn hashes_in_all(alloc: Global, kinds: &[Kind]) -> Result<Sequence<I64List>, BookFault>
+    ensures ok { IfOk result (λ hashes. hashes ≡ map hashes_of kinds.now) }
+    ensures err { IfErr result (λ fault. fault ≡ OutOfMemory) }
+{
+    let mut all = Sequence::new(alloc);
+    for kind in kinds {
+        all.push(hashes_in(alloc, kind)?)?;
+    }
+    Ok(all)
+}
+
+/// The place of the first of these hashes that is this one.
+fn first_hash(hashes: &[i64], hash: i64) -> Option<usize>
+    ensures { result ≡ position (λ other. int_eq other hash) hashes.now }
+{
+    hashes.iter().position(|other| *other == hash)
+}
+
+/// What is wrong with the kind at this place, the first that has a method with floats.
+fn float_fault(kinds: &[Kind], kind: usize) -> BookFault
+    requires first { position has_float kinds.now ≡ Some kind }
+    requires few_kinds { length kinds.now < 2 ^ 32 }
+    requires few_methods { All (λ kind. length kind.methods < 2 ^ 32) kinds.now }
+    ensures { FaultsBook kinds.now result }
+{
+    match first_float(kinds[kind].methods.as_slice()) {
+        Some(method) => BookFault::FloatMethod {
+            kind: kind as u32,
+            method: method as u32,
+        },
+        None => unreachable!(),
+    }
+}
+
+impl Book {
+    /// The book of these kinds. `FloatMethod` comes exactly where some method has a parameter or a result of the type `float` or
+    /// `double`, and names the first such method of the first such kind.
+    pub fn new(alloc: Global, kinds: KindList) -> Result<Book, BookFault>
+        requires few_kinds { length kinds < 2 ^ 32 }
+        requires few_methods { All (λ kind. length kind.methods < 2 ^ 32) kinds }
+        requires interfaces { All (λ kind. length (utf kind.interface) ≤ 65535) kinds }
+        ensures kinds { IfOk result (λ book. book ≡ kinds) }
+        ensures none { IfOk result (λ book. position has_float kinds ≡ None) }
+        ensures float { IfErr result (FaultsBook kinds) }
+    {
+        if let Some(kind) = first_kind(kinds.as_slice()) {
+            return Err(float_fault(kinds.as_slice(), kind));
+        }
+        let hashes = hashes_in_all(alloc, kinds.as_slice())?;
+        Ok(Book { kinds, hashes })
+    }
+
+    /// The kind at a place; None where there is none.
+    pub fn kind(&self, kind: u32) -> Option<&Kind>
+        ensures { slice_get self.now kind ≡ option_map (λ k. k.now) result }
+    {
+        self.kinds.as_slice().get(kind as usize)
+    }
+
+    /// The place of the first method of a kind that has this hash. None exactly where none has it; a kind that is no place in the book has
+    /// no methods.
+    pub fn find(&self, kind: u32, hash: i64) -> Option<u32>
+        ensures { result ≡ first_with hash (methods_of self.now kind) }
+    {
+        let hashes = self.hashes.as_slice().get(kind as usize)?;
+        let place = first_hash(hashes.as_slice(), hash)?;
+        Some(place as u32)
+    }
+
+    /// The method at a place of a kind; None where there is none.
+    pub fn method(&self, kind: u32, place: u32) -> Option<&Method>
+        ensures { slice_get (methods_of self.now kind) place ≡ option_map (λ m. m.now) result }
+    {
+        let kind = self.kind(kind)?;
+        kind.methods.as_slice().get(place as usize)
+    }
+}

@@ -1,0 +1,280 @@
+//! What a Call is answered.
+ghost use Rattle.std.specs.Prelude.{◌≡◌, ◌≢◌, ◌≤◌, ◌<◌, ◌+◌, ◌^◌, ◌++◌, ◌⊎◌, pos, ◌<ℤ◌, codes, length, IfOk, IfSome, IfNone, OnOk, None, Some, []};
+ghost use Rattle.wire_io.specs.Pulled.{Place, place};
+ghost use Rattle.space.specs.Balance.{Balanced};
+ghost use Rattle.jrmp_frames.specs.Calls.{ReadsHead, HasHead};
+ghost use Rattle.call_dispatch.specs.Spot.{side_of, IsLent};
+ghost use Rattle.call_dispatch.specs.Returns.{fault_return};
+ghost use Rattle.call_dispatch.specs.Served.{IsMethodOf, HasNoMethod};
+ghost use Rattle.call_dispatch.specs.Serving.{next_of, RunsOne, Finishes, Concludes, IsDenied, IsPrepared, RunsOn, Answers};
+ghost use Rattle.call_dispatch.specs.Terms.{terms_of};
+
+use crate::book::Book;
+use crate::connection::Connection;
+use crate::end::{ConnEnd, end_of};
+use crate::outcome::{Invocation, Outcome};
+use crate::returns::{Answer, Prepared, exceptional_ascii, full_message, next_uid, prepare};
+use crate::setup::Setup;
+use crate::turns::{give_up, take_turn};
+use crate::worker::Worker;
+use class_desc::TypeCode;
+use history::{Ask, Refused, Reply};
+use jrmp_frames::{CallHead, read_arguments};
+use mod_utf::list::{ByteList, Kinds};
+use object_ids::{ObjId, ObjIds, Uid};
+use ser_read::Reader;
+use space::Port;
+use std::alloc::Global;
+use wire_io::{Clock, Sink, Source};
+
+/// The message where the object is not exported.
+const NO_OBJECT: &[u8] = b"java.rmi.NoSuchObjectException: no such object";
+
+/// The message where the object's kind has no such method.
+const NO_METHOD: &[u8] = b"java.rmi.UnmarshalException: no such method";
+
+/// The message where the space's history is full.
+const FULL_HISTORY: &[u8] = b"java.rmi.ServerException: full: history";
+
+/// An exceptional Return with a message in ASCII, after which the connection ends so, or goes on.
+fn told(alloc: Global, uid: Uid, message: &[u8], close: Option<ConnEnd>) -> Result<Answer, ConnEnd>
+    ensures prepared { IsPrepared (fault_return uid message.now) close result }
+    ensures short { IfOk result (λ answer. length answer.bytes ≤ 2 ^ 30) }
+{
+    match exceptional_ascii(alloc, uid, message) {
+        Ok(bytes) => Ok(Answer { bytes, close }),
+        Err(_) => Err(ConnEnd::OutOfMemory),
+    }
+}
+
+/// What a call is answered whose Finish was refused.
+fn denied(alloc: Global, uid: Uid, refused: Refused) -> Result<Answer, ConnEnd>
+    ensures denied { IsDenied uid refused result }
+    ensures short { IfOk result (λ answer. length answer.bytes ≤ 2 ^ 30) }
+{
+    match refused {
+        Refused::HistoryFull => told(alloc, uid, FULL_HISTORY, None),
+        Refused::Full(kind) => told(alloc, uid, full_message(kind), None),
+        Refused::OutOfMemory => Err(ConnEnd::OutOfMemory),
+    }
+}
+
+/// What a Call is answered that ends the connection. The answer takes the next identifier of the draw.
+fn refuse(alloc: Global, setup: &mut Setup, message: &[u8], end: ConnEnd) -> Result<Answer, ConnEnd>
+    requires time { setup.old.draw.time <ℤ pos (2 ^ 61) }
+    requires drawn { setup.old.draw.drawn < 2 ^ 65 }
+    ensures prepared { IsPrepared (fault_return (next_of (terms_of [] setup.old) setup.old.draw.drawn) message.now) (Some end) result }
+    ensures short { IfOk result (λ answer. length answer.bytes ≤ 2 ^ 30) }
+    ensures drawn { setup.new ≡ record setup.old { draw = record setup.old.draw { drawn = setup.old.draw.drawn + 1 } } }
+{
+    let uid = next_uid(setup);
+    told(alloc, uid, message, Some(end))
+}
+
+/// Finishes a call that runs, whose normal Return has these bytes.
+fn finish<S: Source, K: Sink, C: Clock, P: Port, W: Worker>(
+    alloc: Global,
+    connection: &mut Connection<S, K, C, P, W>,
+    object: ObjId,
+    uid: Uid,
+    bytes: ByteList,
+) -> Result<Answer, ConnEnd>
+    requires ready { P.ready connection.old.port.now }
+    requires room { 1 < P.room_of connection.old.port.now }
+    requires runs { RunsOne object (P.asked connection.old.port.now) }
+    requires short { length bytes ≤ 2 ^ 30 }
+    ensures finishes { Finishes W.may W.moves object uid bytes
+        (side_of C.given P.asked W.calls W.seen W.state connection.old)
+        (side_of C.given P.asked W.calls W.seen W.state connection.new) result }
+    ensures short { IfOk result (λ answer. length answer.bytes ≤ 2 ^ 30) }
+    ensures balanced { Balanced (P.asked connection.new.port.now) }
+    ensures pull { connection.new.pull ≡ connection.old.pull }
+    ensures sink { connection.new.sink ≡ connection.old.sink }
+    ensures setup { connection.new.setup ≡ connection.old.setup }
+    ensures calls { W.calls connection.new.worker.now ≡ W.calls connection.old.worker.now }
+    ensures room { P.room_of connection.old.port.now ≤ P.room_of connection.new.port.now + 2 }
+    ensures ready { P.ready connection.new.port.now }
+    ensures leads { P.leads connection.old.port.now connection.new.port.now }
+    ensures lent { IsLent connection.old connection.new }
+{
+    let ask = Ask::Finish {
+        object,
+        made: Kinds::new(alloc),
+        listed: ObjIds::new(alloc),
+        uid,
+    };
+    match take_turn(connection, ask) {
+        Ok(_turn) => Ok(Answer { bytes, close: None }),
+        Err(refused) => {
+            give_up(connection, object);
+            denied(alloc, uid, refused)
+        }
+    }
+}
+
+/// Concludes a call that runs, whose worker answered so.
+fn conclude<S: Source, K: Sink, C: Clock, P: Port, W: Worker>(
+    alloc: Global,
+    connection: &mut Connection<S, K, C, P, W>,
+    object: ObjId,
+    returned: Option<TypeCode>,
+    outcome: Outcome,
+) -> Result<Answer, ConnEnd>
+    requires time { connection.old.setup.now.draw.time <ℤ pos (2 ^ 61) }
+    requires drawn { connection.old.setup.now.draw.drawn < 2 ^ 65 }
+    requires ready { P.ready connection.old.port.now }
+    requires room { 1 < P.room_of connection.old.port.now }
+    requires runs { RunsOne object (P.asked connection.old.port.now) }
+    ensures concludes { Concludes W.may W.moves object (next_of (terms_of connection.old.book.now connection.old.setup.now) connection.old.setup.now.draw.drawn) returned outcome
+        (side_of C.given P.asked W.calls W.seen W.state connection.old)
+        (side_of C.given P.asked W.calls W.seen W.state connection.new) result }
+    ensures short { IfOk result (λ answer. length answer.bytes ≤ 2 ^ 30) }
+    ensures balanced { Balanced (P.asked connection.new.port.now) }
+    ensures pull { connection.new.pull ≡ connection.old.pull }
+    ensures sink { connection.new.sink ≡ connection.old.sink }
+    ensures drawn { connection.new.setup.now.draw.drawn ≡ connection.old.setup.now.draw.drawn + 1 }
+    ensures calls { W.calls connection.new.worker.now ≡ W.calls connection.old.worker.now }
+    ensures room { P.room_of connection.old.port.now ≤ P.room_of connection.new.port.now + 2 }
+    ensures ready { P.ready connection.new.port.now }
+    ensures leads { P.leads connection.old.port.now connection.new.port.now }
+    ensures lent { IsLent connection.old connection.new }
+{
+    let uid = next_uid(connection.setup);
+    match prepare(alloc, uid, returned, outcome) {
+        Ok(Prepared::Normal(bytes)) => finish(alloc, connection, object, uid, bytes),
+        Ok(Prepared::Exceptional(bytes)) => {
+            give_up(connection, object);
+            Ok(Answer { bytes, close: None })
+        }
+        Err(_) => {
+            give_up(connection, object);
+            Err(ConnEnd::OutOfMemory)
+        }
+    }
+}
+
+/// The place of the method that a head names among those of a kind.
+fn method_of(book: &Book, kind: u32, head: &CallHead) -> Option<u32>
+    ensures some { IfSome result (IsMethodOf book.now kind head.now) }
+    ensures none { IfNone result (HasNoMethod book.now kind head.now) }
+{
+    if head.operation != -1 {
+        return None;
+    }
+    book.find(kind, head.hash)
+}
+
+/// The end where an object's kind doesn't have the method that a head names.
+fn no_such_method(head: &CallHead) -> ConnEnd
+    ensures { result ≡ ConnEnd.NoSuchMethod head.now.operation head.now.hash }
+{
+    ConnEnd::NoSuchMethod {
+        operation: head.operation,
+        hash: head.hash,
+    }
+}
+
+/// Serves a call that runs, whose head was read.
+fn run_call<S: Source, K: Sink, C: Clock, P: Port, W: Worker>(
+    alloc: Global,
+    connection: &mut Connection<S, K, C, P, W>,
+    head: CallHead,
+    reader: Reader,
+    kind: u32,
+) -> Result<Answer, ConnEnd>
+    requires head { HasHead reader }
+    requires time { connection.old.setup.now.draw.time <ℤ pos (2 ^ 61) }
+    requires drawn { connection.old.setup.now.draw.drawn < 2 ^ 65 }
+    requires ready { P.ready connection.old.port.now }
+    requires room { 1 < P.room_of connection.old.port.now }
+    requires calls { W.calls connection.old.worker.now < 2 ^ 62 }
+    requires runs { RunsOne head.id (P.asked connection.old.port.now) }
+    ensures runs_on { (first : Place) → ReadsHead first (place S.left S.faults connection.old.pull) head reader.stand → RunsOn W.may W.moves connection.old.book.now
+        (next_of (terms_of connection.old.book.now connection.old.setup.now) connection.old.setup.now.draw.drawn) head kind
+        first (place S.left S.faults connection.new.pull)
+        (side_of C.given P.asked W.calls W.seen W.state connection.old)
+        (side_of C.given P.asked W.calls W.seen W.state connection.new)
+        connection.old.setup.now.draw.drawn connection.new.setup.now.draw.drawn result }
+    ensures short { IfOk result (λ answer. length answer.bytes ≤ 2 ^ 30) }
+    ensures balanced { Balanced (P.asked connection.new.port.now) }
+    ensures sink { connection.new.sink ≡ connection.old.sink }
+    ensures drawn { (connection.old.setup.now.draw.drawn ≤ connection.new.setup.now.draw.drawn) × (connection.new.setup.now.draw.drawn ≤ connection.old.setup.now.draw.drawn + 1) }
+    ensures drew { OnOk result (connection.new.setup.now.draw.drawn ≡ connection.old.setup.now.draw.drawn + 1) }
+    ensures calls { W.calls connection.new.worker.now ≤ W.calls connection.old.worker.now + 1 }
+    ensures room { P.room_of connection.old.port.now ≤ P.room_of connection.new.port.now + 2 }
+    ensures ready { P.ready connection.new.port.now }
+    ensures leads { P.leads connection.old.port.now connection.new.port.now }
+    ensures lent { IsLent connection.old connection.new }
+{
+    let book = connection.book;
+    let Some(method_place) = method_of(book, kind, &head) else {
+        give_up(connection, head.id);
+        return refuse(alloc, connection.setup, NO_METHOD, no_such_method(&head));
+    };
+    let Some(method) = book.method(kind, method_place) else {
+        unreachable!()
+    };
+    match read_arguments(alloc, &mut connection.pull, reader, method) {
+        Ok(arguments) => {
+            let outcome = connection.worker.invoke(Invocation {
+                object: head.id,
+                kind,
+                method: method_place,
+                arguments,
+            });
+            conclude(alloc, connection, head.id, method.result, outcome)
+        }
+        Err(fault) => {
+            give_up(connection, head.id);
+            Err(end_of(fault))
+        }
+    }
+}
+
+/// Serves a Call whose head was read.
+pub fn answer_call<S: Source, K: Sink, C: Clock, P: Port, W: Worker>(
+    alloc: Global,
+    connection: &mut Connection<S, K, C, P, W>,
+    head: CallHead,
+    reader: Reader,
+) -> Result<Answer, ConnEnd>
+    requires head { HasHead reader }
+    requires time { connection.old.setup.now.draw.time <ℤ pos (2 ^ 61) }
+    requires drawn { connection.old.setup.now.draw.drawn < 2 ^ 65 }
+    requires ready { P.ready connection.old.port.now }
+    requires room { 2 < P.room_of connection.old.port.now }
+    requires calls { W.calls connection.old.worker.now < 2 ^ 62 }
+    requires balanced { Balanced (P.asked connection.old.port.now) }
+    ensures answers { (first : Place) → ReadsHead first (place S.left S.faults connection.old.pull) head reader.stand → Answers W.may W.moves connection.old.book.now
+        (next_of (terms_of connection.old.book.now connection.old.setup.now) connection.old.setup.now.draw.drawn) head
+        first (place S.left S.faults connection.new.pull)
+        (side_of C.given P.asked W.calls W.seen W.state connection.old)
+        (side_of C.given P.asked W.calls W.seen W.state connection.new)
+        connection.old.setup.now.draw.drawn connection.new.setup.now.draw.drawn result }
+    ensures short { IfOk result (λ answer. length answer.bytes ≤ 2 ^ 30) }
+    ensures balanced { Balanced (P.asked connection.new.port.now) }
+    ensures sink { connection.new.sink ≡ connection.old.sink }
+    ensures drawn { (connection.old.setup.now.draw.drawn ≤ connection.new.setup.now.draw.drawn) × (connection.new.setup.now.draw.drawn ≤ connection.old.setup.now.draw.drawn + 1) }
+    ensures drew { OnOk result (connection.new.setup.now.draw.drawn ≡ connection.old.setup.now.draw.drawn + 1) }
+    ensures calls { W.calls connection.new.worker.now ≤ W.calls connection.old.worker.now + 1 }
+    ensures room { P.room_of connection.old.port.now ≤ P.room_of connection.new.port.now + 3 }
+    ensures ready { P.ready connection.new.port.now }
+    ensures leads { P.leads connection.old.port.now connection.new.port.now }
+    ensures lent { IsLent connection.old connection.new }
+{
+    match take_turn(connection, Ask::Begin { object: head.id }) {
+        Ok(turn) => match turn.reply {
+            Reply::Started(kind) => run_call(alloc, connection, head, reader, kind),
+            Reply::NoObject => {
+                let end = ConnEnd::NoSuchObject { id: head.id };
+                refuse(alloc, connection.setup, NO_OBJECT, end)
+            }
+            _ => unreachable!(),
+        },
+        Err(Refused::HistoryFull) => {
+            refuse(alloc, connection.setup, FULL_HISTORY, ConnEnd::SpaceFull)
+        }
+        Err(Refused::Full(_kind)) => unreachable!(),
+        Err(Refused::OutOfMemory) => Err(ConnEnd::OutOfMemory),
+    }
+}

@@ -1,0 +1,104 @@
+//! A worker that keeps its calls.
+ghost use Rattle.std.specs.Prelude.{◌≡◌, [], drop, map, true, None, Some, if◌then◌else◌};
+ghost use Rattle.call_dispatch.specs.Recording.{call_of, head_or};
+
+use crate::outcome::{Invocation, Outcome, OutcomeList};
+use crate::worker::Worker;
+use mod_utf::list::TryCopy;
+use object_ids::ObjId;
+use std::alloc::Global;
+
+/// A call of a worker, as it is kept.
+#[derive(Debug, Drop)]
+pub enum Recorded {
+    /// An invocation, and how it came out.
+    Invoked(Invocation, Outcome),
+    /// The worker was told that nobody refers to this object any more.
+    Unreferenced(ObjId),
+}
+
+/// A worker that gives outcomes one after the other, `Void` past their end, and keeps its calls. Where there is no memory to keep one, an
+/// invocation comes out as `OutOfMemory`, and from then on the worker tells nothing.
+#[derive(Drop)]
+pub struct RecordingWorker {
+    alloc: Global,
+    /// The outcomes that are left, the next one first.
+    outcomes: Vec<Outcome>,
+    recorded: Vec<Recorded>,
+    /// Whether every call was kept.
+    whole: bool,
+    /// How many invocations it was given.
+    pub calls: u64,
+}
+
+impl RecordingWorker {
+    /// The worker that gives the i-th outcome to the i-th invocation. It was given none yet. It takes no memory.
+    pub fn new(alloc: Global, outcomes: OutcomeList) -> RecordingWorker
+        ensures calls { result.calls ≡ 0 }
+        ensures whole { result.whole ≡ true }
+        ensures recorded { result.recorded.items ≡ [] }
+        ensures outcomes { result.outcomes.items ≡ outcomes }
+    {
+        RecordingWorker {
+            alloc,
+            outcomes: outcomes.into_vec(),
+            recorded: Vec::new(alloc),
+            whole: true,
+            calls: 0,
+        }
+    }
+
+    /// The next outcome.
+    fn next_outcome(&mut self) -> Outcome
+        ensures calls { self.new.calls ≡ self.old.calls }
+        ensures whole { self.new.whole ≡ self.old.whole }
+        ensures recorded { self.new.recorded ≡ self.old.recorded }
+        ensures next { result ≡ head_or Outcome.Void self.old.outcomes.items }
+        ensures rest { self.new.outcomes.items ≡ drop 1 self.old.outcomes.items }
+    {
+        if self.outcomes.is_empty() {
+            Outcome::Void
+        } else {
+            self.outcomes.remove(0)
+        }
+    }
+
+    /// The calls that were kept, in their order.
+    pub fn recorded(&self) -> &[Recorded]
+        ensures { result.now ≡ self.now.recorded.items }
+    {
+        self.recorded.as_slice()
+    }
+}
+
+impl Worker for RecordingWorker {
+    ghost calls = { λ w. w.calls };
+
+    ghost seen = { λ w. if w.whole then Some (map call_of w.recorded.items) else None };
+
+    ghost state = { λ w. None };
+
+    ghost may = { λ call outcome. Unit {0} };
+
+    ghost moves = { λ before call after. Unit {0} };
+
+    fn invoke(&mut self, call: Invocation) -> Outcome {
+        self.calls += 1;
+        let outcome = self.next_outcome();
+        let Ok(copy) = outcome.try_copy(self.alloc) else {
+            self.whole = false;
+            return Outcome::OutOfMemory;
+        };
+        if self.recorded.push(Recorded::Invoked(call, copy)).is_err() {
+            self.whole = false;
+            return Outcome::OutOfMemory;
+        }
+        outcome
+    }
+
+    fn unreferenced(&mut self, object: ObjId) {
+        if self.recorded.push(Recorded::Unreferenced(object)).is_err() {
+            self.whole = false;
+        }
+    }
+}
