@@ -102,7 +102,7 @@ fn put_digits(bytes: &mut ByteList, digits: &str) -> Result<(), AllocError> {
         match (half, digit_of(*character)) {
             (None, low) => half = low,
             (Some(high), Some(low)) => {
-                bytes.push(high * 16 + low)?;
+                bytes.push((high << 4) | low)?;
                 half = None;
             }
             (Some(_), None) => {}
