@@ -1,0 +1,17 @@
+//! Connections that are accepted.
+ghost use Rattle.std.specs.Prelude.{◌≤◌, length};
+ghost use Rattle.mod_utf.specs.Utf.{utf};
+
+use mod_utf::list::Units;
+
+/// A connection with a peer: its two halves, the clock of its turns, and the peer's host and port. The host takes at most 255
+/// bytes as modified UTF.
+#[derive(Drop)]
+pub struct Link<I, O, T> {
+    pub source: I,
+    pub sink: O,
+    pub clock: T,
+    pub host: Units,
+    pub port: i32,
+    ghost short: { length (utf host) ≤ 255 },
+}
