@@ -1,0 +1,11 @@
+//! The names of a registry and the objects for which they stand (Java RMI Specification, chapter 6).
+#![tactic(auto)]
+
+mod binding;
+mod bound;
+pub mod laws;
+mod names;
+
+pub use binding::{Binding, BindingList};
+pub use history::Name;
+pub use names::{NameFault, Names, NotBound};
