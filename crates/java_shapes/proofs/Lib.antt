@@ -6,3 +6,6 @@ pub mod Each
 pub mod Built
 pub mod BuiltIds
 pub mod FaultGraph
+pub mod RefNotes
+pub mod ProxyView
+pub mod LocalLaws

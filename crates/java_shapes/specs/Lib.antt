@@ -5,4 +5,7 @@ pub mod Put
 pub mod Fault
 pub mod Ids
 pub mod LiveRefs
+pub mod RefNotes
 pub mod Shapes
+pub mod Proxies
+pub mod LocalRefs

@@ -179,6 +179,13 @@ pub(crate) fn stub_ref_at(alloc: Global, nodes: &[Node], slot: Slot) -> Result<L
     }
 }
 
+/// The reference that a slot is.
+pub(crate) fn live_ref_in(alloc: Global, nodes: &[Node], slot: Slot) -> Result<LiveRef, ShapeFault>
+    ensures { Views result (live_ref_at nodes.now slot) }
+{
+    stub_ref_at(alloc, nodes, holder_at(nodes, slot))
+}
+
 /// A reference to a remote object: a dynamic proxy with any interfaces, whose handler `h` is an object of class
 /// `java.rmi.server.RemoteObjectInvocationHandler`, or an object with a part of class `java.rmi.server.RemoteObject`, as a static
 /// stub. The part's note is one run of block bytes: the text `UnicastRef`, or `UnicastRef2` and the format byte 0; the host
@@ -187,6 +194,5 @@ pub(crate) fn stub_ref_at(alloc: Global, nodes: &[Node], slot: Slot) -> Result<L
 pub fn as_live_ref(alloc: Global, graph: &Graph, slot: Slot) -> Result<LiveRef, ShapeFault>
     ensures { Views result (live_ref_at graph.now.nodes slot) }
 {
-    let nodes = graph.nodes().as_slice();
-    stub_ref_at(alloc, nodes, holder_at(nodes, slot))
+    live_ref_in(alloc, graph.nodes().as_slice(), slot)
 }
