@@ -1,0 +1,37 @@
+-- No limit is met where the sample space is opened.
+use Rattle.std.proofs.Common.{◌≡◌, List, [], ◌∷◌, ◌++◌, None, Result, refl, sym, ◌∙◌, ap, subst, inl, inr}
+use Rattle.std.specs.Prelude.{OnOk, IfErr}
+use Rattle.history.specs.declared.asks.SpaceConfig.{SpaceConfig}
+use Rattle.history.specs.declared.asks.Event.{Event}
+use Rattle.history.specs.declared.replies.Turn.{Turn}
+use Rattle.history.specs.declared.replies.Refused.{Refused}
+use Rattle.history.specs.declared.replies.Refused.TheVariants.{OutOfMemory}
+use Rattle.history.specs.Awaiting.{until_of, awaits, references, awaiting, is_awaited}
+use Rattle.history.specs.LeaseCalls.{lease_calls}
+use Rattle.history.specs.Leases.{lease_end, tenure, counting_calls, highest_is_dirty, holds, is_remembered, calls_of, clients, clients_with_time_left, is_held, pairs_with, new_pairs}
+use Rattle.history.specs.Limits.{units, reserved, exports_with_event, awaiting_with_event, clients_with_event, pairs_with_event, names_with_event, is_full, limits, refusal}
+use Rattle.history.specs.Names.{stands_for, names, is_named}
+use Rattle.history.specs.Places.{now, added, next}
+use Rattle.history.specs.Running.{running, running_calls, is_running}
+use Rattle.history.specs.Steps.{Step, answer_with, history_with}
+use Rattle.history.specs.Table.{is_pinned, is_kept, table, is_effective, exports, lists, place_of, places_back, places, withdrawn, withdrawals}
+use Rattle.sample_app.specs.Opened.{opened}
+
+pub first_is_free : (config : SpaceConfig) → refusal limits config (places config []) (opened 0) ≡ None
+unfolding lease_end tenure counting_calls highest_is_dirty holds is_remembered calls_of clients clients_with_time_left is_held pairs_with new_pairs now added next running running_calls is_running until_of awaits references awaiting is_awaited stands_for names is_named lease_calls is_pinned is_kept table is_effective exports lists place_of places_back places withdrawn withdrawals units reserved exports_with_event awaiting_with_event clients_with_event pairs_with_event names_with_event is_full refusal
+first_is_free config = refl
+
+pub second_is_free : (config : SpaceConfig) → refusal limits config (places config (opened 0 ∷ [])) (opened 1) ≡ None
+unfolding lease_end tenure counting_calls highest_is_dirty holds is_remembered calls_of clients clients_with_time_left is_held pairs_with new_pairs now added next running running_calls is_running until_of awaits references awaiting is_awaited stands_for names is_named lease_calls is_pinned is_kept table is_effective exports lists place_of places_back places withdrawn withdrawals units reserved exports_with_event awaiting_with_event clients_with_event pairs_with_event names_with_event is_full refusal
+second_is_free config = refl
+
+-- A step that no limit refuses appends its event, or there was no memory.
+pub steps_on : (config : SpaceConfig) (h h2 : List Event) (e : Event) (answer : Result Turn Refused) → refusal limits config (places config h) e ≡ None → Step config h e answer h2
+    → OnOk answer (h2 ≡ h ++ e ∷ []) × IfErr answer (λ refused. refused ≡ OutOfMemory)
+steps_on config h h2 e answer free (inl (answered, after)) =
+    let taken : h2 ≡ h ++ e ∷ [] = after ∙ ap (history_with h e) free in
+    let P : Result Turn Refused → Type 0 = λ a. OnOk a (h2 ≡ h ++ e ∷ []) × IfErr a (λ refused. refused ≡ OutOfMemory) in
+    subst P (sym (answered ∙ ap (answer_with config h e) free)) (taken, tt)
+steps_on config h h2 e answer free (inr (wanting, after)) =
+    let P : Result Turn Refused → Type 0 = λ a. OnOk a (h2 ≡ h ++ e ∷ []) × IfErr a (λ refused. refused ≡ OutOfMemory) in
+    subst P (sym wanting) (tt, refl)

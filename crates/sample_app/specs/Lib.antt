@@ -1,0 +1,4 @@
+pub mod Counters
+pub mod Does
+pub mod Kinds
+pub mod Opened

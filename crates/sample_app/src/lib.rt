@@ -1,0 +1,14 @@
+//! The sample: kinds of objects that the program serves, the space that has one of each, and the worker that does their calls.
+#![tactic(auto)]
+
+mod counters;
+mod kinds;
+mod opening;
+mod sample_call;
+mod worker;
+
+pub use counters::Counters;
+pub use kinds::sample_book;
+pub use opening::sample_space;
+pub use sample_call::SampleCall;
+pub use worker::SampleWorker;
