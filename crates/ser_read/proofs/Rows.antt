@@ -1,12 +1,15 @@
 -- The first fault that stands in some bytes, computed: one row for each kind that has no row where reading is defined.
 use Rattle.std.proofs.Common.{◌≡◌, ℕ, List, [], ◌∷◌, length, take, Some, Result, Ok, Err, refl}
+use Rattle.std.specs.Int.{w64, cast_signed}
 use Rattle.mod_utf.specs.Decoding.{decoded_at, front}
 use Rattle.class_desc.specs.declared.slot.Slot.{Slot}
+use Rattle.class_desc.specs.declared.slot.Slot.TheVariants as slots
 use Rattle.class_desc.specs.declared.slot.Item.{Item}
 use Rattle.class_desc.specs.declared.slot.Item.TheVariants as items
 use Rattle.class_desc.specs.TypeText.{element_of, is_array_text, is_component_text, ends_class}
 use Rattle.class_desc.specs.ClassDesc.{is_good_desc, fit_flags, are_ordered}
 use Rattle.ser_values.specs.declared.node.Node.{Node}
+use Rattle.ser_values.specs.declared.node.Node.TheVariants.{Desc}
 use Rattle.ser_values.specs.declared.node.Place.TheVariants.{Reference}
 use Rattle.ser_values.specs.Reading.{Fault, Progress, short, bad, too_many, too_deep, bad_desc, negative_length, inner_exception, stream_of, magic_at, items_at, blocks_at, slot_at, coded, fresh_at, desc_at, desc_after, short_at, units_at, size_at, many_at, field_at, field_of, text_at, with_class, object_at, chain_of, array_at, array_of, enum_at}
 use Rattle.ser_read.specs.declared.fault.StreamFault.TheVariants.{TooLarge}
@@ -70,6 +73,11 @@ a_level_too_deep = refl
 a_node_too_many : (now : Progress) → length now.nodes ≡ 65536 → slot_at 1 200 Reference [] now (0x74 ∷ []) ≡ slot_fails (too_many 0)
 unfolding slot_at coded
 a_node_too_many now full = rw full refl
+
+-- an object of a class without fields, where there are as many parts as there may be
+a_part_too_many : (inner : Progress → List ℕ → Referred) → object_at 0 0 inner 0 (record { nodes = Desc (record { name = 0x4E ∷ []; suid = cast_signed w64 0; flags = 2; fields = []; note = []; parent = slots.Null }) ∷ []; parts = 1048576 }) [] ≡ slot_fails (too_many 0)
+unfolding object_at chain_of
+a_part_too_many inner = refl
 
 abbrev want_fails : {A : Type 0} → WantFault → Result A WantFault
 want_fails f = Err f

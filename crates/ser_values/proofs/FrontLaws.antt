@@ -25,7 +25,7 @@ few_cut (suc n) [] lt = refl
 few_cut (suc n) (items.Ref s ∷ is) lt = refl
 few_cut (suc n) (items.Bytes b ∷ is) lt = let e : ltb (length b) (suc n) ≡ true = lt-ltb _ _ lt in rw e refl
 
-eqb_same : (n : ℕ) → eqb n n ≡ true
+pub eqb_same : (n : ℕ) → eqb n n ≡ true
 eqb_same n = elim (cases_of (eqb n n)) [
   | inl e ↦ e
   | inr e ↦ absurd (eqb-false n n e refl)
@@ -44,7 +44,7 @@ whole_cut (suc n) (items.Bytes b ∷ is) ne e =
     let same : eqb (length b) (suc n) ≡ true = subst (λ k. eqb k (suc n) ≡ true) e (eqb_same (suc n)) in
     rw long (rw same refl)
 
-ne_eqb : (m n : ℕ) → m ≢ n → eqb m n ≡ false
+pub ne_eqb : (m n : ℕ) → m ≢ n → eqb m n ≡ false
 ne_eqb m n ne = go (eqb m n) refl
   where
     go : (b : Bool) → eqb m n ≡ b → eqb m n ≡ false

@@ -15,9 +15,11 @@ use Rattle.class_desc.specs.ClassDesc.{is_good_desc, fit_flags, are_ordered}
 use Rattle.ser_values.specs.declared.value.Values.TheVariants.{Refs}
 use Rattle.ser_values.specs.declared.node.Node.{Node}
 use Rattle.ser_values.specs.declared.node.Node.TheVariants.{Text, Desc, Object, Array}
+use Rattle.ser_values.specs.declared.node.Place.TheVariants.{Reference}
 use Rattle.ser_values.specs.Node.{has, is_desc}
 use Rattle.ser_values.specs.Numbered.{IsGraph}
 use Rattle.ser_values.specs.Spelled.{IsStream}
+use Rattle.ser_values.specs.Faults.{slot_but, stream_but, ComesTo}
 use Rattle.ser_values.specs.Reading.{Fault, short, bad, bad_magic, bad_code, bad_handle, wrong_handle_kind, bad_desc, bad_utf, negative_length, reset, old_external, size_at, units_at, short_at, long_at, many_at, blocks_at, items_at, field_of, field_at, elements_at, chain_of, note_at, parts_at, values_at, value_at, text_at, desc_after, desc_at, with_class, object_after, object_at, array_of, array_at, fresh_at, handle_at, coded, slot_at, magic_at, stream_of}
 
 abbrev Answer : Type 0
@@ -136,6 +138,16 @@ no_code = refl
 a_low_handle : after_head (0x74 ∷ 0x00 ∷ 0x00 ∷ 0x71 ∷ 0x00 ∷ 0x7D ∷ 0xFF ∷ 0xFF ∷ []) ≡ fails (bad bad_handle 7)
 unfolding stream_of magic_at items_at blocks_at slot_at coded fresh_at text_at short_at units_at decoded_at handle_at
 a_low_handle = refl
+
+-- the handle of the next node
+a_high_handle : after_head (0x74 ∷ 0x00 ∷ 0x00 ∷ 0x71 ∷ 0x00 ∷ 0x7E ∷ 0x00 ∷ 0x01 ∷ []) ≡ fails (bad bad_handle 7)
+unfolding stream_of magic_at items_at blocks_at slot_at coded fresh_at text_at short_at units_at decoded_at handle_at
+a_high_handle = refl
+
+-- one handle was given there, of a text
+a_handle_given : ComesTo 12 (0xAC ∷ 0xED ∷ 0x00 ∷ 0x05 ∷ 0x74 ∷ 0x00 ∷ 0x00 ∷ 0x71 ∷ 0x00 ∷ 0x7E ∷ 0x00 ∷ 0x01 ∷ []) 7 (record { left = 200; place = Reference; unread = []; now = record { nodes = Text [] ∷ []; parts = 0 } })
+unfolding stream_but magic_at items_at blocks_at slot_but coded fresh_at text_at short_at units_at decoded_at
+a_handle_given fault = refl
 
 -- a length of 64 bits
 a_negative_text : after_head (0x7C ∷ 0x80 ∷ 0x00 ∷ 0x00 ∷ 0x00 ∷ 0x00 ∷ 0x00 ∷ 0x00 ∷ 0x00 ∷ []) ≡ fails (bad negative_length 5)

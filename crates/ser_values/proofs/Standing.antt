@@ -23,23 +23,59 @@ use Rattle.ser_values.specs.declared.node.Node.{Node}
 use Rattle.ser_values.specs.declared.node.Node.TheVariants.{Text, Desc, Proxy, Object, Array, Class, Enum}
 use Rattle.ser_values.specs.declared.node.Place.{Place}
 use Rattle.ser_values.specs.declared.node.Place.TheVariants as places
-use Rattle.ser_values.specs.Node.{has, is_desc, is_text, admits_null}
+use Rattle.ser_values.specs.Node.{has, is_desc, is_text, admits, admits_null}
 use Rattle.ser_values.specs.Shape.{fits_type, is_enum}
 use Rattle.ser_values.specs.Spelled.{joined}
 use Rattle.ser_values.specs.Reading.{Kind, bad_code, bad_handle, wrong_handle_kind, bad_desc, bad_utf, negative_length, reset, inner_exception, old_external, Fault, short, bad, too_many, too_deep, ◌>>=◌, Plain, byte_at, take_at, number_at, size_at, units_of, units_at, short_at, long_at, Progress, Step, Slots, plain, mapped, many_at, push, fill, blocks_at, items_at, field_of, field_at, is_true, value_at, values_at, elements_at, Row, chain_of, rows_of, class_fault, note_at, parts_at, unless, roomy, blank, text_at, desc_after, desc_at, proxy_at, on_class, with_class, object_after, object_at, type_in, array_of, array_at, class_at, named, enum_at, gives_handle, admits_code, code_fault, fresh_at, null_at, handle_fault, handle_at, deep, coded, no_slots, slot_at, magic_at, stream_of}
-use Rattle.ser_values.specs.Faults.{HasNumber, HasByte, IsNoCode, NamesHandle, IsNegative, IsOfDesc, Shows, StandsAt, IsGiven, IsOneTooMany, IsTooDeep, FaultStands}
+use Rattle.ser_values.specs.Faults.{Asking, slot_but, stream_but, ComesTo, HasNumber, HasByte, IsNoCode, NamesHandle, IsNegative, ReadsClass, LacksObjects, LacksArrays, LacksConstants, HasTooMany, IsBadDesc, IsPastNodes, IsPastParts, IsNotGiven, IsOfWrongKind, IsUnread, IsRefused, Shows, StandsAt, IsGiven, IsConstruct, IsOneTooMany, IsTooDeep, FaultStands}
 use Rattle.ser_values.proofs.Lists.{length_push, some_same}
 use Rattle.ser_values.proofs.Spelling.{both}
 use Rattle.ser_values.proofs.PlainSound.{chosen}
+use Rattle.ser_values.proofs.FrontLaws.{eqb_same, ne_eqb}
 
 -- these bytes are the last of all
 abbrev pub Rest : List ℕ → List ℕ → Type 0
 Rest whole bs = (front : List ℕ) × (whole ≡ front ++ bs)
 
--- what is read, or the fault that stands
-abbrev pub Goes : {A : Type 0} → ℕ → List ℕ → (A → Type 0) → Result A Fault → Type 0
-Goes start whole Q (Ok x) = Q x
-Goes start whole Q (Err f) = FaultStands start whole f
+-- what is read of bytes alone, or the fault that stands
+abbrev pub Told : {A : Type 0} → ℕ → List ℕ → (A → Type 0) → Result A Fault → Type 0
+Told start whole Q (Ok x) = Q x
+Told start whole Q (Err f) = FaultStands start whole f
+
+-- a fault that answers the reference at a position
+record Stop : Type 0 where
+  position : ℕ
+  fault : Asking → Fault
+
+-- a step, with or without a stop
+abbrev Reads : Type 0 → Type 0
+Reads A = Option Stop → Result (A × Progress × List ℕ) Fault
+
+abbrev Steps : Type 0 → Type 0
+Steps A = Option Stop → Step A
+
+-- reading of references, with or without a stop
+abbrev slots_of : ℕ → ℕ → Option Stop → Slots
+slots_of end left None = slot_at end left
+slots_of end left (Some t) = slot_but end t.position t.fault left
+
+-- what a step answers: no more bytes than these are left, and with a stop behind them it answers the same
+record Ended {A : Type 0} (end : ℕ) (bs : List ℕ) (Q : A × Progress × List ℕ → Type 0) (r : Reads A) (x : A × Progress × List ℕ) : Type 0 where
+  that : Q x
+  less : length x.2 ≤ length bs
+  same : (t : Stop) → end - length x.2 ≤ t.position → r (Some t) ≡ Ok x
+
+-- Where a step with a stop at its bytes, or behind them, answers a fault, the whole does.
+abbrev Comes : {A : Type 0} → ℕ → List ℕ → List ℕ → Reads A → Type 0
+Comes end whole bs r = (t : Stop) (e : Fault) → end - length bs ≤ t.position → r (Some t) ≡ Err e → stream_but end t.position t.fault whole ≡ Err e
+
+abbrev Ends : {A : Type 0} → ℕ → List ℕ → List ℕ → (A × Progress × List ℕ → Type 0) → Reads A → Result (A × Progress × List ℕ) Fault → Type 0
+Ends start whole bs Q r (Ok x) = Ended (start + length whole) bs Q r x
+Ends start whole bs Q r (Err f) = FaultStands start whole f
+
+-- a step to which reading comes: what it answers, or the fault that stands
+record Goes {A : Type 0} (start : ℕ) (whole bs : List ℕ) (Q : A × Progress × List ℕ → Type 0) (r : Reads A) : Type 0 where
+  run : Comes (start + length whole) whole bs r → Ends start whole bs Q r (r None)
 
 -- reading of bytes that end at a position
 abbrev pub stream_from : ℕ → List ℕ → Result (List Node × List Item) Fault
@@ -68,21 +104,17 @@ record Opened (whole : List ℕ) (left : ℕ) (now : Progress) (bs : List ℕ) :
 module _ (start : ℕ) (whole : List ℕ) where
   -- ---- one after the other
 
-  then_goes : {A B : Type 0} (Q : A → Type 0) (R : B → Type 0) (r : Result A Fault) (f : A → Result B Fault) → Goes start whole Q r → ((x : A) → Q x → Goes start whole R (f x)) → Goes start whole R (r >>= f)
-  then_goes Q R (Ok x) f h g = g x h
-  then_goes Q R (Err e) f h g = h
+  then_told : {A B : Type 0} (Q : A → Type 0) (R : B → Type 0) (r : Result A Fault) (f : A → Result B Fault) → Told start whole Q r → ((x : A) → Q x → Told start whole R (f x)) → Told start whole R (r >>= f)
+  then_told Q R (Ok x) f h g = g x h
+  then_told Q R (Err e) f h g = h
 
-  weaker : {A : Type 0} (Q R : A → Type 0) (r : Result A Fault) → ((x : A) → Q x → R x) → Goes start whole Q r → Goes start whole R r
-  weaker Q R (Ok x) f h = f x h
-  weaker Q R (Err e) f h = h
+  weaker_told : {A : Type 0} (Q R : A → Type 0) (r : Result A Fault) → ((x : A) → Q x → R x) → Told start whole Q r → Told start whole R r
+  weaker_told Q R (Ok x) f h = f x h
+  weaker_told Q R (Err e) f h = h
 
-  cond_goes : {A : Type 0} (Q : A → Type 0) (b : Bool) (x y : Result A Fault) → (b ≡ true → Goes start whole Q x) → (b ≡ false → Goes start whole Q y) → Goes start whole Q (cond b x y)
-  cond_goes Q true x y h g = h refl
-  cond_goes Q false x y h g = g refl
-
-  unless_goes : {A : Type 0} (Q : A → Type 0) (o : Option Kind) (at : ℕ) (r : Result A Fault) → ((k : Kind) → o ≡ Some k → FaultStands start whole (bad k at)) → Goes start whole Q r → Goes start whole Q (unless o at r)
-  unless_goes Q None at r h g = g
-  unless_goes Q (Some k) at r h g = h k refl
+  cond_told : {A : Type 0} (Q : A → Type 0) (b : Bool) (x y : Result A Fault) → (b ≡ true → Told start whole Q x) → (b ≡ false → Told start whole Q y) → Told start whole Q (cond b x y)
+  cond_told Q true x y h g = h refl
+  cond_told Q false x y h g = g refl
 
   -- ---- positions
 
@@ -107,34 +139,34 @@ module _ (start : ℕ) (whole : List ℕ) where
 
   -- ---- bytes, numbers and texts
 
-  byte_goes : (bs : List ℕ) → Goes start whole (Left bs) (byte_at bs)
+  byte_goes : (bs : List ℕ) → Told start whole (Left bs) (byte_at bs)
   byte_goes [] = tt
   byte_goes (b ∷ bs) = (b ∷ [], refl)
 
   abbrev Took : ℕ → List ℕ → List ℕ × List ℕ → Type 0
   Took n bs t = (bs ≡ t.0 ++ t.1) × (length t.0 ≡ n)
 
-  take_told : (n : ℕ) (bs : List ℕ) → Goes start whole (Took n bs) (take_at n bs)
-  take_told n bs = cond_goes (Took n bs) (ltb (length bs) n) (Err short) (Ok (take n bs, drop n bs)) (λ e. tt) (λ e. (let long : n ≤ length bs = ltb-false (length bs) n e in (sym (take-append-drop n bs), simp length-take (omega arith))))
+  take_told : (n : ℕ) (bs : List ℕ) → Told start whole (Took n bs) (take_at n bs)
+  take_told n bs = cond_told (Took n bs) (ltb (length bs) n) (Err short) (Ok (take n bs, drop n bs)) (λ e. tt) (λ e. (let long : n ≤ length bs = ltb-false (length bs) n e in (sym (take-append-drop n bs), simp length-take (omega arith))))
 
-  take_goes : (n : ℕ) (bs : List ℕ) → Goes start whole (Left bs) (take_at n bs)
-  take_goes n bs = weaker (Took n bs) (Left bs) (take_at n bs) (λ t q. (t.0, q.0)) (take_told n bs)
+  take_goes : (n : ℕ) (bs : List ℕ) → Told start whole (Left bs) (take_at n bs)
+  take_goes n bs = weaker_told (Took n bs) (Left bs) (take_at n bs) (λ t q. (t.0, q.0)) (take_told n bs)
 
   abbrev Numbered : Width → List ℕ → ℕ × List ℕ → Type 0
   Numbered w bs x = (digits : List ℕ) × (bs ≡ digits ++ x.1) × (length digits ≡ byte_len w) × (x.0 ≡ from_be_bytes w digits)
 
-  number_told : (w : Width) (bs : List ℕ) → Goes start whole (Numbered w bs) (number_at w bs)
-  number_told w bs = then_goes (Took (byte_len w) bs) (Numbered w bs) (take_at (byte_len w) bs) (λ t. Ok (from_be_bytes w t.0, t.1)) (take_told (byte_len w) bs) (λ t q. (t.0, q.0, q.1, refl))
+  number_told : (w : Width) (bs : List ℕ) → Told start whole (Numbered w bs) (number_at w bs)
+  number_told w bs = then_told (Took (byte_len w) bs) (Numbered w bs) (take_at (byte_len w) bs) (λ t. Ok (from_be_bytes w t.0, t.1)) (take_told (byte_len w) bs) (λ t q. (t.0, q.0, q.1, refl))
 
   has_number : (w : Width) (bs : List ℕ) (x : ℕ × List ℕ) → Numbered w bs x → HasNumber w bs x.0
   has_number w bs x q = record { digits = q.0; rest = x.1; is = q.1; count = q.2; number = q.3 }
 
-  number_goes : (w : Width) (bs : List ℕ) → Goes start whole (Left bs) (number_at w bs)
-  number_goes w bs = weaker (Numbered w bs) (Left bs) (number_at w bs) (λ x q. (q.0, q.1)) (number_told w bs)
+  number_goes : (w : Width) (bs : List ℕ) → Told start whole (Left bs) (number_at w bs)
+  number_goes w bs = weaker_told (Numbered w bs) (Left bs) (number_at w bs) (λ x q. (q.0, q.1)) (number_told w bs)
 
-  size_goes : (w : Width) (bound : ℕ) → ((here : List ℕ) (n : ℕ) → HasNumber w here n → bound ≤ n → IsNegative here) → (bs : List ℕ) → Rest whole bs → Goes start whole (Left bs) (size_at (start + length whole) w bound bs)
+  size_goes : (w : Width) (bound : ℕ) → ((here : List ℕ) (n : ℕ) → HasNumber w here n → bound ≤ n → IsNegative here) → (bs : List ℕ) → Rest whole bs → Told start whole (Left bs) (size_at (start + length whole) w bound bs)
   unfolding size_at
-  size_goes w bound shows bs r = then_goes (Numbered w bs) (Left bs) (number_at w bs) _ (number_told w bs) (λ x q. cond_goes (Left bs) (ltb x.0 bound) _ _ (λ e. (q.0, q.1)) (λ e. stands (Shows negative_length) bs r (λ front l. shows bs x.0 (has_number w bs x q) (ltb-false x.0 bound e))))
+  size_goes w bound shows bs r = then_told (Numbered w bs) (Left bs) (number_at w bs) _ (number_told w bs) (λ x q. cond_told (Left bs) (ltb x.0 bound) _ _ (λ e. (q.0, q.1)) (λ e. stands (λ front here. IsNegative here) bs r (λ front l. shows bs x.0 (has_number w bs x q) (ltb-false x.0 bound e))))
 
   negative_16 : (here : List ℕ) (n : ℕ) → HasNumber w16 here n → 32768 ≤ n → IsNegative here
   negative_16 here n h le = (n, inl (h, le))
@@ -161,32 +193,88 @@ module _ (start : ℕ) (whole : List ℕ) where
         shown = record { before = front; text = text; after = after; are = sym parts ∙ (w ∙ ap (λ (l : List ℕ). front ++ l) cut); offset = offset; place = omega arith; unread = h };
       }
 
-  units_goes : (n : ℕ) (bs : List ℕ) → Rest whole bs → Goes start whole (Left bs) (units_at (start + length whole) n bs)
+  units_goes : (n : ℕ) (bs : List ℕ) → Rest whole bs → Told start whole (Left bs) (units_at (start + length whole) n bs)
   unfolding units_at
-  units_goes n bs r = then_goes (Took n bs) (Left bs) (take_at n bs) _ (take_told n bs) (λ t q. by t q (decoded t.0) refl)
+  units_goes n bs r = then_told (Took n bs) (Left bs) (take_at n bs) _ (take_told n bs) (λ t q. by t q (decoded t.0) refl)
     where
-      by : (t : List ℕ × List ℕ) → Took n bs t → (d : Result (List ℕ) ℕ) → decoded t.0 ≡ d → Goes start whole (Left bs) (units_of ((start + length whole) - length bs) d >>= λ units. Ok (units, t.1))
+      by : (t : List ℕ × List ℕ) → Took n bs t → (d : Result (List ℕ) ℕ) → decoded t.0 ≡ d → Told start whole (Left bs) (units_of ((start + length whole) - length bs) d >>= λ units. Ok (units, t.1))
       by t q (Ok us) e = (t.0, q.0)
       by t q (Err offset) e = bad_text t.0 t.1 bs offset q.0 r e
 
-  short_goes : (bs : List ℕ) → Rest whole bs → Goes start whole (Left bs) (short_at (start + length whole) bs)
+  short_goes : (bs : List ℕ) → Rest whole bs → Told start whole (Left bs) (short_at (start + length whole) bs)
   unfolding short_at
-  short_goes bs r = then_goes (Left bs) (Left bs) (number_at w16 bs) _ (number_goes w16 bs) (λ n q. weaker (Left n.1) (Left bs) (units_at (start + length whole) n.0 n.1) (λ x p. two_left bs n.1 x.1 q p) (units_goes n.0 n.1 (later q.0 bs n.1 q.1 r)))
+  short_goes bs r = then_told (Left bs) (Left bs) (number_at w16 bs) _ (number_goes w16 bs) (λ n q. weaker_told (Left n.1) (Left bs) (units_at (start + length whole) n.0 n.1) (λ x p. two_left bs n.1 x.1 q p) (units_goes n.0 n.1 (later q.0 bs n.1 q.1 r)))
 
-  long_goes : (bs : List ℕ) → Rest whole bs → Goes start whole (Left bs) (long_at (start + length whole) bs)
+  long_goes : (bs : List ℕ) → Rest whole bs → Told start whole (Left bs) (long_at (start + length whole) bs)
   unfolding long_at
-  long_goes bs r = then_goes (Left bs) (Left bs) (size_at (start + length whole) w64 (2 ^ 63) bs) _ (size_goes w64 (2 ^ 63) negative_64 bs r) (λ n q. weaker (Left n.1) (Left bs) (units_at (start + length whole) n.0 n.1) (λ x p. two_left bs n.1 x.1 q p) (units_goes n.0 n.1 (later q.0 bs n.1 q.1 r)))
+  long_goes bs r = then_told (Left bs) (Left bs) (size_at (start + length whole) w64 (2 ^ 63) bs) _ (size_goes w64 (2 ^ 63) negative_64 bs r) (λ n q. weaker_told (Left n.1) (Left bs) (units_at (start + length whole) n.0 n.1) (λ x p. two_left bs n.1 x.1 q p) (units_goes n.0 n.1 (later q.0 bs n.1 q.1 r)))
+
+  shorter : (t bs rest : List ℕ) → bs ≡ t ++ rest → length rest ≤ length bs
+  shorter t bs rest e = let l : length bs ≡ length t + length rest = ap (λ (l : List ℕ). length l) e ∙ length-append t rest in omega arith
+
+  -- ---- steps: one after the other
+
+  done : {A : Type 0} (bs : List ℕ) (Q : A × Progress × List ℕ → Type 0) (x : A × Progress × List ℕ) → Q x → length x.2 ≤ length bs → Goes start whole bs Q (λ o. Ok x)
+  done bs Q x q le = record { run = λ comes. record { that = q; less = le; same = λ t l. refl } }
+
+  fails : {A : Type 0} (bs : List ℕ) (Q : A × Progress × List ℕ → Type 0) (f : Fault) → FaultStands start whole f → Goes start whole bs Q (λ o. Err f)
+  fails bs Q f h = record { run = λ comes. h }
+
+  weaker : {A : Type 0} (bs : List ℕ) (Q R : A × Progress × List ℕ → Type 0) (r : Reads A) → ((x : A × Progress × List ℕ) → Q x → R x) → Goes start whole bs Q r → Goes start whole bs R r
+  weaker bs Q R r f h = record { run = λ comes. go (r None) (h.run comes) }
+    where
+      go : (y : Result _ Fault) → Ends start whole bs Q r y → Ends start whole bs R r y
+      go (Ok x) k = record { that = f x k.that; less = k.less; same = k.same }
+      go (Err e) k = k
+
+  longer : {A : Type 0} (bs cs : List ℕ) (Q : A × Progress × List ℕ → Type 0) (r : Reads A) → length bs ≤ length cs → Goes start whole bs Q r → Goes start whole cs Q r
+  longer bs cs Q r le h = record { run = λ comes. go (r None) (h.run (λ t e l is. comes t e (omega arith) is)) }
+    where
+      go : (y : Result _ Fault) → Ends start whole bs Q r y → Ends start whole cs Q r y
+      go (Ok x) k = let less = k.less in record { that = k.that; less = omega arith; same = k.same }
+      go (Err e) k = k
+
+  cond_goes : {A : Type 0} (bs : List ℕ) (Q : A × Progress × List ℕ → Type 0) (b : Bool) (x y : Reads A) → (b ≡ true → Goes start whole bs Q x) → (b ≡ false → Goes start whole bs Q y) → Goes start whole bs Q (λ o. cond b (x o) (y o))
+  cond_goes bs Q true x y h g = h refl
+  cond_goes bs Q false x y h g = g refl
+
+  unless_goes : {A : Type 0} (bs : List ℕ) (Q : A × Progress × List ℕ → Type 0) (kind : Option Kind) (at : ℕ) (r : Reads A) → ((k : Kind) → kind ≡ Some k → FaultStands start whole (bad k at)) → Goes start whole bs Q r → Goes start whole bs Q (λ o. unless kind at (r o))
+  unless_goes bs Q None at r h g = g
+  unless_goes bs Q (Some k) at r h g = fails bs Q (bad k at) (h k refl)
+
+  known_goes : {A B : Type 0} (bs : List ℕ) (Q : A × Progress × List ℕ → Type 0) (R : B × Progress × List ℕ → Type 0) (r : Reads A) (f : Option Stop → A × Progress × List ℕ → Result (B × Progress × List ℕ) Fault) → Goes start whole bs Q r
+      → ((x : A × Progress × List ℕ) → Q x → r None ≡ Ok x → Goes start whole x.2 R (λ o. f o x)) → Goes start whole bs R (λ o. r o >>= f o)
+  known_goes bs Q R r f h g = record { run = λ comes. go comes (r None) refl (h.run (λ t e le is. comes t e le (ap (λ k. k >>= f (Some t)) is))) }
+    where
+      onto : (x : _ × Progress × List ℕ) → Ended (start + length whole) bs Q r x → (y : Result (_ × Progress × List ℕ) Fault) → Ends start whole x.2 R (λ o. f o x) y → Ends start whole bs R (λ o. r o >>= f o) y
+      onto x k (Ok y) m = let a = k.less in let b = m.less in record { that = m.that; less = omega arith; same = λ t le. ap (λ u. u >>= f (Some t)) (k.same t (omega arith)) ∙ m.same t le }
+      onto x k (Err e) m = m
+
+      go : Comes (start + length whole) whole bs (λ o. r o >>= f o) → (y : Result (_ × Progress × List ℕ) Fault) → r None ≡ y → Ends start whole bs Q r y → Ends start whole bs R (λ o. r o >>= f o) (y >>= f None)
+      go comes (Ok x) e k = let a = k.less in onto x k (f None x) ((g x k.that e).run (λ t err le is. comes t err (omega arith) (ap (λ u. u >>= f (Some t)) (k.same t le) ∙ is)))
+      go comes (Err e) s k = k
+
+  then_goes : {A B : Type 0} (bs : List ℕ) (Q : A × Progress × List ℕ → Type 0) (R : B × Progress × List ℕ → Type 0) (r : Reads A) (f : Option Stop → A × Progress × List ℕ → Result (B × Progress × List ℕ) Fault) → Goes start whole bs Q r
+      → ((x : A × Progress × List ℕ) → Q x → Goes start whole x.2 R (λ o. f o x)) → Goes start whole bs R (λ o. r o >>= f o)
+  then_goes bs Q R r f h g = known_goes bs Q R r f h (λ x q e. g x q)
+
+  -- bytes alone, and then a step
+  told_with : {A B : Type 0} (bs : List ℕ) (Q : A × List ℕ → Type 0) (R : B × Progress × List ℕ → Type 0) (r : Result (A × List ℕ) Fault) (f : Option Stop → A × List ℕ → Result (B × Progress × List ℕ) Fault) → ((x : A × List ℕ) → Q x → Left bs x) → Told start whole Q r
+      → ((x : A × List ℕ) → Q x → Goes start whole x.1 R (λ o. f o x)) → Goes start whole bs R (λ o. r >>= f o)
+  told_with bs Q R (Ok x) f l q g = longer x.1 bs R (λ o. f o x) (shorter (l x q).0 bs x.1 (l x q).1) (g x q)
+  told_with bs Q R (Err e) f l h g = fails bs R e h
+
+  told_goes : {A B : Type 0} (bs : List ℕ) (R : B × Progress × List ℕ → Type 0) (r : Result (A × List ℕ) Fault) (f : Option Stop → A × List ℕ → Result (B × Progress × List ℕ) Fault) → Told start whole (Left bs) r
+      → ((x : A × List ℕ) → Left bs x → Goes start whole x.1 R (λ o. f o x)) → Goes start whole bs R (λ o. r >>= f o)
+  told_goes bs R r f h g = told_with bs (Left bs) R r f (λ x q. q) h g
 
   -- ---- steps
 
   abbrev Good : {A : Type 0} → Progress → List ℕ → A × Progress × List ℕ → Type 0
   Good now bs x = Grown whole (length bs) (length now.nodes + length bs) x.1 x.2
 
-  abbrev StepGoes : {A : Type 0} → ℕ → Step A → Type 0
-  StepGoes left step = (now : Progress) (bs : List ℕ) → Here whole left now bs → Goes start whole (Good now bs) (step now bs)
-
-  shorter : (t bs rest : List ℕ) → bs ≡ t ++ rest → length rest ≤ length bs
-  shorter t bs rest e = let l : length bs ≡ length t + length rest = ap (λ (l : List ℕ). length l) e ∙ length-append t rest in omega arith
+  abbrev StepGoes : {A : Type 0} → ℕ → Steps A → Type 0
+  StepGoes left step = (now : Progress) (bs : List ℕ) → Here whole left now bs → Goes start whole bs (Good now bs) (λ o. step o now bs)
 
   -- bytes were read, and no nodes
   on : (left : ℕ) (now : Progress) (bs rest : List ℕ) → Here whole left now bs → (t : List ℕ) × (bs ≡ t ++ rest) → Here whole left now rest
@@ -198,6 +286,10 @@ module _ (start : ℕ) (whole : List ℕ) where
 
   none_grown : (left : ℕ) (now : Progress) (bs : List ℕ) → Here whole left now bs → Grown whole (length bs) (length now.nodes + length bs) now bs
   none_grown left now bs w = record { is = w.rest; few = w.few; less = omega arith; count = omega arith }
+
+  -- nothing is read
+  none_goes : {A : Type 0} {a : A} (left : ℕ) (now : Progress) (bs : List ℕ) → Here whole left now bs → Goes start whole bs (Good now bs) (λ o. Ok (a, now, bs))
+  none_goes {A} {a} left now bs w = done bs (Good now bs) (a, now, bs) (none_grown left now bs w) (omega arith)
 
   -- within greater numbers
   within : (m n s t : ℕ) (after : Progress) (rest : List ℕ) → m ≤ n → s ≤ t → Grown whole m s after rest → Grown whole n t after rest
@@ -212,113 +304,117 @@ module _ (start : ℕ) (whole : List ℕ) where
   read_then now bs b after rest (t, e) h = let l = shorter t bs b e in within (length b) (length bs) (length now.nodes + length b) (length now.nodes + length bs) after rest l (omega arith) h
 
   -- a step, and then another, of what the first one gave
-  step_then : {A B : Type 0} (left : ℕ) (now : Progress) (bs : List ℕ) → Here whole left now bs → (r : Result (A × Progress × List ℕ) Fault) (f : A × Progress × List ℕ → Result (B × Progress × List ℕ) Fault) → Goes start whole (Good now bs) r
-      → ((x : A × Progress × List ℕ) → Here whole left x.1 x.2 → Goes start whole (Good x.1 x.2) (f x)) → Goes start whole (Good now bs) (r >>= f)
-  step_then left now bs w r f h g = then_goes (Good now bs) (Good now bs) r f h (λ x q. weaker (Good x.1 x.2) (Good now bs) (f x) (λ y p. two_steps now bs x.1 x.2 y.1 y.2 q p) (g x (next left now bs x.1 x.2 w q)))
+  step_then : {A B : Type 0} (left : ℕ) (now : Progress) (bs : List ℕ) → Here whole left now bs → (r : Reads A) (f : Option Stop → A × Progress × List ℕ → Result (B × Progress × List ℕ) Fault) → Goes start whole bs (Good now bs) r
+      → ((x : A × Progress × List ℕ) → Here whole left x.1 x.2 → Goes start whole x.2 (Good x.1 x.2) (λ o. f o x)) → Goes start whole bs (Good now bs) (λ o. r o >>= f o)
+  step_then left now bs w r f h g = then_goes bs (Good now bs) (Good now bs) r f h (λ x q. weaker x.2 (Good x.1 x.2) (Good now bs) (λ o. f o x) (λ y p. two_steps now bs x.1 x.2 y.1 y.2 q p) (g x (next left now bs x.1 x.2 w q)))
 
   -- bytes, and then a step
-  bytes_then : {A B : Type 0} (left : ℕ) (now : Progress) (bs : List ℕ) → Here whole left now bs → (r : Result (A × List ℕ) Fault) (f : A × List ℕ → Result (B × Progress × List ℕ) Fault) → Goes start whole (Left bs) r
-      → ((x : A × List ℕ) → Here whole left now x.1 → Goes start whole (Good now x.1) (f x)) → Goes start whole (Good now bs) (r >>= f)
-  bytes_then left now bs w r f h g = then_goes (Left bs) (Good now bs) r f h (λ x q. weaker (Good now x.1) (Good now bs) (f x) (λ y p. read_then now bs x.1 y.1 y.2 q p) (g x (on left now bs x.1 w q)))
+  bytes_then : {A B : Type 0} (left : ℕ) (now : Progress) (bs : List ℕ) → Here whole left now bs → (r : Result (A × List ℕ) Fault) (f : Option Stop → A × List ℕ → Result (B × Progress × List ℕ) Fault) → Told start whole (Left bs) r
+      → ((x : A × List ℕ) → Here whole left now x.1 → Goes start whole x.1 (Good now x.1) (λ o. f o x)) → Goes start whole bs (Good now bs) (λ o. r >>= f o)
+  bytes_then left now bs w r f h g = told_goes bs (Good now bs) r f h (λ x q. weaker x.1 (Good now x.1) (Good now bs) (λ o. f o x) (λ y p. read_then now bs x.1 y.1 y.2 q p) (g x (on left now bs x.1 w q)))
 
-  plain_goes : {A : Type 0} (left : ℕ) (read : List ℕ → Plain A) → ((bs : List ℕ) → Rest whole bs → Goes start whole (Left bs) (read bs)) → StepGoes left (plain read)
-  plain_goes left read h now bs w = bytes_then left now bs w (read bs) (λ x. Ok (x.0, now, x.1)) (h bs w.rest) (λ x v. none_grown left now x.1 v)
+  plain_goes : {A : Type 0} (left : ℕ) (read : List ℕ → Plain A) → ((bs : List ℕ) → Rest whole bs → Told start whole (Left bs) (read bs)) → StepGoes left (λ o. plain read)
+  plain_goes left read h now bs w = bytes_then left now bs w (read bs) (λ o x. Ok (x.0, now, x.1)) (h bs w.rest) (λ x v. none_goes left now x.1 v)
 
-  mapped_goes : {A B : Type 0} (left : ℕ) (f : A → B) (step : Step A) → StepGoes left step → StepGoes left (mapped f step)
-  mapped_goes left f step h now bs w = step_then left now bs w (step now bs) (λ x. Ok (f x.0, x.1, x.2)) (h now bs w) (λ x v. none_grown left x.1 x.2 v)
+  mapped_goes : {A B : Type 0} (left : ℕ) (f : A → B) (step : Steps A) → StepGoes left step → StepGoes left (λ o. mapped f (step o))
+  mapped_goes left f step h now bs w = step_then left now bs w (λ o. step o now bs) (λ o x. Ok (f x.0, x.1, x.2)) (h now bs w) (λ x v. none_goes left x.1 x.2 v)
 
-  many_goes : {A : Type 0} (left : ℕ) (step : Step A) → StepGoes left step → (n : ℕ) → StepGoes left (many_at step n)
+  many_goes : {A : Type 0} (left : ℕ) (step : Steps A) → StepGoes left step → (n : ℕ) → StepGoes left (λ o. many_at (step o) n)
   unfolding many_at
-  many_goes left step h zero now bs w = none_grown left now bs w
-  many_goes left step h (suc n) now bs w = step_then left now bs w (step now bs) _ (h now bs w) (λ x v. step_then left x.1 x.2 v (many_at step n x.1 x.2) _ (many_goes left step h n x.1 x.2 v) (λ xs u. none_grown left xs.1 xs.2 u))
+  many_goes left step h zero now bs w = none_goes left now bs w
+  many_goes left step h (suc n) now bs w = step_then left now bs w (λ o. step o now bs) _ (h now bs w) (λ x v. step_then left x.1 x.2 v (λ o. many_at (step o) n x.1 x.2) _ (many_goes left step h n x.1 x.2 v) (λ xs u. none_goes left xs.1 xs.2 u))
 
   -- a block of so many bytes, and what comes after it
-  block_goes : (left : ℕ) (inner : Step Slot) (in_note : Bool) (most : ℕ) → StepGoes left (blocks_at (start + length whole) inner in_note most) → (n : ℕ) (now : Progress) (bs : List ℕ) → Here whole left now bs
-      → Goes start whole (Good now bs) (take_at n bs >>= λ p. blocks_at (start + length whole) inner in_note most now p.1 >>= λ is. Ok (items.Bytes p.0 ∷ is.0, is.1, is.2))
+  block_goes : (left : ℕ) (inner : Steps Slot) (in_note : Bool) (most : ℕ) → StepGoes left (λ o. blocks_at (start + length whole) (inner o) in_note most) → (n : ℕ) (now : Progress) (bs : List ℕ) → Here whole left now bs
+      → Goes start whole bs (Good now bs) (λ o. take_at n bs >>= λ p. blocks_at (start + length whole) (inner o) in_note most now p.1 >>= λ is. Ok (items.Bytes p.0 ∷ is.0, is.1, is.2))
   block_goes left inner in_note most more n now bs w =
-      bytes_then left now bs w (take_at n bs) (λ p. blocks_at (start + length whole) inner in_note most now p.1 >>= λ is. Ok (items.Bytes p.0 ∷ is.0, is.1, is.2)) (take_goes n bs)
-      (λ p v. step_then left now p.1 v (blocks_at (start + length whole) inner in_note most now p.1) (λ is. Ok (items.Bytes p.0 ∷ is.0, is.1, is.2)) (more now p.1 v) (λ is u. none_grown left is.1 is.2 u))
+      bytes_then left now bs w (take_at n bs) (λ o p. blocks_at (start + length whole) (inner o) in_note most now p.1 >>= λ is. Ok (items.Bytes p.0 ∷ is.0, is.1, is.2)) (take_goes n bs)
+      (λ p v. step_then left now p.1 v (λ o. blocks_at (start + length whole) (inner o) in_note most now p.1) (λ o is. Ok (items.Bytes p.0 ∷ is.0, is.1, is.2)) (more now p.1 v) (λ is u. none_goes left is.1 is.2 u))
 
   -- after a first byte
-  after_code : {A : Type 0} (left c : ℕ) (now : Progress) (bs : List ℕ) (r : Result (A × Progress × List ℕ) Fault) → Here whole left now (c ∷ bs) → (Here whole left now bs → Goes start whole (Good now bs) r) → Goes start whole (Good now (c ∷ bs)) r
-  after_code left c now bs r w h = weaker (Good now bs) (Good now (c ∷ bs)) r (λ y p. read_then now (c ∷ bs) bs y.1 y.2 (c ∷ [], refl) p) (h (on left now (c ∷ bs) bs w (c ∷ [], refl)))
+  after_code : {A : Type 0} (left c : ℕ) (now : Progress) (bs : List ℕ) (r : Reads A) → Here whole left now (c ∷ bs) → (Here whole left now bs → Goes start whole bs (Good now bs) r) → Goes start whole bs (Good now (c ∷ bs)) r
+  after_code left c now bs r w h = weaker bs (Good now bs) (Good now (c ∷ bs)) r (λ y p. read_then now (c ∷ bs) bs y.1 y.2 (c ∷ [], refl) p) (h (on left now (c ∷ bs) bs w (c ∷ [], refl)))
 
-  blocks_goes : (left : ℕ) (inner : Step Slot) → StepGoes left inner → (in_note : Bool) (most : ℕ) → StepGoes left (blocks_at (start + length whole) inner in_note most)
+  -- the same, seen from that byte
+  behind_code : {A : Type 0} (left c : ℕ) (now : Progress) (bs : List ℕ) (r : Reads A) → Here whole left now (c ∷ bs) → (Here whole left now bs → Goes start whole bs (Good now bs) r) → Goes start whole (c ∷ bs) (Good now (c ∷ bs)) r
+  behind_code left c now bs r w h = longer bs (c ∷ bs) (Good now (c ∷ bs)) r (omega arith) (after_code left c now bs r w h)
+
+  blocks_goes : (left : ℕ) (inner : Steps Slot) → StepGoes left inner → (in_note : Bool) (most : ℕ) → StepGoes left (λ o. blocks_at (start + length whole) (inner o) in_note most)
   unfolding blocks_at
-  blocks_goes left inner h in_note zero now bs w = tt
-  blocks_goes left inner h true (suc most) now [] w = tt
-  blocks_goes left inner h false (suc most) now [] w = none_grown left now [] w
+  blocks_goes left inner h in_note zero now bs w = fails bs (Good now bs) short tt
+  blocks_goes left inner h true (suc most) now [] w = fails [] (Good now []) short tt
+  blocks_goes left inner h false (suc most) now [] w = none_goes left now [] w
   blocks_goes left inner h in_note (suc most) now (c ∷ bs) w =
-      cond_goes (Good now (c ∷ bs)) (in_note && eqb c 0x78) _ _ (λ e. after_code {A = List Item} left c now bs (Ok ([], now, bs)) w (λ v. none_grown left now bs v)) (λ e.
-      cond_goes (Good now (c ∷ bs)) (eqb c 0x77) _ _ (λ e. after_code left c now bs _ w (λ v. bytes_then left now bs v (byte_at bs) _ (byte_goes bs) (λ n u. block_goes left inner in_note most (blocks_goes left inner h in_note most) n.0 now n.1 u))) (λ e.
-      cond_goes (Good now (c ∷ bs)) (eqb c 0x7A) _ _ (λ e. after_code left c now bs _ w (λ v. bytes_then left now bs v (size_at (start + length whole) w32 (2 ^ 31) bs) _ (size_goes w32 (2 ^ 31) negative_32 bs v.rest) (λ n u. block_goes left inner in_note most (blocks_goes left inner h in_note most) n.0 now n.1 u)))
-      (λ e. step_then left now (c ∷ bs) w (inner now (c ∷ bs)) _ (h now (c ∷ bs) w) (λ s v. step_then left s.1 s.2 v (blocks_at (start + length whole) inner in_note most s.1 s.2) _ (blocks_goes left inner h in_note most s.1 s.2 v) (λ is u. none_grown left is.1 is.2 u)))))
+      cond_goes (c ∷ bs) (Good now (c ∷ bs)) (in_note && eqb c 0x78) _ _ (λ e. behind_code {A = List Item} left c now bs (λ o. Ok ([], now, bs)) w (λ v. none_goes left now bs v)) (λ e.
+      cond_goes (c ∷ bs) (Good now (c ∷ bs)) (eqb c 0x77) _ _ (λ e. behind_code left c now bs _ w (λ v. bytes_then left now bs v (byte_at bs) _ (byte_goes bs) (λ n u. block_goes left inner in_note most (blocks_goes left inner h in_note most) n.0 now n.1 u))) (λ e.
+      cond_goes (c ∷ bs) (Good now (c ∷ bs)) (eqb c 0x7A) _ _ (λ e. behind_code left c now bs _ w (λ v. bytes_then left now bs v (size_at (start + length whole) w32 (2 ^ 31) bs) _ (size_goes w32 (2 ^ 31) negative_32 bs v.rest) (λ n u. block_goes left inner in_note most (blocks_goes left inner h in_note most) n.0 now n.1 u)))
+      (λ e. step_then left now (c ∷ bs) w (λ o. inner o now (c ∷ bs)) _ (h now (c ∷ bs) w) (λ s v. step_then left s.1 s.2 v (λ o. blocks_at (start + length whole) (inner o) in_note most s.1 s.2) _ (blocks_goes left inner h in_note most s.1 s.2 v) (λ is u. none_goes left is.1 is.2 u)))))
 
-  items_goes : (left : ℕ) (inner : Step Slot) → StepGoes left inner → (in_note : Bool) → StepGoes left (items_at (start + length whole) inner in_note)
+  items_goes : (left : ℕ) (inner : Steps Slot) → StepGoes left inner → (in_note : Bool) → StepGoes left (λ o. items_at (start + length whole) (inner o) in_note)
   unfolding items_at
-  items_goes left inner h in_note now bs w = mapped_goes left joined (blocks_at (start + length whole) inner in_note (suc (length bs))) (blocks_goes left inner h in_note (suc (length bs))) now bs w
+  items_goes left inner h in_note now bs w = mapped_goes left joined (λ o. blocks_at (start + length whole) (inner o) in_note (suc (length bs))) (blocks_goes left inner h in_note (suc (length bs))) now bs w
 
   -- ---- fields, values and elements
 
-  coded_field : (left at : ℕ) (text : Step Slot) → StepGoes left text → FaultStands start whole (bad bad_desc at) → (o : Option TypeCode) → StepGoes left (field_of (start + length whole) at text o)
+  coded_field : (left at : ℕ) (text : Steps Slot) → StepGoes left text → FaultStands start whole (bad bad_desc at) → (kind : Option TypeCode) → StepGoes left (λ o. field_of (start + length whole) at (text o) kind)
   unfolding field_of
-  coded_field left at text h own None now bs w = own
+  coded_field left at text h own None now bs w = fails bs (Good now bs) (bad bad_desc at) own
   coded_field left at text h own (Some code) now bs w =
-      bytes_then left now bs w (short_at (start + length whole) bs) _ (short_goes bs w.rest) (λ name v. cond_goes (Good now name.1) (is_primitive code) _ _ (λ e. none_grown left now name.1 v) (λ e.
-      step_then left now name.1 v (text now name.1) _ (h now name.1 v) (λ t u. cond_goes (Good t.1 t.2) (fits_type t.1.nodes code t.0) _ _ (λ e. none_grown left t.1 t.2 u) (λ e. own))))
+      bytes_then left now bs w (short_at (start + length whole) bs) _ (short_goes bs w.rest) (λ name v. cond_goes name.1 (Good now name.1) (is_primitive code) _ _ (λ e. none_goes left now name.1 v) (λ e.
+      step_then left now name.1 v (λ o. text o now name.1) _ (h now name.1 v) (λ t u. cond_goes t.2 (Good t.1 t.2) (fits_type t.1.nodes code t.0) _ _ (λ e. none_goes left t.1 t.2 u) (λ e. fails t.2 (Good t.1 t.2) (bad bad_desc at) own))))
 
-  field_goes : (left at : ℕ) (text : Step Slot) → StepGoes left text → FaultStands start whole (bad bad_desc at) → StepGoes left (field_at (start + length whole) at text)
+  field_goes : (left at : ℕ) (text : Steps Slot) → StepGoes left text → FaultStands start whole (bad bad_desc at) → StepGoes left (λ o. field_at (start + length whole) at (text o))
   unfolding field_at
   field_goes left at text h own now bs w = bytes_then left now bs w (byte_at bs) _ (byte_goes bs) (λ c v. coded_field left at text h own (code_of c.0) now c.1 v)
 
-  byte_step : (left : ℕ) → StepGoes left (plain byte_at)
+  byte_step : (left : ℕ) → StepGoes left (λ o. plain byte_at)
   byte_step left = plain_goes left byte_at (λ bs r. byte_goes bs)
 
-  number_step : (left : ℕ) (w : Width) → StepGoes left (plain (number_at w))
+  number_step : (left : ℕ) (w : Width) → StepGoes left (λ o. plain (number_at w))
   number_step left w = plain_goes left (number_at w) (λ bs r. number_goes w bs)
 
-  value_goes : (left : ℕ) (inner : Step Slot) → StepGoes left inner → (code : TypeCode) → StepGoes left (value_at inner code)
+  value_goes : (left : ℕ) (inner : Steps Slot) → StepGoes left inner → (code : TypeCode) → StepGoes left (λ o. value_at (inner o) code)
   unfolding value_at
-  value_goes left inner h codes.B now bs w = mapped_goes left values.B (plain byte_at) (byte_step left) now bs w
-  value_goes left inner h codes.C now bs w = mapped_goes left values.C (plain (number_at w16)) (number_step left w16) now bs w
-  value_goes left inner h codes.D now bs w = mapped_goes left values.D (plain (number_at w64)) (number_step left w64) now bs w
-  value_goes left inner h codes.F now bs w = mapped_goes left values.F (plain (number_at w32)) (number_step left w32) now bs w
-  value_goes left inner h codes.I now bs w = mapped_goes left (λ n. values.I (cast_signed w32 n)) (plain (number_at w32)) (number_step left w32) now bs w
-  value_goes left inner h codes.J now bs w = mapped_goes left (λ n. values.J (cast_signed w64 n)) (plain (number_at w64)) (number_step left w64) now bs w
-  value_goes left inner h codes.S now bs w = mapped_goes left (λ n. values.S (cast_signed w16 n)) (plain (number_at w16)) (number_step left w16) now bs w
-  value_goes left inner h codes.Z now bs w = mapped_goes left (λ b. values.Z (is_true b)) (plain byte_at) (byte_step left) now bs w
+  value_goes left inner h codes.B now bs w = mapped_goes left values.B (λ o. plain byte_at) (byte_step left) now bs w
+  value_goes left inner h codes.C now bs w = mapped_goes left values.C (λ o. plain (number_at w16)) (number_step left w16) now bs w
+  value_goes left inner h codes.D now bs w = mapped_goes left values.D (λ o. plain (number_at w64)) (number_step left w64) now bs w
+  value_goes left inner h codes.F now bs w = mapped_goes left values.F (λ o. plain (number_at w32)) (number_step left w32) now bs w
+  value_goes left inner h codes.I now bs w = mapped_goes left (λ n. values.I (cast_signed w32 n)) (λ o. plain (number_at w32)) (number_step left w32) now bs w
+  value_goes left inner h codes.J now bs w = mapped_goes left (λ n. values.J (cast_signed w64 n)) (λ o. plain (number_at w64)) (number_step left w64) now bs w
+  value_goes left inner h codes.S now bs w = mapped_goes left (λ n. values.S (cast_signed w16 n)) (λ o. plain (number_at w16)) (number_step left w16) now bs w
+  value_goes left inner h codes.Z now bs w = mapped_goes left (λ b. values.Z (is_true b)) (λ o. plain byte_at) (byte_step left) now bs w
   value_goes left inner h codes.Array now bs w = mapped_goes left values.Ref inner h now bs w
   value_goes left inner h codes.Object now bs w = mapped_goes left values.Ref inner h now bs w
 
-  values_goes : (left : ℕ) (inner : Step Slot) → StepGoes left inner → (fs : List FieldDesc) → StepGoes left (values_at inner fs)
+  values_goes : (left : ℕ) (inner : Steps Slot) → StepGoes left inner → (fs : List FieldDesc) → StepGoes left (λ o. values_at (inner o) fs)
   unfolding values_at
-  values_goes left inner h [] now bs w = none_grown left now bs w
-  values_goes left inner h (f ∷ fs) now bs w = step_then left now bs w (value_at inner f.code now bs) _ (value_goes left inner h f.code now bs w) (λ x v. step_then left x.1 x.2 v (values_at inner fs x.1 x.2) _ (values_goes left inner h fs x.1 x.2 v) (λ xs u. none_grown left xs.1 xs.2 u))
+  values_goes left inner h [] now bs w = none_goes left now bs w
+  values_goes left inner h (f ∷ fs) now bs w = step_then left now bs w (λ o. value_at (inner o) f.code now bs) _ (value_goes left inner h f.code now bs w) (λ x v. step_then left x.1 x.2 v (λ o. values_at (inner o) fs x.1 x.2) _ (values_goes left inner h fs x.1 x.2 v) (λ xs u. none_goes left xs.1 xs.2 u))
 
-  elements_goes : (left : ℕ) (inner : Step Slot) → StepGoes left inner → (code : TypeCode) (n : ℕ) → StepGoes left (elements_at inner code n)
+  elements_goes : (left : ℕ) (inner : Steps Slot) → StepGoes left inner → (code : TypeCode) (n : ℕ) → StepGoes left (λ o. elements_at (inner o) code n)
   unfolding elements_at
-  elements_goes left inner h codes.B n now bs w = mapped_goes left kinds.Bytes (many_at (plain byte_at) n) (many_goes left (plain byte_at) (byte_step left) n) now bs w
-  elements_goes left inner h codes.C n now bs w = mapped_goes left kinds.Chars (many_at (plain (number_at w16)) n) (many_goes left (plain (number_at w16)) (number_step left w16) n) now bs w
-  elements_goes left inner h codes.D n now bs w = mapped_goes left kinds.Doubles (many_at (plain (number_at w64)) n) (many_goes left (plain (number_at w64)) (number_step left w64) n) now bs w
-  elements_goes left inner h codes.F n now bs w = mapped_goes left kinds.Floats (many_at (plain (number_at w32)) n) (many_goes left (plain (number_at w32)) (number_step left w32) n) now bs w
-  elements_goes left inner h codes.I n now bs w = mapped_goes left kinds.Ints (many_at (mapped (λ k. cast_signed w32 k) (plain (number_at w32))) n) (many_goes left (mapped (λ k. cast_signed w32 k) (plain (number_at w32))) (mapped_goes left (λ k. cast_signed w32 k) (plain (number_at w32)) (number_step left w32)) n) now bs w
-  elements_goes left inner h codes.J n now bs w = mapped_goes left kinds.Longs (many_at (mapped (λ k. cast_signed w64 k) (plain (number_at w64))) n) (many_goes left (mapped (λ k. cast_signed w64 k) (plain (number_at w64))) (mapped_goes left (λ k. cast_signed w64 k) (plain (number_at w64)) (number_step left w64)) n) now bs w
-  elements_goes left inner h codes.S n now bs w = mapped_goes left kinds.Shorts (many_at (mapped (λ k. cast_signed w16 k) (plain (number_at w16))) n) (many_goes left (mapped (λ k. cast_signed w16 k) (plain (number_at w16))) (mapped_goes left (λ k. cast_signed w16 k) (plain (number_at w16)) (number_step left w16)) n) now bs w
-  elements_goes left inner h codes.Z n now bs w = mapped_goes left kinds.Bools (many_at (mapped is_true (plain byte_at)) n) (many_goes left (mapped is_true (plain byte_at)) (mapped_goes left is_true (plain byte_at) (byte_step left)) n) now bs w
-  elements_goes left inner h codes.Array n now bs w = mapped_goes left kinds.Refs (many_at inner n) (many_goes left inner h n) now bs w
-  elements_goes left inner h codes.Object n now bs w = mapped_goes left kinds.Refs (many_at inner n) (many_goes left inner h n) now bs w
+  elements_goes left inner h codes.B n now bs w = mapped_goes left kinds.Bytes (λ o. many_at (plain byte_at) n) (many_goes left (λ o. plain byte_at) (byte_step left) n) now bs w
+  elements_goes left inner h codes.C n now bs w = mapped_goes left kinds.Chars (λ o. many_at (plain (number_at w16)) n) (many_goes left (λ o. plain (number_at w16)) (number_step left w16) n) now bs w
+  elements_goes left inner h codes.D n now bs w = mapped_goes left kinds.Doubles (λ o. many_at (plain (number_at w64)) n) (many_goes left (λ o. plain (number_at w64)) (number_step left w64) n) now bs w
+  elements_goes left inner h codes.F n now bs w = mapped_goes left kinds.Floats (λ o. many_at (plain (number_at w32)) n) (many_goes left (λ o. plain (number_at w32)) (number_step left w32) n) now bs w
+  elements_goes left inner h codes.I n now bs w = mapped_goes left kinds.Ints (λ o. many_at (mapped (λ k. cast_signed w32 k) (plain (number_at w32))) n) (many_goes left (λ o. mapped (λ k. cast_signed w32 k) (plain (number_at w32))) (mapped_goes left (λ k. cast_signed w32 k) (λ o. plain (number_at w32)) (number_step left w32)) n) now bs w
+  elements_goes left inner h codes.J n now bs w = mapped_goes left kinds.Longs (λ o. many_at (mapped (λ k. cast_signed w64 k) (plain (number_at w64))) n) (many_goes left (λ o. mapped (λ k. cast_signed w64 k) (plain (number_at w64))) (mapped_goes left (λ k. cast_signed w64 k) (λ o. plain (number_at w64)) (number_step left w64)) n) now bs w
+  elements_goes left inner h codes.S n now bs w = mapped_goes left kinds.Shorts (λ o. many_at (mapped (λ k. cast_signed w16 k) (plain (number_at w16))) n) (many_goes left (λ o. mapped (λ k. cast_signed w16 k) (plain (number_at w16))) (mapped_goes left (λ k. cast_signed w16 k) (λ o. plain (number_at w16)) (number_step left w16)) n) now bs w
+  elements_goes left inner h codes.Z n now bs w = mapped_goes left kinds.Bools (λ o. many_at (mapped is_true (plain byte_at)) n) (many_goes left (λ o. mapped is_true (plain byte_at)) (mapped_goes left is_true (λ o. plain byte_at) (byte_step left)) n) now bs w
+  elements_goes left inner h codes.Array n now bs w = mapped_goes left kinds.Refs (λ o. many_at (inner o) n) (many_goes left inner h n) now bs w
+  elements_goes left inner h codes.Object n now bs w = mapped_goes left kinds.Refs (λ o. many_at (inner o) n) (many_goes left inner h n) now bs w
 
-  note_goes : (left : ℕ) (inner : Step Slot) → StepGoes left inner → (b : Bool) → StepGoes left (note_at (start + length whole) inner b)
+  note_goes : (left : ℕ) (inner : Steps Slot) → StepGoes left inner → (b : Bool) → StepGoes left (λ o. note_at (start + length whole) (inner o) b)
   unfolding note_at
   note_goes left inner h true now bs w = items_goes left inner h true now bs w
-  note_goes left inner h false now bs w = none_grown left now bs w
+  note_goes left inner h false now bs w = none_goes left now bs w
 
-  parts_goes : (left : ℕ) (inner : Step Slot) → StepGoes left inner → (rs : List Row) → StepGoes left (parts_at (start + length whole) inner rs)
+  parts_goes : (left : ℕ) (inner : Steps Slot) → StepGoes left inner → (rs : List Row) → StepGoes left (λ o. parts_at (start + length whole) (inner o) rs)
   unfolding parts_at
-  parts_goes left inner h [] now bs w = none_grown left now bs w
+  parts_goes left inner h [] now bs w = none_goes left now bs w
   parts_goes left inner h (x ∷ rs) now bs w =
-      step_then left now bs w (values_at inner x.0 now bs) _ (values_goes left inner h x.0 now bs w) (λ vs v. step_then left vs.1 vs.2 v (note_at (start + length whole) inner x.1 vs.1 vs.2) _ (note_goes left inner h x.1 vs.1 vs.2 v) (λ is u.
-      step_then left is.1 is.2 u (parts_at (start + length whole) inner rs is.1 is.2) _ (parts_goes left inner h rs is.1 is.2 u) (λ ps t. none_grown left ps.1 ps.2 t)))
+      step_then left now bs w (λ o. values_at (inner o) x.0 now bs) _ (values_goes left inner h x.0 now bs w) (λ vs v. step_then left vs.1 vs.2 v (λ o. note_at (start + length whole) (inner o) x.1 vs.1 vs.2) _ (note_goes left inner h x.1 vs.1 vs.2 v) (λ is u.
+      step_then left is.1 is.2 u (λ o. parts_at (start + length whole) (inner o) rs is.1 is.2) _ (parts_goes left inner h rs is.1 is.2 u) (λ ps t. none_goes left ps.1 ps.2 t)))
 
   -- ---- references
 
@@ -340,11 +436,11 @@ module _ (start : ℕ) (whole : List ℕ) where
   abbrev NodeGood : Progress → List ℕ → Slot × Progress × List ℕ → Type 0
   NodeGood now bs x = Grown whole (length bs) (suc (length now.nodes + length bs)) x.1 x.2 × IsNode x.0
 
-  abbrev SlotsGo : ℕ → Slots → Type 0
-  SlotsGo left inner = (p : Place) (unread : List ℕ) (now : Progress) (bs : List ℕ) → Here whole left now bs → Goes start whole (SlotGood p now bs) (inner p unread now bs)
+  abbrev SlotsGo : ℕ → (Option Stop → Slots) → Type 0
+  SlotsGo left inner = (p : Place) (unread : List ℕ) (now : Progress) (bs : List ℕ) → Here whole left now bs → Goes start whole bs (SlotGood p now bs) (λ o. inner o p unread now bs)
 
-  step_of : (left : ℕ) (inner : Slots) → SlotsGo left inner → (p : Place) (unread : List ℕ) → StepGoes left (inner p unread)
-  step_of left inner h p unread now bs w = weaker (SlotGood p now bs) (Good now bs) (inner p unread now bs) (λ x q. q.0) (h p unread now bs w)
+  step_of : (left : ℕ) (inner : Option Stop → Slots) → SlotsGo left inner → (p : Place) (unread : List ℕ) → StepGoes left (λ o. inner o p unread)
+  step_of left inner h p unread now bs w = weaker bs (SlotGood p now bs) (Good now bs) (λ o. inner o p unread now bs) (λ x q. q.0) (h p unread now bs w)
 
   -- the node stands there
   push_here : (left : ℕ) (now : Progress) (bs : List ℕ) (mid : Progress) → Opened whole left now bs → length mid.nodes ≡ suc (length now.nodes) → Here whole left mid bs
@@ -358,44 +454,48 @@ module _ (start : ℕ) (whole : List ℕ) where
   fill_grown now bs mid after rest k i l g = let e = length-set after.nodes k i in let f = g.few in let c = g.count in record { is = g.is; few = omega arith; less = g.less; count = omega arith }
 
   -- first bytes, then a node
-  read_node : {A : Type 0} (left : ℕ) (now : Progress) (bs : List ℕ) → Opened whole left now bs → (r : Result (A × List ℕ) Fault) (f : A × List ℕ → Result (Slot × Progress × List ℕ) Fault) → Goes start whole (Left bs) r
-      → ((x : A × List ℕ) → Opened whole left now x.1 → Goes start whole (NodeGood now x.1) (f x)) → Goes start whole (NodeGood now bs) (r >>= f)
-  read_node left now bs o r f h g = then_goes (Left bs) (NodeGood now bs) r f h (λ x q. (
+  read_node : {A : Type 0} (left : ℕ) (now : Progress) (bs : List ℕ) → Opened whole left now bs → (r : Result (A × List ℕ) Fault) (f : Option Stop → A × List ℕ → Result (Slot × Progress × List ℕ) Fault) → Told start whole (Left bs) r
+      → ((x : A × List ℕ) → Opened whole left now x.1 → Goes start whole x.1 (NodeGood now x.1) (λ o. f o x)) → Goes start whole bs (NodeGood now bs) (λ o. r >>= f o)
+  read_node left now bs o r f h g = told_goes bs (NodeGood now bs) r f h (λ x q. (
       let l = shorter q.0 bs x.1 q.1 in
-      weaker (NodeGood now x.1) (NodeGood now bs) (f x) (λ y p. (within (length x.1) (length bs) (suc (length now.nodes + length x.1)) (suc (length now.nodes + length bs)) y.1 y.2 l (omega arith) p.0, p.1)) (g x (open_on left now bs x.1 o q))))
+      weaker x.1 (NodeGood now x.1) (NodeGood now bs) (λ o. f o x) (λ y p. (within (length x.1) (length bs) (suc (length now.nodes + length x.1)) (suc (length now.nodes + length bs)) y.1 y.2 l (omega arith) p.0, p.1)) (g x (open_on left now bs x.1 o q))))
 
   -- the contents of a node that stands there
-  filled_then : {A : Type 0} (left : ℕ) (now : Progress) (bs : List ℕ) (mid : Progress) → Opened whole left now bs → length mid.nodes ≡ suc (length now.nodes) → (r : Result (A × Progress × List ℕ) Fault) (f : A × Progress × List ℕ → Result (Slot × Progress × List ℕ) Fault)
-      → (Here whole left mid bs → Goes start whole (Good mid bs) r) → ((x : A × Progress × List ℕ) → Good mid bs x → Goes start whole (NodeGood now bs) (f x)) → Goes start whole (NodeGood now bs) (r >>= f)
-  filled_then left now bs mid o l r f h g = then_goes (Good mid bs) (NodeGood now bs) r f (h (push_here left now bs mid o l)) g
+  filled_then : {A : Type 0} (left : ℕ) (now : Progress) (bs : List ℕ) (mid : Progress) → Opened whole left now bs → length mid.nodes ≡ suc (length now.nodes) → (r : Reads A) (f : Option Stop → A × Progress × List ℕ → Result (Slot × Progress × List ℕ) Fault)
+      → (Here whole left mid bs → Goes start whole bs (Good mid bs) r) → ((x : A × Progress × List ℕ) → Good mid bs x → Goes start whole x.2 (NodeGood now bs) (λ o. f o x)) → Goes start whole bs (NodeGood now bs) (λ o. r o >>= f o)
+  filled_then left now bs mid o l r f h g = then_goes bs (Good mid bs) (NodeGood now bs) r f (h (push_here left now bs mid o l)) g
 
-  text_goes : (left : ℕ) (read : List ℕ → Plain (List ℕ)) → ((bs : List ℕ) → Rest whole bs → Goes start whole (Left bs) (read bs)) → (now : Progress) (bs : List ℕ) → Opened whole left now bs → Goes start whole (NodeGood now bs) (text_at read now bs)
+  -- a node that was read
+  node_done : (now : Progress) (bs : List ℕ) (k : ℕ) (after : Progress) (rest : List ℕ) → Grown whole (length bs) (suc (length now.nodes + length bs)) after rest → Goes start whole rest (NodeGood now bs) (λ o. Ok (slots.Node k, after, rest))
+  node_done now bs k after rest g = done rest (NodeGood now bs) (slots.Node k, after, rest) (g, tt) (omega arith)
+
+  text_goes : (left : ℕ) (read : List ℕ → Plain (List ℕ)) → ((bs : List ℕ) → Rest whole bs → Told start whole (Left bs) (read bs)) → (now : Progress) (bs : List ℕ) → Opened whole left now bs → Goes start whole bs (NodeGood now bs) (λ o. text_at read now bs)
   unfolding text_at
   text_goes left read h now bs o = read_node left now bs o (read bs) _ (h bs o.here.rest) (λ t u. (
       let l = length_push now.nodes (Text t.0) in
       let r = u.room in
-      (record { is = u.here.rest; few = omega arith; less = omega arith; count = omega arith }, tt)))
+      node_done now t.1 (length now.nodes) (push now (Text t.0)) t.1 (record { is = u.here.rest; few = omega arith; less = omega arith; count = omega arith })))
 
-  desc_after_goes : (left at : ℕ) (inner : Slots) → SlotsGo left inner → FaultStands start whole (bad bad_desc at) → (unread name : List ℕ) (suid flags : ℕ) → StepGoes left (desc_after (start + length whole) at inner unread name suid flags)
+  desc_after_goes : (left at : ℕ) (inner : Option Stop → Slots) → SlotsGo left inner → FaultStands start whole (bad bad_desc at) → (unread name : List ℕ) (suid flags : ℕ) → StepGoes left (λ o. desc_after (start + length whole) at (inner o) unread name suid flags)
   unfolding desc_after
   desc_after_goes left at inner h own unread name suid flags now bs w =
       bytes_then left now bs w (size_at (start + length whole) w16 32768 bs) _ (size_goes w16 32768 negative_16 bs w.rest) (λ n v.
-      step_then left now n.1 v (many_at (field_at (start + length whole) at (inner places.Text unread)) n.0 now n.1) _ (many_goes left (field_at (start + length whole) at (inner places.Text unread)) (field_goes left at (inner places.Text unread) (step_of left inner h places.Text unread) own) n.0 now n.1 v) (λ fs u.
-      cond_goes (Good fs.1 fs.2) (is_good_desc (record { name = name; suid = cast_signed w64 suid; flags = flags; fields = fs.0; note = []; parent = slots.Null })) _ _ (λ e.
-      step_then left fs.1 fs.2 u (items_at (start + length whole) (inner places.Reference unread) true fs.1 fs.2) _ (items_goes left (inner places.Reference unread) (step_of left inner h places.Reference unread) true fs.1 fs.2 u) (λ is t.
-      step_then left is.1 is.2 t (inner places.Parent unread is.1 is.2) _ (step_of left inner h places.Parent unread is.1 is.2 t) (λ s z. none_grown left s.1 s.2 z))) (λ e. own)))
+      step_then left now n.1 v (λ o. many_at (field_at (start + length whole) at (inner o places.Text unread)) n.0 now n.1) _ (many_goes left (λ o. field_at (start + length whole) at (inner o places.Text unread)) (field_goes left at (λ o. inner o places.Text unread) (step_of left inner h places.Text unread) own) n.0 now n.1 v) (λ fs u.
+      cond_goes fs.2 (Good fs.1 fs.2) (is_good_desc (record { name = name; suid = cast_signed w64 suid; flags = flags; fields = fs.0; note = []; parent = slots.Null })) _ _ (λ e.
+      step_then left fs.1 fs.2 u (λ o. items_at (start + length whole) (inner o places.Reference unread) true fs.1 fs.2) _ (items_goes left (λ o. inner o places.Reference unread) (step_of left inner h places.Reference unread) true fs.1 fs.2 u) (λ is t.
+      step_then left is.1 is.2 t (λ o. inner o places.Parent unread is.1 is.2) _ (step_of left inner h places.Parent unread is.1 is.2 t) (λ s z. none_goes left s.1 s.2 z))) (λ e. fails fs.2 (Good fs.1 fs.2) (bad bad_desc at) own)))
 
-  desc_goes : (left at : ℕ) (inner : Slots) → SlotsGo left inner → FaultStands start whole (bad bad_desc at) → (unread : List ℕ) (now : Progress) (bs : List ℕ) → Opened whole left now bs → Goes start whole (NodeGood now bs) (desc_at (start + length whole) at inner unread now bs)
+  desc_goes : (left at : ℕ) (inner : Option Stop → Slots) → SlotsGo left inner → FaultStands start whole (bad bad_desc at) → (unread : List ℕ) (now : Progress) (bs : List ℕ) → Opened whole left now bs → Goes start whole bs (NodeGood now bs) (λ o. desc_at (start + length whole) at (inner o) unread now bs)
   unfolding desc_at
   desc_goes left at inner h own unread now bs o =
       read_node left now bs o (short_at (start + length whole) bs) _ (short_goes bs o.here.rest) (λ name o.
       read_node left now name.1 o (number_at w64 name.1) _ (number_goes w64 name.1) (λ suid o.
       read_node left now suid.1 o (byte_at suid.1) _ (byte_goes suid.1) (λ flags o.
-      filled_then left now flags.1 (push now (Desc blank)) o (length_push now.nodes (Desc blank)) (desc_after (start + length whole) at inner (unread ++ length now.nodes ∷ []) name.0 suid.0 flags.0 (push now (Desc blank)) flags.1) _
+      filled_then left now flags.1 (push now (Desc blank)) o (length_push now.nodes (Desc blank)) (λ o. desc_after (start + length whole) at (inner o) (unread ++ length now.nodes ∷ []) name.0 suid.0 flags.0 (push now (Desc blank)) flags.1) _
       (λ w. desc_after_goes left at inner h own (unread ++ length now.nodes ∷ []) name.0 suid.0 flags.0 (push now (Desc blank)) flags.1 w)
-      (λ d k. (fill_grown now flags.1 (push now (Desc blank)) d.1 d.2 (length now.nodes) (Desc d.0) (length_push now.nodes (Desc blank)) k, tt)))))
+      (λ d k. node_done now flags.1 (length now.nodes) (fill d.1 (length now.nodes) (Desc d.0)) d.2 (fill_grown now flags.1 (push now (Desc blank)) d.1 d.2 (length now.nodes) (Desc d.0) (length_push now.nodes (Desc blank)) k)))))
 
-  proxy_goes : (left : ℕ) (inner : Slots) → SlotsGo left inner → (unread : List ℕ) (now : Progress) (bs : List ℕ) → Opened whole left now bs → Goes start whole (NodeGood now bs) (proxy_at (start + length whole) inner unread now bs)
+  proxy_goes : (left : ℕ) (inner : Option Stop → Slots) → SlotsGo left inner → (unread : List ℕ) (now : Progress) (bs : List ℕ) → Opened whole left now bs → Goes start whole bs (NodeGood now bs) (λ o. proxy_at (start + length whole) (inner o) unread now bs)
   unfolding proxy_at
   proxy_goes left inner h unread now bs o =
       let inside = unread ++ length now.nodes ∷ [] in
@@ -403,100 +503,106 @@ module _ (start : ℕ) (whole : List ℕ) where
       let l = length_push now.nodes (Desc blank) in
       read_node left now bs o (size_at (start + length whole) w32 (2 ^ 31) bs) _ (size_goes w32 (2 ^ 31) negative_32 bs o.here.rest) (λ n o. (
       let w = push_here left now n.1 mid o l in
-      filled_then left now n.1 mid o l (many_at (plain (short_at (start + length whole))) n.0 mid n.1) _ (λ w. many_goes left (plain (short_at (start + length whole))) (plain_goes left (short_at (start + length whole)) short_goes) n.0 mid n.1 w) (λ names p. (
+      filled_then left now n.1 mid o l (λ o. many_at (plain (short_at (start + length whole))) n.0 mid n.1) _ (λ w. many_goes left (λ o. plain (short_at (start + length whole))) (plain_goes left (short_at (start + length whole)) short_goes) n.0 mid n.1 w) (λ names p. (
       let w2 = next left mid n.1 names.1 names.2 w p in
-      then_goes (Good names.1 names.2) (NodeGood now n.1) (items_at (start + length whole) (inner places.Reference inside) true names.1 names.2) _ (items_goes left (inner places.Reference inside) (step_of left inner h places.Reference inside) true names.1 names.2 w2) (λ is q. (
+      then_goes names.2 (Good names.1 names.2) (NodeGood now n.1) (λ o. items_at (start + length whole) (inner o places.Reference inside) true names.1 names.2) _ (items_goes left (λ o. inner o places.Reference inside) (step_of left inner h places.Reference inside) true names.1 names.2 w2) (λ is q. (
       let w3 = next left names.1 names.2 is.1 is.2 w2 q in
-      then_goes (Good is.1 is.2) (NodeGood now n.1) (inner places.Parent inside is.1 is.2) _ (step_of left inner h places.Parent inside is.1 is.2 w3)
-      (λ s k. (fill_grown now n.1 mid s.1 s.2 (length now.nodes) (Proxy (record { names = names.0; note = is.0; parent = s.0 })) l (two_steps mid n.1 names.1 names.2 s.1 s.2 p (two_steps names.1 names.2 is.1 is.2 s.1 s.2 q k)), tt))))))))
+      then_goes is.2 (Good is.1 is.2) (NodeGood now n.1) (λ o. inner o places.Parent inside is.1 is.2) _ (step_of left inner h places.Parent inside is.1 is.2 w3)
+      (λ s k. node_done now n.1 (length now.nodes) (fill s.1 (length now.nodes) (Proxy (record { names = names.0; note = is.0; parent = s.0 }))) s.2 (fill_grown now n.1 mid s.1 s.2 (length now.nodes) (Proxy (record { names = names.0; note = is.0; parent = s.0 })) l (two_steps mid n.1 names.1 names.2 s.1 s.2 p (two_steps names.1 names.2 is.1 is.2 s.1 s.2 q k))))))))))
 
   -- ---- a class first
 
-  class_first : (left : ℕ) (inner : Slots) → SlotsGo left inner → (unread : List ℕ) (at : ℕ) (f : ℕ → Step Slot) → (65536 ≤ length whole → FaultStands start whole (too_many at))
-      → ((k : ℕ) (now : Progress) (bs : List ℕ) → Opened whole left now bs → Goes start whole (NodeGood now bs) (f k now bs)) → (now : Progress) (bs : List ℕ) → Opened whole left now bs → Goes start whole (NodeGood now bs) (with_class inner unread at f now bs)
+  class_first : (left : ℕ) (inner : Option Stop → Slots) → SlotsGo left inner → (unread : List ℕ) (at : ℕ) (f : Option Stop → ℕ → Step Slot) (now : Progress) (bs : List ℕ) → Opened whole left now bs
+      → ((k : ℕ) (after : Progress) (rest : List ℕ) → inner None places.Class unread now bs ≡ Ok (slots.Node k, after, rest) → 65536 ≤ length whole → 65536 ≤ length after.nodes → FaultStands start whole (too_many at))
+      → ((k : ℕ) (after : Progress) (rest : List ℕ) → inner None places.Class unread now bs ≡ Ok (slots.Node k, after, rest) → Opened whole left after rest → Goes start whole rest (NodeGood after rest) (λ o. f o k after rest)) → Goes start whole bs (NodeGood now bs) (λ o. with_class (inner o) unread at (f o) now bs)
   unfolding with_class
-  class_first left inner h unread at f many each now bs o = then_goes (SlotGood places.Class now bs) (NodeGood now bs) (inner places.Class unread now bs) (on_class at f) (h places.Class unread now bs o.here) by
+  class_first left inner h unread at f now bs o many each = known_goes bs (SlotGood places.Class now bs) (NodeGood now bs) (λ o. inner o places.Class unread now bs) (λ o. on_class at (f o)) (h places.Class unread now bs o.here) by
     where
-      by : (x : Slot × Progress × List ℕ) → SlotGood places.Class now bs x → Goes start whole (NodeGood now bs) (on_class at f x)
-      by (slots.Null, after, rest) q = absurd q.1
-      by (slots.Node k, after, rest) q =
+      by : (x : Slot × Progress × List ℕ) → SlotGood places.Class now bs x → inner None places.Class unread now bs ≡ Ok x → Goes start whole x.2 (NodeGood now bs) (λ o. on_class at (f o) x)
+      by (slots.Null, after, rest) q is = absurd q.1
+      by (slots.Node k, after, rest) q is =
           let w = next left now bs after rest o.here q.0 in
           let s = o.space in
           let c = q.0.count in
           let l = q.0.less in
           let d = w.count in
-          cond_goes (NodeGood now bs) (ltb (length after.nodes) 65536) _ _
-          (λ e. weaker (NodeGood after rest) (NodeGood now bs) (f k after rest) (λ y p. (within (length rest) (length bs) (suc (length after.nodes + length rest)) (suc (length now.nodes + length bs)) y.1 y.2 l (omega arith) p.0, p.1))
-          (each k after rest (record { here = w; room = ltb-true (length after.nodes) 65536 e; space = omega arith })))
-          (λ e. many (let full : 65536 ≤ length after.nodes = ltb-false (length after.nodes) 65536 e in omega arith))
+          cond_goes rest (NodeGood now bs) (ltb (length after.nodes) 65536) (λ o. f o k after rest) (λ o. Err (too_many at))
+          (λ e. weaker rest (NodeGood after rest) (NodeGood now bs) (λ o. f o k after rest) (λ y p. (within (length rest) (length bs) (suc (length after.nodes + length rest)) (suc (length now.nodes + length bs)) y.1 y.2 l (omega arith) p.0, p.1))
+          (each k after rest is (record { here = w; room = ltb-true (length after.nodes) 65536 e; space = omega arith })))
+          (λ e. fails rest (NodeGood now bs) (too_many at) (let full : 65536 ≤ length after.nodes = ltb-false (length after.nodes) 65536 e in many k after rest is (omega arith) full))
 
   -- what a kind is
   kind_is : (k l : Kind) (at : ℕ) → Some k ≡ Some l → FaultStands start whole (bad k at) → FaultStands start whole (bad l at)
   kind_is k l at e h = subst (λ (x : Kind). FaultStands start whole (bad x at)) (some_same k l e) h
 
-  class_kinds : (i : Option Node) (serial : Bool) (at : ℕ) → FaultStands start whole (bad old_external at) → FaultStands start whole (bad bad_desc at) → (k : Kind) → class_fault i serial ≡ Some k → FaultStands start whole (bad k at)
+  class_kinds : (i : Option Node) (serial : Bool) (at : ℕ) → (class_fault i serial ≡ Some old_external → FaultStands start whole (bad old_external at)) → (class_fault i serial ≡ Some bad_desc → FaultStands start whole (bad bad_desc at)) → (k : Kind) → class_fault i serial ≡ Some k → FaultStands start whole (bad k at)
   class_kinds (Some (Desc d)) serial at old own k e = elim (chosen (has_flag d.flags 4 && not (has_flag d.flags 8)) _ _ _ e) [
-    | inl p ↦ kind_is old_external k at p.1 old
+    | inl p ↦ kind_is old_external k at p.1 (old (e ∙ sym p.1))
     | inr p ↦ elim (chosen (lacks_flag d.flags 16 && (not (is_some (element_of d.name)) && (has_flag d.flags 4 || serial))) _ _ _ p.1) [
       | inl q ↦ absurd (let none : None ≡ Some k = q.1 in cc)
-      | inr q ↦ kind_is bad_desc k at q.1 own
+      | inr q ↦ kind_is bad_desc k at q.1 (own (e ∙ sym q.1))
     ]
   ]
   class_kinds (Some (Proxy p)) true at old own k e = absurd cc
-  class_kinds (Some (Proxy p)) false at old own k e = kind_is bad_desc k at e own
-  class_kinds _ serial at old own k e = kind_is bad_desc k at e own
+  class_kinds (Some (Proxy p)) false at old own k e = kind_is bad_desc k at e (own refl)
+  class_kinds _ serial at old own k e = kind_is bad_desc k at e (own refl)
 
-  object_goes : (left at : ℕ) (inner : Step Slot) → StepGoes left inner → FaultStands start whole (too_many at) → FaultStands start whole (bad old_external at) → FaultStands start whole (bad bad_desc at)
-      → (class : ℕ) (now : Progress) (bs : List ℕ) → Opened whole left now bs → Goes start whole (NodeGood now bs) (object_at (start + length whole) at inner class now bs)
+  object_goes : (left at : ℕ) (inner : Steps Slot) → StepGoes left inner → (class : ℕ) (now : Progress) (bs : List ℕ) → Opened whole left now bs → (HasTooMany class now → FaultStands start whole (too_many at)) → (LacksObjects old_external class now.nodes → FaultStands start whole (bad old_external at)) → (LacksObjects bad_desc class now.nodes → FaultStands start whole (bad bad_desc at))
+      → Goes start whole bs (NodeGood now bs) (λ o. object_at (start + length whole) at (inner o) class now bs)
   unfolding object_at object_after
-  object_goes left at inner h many old own class now bs o =
+  object_goes left at inner h class now bs o many old own =
       let chain = chain_of 1048576 now.nodes (slots.Node class) in
       let rows = rows_of (slice_get now.nodes class) chain.0 in
       let mid : Progress = record { nodes = now.nodes ++ Object class [] ∷ []; parts = now.parts + length rows } in
       let l : length mid.nodes ≡ suc (length now.nodes) = length_push now.nodes (Object class []) in
-      cond_goes (NodeGood now bs) (ltb 1048576 (now.parts + length rows)) _ _ (λ e. many) (λ e.
-      unless_goes (NodeGood now bs) (class_fault (slice_get now.nodes class) chain.1) at _ (class_kinds (slice_get now.nodes class) chain.1 at old own)
-      (filled_then left now bs mid o l (parts_at (start + length whole) inner rows mid bs) _ (λ w. parts_goes left inner h rows mid bs w) (λ ps q. (fill_grown now bs mid ps.1 ps.2 (length now.nodes) (Object class ps.0) l q, tt))))
+      cond_goes bs (NodeGood now bs) (ltb 1048576 (now.parts + length rows)) _ _ (λ e. fails bs (NodeGood now bs) (too_many at) (many (ltb-true 1048576 (now.parts + length rows) e))) (λ e.
+      unless_goes bs (NodeGood now bs) (class_fault (slice_get now.nodes class) chain.1) at _ (class_kinds (slice_get now.nodes class) chain.1 at old own)
+      (filled_then left now bs mid o l (λ o. parts_at (start + length whole) (inner o) rows mid bs) _ (λ w. parts_goes left inner h rows mid bs w) (λ ps q. node_done now bs (length now.nodes) (fill ps.1 (length now.nodes) (Object class ps.0)) ps.2 (fill_grown now bs mid ps.1 ps.2 (length now.nodes) (Object class ps.0) l q))))
 
-  array_goes : (left at : ℕ) (inner : Step Slot) → StepGoes left inner → FaultStands start whole (bad bad_desc at) → (class : ℕ) (o : Option TypeCode) (now : Progress) (bs : List ℕ) → Opened whole left now bs → Goes start whole (NodeGood now bs) (array_of (start + length whole) at inner class o now bs)
+  array_goes : (left at : ℕ) (inner : Steps Slot) → StepGoes left inner → (class : ℕ) (kind : Option TypeCode) (now : Progress) (bs : List ℕ) → Opened whole left now bs → (kind ≡ None → FaultStands start whole (bad bad_desc at)) → Goes start whole bs (NodeGood now bs) (λ o. array_of (start + length whole) at (inner o) class kind now bs)
   unfolding array_of
-  array_goes left at inner h own class None now bs o = own
-  array_goes left at inner h own class (Some code) now bs o =
+  array_goes left at inner h class None now bs o own = fails bs (NodeGood now bs) (bad bad_desc at) (own refl)
+  array_goes left at inner h class (Some code) now bs o own =
       let mid = push now (Array class (kinds.Bytes [])) in
       let l = length_push now.nodes (Array class (kinds.Bytes [])) in
       read_node left now bs o (size_at (start + length whole) w32 (2 ^ 31) bs) _ (size_goes w32 (2 ^ 31) negative_32 bs o.here.rest) (λ n o.
-      filled_then left now n.1 mid o l (elements_at inner code n.0 mid n.1) _ (λ w. elements_goes left inner h code n.0 mid n.1 w) (λ vs p. (fill_grown now n.1 mid vs.1 vs.2 (length now.nodes) (Array class vs.0) l p, tt)))
+      filled_then left now n.1 mid o l (λ o. elements_at (inner o) code n.0 mid n.1) _ (λ w. elements_goes left inner h code n.0 mid n.1 w) (λ vs p. node_done now n.1 (length now.nodes) (fill vs.1 (length now.nodes) (Array class vs.0)) vs.2 (fill_grown now n.1 mid vs.1 vs.2 (length now.nodes) (Array class vs.0) l p)))
 
-  typed_array : (left at : ℕ) (inner : Step Slot) → StepGoes left inner → FaultStands start whole (bad bad_desc at) → (class : ℕ) (now : Progress) (bs : List ℕ) → Opened whole left now bs → Goes start whole (NodeGood now bs) (array_at (start + length whole) at inner class now bs)
+  typed_array : (left at : ℕ) (inner : Steps Slot) → StepGoes left inner → (class : ℕ) (now : Progress) (bs : List ℕ) → Opened whole left now bs → (LacksArrays class now.nodes → FaultStands start whole (bad bad_desc at)) → Goes start whole bs (NodeGood now bs) (λ o. array_at (start + length whole) at (inner o) class now bs)
   unfolding array_at
-  typed_array left at inner h own class now bs o = array_goes left at inner h own class (type_in (slice_get now.nodes class)) now bs o
+  typed_array left at inner h class now bs o own = array_goes left at inner h class (type_in (slice_get now.nodes class)) now bs o own
 
-  class_goes : (left class : ℕ) (now : Progress) (bs : List ℕ) → Opened whole left now bs → Goes start whole (NodeGood now bs) (class_at class now bs)
+  class_goes : (left class : ℕ) (now : Progress) (bs : List ℕ) → Opened whole left now bs → Goes start whole bs (NodeGood now bs) (λ o. class_at class now bs)
   unfolding class_at
   class_goes left class now bs o =
       let l = length_push now.nodes (Class class) in
       let r = o.room in
-      (record { is = o.here.rest; few = omega arith; less = omega arith; count = omega arith }, tt)
+      node_done now bs (length now.nodes) (push now (Class class)) bs (record { is = o.here.rest; few = omega arith; less = omega arith; count = omega arith })
 
-  enum_goes : (left at : ℕ) (text : Step Slot) → StepGoes left text → FaultStands start whole (bad bad_desc at) → (class : ℕ) (now : Progress) (bs : List ℕ) → Opened whole left now bs → Goes start whole (NodeGood now bs) (enum_at at text class now bs)
+  enum_goes : (left at : ℕ) (text : Steps Slot) → StepGoes left text → (class : ℕ) (now : Progress) (bs : List ℕ) → Opened whole left now bs → (LacksConstants class now.nodes → FaultStands start whole (bad bad_desc at)) → Goes start whole bs (NodeGood now bs) (λ o. enum_at at (text o) class now bs)
   unfolding enum_at
-  enum_goes left at text h own class now bs o =
+  enum_goes left at text h class now bs o own =
       let mid = push now (Enum class 0) in
       let l = length_push now.nodes (Enum class 0) in
-      cond_goes (NodeGood now bs) (is_enum (slice_get now.nodes class)) _ _ (λ e. filled_then left now bs mid o l (text mid bs) (named class (length now.nodes)) (λ w. h mid bs w) by) (λ e. own)
+      cond_goes bs (NodeGood now bs) (is_enum (slice_get now.nodes class)) _ _ (λ e. filled_then left now bs mid o l (λ o. text o mid bs) (λ o. named class (length now.nodes)) (λ w. h mid bs w) by) (λ e. fails bs (NodeGood now bs) (bad bad_desc at) (own e))
     where
-      by : (x : Slot × Progress × List ℕ) → Good (push now (Enum class 0)) bs x → Goes start whole (NodeGood now bs) (named class (length now.nodes) x)
-      by (slots.Null, after, rest) q = tt
-      by (slots.Node t, after, rest) q = (fill_grown now bs (push now (Enum class 0)) after rest (length now.nodes) (Enum class t) (length_push now.nodes (Enum class 0)) q, tt)
+      by : (x : Slot × Progress × List ℕ) → Good (push now (Enum class 0)) bs x → Goes start whole x.2 (NodeGood now bs) (λ o. named class (length now.nodes) x)
+      by (slots.Null, after, rest) q = fails rest (NodeGood now bs) short tt
+      by (slots.Node t, after, rest) q = node_done now bs (length now.nodes) (fill after (length now.nodes) (Enum class t)) rest (fill_grown now bs (push now (Enum class 0)) after rest (length now.nodes) (Enum class t) (length_push now.nodes (Enum class 0)) q)
 
   -- ---- codes
 
-  -- the code of a construct stands before its contents
-  coded_as : (holds : ℕ → Type 0) (code : ℕ) (bs : List ℕ) → Rest whole (code ∷ bs) → holds code → StandsAt start whole ((start + length whole) - length (code ∷ bs)) (λ front here. HasByte holds here)
-  coded_as holds code bs r h = stands (λ front here. HasByte holds here) (code ∷ bs) r (λ front l. record { byte = code; rest = bs; is = refl; that = h })
+  -- what is known of a reference
+  abbrev Known : ℕ → Asking → Type 0
+  Known at asking = ComesTo (start + length whole) whole at asking
 
-  desc_as : (code c : ℕ) (bs : List ℕ) → Rest whole (code ∷ bs) → eqb code c ≡ true → IsOfDesc c → FaultStands start whole (bad bad_desc ((start + length whole) - length (code ∷ bs)))
-  desc_as code c bs r e h = coded_as IsOfDesc code bs r (subst IsOfDesc (sym (eqb-true code c e)) h)
+  -- a reference that begins with this code is refused
+  coded_as : (asking : Asking) (holds : Asking → ℕ → Type 0) (code : ℕ) (bs : List ℕ) → Rest whole (code ∷ bs) → Known ((start + length whole) - length (code ∷ bs)) asking → holds asking code
+      → StandsAt start whole ((start + length whole) - length (code ∷ bs)) (λ front here. IsRefused (λ a. Known ((start + length whole) - length (code ∷ bs)) a) (λ a. HasByte (λ c. holds a c) here))
+  coded_as asking holds code bs r known h = stands (λ front here. IsRefused (λ a. Known ((start + length whole) - length (code ∷ bs)) a) (λ a. HasByte (λ c. holds a c) here)) (code ∷ bs) r (λ front l. record { asking = asking; known = known; refused = record { byte = code; rest = bs; is = refl; that = h } })
+
+  desc_as : (asking : Asking) (code : ℕ) (bs : List ℕ) → Rest whole (code ∷ bs) → Known ((start + length whole) - length (code ∷ bs)) asking → IsBadDesc (start + length whole) asking (code ∷ bs) → FaultStands start whole (bad bad_desc ((start + length whole) - length (code ∷ bs)))
+  desc_as asking code bs r known h = stands (Shows (start + length whole) (λ a. Known ((start + length whole) - length (code ∷ bs)) a) bad_desc) (code ∷ bs) r (λ front l. record { asking = asking; known = known; refused = h })
 
   either : (a b : Bool) → (a || b) ≡ true → (a ≡ true) ⊎ (b ≡ true)
   either true b h = inl refl
@@ -518,39 +624,52 @@ module _ (start : ℕ) (whole : List ℕ) where
     | inr p ↦ absurd (let q : false ≡ true = rw (e6, e7, e8) at p in cc)
   ]
 
-  -- an object with too many parts, or a node too many
-  parts_as : (code : ℕ) (bs : List ℕ) → Rest whole (code ∷ bs) → gives_handle code ≡ true → code ≡ 0x73 → FaultStands start whole (too_many ((start + length whole) - length (code ∷ bs)))
-  parts_as code bs r gives same = stands IsOneTooMany (code ∷ bs) r (λ front l. (record { byte = code; rest = bs; is = refl; that = gives }, inr (record { byte = code; rest = bs; is = refl; that = same })))
+  -- a node too many, or a part
+  many_as : (asking : Asking) (code : ℕ) (bs : List ℕ) → Rest whole (code ∷ bs) → Known ((start + length whole) - length (code ∷ bs)) asking → IsConstruct asking.place code → ((front : List ℕ) → length whole ≡ length front + suc (length bs) → IsPastNodes (start + length whole) asking front (code ∷ bs) ⊎ IsPastParts (start + length whole) asking (code ∷ bs))
+      → FaultStands start whole (too_many ((start + length whole) - length (code ∷ bs)))
+  many_as asking code bs r known gives h = stands (IsOneTooMany (start + length whole) (λ a. Known ((start + length whole) - length (code ∷ bs)) a)) (code ∷ bs) r (λ front l. record { asking = asking; known = known; refused = (record { byte = code; rest = bs; is = refl; that = gives }, h front l) })
 
-  nodes_as : (code : ℕ) (bs : List ℕ) → Rest whole (code ∷ bs) → gives_handle code ≡ true → 65536 ≤ length whole → FaultStands start whole (too_many ((start + length whole) - length (code ∷ bs)))
-  nodes_as code bs r gives full = stands IsOneTooMany (code ∷ bs) r (λ front l. (record { byte = code; rest = bs; is = refl; that = gives }, inl (omega arith)))
-
-  fresh_goes : (left : ℕ) (inner : Slots) → SlotsGo left inner → (unread : List ℕ) (code : ℕ) (now : Progress) (bs : List ℕ) → gives_handle code ≡ true → (65536 ≤ length whole → FaultStands start whole (too_many ((start + length whole) - length (code ∷ bs)))) → Opened whole left now bs → Rest whole (code ∷ bs)
-      → Goes start whole (NodeGood now bs) (fresh_at (start + length whole) ((start + length whole) - length (code ∷ bs)) inner unread code now bs)
-  unfolding fresh_at has
-  fresh_goes left inner h unread code now bs gives many o r =
+  fresh_goes : (place : Place) (left : ℕ) (inner : Option Stop → Slots) → ((p : Place) (unread : List ℕ) (now : Progress) (bs : List ℕ) → inner None p unread now bs ≡ slot_at (start + length whole) left p unread now bs) → SlotsGo left inner → (unread : List ℕ) (code : ℕ) (now : Progress) (bs : List ℕ) → IsConstruct place code → Opened whole left now bs → Rest whole (code ∷ bs)
+      → Known ((start + length whole) - length (code ∷ bs)) (record { left = suc left; place = place; unread = unread; now = now })
+      → Goes start whole bs (NodeGood now bs) (λ o. fresh_at (start + length whole) ((start + length whole) - length (code ∷ bs)) (inner o) unread code now bs)
+  unfolding fresh_at
+  fresh_goes place left inner reads h unread code now bs gives o r known =
       let end = start + length whole in
       let at = end - length (code ∷ bs) in
-      let one = inner places.Reference unread in
+      let asking : Asking = record { left = suc left; place = place; unread = unread; now = now } in
       let step = step_of left inner h places.Reference unread in
-      cond_goes (NodeGood now bs) (eqb code 0x72) _ _ (λ e. desc_goes left at inner h (desc_as code 0x72 bs r e refl) unread now bs o) (λ e1.
-      cond_goes (NodeGood now bs) (eqb code 0x73) _ _ (λ e. class_first left inner h unread at (object_at end at one) many (object_goes left at one step (parts_as code bs r gives (eqb-true code 0x73 e)) (coded_as (λ c. c ≡ 0x73) code bs r (eqb-true code 0x73 e)) (desc_as code 0x73 bs r e refl)) now bs o) (λ e2.
-      cond_goes (NodeGood now bs) (eqb code 0x74) _ _ (λ e. text_goes left (short_at end) short_goes now bs o) (λ e3.
-      cond_goes (NodeGood now bs) (eqb code 0x75) _ _ (λ e. class_first left inner h unread at (array_at end at one) many (typed_array left at one step (desc_as code 0x75 bs r e refl)) now bs o) (λ e4.
-      cond_goes (NodeGood now bs) (eqb code 0x76) _ _ (λ e. class_first left inner h unread at class_at many (class_goes left) now bs o) (λ e5.
-      cond_goes (NodeGood now bs) (eqb code 0x7C) _ _ (λ e. text_goes left (long_at end) long_goes now bs o) (λ e6.
-      cond_goes (NodeGood now bs) (eqb code 0x7D) _ _ (λ e. proxy_goes left inner h unread now bs o) (λ e7.
-      cond_goes (NodeGood now bs) (eqb code 0x7E) _ _ (λ e. class_first left inner h unread at (enum_at at (inner places.Text unread)) many (enum_goes left at (inner places.Text unread) (step_of left inner h places.Text unread) (desc_as code 0x7E bs r e refl)) now bs o)
-      (λ e8. absurd (code_known code gives e1 e2 e3 e4 e5 e6 e7 e8)))))))))
+      cond_goes bs (NodeGood now bs) (eqb code 0x72) _ _ (λ e. desc_goes left at inner h (desc_as asking code bs r known (inl (coded code 0x72 bs e))) unread now bs o) (λ e1.
+      cond_goes bs (NodeGood now bs) (eqb code 0x73) _ _ (λ e. class_first left inner h unread at (λ o. object_at end at (inner o places.Reference unread)) now bs o full_nodes (λ k after rest is u. object_goes left at (λ o. inner o places.Reference unread) step k after rest u
+      (λ many. many_as asking code bs r known gives (λ front l. inr (record { class = k; later = after; read = class_as k after rest is; that = (coded code 0x73 bs e, many) })))
+      (λ old. stands (Shows end (λ a. Known at a) old_external) (code ∷ bs) r (λ front l. record { asking = asking; known = known; refused = record { class = k; later = after; read = class_as k after rest is; that = (coded code 0x73 bs e, old) } }))
+      (λ own. desc_as asking code bs r known (inr (inl (record { class = k; later = after; read = class_as k after rest is; that = inl (coded code 0x73 bs e, own) })))))) (λ e2.
+      cond_goes bs (NodeGood now bs) (eqb code 0x74) _ _ (λ e. text_goes left (short_at end) short_goes now bs o) (λ e3.
+      cond_goes bs (NodeGood now bs) (eqb code 0x75) _ _ (λ e. class_first left inner h unread at (λ o. array_at end at (inner o places.Reference unread)) now bs o full_nodes (λ k after rest is u. typed_array left at (λ o. inner o places.Reference unread) step k after rest u
+      (λ own. desc_as asking code bs r known (inr (inl (record { class = k; later = after; read = class_as k after rest is; that = inr (inl (coded code 0x75 bs e, own)) })))))) (λ e4.
+      cond_goes bs (NodeGood now bs) (eqb code 0x76) _ _ (λ e. class_first left inner h unread at (λ o. class_at) now bs o full_nodes (λ k after rest is u. class_goes left k after rest u)) (λ e5.
+      cond_goes bs (NodeGood now bs) (eqb code 0x7C) _ _ (λ e. text_goes left (long_at end) long_goes now bs o) (λ e6.
+      cond_goes bs (NodeGood now bs) (eqb code 0x7D) _ _ (λ e. proxy_goes left inner h unread now bs o) (λ e7.
+      cond_goes bs (NodeGood now bs) (eqb code 0x7E) _ _ (λ e. class_first left inner h unread at (λ o. enum_at at (inner o places.Text unread)) now bs o full_nodes (λ k after rest is u. enum_goes left at (λ o. inner o places.Text unread) (step_of left inner h places.Text unread) k after rest u
+      (λ own. desc_as asking code bs r known (inr (inl (record { class = k; later = after; read = class_as k after rest is; that = inr (inr (coded code 0x7E bs e, own)) }))))))
+      (λ e8. absurd (code_known code gives.0 e1 e2 e3 e4 e5 e6 e7 e8)))))))))
+    where
+      coded : (code c : ℕ) (bs : List ℕ) → eqb code c ≡ true → HasByte (λ b. b ≡ c) (code ∷ bs)
+      coded code c bs e = record { byte = code; rest = bs; is = refl; that = eqb-true code c e }
+
+      class_as : (k : ℕ) (after : Progress) (rest : List ℕ) → inner None places.Class unread now bs ≡ Ok (slots.Node k, after, rest) → ReadsClass (start + length whole) (record { left = suc left; place = place; unread = unread; now = now }) (code ∷ bs) k after
+      class_as k after rest is = record { code = code; rest = bs; is = refl; left = left; level = refl; more = rest; read = sym (reads places.Class unread now bs) ∙ is }
+
+      full_nodes : (k : ℕ) (after : Progress) (rest : List ℕ) → inner None places.Class unread now bs ≡ Ok (slots.Node k, after, rest) → 65536 ≤ length whole → 65536 ≤ length after.nodes → FaultStands start whole (too_many ((start + length whole) - length (code ∷ bs)))
+      full_nodes k after rest is all full = many_as (record { left = suc left; place = place; unread = unread; now = now }) code bs r known gives (λ front l. inl (omega arith, inr (record { class = k; later = after; read = class_as k after rest is; that = full })))
 
   -- ---- null and handles
 
-  null_goes : (left : ℕ) (p : Place) (code : ℕ) (now : Progress) (bs : List ℕ) → eqb code 0x70 ≡ true → Here whole left now (code ∷ bs) → Goes start whole (SlotGood p now (code ∷ bs)) (null_at p ((start + length whole) - length (code ∷ bs)) now bs)
+  null_goes : (left : ℕ) (asking : Asking) (p : Place) → p ≡ asking.place → (code : ℕ) (now : Progress) (bs : List ℕ) → eqb code 0x70 ≡ true → Here whole left now (code ∷ bs) → Known ((start + length whole) - length (code ∷ bs)) asking → Goes start whole bs (SlotGood p now (code ∷ bs)) (λ o. null_at p ((start + length whole) - length (code ∷ bs)) now bs)
   unfolding admits_null
-  null_goes left places.Reference code now bs e w = (after_code {A = Slot} left code now bs (Ok (slots.Null, now, bs)) w (λ v. none_grown left now bs v), tt)
-  null_goes left places.Parent code now bs e w = (after_code {A = Slot} left code now bs (Ok (slots.Null, now, bs)) w (λ v. none_grown left now bs v), tt)
-  null_goes left places.Class code now bs e w = coded_as IsNoCode code bs w.rest (subst (λ k. IsNoCode k) (sym (eqb-true code 0x70 e)) (places.Class, refl, eqb-false 0x70 0x79 refl, eqb-false 0x70 0x7B refl))
-  null_goes left places.Text code now bs e w = coded_as IsNoCode code bs w.rest (subst (λ k. IsNoCode k) (sym (eqb-true code 0x70 e)) (places.Text, refl, eqb-false 0x70 0x79 refl, eqb-false 0x70 0x7B refl))
+  null_goes left asking places.Reference same code now bs e w known = weaker bs (Good now (code ∷ bs)) (SlotGood places.Reference now (code ∷ bs)) _ (λ x q. (q, tt)) (after_code {A = Slot} left code now bs (λ o. Ok (slots.Null, now, bs)) w (λ v. none_goes left now bs v))
+  null_goes left asking places.Parent same code now bs e w known = weaker bs (Good now (code ∷ bs)) (SlotGood places.Parent now (code ∷ bs)) _ (λ x q. (q, tt)) (after_code {A = Slot} left code now bs (λ o. Ok (slots.Null, now, bs)) w (λ v. none_goes left now bs v))
+  null_goes left asking places.Class same code now bs e w known = fails bs (SlotGood places.Class now (code ∷ bs)) _ (coded_as asking (λ a c. IsNoCode a.place c) code bs w.rest known (subst (λ q. IsNoCode q code) same (subst (λ k. IsNoCode places.Class k) (sym (eqb-true code 0x70 e)) (refl, eqb-false 0x70 0x79 refl, eqb-false 0x70 0x7B refl))))
+  null_goes left asking places.Text same code now bs e w known = fails bs (SlotGood places.Text now (code ∷ bs)) _ (coded_as asking (λ a c. IsNoCode a.place c) code bs w.rest known (subst (λ q. IsNoCode q code) same (subst (λ k. IsNoCode places.Text k) (sym (eqb-true code 0x70 e)) (refl, eqb-false 0x70 0x79 refl, eqb-false 0x70 0x7B refl))))
 
   node_taken : (p : Place) (s : Slot) → IsNode s → Taken p s
   node_taken places.Reference s h = tt
@@ -558,38 +677,53 @@ module _ (start : ℕ) (whole : List ℕ) where
   node_taken places.Parent s h = tt
   node_taken places.Text s h = tt
 
-  desc_kinds : (unread desc : Bool) (at : ℕ) → FaultStands start whole (bad bad_desc at) → FaultStands start whole (bad wrong_handle_kind at) → (k : Kind) → cond unread (Some bad_desc) (cond desc None (Some wrong_handle_kind)) ≡ Some k → FaultStands start whole (bad k at)
-  desc_kinds true desc at own wrong k e = kind_is bad_desc k at e own
+  -- why a description's place refuses a node
+  desc_kinds : (unread desc : Bool) (at : ℕ) → (unread ≡ true → FaultStands start whole (bad bad_desc at)) → (desc ≡ false → FaultStands start whole (bad wrong_handle_kind at)) → (k : Kind) → cond unread (Some bad_desc) (cond desc None (Some wrong_handle_kind)) ≡ Some k → FaultStands start whole (bad k at)
+  desc_kinds true desc at own wrong k e = kind_is bad_desc k at e (own refl)
   desc_kinds false true at own wrong k e = absurd cc
-  desc_kinds false false at own wrong k e = kind_is wrong_handle_kind k at e wrong
+  desc_kinds false false at own wrong k e = kind_is wrong_handle_kind k at e (wrong refl)
 
-  handle_kinds : (p : Place) (unread : Bool) (o : Option Node) (at : ℕ) → FaultStands start whole (bad bad_handle at) → FaultStands start whole (bad bad_desc at) → ((i : Node) → o ≡ Some i → FaultStands start whole (bad wrong_handle_kind at))
+  handle_kinds : (p : Place) (unread : Bool) (o : Option Node) (at : ℕ) → (o ≡ None → FaultStands start whole (bad bad_handle at))
+      → ((i : Node) → o ≡ Some i → unread ≡ true → (p ≡ places.Class) ⊎ (p ≡ places.Parent) → FaultStands start whole (bad bad_desc at)) → ((i : Node) → o ≡ Some i → admits p i ≡ false → FaultStands start whole (bad wrong_handle_kind at))
       → (k : Kind) → handle_fault p unread o ≡ Some k → FaultStands start whole (bad k at)
-  handle_kinds p unread None at none own wrong k e = kind_is bad_handle k at e none
+  unfolding admits
+  handle_kinds p unread None at none own wrong k e = kind_is bad_handle k at e (none refl)
   handle_kinds places.Reference unread (Some i) at none own wrong k e = absurd cc
   handle_kinds places.Text unread (Some i) at none own wrong k e = elim (chosen (is_text i) _ _ _ e) [
     | inl p ↦ absurd (let no_kind : None ≡ Some k = p.1 in cc)
-    | inr p ↦ kind_is wrong_handle_kind k at p.1 (wrong i refl)
+    | inr p ↦ kind_is wrong_handle_kind k at p.1 (wrong i refl p.0)
   ]
-  handle_kinds places.Class unread (Some i) at none own wrong k e = desc_kinds unread (is_desc i) at own (wrong i refl) k e
-  handle_kinds places.Parent unread (Some i) at none own wrong k e = desc_kinds unread (is_desc i) at own (wrong i refl) k e
+  handle_kinds places.Class unread (Some i) at none own wrong k e = desc_kinds unread (is_desc i) at (λ u. own i refl u (inl refl)) (λ n. wrong i refl n) k e
+  handle_kinds places.Parent unread (Some i) at none own wrong k e = desc_kinds unread (is_desc i) at (λ u. own i refl u (inr refl)) (λ n. wrong i refl n) k e
 
-  named_as : (holds : List ℕ → ℕ → Type 0) (code : ℕ) (bs : List ℕ) (x : ℕ × List ℕ) → Rest whole (code ∷ bs) → eqb code 0x71 ≡ true → Numbered w32 bs x → ((front : List ℕ) → length whole ≡ length front + suc (length bs) → holds front x.0) → StandsAt start whole ((start + length whole) - length (code ∷ bs)) (λ front here. NamesHandle (holds front) here)
-  named_as holds code bs x r e q h = stands (λ front here. NamesHandle (holds front) here) (code ∷ bs) r (λ front l. record { rest = bs; is = ap (λ k. k ∷ bs) (eqb-true code 0x71 e); handle = x.0; number = has_number w32 bs x q; that = h front l })
+  named_as : (asking : Asking) (holds : Asking → List ℕ → ℕ → Type 0) (code : ℕ) (bs : List ℕ) (x : ℕ × List ℕ) → Rest whole (code ∷ bs) → Known ((start + length whole) - length (code ∷ bs)) asking → eqb code 0x71 ≡ true → Numbered w32 bs x → ((front : List ℕ) → length whole ≡ length front + suc (length bs) → holds asking front x.0)
+      → StandsAt start whole ((start + length whole) - length (code ∷ bs)) (λ front here. IsRefused (λ a. Known ((start + length whole) - length (code ∷ bs)) a) (λ a. NamesHandle (λ h. holds a front h) here))
+  named_as asking holds code bs x r known e q h = stands (λ front here. IsRefused (λ a. Known ((start + length whole) - length (code ∷ bs)) a) (λ a. NamesHandle (λ h. holds a front h) here)) (code ∷ bs) r (λ front l. record { asking = asking; known = known; refused = record { rest = bs; is = ap (λ k. k ∷ bs) (eqb-true code 0x71 e); handle = x.0; number = has_number w32 bs x q; that = h front l } })
 
-  is_of_desc : IsOfDesc 0x71
-  unfolding has
-  is_of_desc = refl
+  -- the number of a node, of its handle
+  handle_of : (h : ℕ) → ltb h 0x7E0000 ≡ false → h ≡ 0x7E0000 + (h - 0x7E0000)
+  handle_of h high = let low : 0x7E0000 ≤ h = ltb-false h 0x7E0000 high in omega arith
 
-  handle_goes : (left : ℕ) (p : Place) (unread : List ℕ) (code : ℕ) (now : Progress) (bs : List ℕ) → eqb code 0x71 ≡ true → Here whole left now (code ∷ bs) → Goes start whole (SlotGood p now (code ∷ bs)) (handle_at p unread ((start + length whole) - length (code ∷ bs)) now bs)
+  beyond : (nodes : List Node) (k : ℕ) → slice_get nodes k ≡ None → length nodes ≤ k
+  beyond [] k e = omega arith
+  beyond (i ∷ nodes) zero e = absurd cc
+  beyond (i ∷ nodes) (suc k) e = let l = beyond nodes k e in omega arith
+
+  handle_goes : (left : ℕ) (p : Place) (unread : List ℕ) (code : ℕ) (now : Progress) (bs : List ℕ) → eqb code 0x71 ≡ true → Here whole left now (code ∷ bs) → Known ((start + length whole) - length (code ∷ bs)) (record { left = left; place = p; unread = unread; now = now }) → Goes start whole bs (SlotGood p now (code ∷ bs)) (λ o. handle_at p unread ((start + length whole) - length (code ∷ bs)) now bs)
   unfolding handle_at
-  handle_goes left p unread code now bs e w =
+  handle_goes left p unread code now bs e w known =
       let at = (start + length whole) - length (code ∷ bs) in
-      then_goes (Numbered w32 bs) (SlotGood p now (code ∷ bs)) (number_at w32 bs) _ (number_told w32 bs) (λ x q.
-      cond_goes (SlotGood p now (code ∷ bs)) (ltb x.0 0x7E0000) _ _ (λ low. named_as (λ front h. Unit {0}) code bs x w.rest e q (λ front l. tt)) (λ high.
-      unless_goes (SlotGood p now (code ∷ bs)) (handle_fault p (has unread (x.0 - 0x7E0000)) (slice_get now.nodes (x.0 - 0x7E0000))) at _
-      (handle_kinds p (has unread (x.0 - 0x7E0000)) (slice_get now.nodes (x.0 - 0x7E0000)) at (named_as (λ front h. Unit {0}) code bs x w.rest e q (λ front l. tt)) (desc_as code 0x71 bs w.rest e is_of_desc) (λ i is. named_as IsGiven code bs x w.rest e q (given x.0 i high is)))
-      (after_code left code now bs (Ok (x.0, now, x.1)) w (λ v. bytes_then left now bs v (Ok x) (λ y. Ok (y.0, now, y.1)) (q.0, q.1) (λ y u. none_grown left now y.1 u)), node_taken p (slots.Node (x.0 - 0x7E0000)) tt)))
+      let asking : Asking = record { left = left; place = p; unread = unread; now = now } in
+      told_with bs (Numbered w32 bs) (SlotGood p now (code ∷ bs)) (number_at w32 bs) _ (λ x q. (q.0, q.1)) (number_told w32 bs) (λ x q.
+      cond_goes x.1 (SlotGood p now (code ∷ bs)) (ltb x.0 0x7E0000) _ _
+      (λ low. fails x.1 (SlotGood p now (code ∷ bs)) _ (named_as asking (λ a front h. IsNotGiven a h) code bs x w.rest known e q (λ front l. inl (ltb-true x.0 0x7E0000 low)))) (λ high.
+      let h : x.0 ≡ 0x7E0000 + (x.0 - 0x7E0000) = handle_of x.0 high in
+      unless_goes x.1 (SlotGood p now (code ∷ bs)) (handle_fault p (has unread (x.0 - 0x7E0000)) (slice_get now.nodes (x.0 - 0x7E0000))) at _
+      (handle_kinds p (has unread (x.0 - 0x7E0000)) (slice_get now.nodes (x.0 - 0x7E0000)) at
+      (λ none. named_as asking (λ a front h. IsNotGiven a h) code bs x w.rest known e q (λ front l. inr (let far = beyond now.nodes (x.0 - 0x7E0000) none in omega arith)))
+      (λ i is u place. desc_named asking code bs x w.rest known e q (record { number = x.0 - 0x7E0000; node = i; handle = h; given = is; unread = u; wanted = place }))
+      (λ i is wrong. named_as asking (λ a front h. IsGiven front h × IsOfWrongKind a h) code bs x w.rest known e q (λ front l. (given x.0 i high is front l, record { number = x.0 - 0x7E0000; node = i; handle = h; given = is; wrong = wrong }))))
+      (done x.1 (SlotGood p now (code ∷ bs)) (slots.Node (x.0 - 0x7E0000), now, x.1) (named q, node_taken p (slots.Node (x.0 - 0x7E0000)) tt) (omega arith))))
     where
       given : (h : ℕ) (i : Node) → ltb h 0x7E0000 ≡ false → slice_get now.nodes (h - 0x7E0000) ≡ Some i → (front : List ℕ) → length whole ≡ length front + suc (length bs) → IsGiven front h
       given h i high is front l =
@@ -598,6 +732,12 @@ module _ (start : ℕ) (whole : List ℕ) where
           let few = w.few in
           let c = w.count in
           (low, omega arith, omega arith)
+
+      desc_named : (asking : Asking) (code : ℕ) (bs : List ℕ) (x : ℕ × List ℕ) → Rest whole (code ∷ bs) → Known ((start + length whole) - length (code ∷ bs)) asking → eqb code 0x71 ≡ true → Numbered w32 bs x → IsUnread asking x.0 → FaultStands start whole (bad bad_desc ((start + length whole) - length (code ∷ bs)))
+      desc_named asking code bs x r known e q h = stands (Shows (start + length whole) (λ a. Known ((start + length whole) - length (code ∷ bs)) a) bad_desc) (code ∷ bs) r (λ front l. record { asking = asking; known = known; refused = inr (inr (record { rest = bs; is = ap (λ k. k ∷ bs) (eqb-true code 0x71 e); handle = x.0; number = has_number w32 bs x q; that = h })) })
+
+      named : {x : ℕ × List ℕ} → Numbered w32 bs x → Grown whole (length (code ∷ bs)) (length now.nodes + length (code ∷ bs)) now x.1
+      named {x} q = read_then now (code ∷ bs) bs now x.1 (code ∷ [], refl) (read_then now bs x.1 now x.1 (q.0, q.1) (none_grown left now x.1 (on left now bs x.1 (on left now (code ∷ bs) bs w (code ∷ [], refl)) (q.0, q.1))))
 
   -- ---- any reference
 
@@ -616,78 +756,135 @@ module _ (start : ℕ) (whole : List ℕ) where
     | inr e ↦ subst (λ k. gives_handle k ≡ true) (sym (eqb-true c 0x7C e)) refl
   ]
 
-  refused : (p : Place) (code : ℕ) (bs : List ℕ) → Rest whole (code ∷ bs) → eqb code 0x70 ≡ false → eqb code 0x71 ≡ false → admits_code p code ≡ false → FaultStands start whole (bad (code_fault code) ((start + length whole) - length (code ∷ bs)))
-  refused p code bs r e0 e1 other = go (eqb code 0x79) (eqb code 0x7B) refl refl
+  refused : (asking : Asking) (code : ℕ) (bs : List ℕ) → Rest whole (code ∷ bs) → Known ((start + length whole) - length (code ∷ bs)) asking → eqb code 0x70 ≡ false → eqb code 0x71 ≡ false → admits_code asking.place code ≡ false → FaultStands start whole (bad (code_fault code) ((start + length whole) - length (code ∷ bs)))
+  refused asking code bs r known e0 e1 other = go (eqb code 0x79) (eqb code 0x7B) refl refl
     where
       go : (a b : Bool) → eqb code 0x79 ≡ a → eqb code 0x7B ≡ b → FaultStands start whole (bad (cond a reset (cond b inner_exception bad_code)) ((start + length whole) - length (code ∷ bs)))
-      go true b f g = coded_as (λ c. c ≡ 0x79) code bs r (eqb-true code 0x79 f)
-      go false true f g = coded_as (λ c. c ≡ 0x7B) code bs r (eqb-true code 0x7B g)
-      go false false f g = coded_as IsNoCode code bs r (p, rw (e0, e1, other) refl, eqb-false code 0x79 f, eqb-false code 0x7B g)
+      go true b f g = coded_as asking (λ a c. c ≡ 0x79) code bs r known (eqb-true code 0x79 f)
+      go false true f g = coded_as asking (λ a c. c ≡ 0x7B) code bs r known (eqb-true code 0x7B g)
+      go false false f g = coded_as asking (λ a c. IsNoCode a.place c) code bs r known (rw (e0, e1, other) refl, eqb-false code 0x79 f, eqb-false code 0x7B g)
 
-  deep_goes : {A : Type 0} (Q : A → Type 0) (left at : ℕ) (r : Result A Fault) → (left ≡ 0 → FaultStands start whole (too_deep at)) → Goes start whole Q r → Goes start whole Q (deep left at r)
-  deep_goes Q zero at r h g = h refl
-  deep_goes Q (suc left) at r h g = g
+  deep_goes : {A : Type 0} (bs : List ℕ) (Q : A × Progress × List ℕ → Type 0) (left at : ℕ) (r : Reads A) → (left ≡ 0 → FaultStands start whole (too_deep at)) → ((n : ℕ) → left ≡ suc n → Goes start whole bs Q r) → Goes start whole bs Q (λ o. deep left at (r o))
+  deep_goes bs Q zero at r h g = fails bs Q (too_deep at) (h refl)
+  deep_goes bs Q (suc left) at r h g = g left refl
 
-  -- `inside` levels may still begin inside
-  coded_goes : (left inside : ℕ) (inner : Slots) → left ≤ suc inside → SlotsGo inside inner → (p : Place) (unread : List ℕ) (code : ℕ) (now : Progress) (bs : List ℕ) → Here whole left now (code ∷ bs)
-      → Goes start whole (SlotGood p now (code ∷ bs)) (coded (start + length whole) left inner p unread ((start + length whole) - length (code ∷ bs)) code now bs)
+  -- inside, `inside` levels may still begin, unless none may here
+  record Deeper (left inside : ℕ) (inner : Option Stop → Slots) : Type 0 where
+    level : (n : ℕ) → left ≡ suc n → left ≡ suc inside
+    reads : (n : ℕ) → left ≡ suc n → (p : Place) (unread : List ℕ) (now : Progress) (bs : List ℕ) → inner None p unread now bs ≡ slot_at (start + length whole) inside p unread now bs
+
+  coded_goes : (left inside : ℕ) (inner : Option Stop → Slots) → Deeper left inside inner → SlotsGo inside inner → (p : Place) (unread : List ℕ) (code : ℕ) (now : Progress) (bs : List ℕ) → Here whole left now (code ∷ bs)
+      → Known ((start + length whole) - length (code ∷ bs)) (record { left = left; place = p; unread = unread; now = now })
+      → Goes start whole bs (SlotGood p now (code ∷ bs)) (λ o. coded (start + length whole) left (inner o) p unread ((start + length whole) - length (code ∷ bs)) code now bs)
   unfolding coded
-  coded_goes left inside inner le h p unread code now bs w =
+  coded_goes left inside inner d h p unread code now bs w known =
       let end = start + length whole in
       let at = end - length (code ∷ bs) in
+      let asking : Asking = record { left = left; place = p; unread = unread; now = now } in
       let c = w.count in
       let v = w.level in
-      cond_goes (SlotGood p now (code ∷ bs)) (eqb code 0x70) _ _ (λ e. null_goes left p code now bs e w) (λ e0.
-      cond_goes (SlotGood p now (code ∷ bs)) (eqb code 0x71) _ _ (λ e. handle_goes left p unread code now bs e w) (λ e1.
-      cond_goes (SlotGood p now (code ∷ bs)) (admits_code p code) _ _ (λ e. (
-      let gives = admitted_gives p code e in
+      cond_goes bs (SlotGood p now (code ∷ bs)) (eqb code 0x70) _ _ (λ e. null_goes left asking p refl code now bs e w known) (λ e0.
+      cond_goes bs (SlotGood p now (code ∷ bs)) (eqb code 0x71) _ _ (λ e. handle_goes left p unread code now bs e w known) (λ e1.
+      cond_goes bs (SlotGood p now (code ∷ bs)) (admits_code p code) _ _ (λ e. (
+      let gives : IsConstruct p code = (admitted_gives p code e, e) in
+      deep_goes bs (SlotGood p now (code ∷ bs)) left at (λ o. roomy now at (fresh_at end at (inner o) unread code now bs))
+      (λ none. stands (IsTooDeep (λ a. Known at a)) (code ∷ bs) w.rest (λ front l. record { asking = asking; known = known; refused = (record { byte = code; rest = bs; is = refl; that = gives }, none, omega arith) })) (λ n some.
+      let same : left ≡ suc inside = d.level n some in
       let here : Here whole inside now bs = record { rest = tail_of code bs w.rest; few = w.few; count = omega arith; level = omega arith } in
-      deep_goes (SlotGood p now (code ∷ bs)) left at (roomy now at (fresh_at end at inner unread code now bs)) (λ none. stands IsTooDeep (code ∷ bs) w.rest (λ front l. (record { byte = code; rest = bs; is = refl; that = gives }, omega arith))) (
-      cond_goes (SlotGood p now (code ∷ bs)) (ltb (length now.nodes) 65536) _ _
-      (λ room. weaker (NodeGood now bs) (SlotGood p now (code ∷ bs)) (fresh_at end at inner unread code now bs) (λ x q. (within (length bs) (suc (length bs)) (suc (length now.nodes + length bs)) (length now.nodes + suc (length bs)) x.1 x.2 (omega arith) (omega arith) q.0, node_taken p x.0 q.1))
-      (fresh_goes inside inner h unread code now bs gives (nodes_as code bs w.rest gives) (record { here = here; room = ltb-true (length now.nodes) 65536 room; space = c }) w.rest))
-      (λ full. nodes_as code bs w.rest gives (let most : 65536 ≤ length now.nodes = ltb-false (length now.nodes) 65536 full in omega arith)))))
-      (λ other. refused p code bs w.rest e0 e1 other)))
+      let deeper : Known at (record { left = suc inside; place = p; unread = unread; now = now }) = subst (λ k. Known at (record { left = k; place = p; unread = unread; now = now })) same known in
+      cond_goes bs (SlotGood p now (code ∷ bs)) (ltb (length now.nodes) 65536) (λ o. fresh_at end at (inner o) unread code now bs) (λ o. Err (too_many at))
+      (λ room. weaker bs (NodeGood now bs) (SlotGood p now (code ∷ bs)) (λ o. fresh_at end at (inner o) unread code now bs) (λ x q. (within (length bs) (suc (length bs)) (suc (length now.nodes + length bs)) (length now.nodes + suc (length bs)) x.1 x.2 (omega arith) (omega arith) q.0, node_taken p x.0 q.1))
+      (fresh_goes p inside inner (d.reads n some) h unread code now bs gives (record { here = here; room = ltb-true (length now.nodes) 65536 room; space = c }) w.rest deeper))
+      (λ full. fails bs (SlotGood p now (code ∷ bs)) (too_many at) (let most : 65536 ≤ length now.nodes = ltb-false (length now.nodes) 65536 full in many_as asking code bs w.rest known gives (λ front l. inl (omega arith, inl most)))))))
+      (λ other. fails bs (SlotGood p now (code ∷ bs)) _ (refused asking code bs w.rest known e0 e1 other))))
 
-  slots_go : (left : ℕ) → SlotsGo left (slot_at (start + length whole) left)
-  unfolding slot_at
-  slots_go zero p unread now [] w = tt
-  slots_go zero p unread now (c ∷ bs) w = coded_goes zero zero no_slots (omega arith) (λ p unread now bs w. tt) p unread c now bs w
-  slots_go (suc left) p unread now [] w = tt
-  slots_go (suc left) p unread now (c ∷ bs) w = coded_goes (suc left) left (slot_at (start + length whole) left) (omega arith) (slots_go left) p unread c now bs w
+  -- ---- the reference at a position, with or without a stop
+
+  -- a stop that is behind is not met
+  not_met : (c : ℕ) (bs : List ℕ) (position : ℕ) → Rest whole (c ∷ bs) → (start + length whole) - length bs ≤ position → eqb ((start + length whole) - length (c ∷ bs)) position ≡ false
+  not_met c bs position r le = let l = shorter r.0 whole (c ∷ bs) r.1 in ne_eqb _ _ (λ same. omega arith)
+
+  -- `one` is a reference's step from its first byte on, and `two` what comes after that byte
+  met_goes : {A : Type 0} (asking : Asking) (c : ℕ) (bs : List ℕ) (Q : A × Progress × List ℕ → Type 0) (one two : Reads A) → Rest whole (c ∷ bs) → one None ≡ two None
+      → ((t : Stop) → one (Some t) ≡ cond (eqb ((start + length whole) - length (c ∷ bs)) t.position) (Err (t.fault asking)) (two (Some t)))
+      → (Known ((start + length whole) - length (c ∷ bs)) asking → Goes start whole bs Q two) → Goes start whole (c ∷ bs) Q one
+  met_goes asking c bs Q one two r none some g = record { run = λ comes. subst (λ y. Ends start whole (c ∷ bs) Q one y) (sym none) (go (two None) ((g (met comes)).run (passes comes))) }
+    where
+      met : Comes (start + length whole) whole (c ∷ bs) one → Known ((start + length whole) - length (c ∷ bs)) asking
+      met comes fault =
+          let at = (start + length whole) - length (c ∷ bs) in
+          let t : Stop = record { position = at; fault = fault } in
+          comes t (fault asking) (omega arith) (some t ∙ rw (eqb_same at) refl)
+
+      passed : (t : Stop) → (start + length whole) - length bs ≤ t.position → one (Some t) ≡ two (Some t)
+      passed t le = some t ∙ rw (not_met c bs t.position r le) refl
+
+      passes : Comes (start + length whole) whole (c ∷ bs) one → Comes (start + length whole) whole bs two
+      passes comes t e le is = comes t e (omega arith) (passed t le ∙ is)
+
+      go : (y : Result _ Fault) → Ends start whole bs Q two y → Ends start whole (c ∷ bs) Q one y
+      go (Ok x) k = let less = k.less in record { that = k.that; less = omega arith; same = λ t le. passed t (omega arith) ∙ k.same t le }
+      go (Err e) k = k
+
+  slots_go : (left : ℕ) → SlotsGo left (slots_of (start + length whole) left)
+  unfolding slot_at slot_but
+  slots_go zero p unread now [] w = record { run = λ comes. tt }
+  slots_go zero p unread now (c ∷ bs) w = met_goes (record { left = zero; place = p; unread = unread; now = now }) c bs (SlotGood p now (c ∷ bs)) _ (λ o. coded (start + length whole) zero no_slots p unread ((start + length whole) - length (c ∷ bs)) c now bs) w.rest refl (λ t. refl) (λ known. coded_goes zero zero (λ o. no_slots) (record { level = λ n e. absurd (omega arith); reads = λ n e. absurd (omega arith) }) (λ p unread now bs w. fails bs (SlotGood p now bs) short tt) p unread c now bs w known)
+  slots_go (suc left) p unread now [] w = record { run = λ comes. tt }
+  slots_go (suc left) p unread now (c ∷ bs) w = met_goes (record { left = suc left; place = p; unread = unread; now = now }) c bs (SlotGood p now (c ∷ bs)) _ (λ o. coded (start + length whole) (suc left) (slots_of (start + length whole) left o) p unread ((start + length whole) - length (c ∷ bs)) c now bs) w.rest refl (λ t. refl) (λ known. coded_goes (suc left) left (slots_of (start + length whole) left) (record { level = λ n e. refl; reads = λ n e p unread now bs. refl }) (slots_go left) p unread c now bs w known)
 
   -- ---- a whole stream
 
-  magic_goes : (ws done bs : List ℕ) → 0xAC ∷ 0xED ∷ 0x00 ∷ 0x05 ∷ [] ≡ done ++ ws → whole ≡ done ++ bs → Goes start whole (Rest whole) (magic_at (start + length whole) ws bs)
+  magic_told : (ws seen bs : List ℕ) → 0xAC ∷ 0xED ∷ 0x00 ∷ 0x05 ∷ [] ≡ seen ++ ws → whole ≡ seen ++ bs → Told start whole (Rest whole) (magic_at (start + length whole) ws bs)
   unfolding magic_at
-  magic_goes [] done bs e w = (done, w)
-  magic_goes (x ∷ ws) done [] e w = tt
-  magic_goes (x ∷ ws) done (b ∷ bs) e w =
-      cond_goes (Rest whole) (eqb b x) _ _
-      (λ same. magic_goes ws (done ++ x ∷ []) bs (e ∙ sym (append_assoc done (x ∷ []) ws)) (w ∙ (ap (λ k. done ++ k ∷ bs) (eqb-true b x same) ∙ sym (append_assoc done (x ∷ []) bs))))
-      (λ no. record { front = done; here = b ∷ bs; parts = w; place = placed done (b ∷ bs) w; shown = record { byte = b; rest = bs; is = refl; wanted = x; others = ws; head = e; differs = eqb-false b x no } })
+  magic_told [] seen bs e w = (seen, w)
+  magic_told (x ∷ ws) seen [] e w = tt
+  magic_told (x ∷ ws) seen (b ∷ bs) e w =
+      cond_told (Rest whole) (eqb b x) _ _
+      (λ same. magic_told ws (seen ++ x ∷ []) bs (e ∙ sym (append_assoc seen (x ∷ []) ws)) (w ∙ (ap (λ k. seen ++ k ∷ bs) (eqb-true b x same) ∙ sym (append_assoc seen (x ∷ []) bs))))
+      (λ no. record { front = seen; here = b ∷ bs; parts = w; place = placed seen (b ∷ bs) w; shown = record { byte = b; rest = bs; is = refl; wanted = x; others = ws; head = e; differs = eqb-false b x no } })
 
-  abbrev Read : List Node × List Item → Type 0
-  Read x = Unit {0}
+  abbrev of_stream : List Item × Progress × List ℕ → Result (List Node × List Item) Fault
+  of_stream x = Ok (x.1.nodes, x.0)
+
+  abbrev first_step : Steps (List Item)
+  first_step o = items_at (start + length whole) (slots_of (start + length whole) 200 o places.Reference []) false
 
   at_start : (bs : List ℕ) → Rest whole bs → Here whole 200 (record { nodes = []; parts = 0 }) bs
   at_start bs r = let l = shorter r.0 whole bs r.1 in record { rest = r; few = omega arith; count = omega arith; level = omega arith }
 
-  whole_goes : Goes start whole Read (stream_from (start + length whole) whole)
-  whole_goes =
-      then_goes (Rest whole) Read (magic_at (start + length whole) (0xAC ∷ 0xED ∷ 0x00 ∷ 0x05 ∷ []) whole) _ (magic_goes (0xAC ∷ 0xED ∷ 0x00 ∷ 0x05 ∷ []) [] whole refl refl) (λ bs r.
-      then_goes (Good (record { nodes = []; parts = 0 }) bs) Read (items_at (start + length whole) (slot_at (start + length whole) 200 places.Reference []) false (record { nodes = []; parts = 0 }) bs) _
-      (items_goes 200 (slot_at (start + length whole) 200 places.Reference []) (step_of 200 (slot_at (start + length whole) 200) (slots_go 200) places.Reference []) false (record { nodes = []; parts = 0 }) bs (at_start bs r)) (λ x q. tt))
+  -- what is read behind the version
+  body_goes : (bs : List ℕ) → Rest whole bs → Goes start whole bs (Good (record { nodes = []; parts = 0 }) bs) (λ o. first_step o (record { nodes = []; parts = 0 }) bs)
+  body_goes bs r = items_goes 200 (λ o. slots_of (start + length whole) 200 o places.Reference []) (step_of 200 (slots_of (start + length whole) 200) (slots_go 200) places.Reference []) false (record { nodes = []; parts = 0 }) bs (at_start bs r)
 
-  stood : {A : Type 0} (Q : A → Type 0) (r : Result A Fault) (f : Fault) → Goes start whole Q r → r ≡ Err f → FaultStands start whole f
-  stood Q (Ok x) f h e = absurd cc
-  stood Q (Err g) f h e = let same : g ≡ f = cc in subst (λ (x : Fault). FaultStands start whole x) same h
+  body_comes : (bs : List ℕ) → magic_at (start + length whole) (0xAC ∷ 0xED ∷ 0x00 ∷ 0x05 ∷ []) whole ≡ Ok bs → Comes (start + length whole) whole bs (λ o. first_step o (record { nodes = []; parts = 0 }) bs)
+  unfolding stream_but
+  body_comes bs e t f le is = rw (e, is) refl
 
   -- Where reading these bytes, from a position on, answers a fault, it stands in them.
-  pub stands_from : (f : Fault) → (stream_from (start + length whole) whole) ≡ Err f → FaultStands start whole f
-  stands_from f e = stood Read (stream_from (start + length whole) whole) f whole_goes e
+  pub stands_from : (f : Fault) → stream_from (start + length whole) whole ≡ Err f → FaultStands start whole f
+  stands_from f = by (magic_at (start + length whole) (0xAC ∷ 0xED ∷ 0x00 ∷ 0x05 ∷ []) whole) refl (magic_told (0xAC ∷ 0xED ∷ 0x00 ∷ 0x05 ∷ []) [] whole refl refl)
+    where
+      stood : (bs : List ℕ) (y : Result (List Item × Progress × List ℕ) Fault) → Ends start whole bs (Good (record { nodes = []; parts = 0 }) bs) (λ o. first_step o (record { nodes = []; parts = 0 }) bs) y → (y >>= of_stream) ≡ Err f → FaultStands start whole f
+      stood bs (Ok x) h e = absurd cc
+      stood bs (Err g) h e = let same : g ≡ f = cc in subst (λ (x : Fault). FaultStands start whole x) same h
+
+      by : (m : Result (List ℕ) Fault) → magic_at (start + length whole) (0xAC ∷ 0xED ∷ 0x00 ∷ 0x05 ∷ []) whole ≡ m → Told start whole (Rest whole) m → (m >>= λ bs. first_step None (record { nodes = []; parts = 0 }) bs >>= of_stream) ≡ Err f → FaultStands start whole f
+      by (Ok bs) e r is = stood bs (first_step None (record { nodes = []; parts = 0 }) bs) ((body_goes bs r).run (body_comes bs e)) is
+      by (Err g) e h is = let same : g ≡ f = cc in subst (λ (x : Fault). FaultStands start whole x) same h
 
 -- Each fault stands in the bytes.
 pub faults_stand : (bytes : List ℕ) (f : Fault) → stream_of bytes ≡ Err f → FaultStands 0 bytes f
 unfolding stream_of
 faults_stand bytes f e = let end : 0 + length bytes ≡ length bytes = omega arith in stands_from 0 bytes f (ap (λ k. stream_from k bytes) end ∙ e)
+
+abbrev failed : Fault → Result (List Node × List Item) Fault
+failed f = Err f
+
+-- What is known of the reference at a position is one.
+pub comes_to_one : (end : ℕ) (bytes : List ℕ) (position : ℕ) (asking other : Asking) → ComesTo end bytes position asking → ComesTo end bytes position other → (number : Asking → ℕ) → number asking ≡ number other
+comes_to_one end bytes position asking other h g number =
+    let one = h (λ a. too_many (number a)) in
+    let two = g (λ a. too_many (number a)) in
+    let same : failed (too_many (number asking)) ≡ failed (too_many (number other)) = sym one ∙ two in
+    cc

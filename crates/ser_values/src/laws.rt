@@ -1,6 +1,6 @@
 //! Laws of streams and graphs, for those who read contracts: these functions do nothing.
 ghost use Rattle.ser_values.specs.Chain.{HavePartsByChain};
-ghost use Rattle.ser_values.specs.Faults.{FaultsStand};
+ghost use Rattle.ser_values.specs.Faults.{ComesToOne, FaultsStand};
 ghost use Rattle.ser_values.specs.Laws.{HaveOneReading, HaveNoFronts, AreOfGraphs, AreRead};
 
 /// Bytes are a stream of at most one graph.
@@ -23,10 +23,17 @@ pub fn streams_are_read()
     ensures { AreRead }
 {}
 
-/// Where reading answers a fault, the bytes show it at its position: the byte that differs from the magic number, a byte that
-/// is no code of its place, a handle, a number whose highest bit is set, a spelling that is none, or a construct's code.
+/// Where reading answers a fault, the bytes show it at its position: the byte that differs from the magic number, a number whose
+/// highest bit is set, a spelling that is none; or a reference to which reading comes, with so many handles given, which is refused:
+/// a byte that begins none of its place, a handle that was not given, that of a node that the place does not take, that of a
+/// description that is unread, or a construct whose class has none such, or past the limits.
 pub fn faults_stand_in_bytes()
     ensures { FaultsStand }
+{}
+
+/// What reading knows of the reference at a position, as how many handles were given, is one.
+pub fn reading_comes_to_one()
+    ensures { ComesToOne }
 {}
 
 /// An object has a part for each description of its class's chain, unless its class is externalizable.
