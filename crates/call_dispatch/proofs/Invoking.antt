@@ -1,5 +1,5 @@
 -- How often a Call is invoked.
-use Rattle.std.proofs.Common.{◌≡◌, ℕ, List, [], ◌∷◌, ◌++◌, Result, Ok, Err, refl, ap, sym, subst, ◌∙◌}
+use Rattle.std.proofs.Common.{◌≡◌, ℕ, ◌+◌, ◌⊎◌, inl, inr, List, [], ◌∷◌, ◌++◌, map, Option, Result, Ok, Err, refl, ap, sym, subst, ◌∙◌, append_assoc, append-nil}
 use Rattle.std.specs.List.{flat_map}
 use Rattle.std.proofs.lemmas.Grind.{flat_map-append}
 use Rattle.object_ids.specs.declared.ids.ObjId.{ObjId}
@@ -12,9 +12,25 @@ use Rattle.history.specs.declared.replies.Refused.TheVariants.{HistoryFull, Full
 use Rattle.jrmp_frames.specs.declared.head.CallHead.{CallHead}
 use Rattle.call_dispatch.specs.declared.book.Kind.{Kind}
 use Rattle.call_dispatch.specs.declared.outcome.Invocation.{Invocation}
-use Rattle.call_dispatch.specs.Acts.{Act, calls, invocations, tells_of, acts_of, abandoned}
+use Rattle.space.specs.declared.asked.Asked.{Asked}
+use Rattle.space.specs.declared.asked.AskedEnd.{AskedEnd}
+use Rattle.space.specs.declared.asked.AskedEnd.TheVariants.{Turned, Abandoned, Refused as Denied}
+use Rattle.call_dispatch.specs.declared.outcome.Outcome.{Outcome}
+use Rattle.call_dispatch.specs.declared.outcome.Outcome.TheVariants.{OutOfMemory as NoMemory}
+use Rattle.call_dispatch.specs.declared.end.ConnEnd.{ConnEnd}
+use Rattle.call_dispatch.specs.declared.end.ConnEnd.TheVariants as ends
+use Rattle.call_dispatch.specs.Terms.{Terms}
+use Rattle.call_dispatch.specs.Spot.{Spot, Course, took}
+use Rattle.wire_io.specs.Wire.{with_front}
+use Rattle.jrmp_frames.specs.declared.code.Code.TheVariants.{Call as Call50}
+use Rattle.jrmp_frames.specs.Frames.{code_byte}
+use Rattle.call_dispatch.specs.Acts.{Act, asks, lost, called, invokes, unreferenced, Call, States, calls, invocations, tells_of, entries, acts_of, abandoned}
+use Rattle.call_dispatch.specs.Rows.{Exchange, ping, served, IsExchange, taken_by, acts_by, draws_by, draws_in, IsChain, lost_at, failed, IsFailed, IsGivenUp, IsCut}
+use Rattle.call_dispatch.specs.Dialogue.{Whole, nothing, greeted, opened, exchanges_in, IsWhole, taken_in, IsAnswered, IsCutIn, EndsInCall, Ends, Dialogue}
+use Rattle.call_dispatch.specs.Progress.{Talked}
+use Rattle.call_dispatch.proofs.OneReading.{chain_first, chain_rest}
 use Rattle.call_dispatch.specs.Served.{Conclusion, finished, denied, faulted, finish_of, conclusion_acts, Running, unknown, ran, invocation_of, running_acts, IsRunning, absent, refused, begun}
-use Rattle.call_dispatch.specs.Invoked.{invocations_in, IsInvokedOnce, CallIsInvokedOnce}
+use Rattle.call_dispatch.specs.Invoked.{invocations_in, IsInvocationOf, IsInvokedOnce, CallIsInvokedOnce, IsCallOf, LeadTo, InvokesEachOnce}
 
 in_more : (xs ys : List Act) → invocations_in (xs ++ ys) ≡ invocations_in xs ++ invocations_in ys
 in_more xs ys = ap (λ l. flat_map invocations l) (flat_map-append calls xs ys) ∙ flat_map-append invocations (flat_map calls xs) (flat_map calls ys)
@@ -49,3 +65,166 @@ call_is_invoked_once kinds head bytes uid (refused moment) is = tt
 call_is_invoked_once kinds head bytes uid (begun moment turn kind r) (started, is) =
     let same = in_more (acts_of moment (Begin head.id) (Ok turn)) (running_acts head uid kind r) ∙ ap (λ (l : List Invocation). l ++ invocations_in (running_acts head uid kind r)) (turn_none moment (Begin head.id) (Ok turn)) in
     subst (λ (l : List Invocation). IsInvokedOnce kinds head bytes l) (sym same) (running_once kinds head kind bytes uid r is)
+
+-- ---- in a connection
+
+-- A message that leads to nothing.
+none_leads : (kinds : List Kind) (message : List ℕ) (xs : List Invocation) → xs ≡ [] → LeadTo kinds (message ∷ []) xs
+none_leads kinds message xs none = inl none
+
+-- A Call leads to at most one invocation.
+once_leads : (kinds : List Kind) (head : CallHead) (bytes : List ℕ) (xs : List Invocation) → IsInvokedOnce kinds head bytes xs → LeadTo kinds ((0x50 ∷ bytes) ∷ []) xs
+once_leads kinds head bytes [] once = inl refl
+once_leads kinds head bytes (call ∷ []) once = inr (call, [], refl, (head, bytes, refl, once), refl)
+once_leads kinds head bytes (call ∷ other ∷ others) once = absurd once
+
+-- Messages, and then others.
+leads_more : (kinds : List Kind) (ms ns : List (List ℕ)) (xs ys : List Invocation) → LeadTo kinds ms xs → LeadTo kinds ns ys → LeadTo kinds (ms ++ ns) (xs ++ ys)
+leads_more kinds [] ns xs ys first then = subst (λ (l : List Invocation). LeadTo kinds ns (l ++ ys)) (sym first) then
+leads_more kinds (m ∷ ms) ns xs ys (inl first) then = inl (leads_more kinds ms ns xs ys first then)
+leads_more kinds (m ∷ ms) ns xs ys (inr (call, others, is, mine, first)) then =
+    inr (call, others ++ ys, ap (λ (l : List Invocation). l ++ ys) is, mine, leads_more kinds ms ns others ys first then)
+
+-- An exchange leads to at most one.
+exchange_leads : (terms : Terms) (drawn : ℕ) (e : Exchange) → IsExchange terms drawn e → LeadTo terms.kinds (taken_by e ∷ []) (invocations_in (acts_by e))
+exchange_leads terms drawn ping is = inl refl
+exchange_leads terms drawn (served bytes head uid s) (draw, fits, few, is) =
+    once_leads terms.kinds head bytes (invocations_in (acts_by (served bytes head uid s))) (call_is_invoked_once terms.kinds head bytes uid s is)
+
+exchanges_lead : (terms : Terms) (drawn : ℕ) (es : List Exchange) → IsChain terms drawn es → LeadTo terms.kinds (map taken_by es) (invocations_in (flat_map acts_by es))
+exchanges_lead terms drawn [] chain = refl
+exchanges_lead terms drawn (e ∷ es) chain =
+    subst (λ (l : List Invocation). LeadTo terms.kinds (taken_by e ∷ map taken_by es) l) (sym (in_more (acts_by e) (flat_map acts_by es)))
+    (leads_more terms.kinds (taken_by e ∷ []) (map taken_by es) (invocations_in (acts_by e)) (invocations_in (flat_map acts_by es))
+    (exchange_leads terms drawn e (chain_first terms drawn e es chain)) (exchanges_lead terms (drawn + draws_by e) es (chain_rest terms drawn e es chain)))
+
+-- What there was no memory for invokes nothing but what the act does.
+lost_none : (moment : ℕ) (end : AskedEnd) → invocations_in (lost_at moment end) ≡ []
+lost_none moment (Turned turn) = refl
+lost_none moment (Denied refusal) = refl
+lost_none moment (Abandoned place) = refl
+
+failed_same : (act : Act) → invocations_in (failed act) ≡ invocations_in (act ∷ [])
+failed_same (asks entry) = lost_none entry.moment entry.end
+failed_same (lost moment) = refl
+failed_same (called (invokes call outcome)) = refl
+failed_same (called (unreferenced object)) = refl
+
+given_up_none : (shown : List Asked) (acts : List Act) → IsGivenUp shown acts → invocations_in acts ≡ []
+given_up_none shown [] is = refl
+given_up_none shown (asks entry ∷ []) is = refl
+given_up_none shown (asks entry ∷ act ∷ acts) is = absurd is
+given_up_none shown (lost moment ∷ acts) is = absurd is
+given_up_none shown (called call ∷ acts) is = absurd is
+
+-- Where the next act failed, its invocation, if it was one, is the row's next.
+fails_front : (later fails : List Act) → IsFailed later fails → (more : List Invocation) × (invocations_in later ≡ invocations_in fails ++ more)
+fails_front [] fails is = ([], ap invocations_in (sym is) ∙ sym (append-nil (invocations_in fails)))
+fails_front (asks entry ∷ later) fails (inl is) = (invocations_in (asks entry ∷ later), ap (λ (l : List Act). invocations_in l ++ invocations_in (asks entry ∷ later)) (sym is))
+fails_front (asks entry ∷ later) fails (inr is) =
+    (invocations_in later, ap (λ (l : List Invocation). l ++ invocations_in later) (sym (failed_same (asks entry)) ∙ ap invocations_in (sym is)))
+fails_front (lost moment ∷ later) fails (inl is) = (invocations_in (lost moment ∷ later), ap (λ (l : List Act). invocations_in l ++ invocations_in (lost moment ∷ later)) (sym is))
+fails_front (lost moment ∷ later) fails (inr is) = (invocations_in later, ap (λ (l : List Act). invocations_in l ++ invocations_in later) (sym is))
+fails_front (called (invokes call outcome) ∷ later) fails (inl is) =
+    (invocations_in (called (invokes call outcome) ∷ later), ap (λ (l : List Act). invocations_in l ++ invocations_in (called (invokes call outcome) ∷ later)) (sym is))
+fails_front (called (invokes call outcome) ∷ later) fails (inr is) = (invocations_in later, ap (λ (l : List Act). invocations_in l ++ invocations_in later) (sym is))
+fails_front (called (unreferenced object) ∷ later) fails is = absurd is
+
+-- The invocations of a row that was cut are the first of the row's.
+cut_front : (shown : List Asked) (row acts : List Act) → IsCut shown row acts → (more : List Invocation) × (invocations_in row ≡ invocations_in acts ++ more)
+cut_front shown row acts cut =
+    let (more, is) = fails_front cut.later cut.fails cut.failing in
+    let none = given_up_none (shown ++ flat_map entries cut.front) cut.given_up cut.giving_up in
+    let mine : invocations_in acts ≡ invocations_in cut.front ++ invocations_in cut.fails =
+    ap invocations_in cut.is ∙ in_more (cut.front ++ cut.fails) cut.given_up ∙ ap (λ (l : List Invocation). invocations_in (cut.front ++ cut.fails) ++ l) none
+    ∙ append-nil (invocations_in (cut.front ++ cut.fails)) ∙ in_more cut.front cut.fails in (
+      more,
+      ap invocations_in cut.whole ∙ in_more cut.front cut.later ∙ ap (λ (l : List Invocation). invocations_in cut.front ++ l) is
+          ∙ sym (append_assoc (invocations_in cut.front) (invocations_in cut.fails) more) ∙ ap (λ (l : List Invocation). l ++ more) (sym mine),
+    )
+
+first_same : (x call : Invocation) (xs ys : List Invocation) → x ∷ xs ≡ call ∷ ys → x ≡ call
+first_same x call xs ys same = cc
+
+-- The first of what a message leads to are what it leads to.
+fronts_lead : (kinds : List Kind) (message : List ℕ) (xs more : List Invocation) → LeadTo kinds (message ∷ []) (xs ++ more) → LeadTo kinds (message ∷ []) xs
+fronts_lead kinds message [] more h = inl refl
+fronts_lead kinds message (x ∷ xs) more (inl none) = absurd (cc)
+fronts_lead kinds message (x ∷ []) more (inr (call, others, is, mine, none)) = inr (x, [], refl, subst (λ (c : Invocation). IsCallOf kinds message c) (sym (first_same x call more others is)) mine, refl)
+fronts_lead kinds message (x ∷ y ∷ xs) more (inr (call, others, is, mine, none)) =
+    let one : x ∷ y ∷ (xs ++ more) ≡ call ∷ [] = is ∙ ap (λ (l : List Invocation). call ∷ l) none in absurd (cc)
+
+-- Nothing was done.
+took_leads : (kinds : List Kind) (tail : Course) (more : List ℕ) → tail ≡ took more → LeadTo kinds (tail.taken ∷ []) (invocations_in tail.acts)
+took_leads kinds tail more is = inl (ap (λ (c : Course). invocations_in c.acts) is)
+
+call_leads : (terms : Terms) (w : Whole) (tail : Course) (rest : Option (List ℕ)) (end : ConnEnd) → EndsInCall terms w tail rest end → LeadTo terms.kinds (tail.taken ∷ []) (invocations_in tail.acts)
+call_leads terms w tail rest end (code, room, inl (more, is, breaks)) = took_leads terms.kinds tail (code_byte Call50 ∷ more) is
+call_leads terms w tail rest end (code, room, inr a) =
+    inl (ap (λ (c : Course). invocations_in c.acts) a.tail_is ∙ in_more (acts_of a.moment (Begin a.head.id) (Ok a.turn)) (abandoned a.moment2 a.head.id a.place2 ∷ [])
+    ∙ ap (λ (l : List Invocation). l ++ []) (turn_none a.moment (Begin a.head.id) (Ok a.turn)))
+
+-- An exchange that was cut leads to at most one.
+cut_leads : (terms : Terms) (drawn : ℕ) (w : Whole) (tail : Course) (e : Exchange) → IsCutIn terms drawn w tail e → LeadTo terms.kinds (tail.taken ∷ []) (invocations_in tail.acts)
+cut_leads terms drawn w tail e cut =
+    let (more, is) = cut_front [] (acts_by e) tail.acts cut.acts in
+    let whole : LeadTo terms.kinds (taken_by e ∷ []) (invocations_in (acts_by e)) = exchange_leads terms (drawn + draws_in (exchanges_in w)) e cut.next.2 in
+    let P : List Invocation → Type 0 = λ l. LeadTo terms.kinds (taken_by e ∷ []) l in
+    let Q : List ℕ → Type 0 = λ l. LeadTo terms.kinds (l ∷ []) (invocations_in tail.acts) in
+    subst Q (sym cut.message) (fronts_lead terms.kinds (taken_by e) (invocations_in tail.acts) more (subst P is whole))
+
+-- An answer that was cut.
+answer_leads : (terms : Terms) (drawn : ℕ) (w : Whole) (c : Course) → IsAnswered terms drawn w c → LeadTo terms.kinds (c.taken ∷ []) (invocations_in c.acts)
+answer_leads terms drawn w c (inl (none, is)) = inl (ap (λ (x : Course). invocations_in x.acts) is)
+answer_leads terms drawn w c (inr (inl (byte, (none, other, is)))) = inl (ap (λ (x : Course). invocations_in x.acts) is)
+answer_leads terms drawn w c (inr (inr (e, next, is))) =
+    let P : Course → Type 0 = λ x. LeadTo terms.kinds (x.taken ∷ []) (invocations_in x.acts) in
+    subst P (sym is) (exchange_leads terms (drawn + draws_in (exchanges_in w)) e next.2)
+
+-- What comes behind what stands whole leads to at most one invocation, which is its own.
+tail_leads : (terms : Terms) (drawn : ℕ) (w : Whole) (tail : Course) (rest : Option (List ℕ)) (end : ConnEnd) → Ends terms drawn w tail rest end → LeadTo terms.kinds (tail.taken ∷ []) (invocations_in tail.acts)
+tail_leads terms drawn w tail rest ends.Ended (how, is) = took_leads terms.kinds tail [] is
+tail_leads terms drawn w tail rest (ends.BadHeader at) (none, (more, breaks, is)) = took_leads terms.kinds tail more is
+tail_leads terms drawn w tail rest (ends.UnknownProtocol byte) (none, other, is) = inl (ap (λ (c : Course). invocations_in c.acts) is)
+tail_leads terms drawn w tail rest (ends.BadMessage byte at) (code, none, place, is) = took_leads terms.kinds tail (byte ∷ []) is
+tail_leads terms drawn w tail rest (ends.BadStream kind at) inside = call_leads terms w tail rest (ends.BadStream kind at) inside
+tail_leads terms drawn w tail rest (ends.TooLarge what at) inside = call_leads terms w tail rest (ends.TooLarge what at) inside
+tail_leads terms drawn w tail rest (ends.Truncated at) (inl (more, inside, left, place, is)) = took_leads terms.kinds tail more is
+tail_leads terms drawn w tail rest (ends.Truncated at) (inr inside) = call_leads terms w tail rest (ends.Truncated at) inside
+tail_leads terms drawn w tail rest (ends.NotBuilt byte at) (code, room, unbuilt, place, is) = took_leads terms.kinds tail (byte ∷ []) is
+tail_leads terms drawn w tail rest (ends.NoSuchObject id) (closed, is) = took_leads terms.kinds tail [] is
+tail_leads terms drawn w tail rest (ends.NoSuchMethod operation hash) (closed, is) = took_leads terms.kinds tail [] is
+tail_leads terms drawn w tail rest ends.SpaceFull (closed, is) = took_leads terms.kinds tail [] is
+tail_leads terms drawn w tail rest ends.MessageLimit (code, full, (byte, known, is)) = took_leads terms.kinds tail (byte ∷ []) is
+tail_leads terms drawn w tail rest ends.ReadFault (inl (more, front, is)) = took_leads terms.kinds tail more is
+tail_leads terms drawn w tail rest ends.ReadFault (inr inside) = call_leads terms w tail rest ends.ReadFault inside
+tail_leads terms drawn w tail rest (ends.WriteFault sent) (c, part, answered, less, place, is) =
+    let P : Course → Type 0 = λ x. LeadTo terms.kinds (x.taken ∷ []) (invocations_in x.acts) in
+    subst P (sym is) (answer_leads terms drawn w c answered)
+tail_leads terms drawn w tail rest ends.OutOfMemory (inl (more, none, which, is)) = took_leads terms.kinds tail more is
+tail_leads terms drawn w tail rest ends.OutOfMemory (inr (inl (e, cut, some))) = cut_leads terms drawn w tail e cut
+tail_leads terms drawn w tail rest ends.OutOfMemory (inr (inr inside)) = call_leads terms w tail rest ends.OutOfMemory inside
+
+whole_leads : (terms : Terms) (drawn : ℕ) (w : Whole) → IsWhole terms drawn w → LeadTo terms.kinds (map taken_by (exchanges_in w)) (invocations_in (flat_map acts_by (exchanges_in w)))
+whole_leads terms drawn nothing whole = refl
+whole_leads terms drawn greeted whole = refl
+whole_leads terms drawn (opened opening es) (legal, chain, few) = exchanges_lead terms drawn es chain
+
+-- A connection that ended in a dialogue invoked each message at most once, with what it spells.
+pub talked_invokes : (may : Invocation → Outcome → Type 0) (moves : States → Call → States → Type 0) (terms : Terms) (start now : Spot) (end : ConnEnd) → Talked may moves terms start now end → InvokesEachOnce terms start now
+talked_invokes may moves terms start now end (c, talks) =
+    let (w, tail, whole, is, how) = talks.dialogue in
+    let all : invocations_in c.acts ≡ invocations_in (flat_map acts_by (exchanges_in w)) ++ invocations_in tail.acts =
+    ap (λ (x : Course). invocations_in x.acts) is ∙ in_more (flat_map acts_by (exchanges_in w)) tail.acts in
+    let P : List Invocation → Type 0 = λ l. LeadTo terms.kinds (map taken_by (exchanges_in w) ++ tail.taken ∷ []) l in
+    record {
+      whole = w;
+      behind = tail.taken;
+      is_whole = whole;
+      taken = talks.goes.left ∙ ap (λ (x : Course). with_front x.taken now.wires.left) is;
+      told = flat_map calls c.acts;
+      count = talks.goes.led.invoked;
+      seen = talks.goes.led.seen;
+      once = subst P (sym all) (leads_more terms.kinds (map taken_by (exchanges_in w)) (tail.taken ∷ []) (invocations_in (flat_map acts_by (exchanges_in w))) (invocations_in tail.acts)
+          (whole_leads terms start.drawn w whole) (tail_leads terms start.drawn w tail now.wires.left end how));
+    }

@@ -248,11 +248,11 @@ not_both terms opening es drawn tail rest end (served bytes head uid s) xs t u (
 
 -- ---- exchanges
 
-chain_first : (terms : Terms) (drawn : ℕ) (e : Exchange) (es : List Exchange) → IsChain terms drawn (e ∷ es) → IsExchange terms drawn e
+pub chain_first : (terms : Terms) (drawn : ℕ) (e : Exchange) (es : List Exchange) → IsChain terms drawn (e ∷ es) → IsExchange terms drawn e
 chain_first terms drawn e [] chain = chain
 chain_first terms drawn e (f ∷ es) chain = chain.0
 
-chain_rest : (terms : Terms) (drawn : ℕ) (e : Exchange) (es : List Exchange) → IsChain terms drawn (e ∷ es) → IsChain terms (drawn + draws_by e) es
+pub chain_rest : (terms : Terms) (drawn : ℕ) (e : Exchange) (es : List Exchange) → IsChain terms drawn (e ∷ es) → IsChain terms (drawn + draws_by e) es
 chain_rest terms drawn e [] chain = tt
 chain_rest terms drawn e (f ∷ es) chain = chain.2
 

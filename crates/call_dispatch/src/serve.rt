@@ -9,6 +9,7 @@ ghost use Rattle.call_dispatch.specs.Faults.{counts_of, Blames};
 ghost use Rattle.call_dispatch.specs.Spot.{spot, spot_of, IsLent};
 ghost use Rattle.call_dispatch.specs.Terms.{terms_of};
 ghost use Rattle.call_dispatch.specs.Progress.{Talked, Served};
+ghost use Rattle.call_dispatch.specs.Invoked.{InvokesEachOnce};
 
 use crate::book::Book;
 use crate::connection::Connection;
@@ -29,7 +30,7 @@ use wire_io::{Clock, Pull, Sink, Source};
 /// were drawn, from a moment below 2^61 on.
 ///
 /// No byte is taken but those of the dialogue, whose every answer is written before the next message is taken. Each Call is invoked at most
-/// once, with the graph that it spells ([`crate::laws::call_is_invoked_once`]).
+/// once, in its turn, with its own object and method and the graph that it spells, also where the connection ends in it.
 pub fn serve_connection<S: Source, K: Sink, C: Clock, P: Port, W: Worker>(
     alloc: Global,
     source: &mut S,
@@ -54,6 +55,12 @@ pub fn serve_connection<S: Source, K: Sink, C: Clock, P: Port, W: Worker>(
     ensures dialogue { Served W.may W.moves (terms_of book.now setup.old)
         (spot S.left K.held C.given P.asked W.calls W.seen W.state source.old sink.old clock.old port.old worker.old setup.old)
         (spot S.left K.held C.given P.asked W.calls W.seen W.state source.new sink.new clock.new port.new worker.new setup.new) result }
+
+    // The worker's invocations are those of the Calls that were taken, in their order: of each Call one at most, of the object and the method
+    // that it names, with the graph that its bytes spell. This holds of the message, too, in which the connection ended.
+    ensures invoked { InvokesEachOnce (terms_of book.now setup.old)
+        (spot S.left K.held C.given P.asked W.calls W.seen W.state source.old sink.old clock.old port.old worker.old setup.old)
+        (spot S.left K.held C.given P.asked W.calls W.seen W.state source.new sink.new clock.new port.new worker.new setup.new) }
 
     // No call runs afterwards, and the port can be used on.
     ensures balanced { (more : List Asked) × (P.asked port.new ≡ P.asked port.old ++ more) × Balanced more }

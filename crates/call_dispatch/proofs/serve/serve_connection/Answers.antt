@@ -2,6 +2,7 @@ use Rattle.std.proofs.Common.{◌∙◌, sym}
 use Rattle.std.specs.List.{flat_map}
 use Rattle.call_dispatch.specs.Acts.{entries}
 use Rattle.call_dispatch.proofs.Balancing.{balanced_more}
+use Rattle.call_dispatch.proofs.Invoking.{talked_invokes}
 use Rattle.call_dispatch.proofs.OneReading.{talked_served}
 use Rattle.call_dispatch.proofs.serve.serve_connection.Goals as goal
 
@@ -16,6 +17,18 @@ returns-clause-dialogue g c =
     let setup = c.setup-1.given.1 (sym lent.setup_lent) in
     let talked = rw c.new-pull.ensures.source at c.talk.ensures.dialogue in
     rw (source, sink, clock, port, worker, setup) (talked_served _ _ _ _ _ c.talk.result talked)
+
+pub returns-clause-invoked : goal.returns-clause-invoked
+returns-clause-invoked g c =
+    let lent = c.talk.ensures.lent in
+    let source = c.source-1.given.1 (sym (lent.source_lent ∙ c.new-pull.ensures.lent)) in
+    let sink = c.sink-1.given.1 (sym lent.sink_lent) in
+    let clock = c.clock-1.given.1 (sym lent.clock_lent) in
+    let port = c.port-1.given.1 (sym lent.port_lent) in
+    let worker = c.worker-1.given.1 (sym lent.worker_lent) in
+    let setup = c.setup-1.given.1 (sym lent.setup_lent) in
+    let talked = rw c.new-pull.ensures.source at c.talk.ensures.dialogue in
+    rw (source, sink, clock, port, worker, setup) (talked_invokes _ _ _ _ _ c.talk.result talked)
 
 pub returns-clause-balanced : goal.returns-clause-balanced
 returns-clause-balanced g c =
