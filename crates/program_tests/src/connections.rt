@@ -4,7 +4,8 @@ use call_dispatch::{ConnEnd, SilentWorker, serve_connection};
 use mod_utf::list::MomentList;
 use mod_utf::utf::encoded_len;
 use object_ids::Uid;
-use rmi_cli::{no_kinds, setup_of};
+use rmi_cli::setup_of;
+use sample_app::sample_book;
 use space::{DirectPort, Space, SpaceConfig};
 use std::alloc::{AllocError, Global};
 use std::process::Abort;
@@ -30,7 +31,7 @@ fn serve(alloc: Global, input: &[u8], outside: Outside) -> Result<(ConnEnd, MemS
     let mut space = Space::fresh(alloc, &CONFIG);
     let mut port = DirectPort::new(alloc, &mut space, 1);
     let mut worker = SilentWorker::new();
-    let book = no_kinds(alloc)?;
+    let book = sample_book(alloc)?;
     let mut setup = setup_of(alloc, &SEED)?;
     let end = serve_connection(
         alloc,

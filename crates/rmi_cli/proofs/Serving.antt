@@ -12,16 +12,18 @@ use Rattle.call_dispatch.specs.declared.outcome.Outcome.{Outcome}
 use Rattle.call_dispatch.specs.declared.end.ConnEnd.{ConnEnd}
 use Rattle.call_dispatch.specs.declared.end.ConnEnd.TheVariants.{OutOfMemory}
 use Rattle.call_dispatch.specs.Terms.{Terms}
-use Rattle.call_dispatch.specs.Acts.{Act, Call, States, entries}
+use Rattle.call_dispatch.specs.Acts.{Act, Call, States, entries, calls, Moves, Leads as WorkerLeads}
 use Rattle.call_dispatch.specs.Spot.{Spot, Course, took}
 use Rattle.call_dispatch.specs.Dialogue.{nothing, Dialogue}
 use Rattle.call_dispatch.specs.Tape.{Tick, tape}
 use Rattle.call_dispatch.specs.Progress.{Served, Settles}
+use Rattle.sample_app.specs.Opened.{sample_events}
+use Rattle.sample_app.specs.Does as sample
 use Rattle.rmi_cli.specs.Answer.{answer_terms, answer_space, IsOnly, ServesOne, ServesExactly}
 
--- a space that had no events
-abbrev pub without_events : SpaceConfig → SpaceHistory
-without_events config = record { configuration = config; events = [] }
+-- the sample space
+abbrev pub opened_space : SpaceConfig → SpaceHistory
+opened_space config = record { configuration = config; events = sample_events }
 
 -- A dialogue on these terms, before which so much was drawn, is one on the same.
 dialogue_is : (terms terms2 : Terms) (drawn drawn2 : ℕ) (c : Course) (rest : Option (List ℕ)) (end : ConnEnd) → terms ≡ terms2 → drawn ≡ drawn2
@@ -31,14 +33,14 @@ dialogue_is terms terms2 drawn drawn2 c rest end same none dialogue =
     let Q : ℕ → Type 0 = λ n. Dialogue terms n c rest end in
     subst P same (subst Q none dialogue)
 
--- The events of the connection's turns are those of a space that had none.
-went_is : (seed : List ℕ) (by : ℕ) (s s2 : SpaceHistory) (asked asked2 : List Asked) (acts : List Act) → by ≡ 1 → s ≡ without_events (answer_space seed)
-    → asked ≡ [] → asked2 ≡ asked ++ flat_map entries acts → Leads by s asked s2 asked2 → Went (answer_space seed) 1 [] (flat_map entries acts) s2.events
+-- The events of the connection's turns follow those of the sample space.
+went_is : (seed : List ℕ) (by : ℕ) (s s2 : SpaceHistory) (asked asked2 : List Asked) (acts : List Act) → by ≡ 1 → s ≡ opened_space (answer_space seed)
+    → asked ≡ [] → asked2 ≡ asked ++ flat_map entries acts → Leads by s asked s2 asked2 → Went (answer_space seed) 1 sample_events (flat_map entries acts) s2.events
 went_is seed by s s2 asked asked2 acts one fresh none led leads =
     let same : leads.more ≡ flat_map entries acts = ap (λ l. l ++ leads.more) (sym none) ∙ sym leads.longer ∙ led ∙ ap (λ l. l ++ flat_map entries acts) none in
     let P : SpaceHistory → Type 0 = λ x. Went x.configuration by x.events leads.more s2.events in
-    let Q : ℕ → Type 0 = λ n. Went (answer_space seed) n [] leads.more s2.events in
-    let R : List Asked → Type 0 = λ l. Went (answer_space seed) 1 [] l s2.events in
+    let Q : ℕ → Type 0 = λ n. Went (answer_space seed) n sample_events leads.more s2.events in
+    let R : List Asked → Type 0 = λ l. Went (answer_space seed) 1 sample_events l s2.events in
     subst R same (subst Q one (subst P fresh leads.went))
 
 -- What settles a course on these terms settles it on the same.
@@ -48,12 +50,21 @@ unfolding Settles
 only_is terms seed start now c result same none settles other rest end t t2 told dialogue settled settled2 answers =
     settles other rest end t t2 told (dialogue_is (answer_terms seed) terms 0 start.drawn other (Some rest) end (sym same) (sym none) dialogue) settled settled2 answers
 
--- A connection that was served on the terms of the seed, over a space that had no events.
-pub serves_one : (may : Invocation → Outcome → Type 0) (moves : States → Call → States → Type 0) (seed : List ℕ) (terms : Terms) (start now : Spot) (by : ℕ) (s s2 : SpaceHistory) (end : ConnEnd)
+-- What a worker tells that had counted nothing is counted from no numbers on.
+counted_is : (before after : Option States) (numbers numbers2 : States) (told : List Call) → before ≡ Some numbers → numbers ≡ [] → after ≡ Some numbers2
+    → WorkerLeads sample.Moves before told after → Moves sample.Moves [] told numbers2
+counted_is before after numbers numbers2 told is none is2 leads =
+    let P : Option States → Type 0 = λ b. WorkerLeads sample.Moves b told after in
+    let Q : Option States → Type 0 = λ a. WorkerLeads sample.Moves (Some []) told a in
+    subst Q is2 (subst P (is ∙ ap Some none) leads)
+
+-- A connection that was served on the terms of the seed, over the sample space and by a sample worker that had counted nothing.
+pub serves_one : (seed : List ℕ) (terms : Terms) (start now : Spot) (by : ℕ) (s s2 : SpaceHistory) (numbers numbers2 : States) (end : ConnEnd)
     → terms ≡ answer_terms seed → start.drawn ≡ 0 → start.side.asked ≡ [] → by ≡ 1
-    → s ≡ without_events (answer_space seed) → Leads by s start.side.asked s2 now.side.asked → Served may moves terms start now end
+    → s ≡ opened_space (answer_space seed) → Leads by s start.side.asked s2 now.side.asked → Served sample.May sample.Moves terms start now end
+    → start.side.state ≡ Some numbers → numbers ≡ [] → now.side.state ≡ Some numbers2
     → ServesOne seed start.wires now.wires start.side.given now.side.given end
-serves_one may moves seed terms start now by s s2 end same none empty one opened leads served = record {
+serves_one seed terms start now by s s2 numbers numbers2 end same none empty one opened leads served told uncounted told2 = record {
   course = served.course;
   left = served.talks.goes.left;
   held = served.talks.goes.held;
@@ -62,6 +73,9 @@ serves_one may moves seed terms start now by s s2 end same none empty one opened
   given = served.talks.goes.led.given;
   events = s2.events;
   went = went_is seed by s s2 start.side.asked now.side.asked served.course.acts one opened empty served.talks.goes.led.asked leads;
+  may_all = served.talks.goes.led.may_all;
+  numbers = numbers2;
+  counted = counted_is start.side.state now.side.state numbers numbers2 (flat_map calls served.course.acts) told uncounted told2 served.talks.goes.led.state;
 }
 
 -- It went as each settled dialogue of its input says that has no acts.
@@ -83,8 +97,11 @@ memory_at_once seed start given = record {
   dialogue = (nothing, took [], tt, refl, inl ([], refl, inl refl, refl));
   only = λ other rest end t t2 told dialogue settled settled2 answers. absurd settled2;
   given = Gave-nothing given;
-  events = [];
+  events = sample_events;
   went = refl;
+  may_all = tt;
+  numbers = [];
+  counted = refl;
 }
 
 pub memory_unsettled : (seed : List ℕ) (start : Wires) → ServesExactly seed start start OutOfMemory

@@ -1,10 +1,10 @@
 -- What writing the line of an end does.
-use Rattle.std.proofs.Common.{◌≡◌, ◌≢◌, ◌<◌, ℕ, List, [], ◌∷◌, ◌++◌, length, take, Result, Ok, Err, refl, sym, ap, subst, ◌∙◌, inl, inr}
-use Rattle.std.specs.Prelude.{OnOk, IfErr, ◌⊎◌}
+use Rattle.std.proofs.Common.{◌≡◌, ◌≢◌, ◌<◌, ℕ, List, [], ◌∷◌, ◌++◌, length, take, Result, Ok, Err, refl, sym, subst, ◌∙◌, inl, inr}
+use Rattle.std.specs.Prelude.{OnOk, IfErr}
 use Rattle.wire_io.specs.Wire.{with_end, Rose}
 use Rattle.wire_io.specs.declared.put.PutFault.{PutFault}
 use Rattle.rmi_cli.specs.Line.{line_of, status_of_run}
-use Rattle.rmi_cli.specs.Told.{Told, Took, told_line, TellsExactly, Tells}
+use Rattle.rmi_cli.specs.Told.{Told, Took, told_line, Tells}
 use Rattle.rmi_cli.specs.declared.end.RunEnd.{RunEnd}
 use Rattle.rmi_cli.specs.declared.end.RunEnd.TheVariants.{Usage, Answered, Done, BadLine, Refused, TooLarge, NotShown, ReadFault, WriteFault, OutOfMemory}
 

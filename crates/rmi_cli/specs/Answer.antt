@@ -9,10 +9,13 @@ use Rattle.space.specs.Ports.{Went}
 use Rattle.call_dispatch.specs.declared.end.ConnEnd.{ConnEnd}
 use Rattle.call_dispatch.specs.End.{IsSettled}
 use Rattle.call_dispatch.specs.Terms.{Terms}
-use Rattle.call_dispatch.specs.Acts.{entries, moments}
+use Rattle.call_dispatch.specs.Acts.{States, entries, moments, calls, MayAll, Moves}
 use Rattle.call_dispatch.specs.Tape.{Tick, tape}
 use Rattle.call_dispatch.specs.Spot.{Course}
 use Rattle.call_dispatch.specs.Dialogue.{Dialogue}
+use Rattle.sample_app.specs.Kinds.{sample_kinds}
+use Rattle.sample_app.specs.Opened.{sample_events}
+use Rattle.sample_app.specs.Does as sample
 use Rattle.rmi_cli.specs.Told.{Told, TellsExactly, Tells}
 use Rattle.rmi_cli.specs.declared.end.RunEnd.TheVariants.{Answered}
 
@@ -21,7 +24,7 @@ abbrev pub low_signed : ℕ → ℤ
 low_signed word = cast_signed w32 (word % 2 ^ 32)
 
 -- The terms of the connection, by the seed: it has the number 1, its peer is 127.0.0.1, port 1234, its own end is 127.0.0.1, port 1099,
--- clients may not bind names, and no kinds of objects are known.
+-- clients may not bind names, and the kinds of objects are the sample's.
 abbrev pub answer_terms : List ℕ → Terms
 answer_terms seed = record {
   by = 1;
@@ -33,7 +36,7 @@ answer_terms seed = record {
   mark = to_be_bytes w64 (slice_index seed 2);
   unique = low_signed ((slice_index seed 0 + 1) % 2 ^ 64);
   time = pos (slice_index seed 1 % 2 ^ 61);
-  kinds = [];
+  kinds = sample_kinds;
 }
 
 -- What the space keeps to, by the seed: leases of 600,000 milliseconds, and 300,000 to acknowledge a result.
@@ -52,8 +55,8 @@ IsOnly seed old new course result = (other : Course) (rest : List ℕ) (end : Co
     → tape course.acts ++ t ≡ tape other.acts ++ t2 → (result ≡ end) × (course ≡ other) × (new.left ≡ Some rest)
 
 -- One connection was served: what was taken, done and written is a dialogue with the end, on the terms of the seed, before which nothing was
--- drawn, and the only one of the input and the outside's answers. The clock gave the moments of its turns, and these are the events of a space
--- that had none.
+-- drawn, and the only one of the input and the outside's answers. The clock gave the moments of its turns, and these are, one after the other, steps
+-- of the sample space's history. Each invocation came out as one of a sample object may, and the calls of the worker count from no numbers on.
 pub record ServesOne (seed : List ℕ) (old new : Wires) (gave gave2 : Option (List ℕ)) (end : ConnEnd) : Type 0 where
   pub course : Course
   pub left : old.left ≡ with_front course.taken new.left
@@ -62,7 +65,10 @@ pub record ServesOne (seed : List ℕ) (old new : Wires) (gave gave2 : Option (L
   pub only : IsOnly seed old new course end
   pub given : Gave gave gave2 (flat_map moments course.acts)
   pub events : List Event
-  pub went : Went (answer_space seed) 1 [] (flat_map entries course.acts) events
+  pub went : Went (answer_space seed) 1 sample_events (flat_map entries course.acts) events
+  pub may_all : MayAll sample.May (flat_map calls course.acts)
+  pub numbers : States
+  pub counted : Moves sample.Moves [] (flat_map calls course.acts) numbers
 
 -- Where a settled dialogue without acts stands for the input that was told, the connection went so, unless something outside failed.
 unfoldable pub ServesExactly : List ℕ → Wires → Wires → ConnEnd → Type 0

@@ -1,13 +1,16 @@
 //! `answer` over the program's input and output.
-ghost use Rattle.std.specs.Prelude.{◌≡◌, ◌≤◌, ◌%◌, ◌^◌, [], codes, IfOk, length};
+ghost use Rattle.std.specs.Prelude.{◌≡◌, ◌≤◌, ◌%◌, ◌^◌, codes, IfOk, length};
 ghost use Rattle.wire_io.specs.Wire.{Rose, wires};
 ghost use Rattle.call_dispatch.specs.End.{IsWriteFault};
 ghost use Rattle.call_dispatch.specs.Terms.{terms_of};
+ghost use Rattle.sample_app.specs.Kinds.{sample_kinds};
+ghost use Rattle.sample_app.specs.Opened.{sample_events};
 ghost use Rattle.rmi_cli.specs.Answer.{low_signed, answer_terms, answer_space, ServesOne, ServesExactly};
 
-use call_dispatch::{Book, BookFault, ConnEnd, KindList, Setup, SilentWorker, serve_connection};
+use call_dispatch::{Book, ConnEnd, Setup, serve_connection};
 use mod_utf::list::Units;
 use object_ids::{Uid, UidDraw};
+use sample_app::{SampleWorker, sample_book, sample_space};
 use space::{DirectPort, Space, SpaceConfig};
 use std::alloc::{AllocError, Global};
 use wire_io::{Clock, Sink, Source};
@@ -15,15 +18,16 @@ use wire_io::{Clock, Sink, Source};
 /// Below this a moment is drawn from the seed, in milliseconds.
 const MOMENTS: u64 = 1 << 61;
 
-/// What a connection is told beforehand, and the kinds of objects that it knows.
+/// What a connection is told beforehand, the kinds of objects that it knows, and the space where its turns are made.
 #[derive(Drop)]
 struct Ground {
     setup: Setup,
     book: Book,
+    space: Space,
 }
 
-/// Serves the input and the output as one connection, over a space of its own, at the moments of the clock. Its identifiers and its
-/// space's are made from the seed. The peer is 127.0.0.1, port 1234. Nothing is exported yet, so that each call is of no such object.
+/// Serves the input and the output as one connection, over a sample space of its own, at the moments of the clock. Its identifiers and its
+/// space's are made from the seed. The peer is 127.0.0.1, port 1234. Its calls are done by a sample worker that has counted nothing yet.
 pub fn answer_input<S: Source, K: Sink, C: Clock>(
     alloc: Global,
     source: &mut S,
@@ -43,9 +47,8 @@ pub fn answer_input<S: Source, K: Sink, C: Clock>(
         Ok(ground) => ground,
         Err(_) => return ConnEnd::OutOfMemory,
     };
-    let mut space = Space::fresh(alloc, &config_of(seed));
-    let mut port = DirectPort::new(alloc, &mut space, 1);
-    let mut worker = SilentWorker::new();
+    let mut port = DirectPort::new(alloc, &mut ground.space, 1);
+    let mut worker = SampleWorker::new(alloc);
     serve_connection(
         alloc,
         source,
@@ -58,30 +61,31 @@ pub fn answer_input<S: Source, K: Sink, C: Clock>(
     )
 }
 
-/// What the connection is told beforehand, and no kinds.
+/// What the connection is told beforehand, the sample kinds and the sample space.
 fn ground_of(alloc: Global, seed: &[u64; 4]) -> Result<Ground, AllocError>
     ensures terms { IfOk result (λ ground. terms_of ground.book ground.setup ≡ answer_terms seed.now) }
     ensures drawn { IfOk result (λ ground. ground.setup.draw.drawn ≡ 0) }
+    ensures space { IfOk result (λ ground. ground.space ≡ record { configuration = answer_space seed.now; events = sample_events }) }
 {
     let setup = setup_of(alloc, seed)?;
-    let book = no_kinds(alloc)?;
-    Ok(Ground { setup, book })
+    let book = sample_book(alloc)?;
+    let space = space_of(alloc, seed)?;
+    Ok(Ground { setup, book, space })
 }
 
-/// The book without kinds.
-pub fn no_kinds(alloc: Global) -> Result<Book, AllocError>
-    ensures { IfOk result (λ book. book ≡ []) }
+/// The sample space that the seed gives.
+fn space_of(alloc: Global, seed: &[u64; 4]) -> Result<Space, AllocError>
+    ensures { IfOk result (λ space. space ≡ record { configuration = answer_space seed.now; events = sample_events }) }
 {
-    match Book::new(alloc, KindList::new(alloc)) {
-        Ok(book) => Ok(book),
-        Err(BookFault::OutOfMemory) => Err(AllocError),
-        Err(BookFault::FloatMethod { kind: _, method: _ }) => unreachable!(),
+    match sample_space(alloc, &config_of(seed)) {
+        Ok(space) => Ok(space),
+        Err(_refused) => Err(AllocError),
     }
 }
 
 /// What the connection is told beforehand.
 pub fn setup_of(alloc: Global, seed: &[u64; 4]) -> Result<Setup, AllocError>
-    ensures terms { IfOk result (λ setup. terms_of [] setup ≡ answer_terms seed.now) }
+    ensures terms { IfOk result (λ setup. terms_of sample_kinds setup ≡ answer_terms seed.now) }
     ensures drawn { IfOk result (λ setup. setup.draw.drawn ≡ 0) }
 {
     Ok(Setup {

@@ -10,7 +10,7 @@ mod program;
 mod stream_input;
 mod words;
 
-pub use answer_input::{no_kinds, setup_of};
+pub use answer_input::setup_of;
 pub use end::RunEnd;
 pub use host::Host;
 pub use journal_input::JOURNAL_BYTES;

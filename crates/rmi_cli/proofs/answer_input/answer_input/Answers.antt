@@ -1,11 +1,11 @@
-use Rattle.std.proofs.Common.{◌∙◌, ap}
-use Rattle.rmi_cli.proofs.Serving.{without_events, serves_one, serves_exactly, memory_at_once, memory_unsettled}
+use Rattle.std.proofs.Common.{◌∙◌, refl}
+use Rattle.rmi_cli.proofs.Serving.{serves_one, serves_exactly, memory_at_once, memory_unsettled}
 use Rattle.rmi_cli.proofs.answer_input.answer_input.Goals as goal
 
 pub returns-clause-serves : goal.returns-clause-serves
 returns-clause-serves g c =
-    serves_one _ _ _ _ _ _ _ _ _ _ c.in-Ok.ensures.terms c.in-Ok.ensures.drawn c.new-port.ensures.values.2 c.new-port.ensures.values.1 (c.new-port.ensures.values.0 ∙ c.fresh-space.ensures ∙ ap without_events c.config_of.ensures)
-    c.serve_connection.ensures.leads.2 c.serve_connection.ensures.dialogue
+    serves_one _ _ _ _ _ _ _ _ _ _ c.in-Ok.ensures.terms c.in-Ok.ensures.drawn c.new-port.ensures.values.2 c.new-port.ensures.values.1 (c.new-port.ensures.values.0 ∙ c.in-Ok.ensures.space)
+    c.serve_connection.ensures.leads.2 c.serve_connection.ensures.dialogue refl c.new-worker.ensures.counters refl
 
 pub returns-clause-exact : goal.returns-clause-exact
 returns-clause-exact g c = serves_exactly _ _ _ _ _ _ _ c.in-Ok.ensures.terms c.in-Ok.ensures.drawn c.serve_connection.ensures.dialogue
