@@ -1,7 +1,7 @@
 -- How many clients have time left, and how many pairs are remembered, after a call.
 use Rattle.std.proofs.Common.{◌≡◌, inl, inr, ℕ, ◌+◌, ◌≤◌, List, [], ◌∷◌, ◌++◌, length, refl, ap, sym, ◌∙◌, cond, map, arith, suc, length-append}
 use Rattle.std.specs.Prelude.{ℤ, Bool, true, false, ◌&&◌, ◌||◌, not, filter, flat_map, is_some, nat_lt, if◌then◌else◌}
-use Rattle.std.specs.List.{list_any}
+use Rattle.std.specs.List.{list_any, AllByRecursion}
 use Rattle.std.proofs.lemmas.Bool.{and_parts, and_from, or_cases}
 use Rattle.std.proofs.lemmas.List.Folds.{list_any-append}
 use Rattle.std.proofs.lemmas.List.Sums.{sum_by-cons}
@@ -16,9 +16,9 @@ use Rattle.history.specs.declared.calls.CallKind.TheVariants.{Dirty, Weak, Stron
 use Rattle.history.specs.Lists.{distinct}
 use Rattle.history.specs.Leases.{is_dirty_kind, is_strong_kind, is_naming, calls_of, clients, tenure, strong_cleans, has_time_left as has_time, is_remembered as is_remembered_pair, same_pair, pairs_of, pairs_with, pairs, objects_named, new_pairs}
 use Rattle.history.proofs.LeaseLaws.{list_any-clients}
-use Rattle.history.proofs.ListLemmas.{Every, Every-weaker, or_false, and_false, list_any-filter, list_any-map, list_any-same}
+use Rattle.history.proofs.ListLemmas.{every-weaker, or_false, and_false, list_any-filter, list_any-map, list_any-same}
 use Rattle.dgc_server.specs.Numbers.{no_numbers, is_remembered}
-use Rattle.dgc_server.specs.Entry.{ObjectEntry, Entry, numbers_of, has_object, counts_lem, has_time_left, remembered_of, entry_remembers, fresh_of}
+use Rattle.dgc_server.specs.Entry.{ObjectEntry, Entry, numbers_of, has_object, call_counts, has_time_left, remembered_of, entry_remembers, fresh_of}
 use Rattle.dgc_server.specs.Table.{entry_of, remembered, clients_after, pairs_after}
 use Rattle.dgc_server.specs.Counts.{new_call, clients_with_call, pairs_with_call}
 use Rattle.dgc_server.specs.Stands.{LeaseTable, EntryStands, StandsFor, is_in_order, each_once, top, is_dirty_for, is_clean_for, is_strong_for}
@@ -135,7 +135,7 @@ once-kept_of t e h = go (λ o. is_remembered (nat_lt t e.until) o.numbers) e.obj
         one false x rest = rest
 
 -- A pair is kept exactly where the numbers of its client's entry say so.
-pub any-kept_pairs : (t : ℕ) (p : Pair) (es : List Entry) → is_in_order es ≡ true → Every (λ e. each_once e.objects ≡ true) es →
+pub any-kept_pairs : (t : ℕ) (p : Pair) (es : List Entry) → is_in_order es ≡ true → AllByRecursion (λ e. each_once e.objects ≡ true) es →
     list_any (same_pair p) (kept_pairs t es) ≡ entry_remembers t p.object (entry_of es p.client)
 any-kept_pairs t p [] order once = sym (none-remembered (nat_lt t 0))
 any-kept_pairs t p (e ∷ es) order once =
@@ -155,11 +155,11 @@ any-kept_pairs t p (e ∷ es) order once =
         (absent es p.client (ap (has_client es) (sym (same_client-equal e.client p.client x)) ∙ after-absent e.client es after))
         ∙ ap (λ v. entry_remembers t p.object e || v) (none-remembered (nat_lt t 0)) ∙ or_false (entry_remembers t p.object e)
 
-every-pair : (P : Pair → Type 0) (c : Client) (os : List ObjId) → ((o : ObjId) → P (record { client = c; object = o })) → Every P (pairs_of c os)
+every-pair : (P : Pair → Type 0) (c : Client) (os : List ObjId) → ((o : ObjId) → P (record { client = c; object = o })) → AllByRecursion P (pairs_of c os)
 every-pair P c [] f = tt
 every-pair P c (o ∷ os) f = (f o, every-pair P c os f)
 
-once-kept_pairs : (t : ℕ) (es : List Entry) → is_in_order es ≡ true → Every (λ e. each_once e.objects ≡ true) es → all_once same_pair (kept_pairs t es) ≡ true
+once-kept_pairs : (t : ℕ) (es : List Entry) → is_in_order es ≡ true → AllByRecursion (λ e. each_once e.objects ≡ true) es → all_once same_pair (kept_pairs t es) ≡ true
 once-kept_pairs t [] order once = refl
 once-kept_pairs t (e ∷ es) order once =
     let two = and_parts (all_after e.client es) (is_in_order es) order in
@@ -299,9 +299,9 @@ remembered-entry lease m t e own o le s =
         ap (λ v. is_some v || is_some (top (is_clean_for o) (tenure lease own))) (sym (s.dirties left o)) ∙ ap (λ v. is_some (numbers_of e.objects o).dirty || is_some v) (sym (s.cleans left o))
 
 -- Each entry of a table has each object once.
-pub entries-once : (lease m : ℕ) (table : LeaseTable) (calls : List Call) → StandsFor lease table m calls → is_in_order table.entries ≡ true → Every (λ e. each_once e.objects ≡ true) table.entries
+pub entries-once : (lease m : ℕ) (table : LeaseTable) (calls : List Call) → StandsFor lease table m calls → is_in_order table.entries ≡ true → AllByRecursion (λ e. each_once e.objects ≡ true) table.entries
 entries-once lease m table calls s order =
-    Every-weaker (λ e. entry_of table.entries e.client ≡ e) (λ e. each_once e.objects ≡ true)
+    every-weaker (λ e. entry_of table.entries e.client ≡ e) (λ e. each_once e.objects ≡ true)
     (λ e own. ap (λ (d : Entry). each_once d.objects) (sym own) ∙ (s.each e.client).once) table.entries (each-own table.entries order)
 
 -- The objects that bring new pairs.
@@ -309,7 +309,7 @@ abbrev pub fresh : ℕ → Entry → List ObjId → List ObjId
 fresh t e os = filter (λ o. not (entry_remembers t o e)) (distinct same_id os)
 
 -- A pair of a client is new exactly where its object is named and it wasn't kept.
-any-fresh : (t : ℕ) (es : List Entry) (c : Client) (os : List ObjId) (p : Pair) → is_in_order es ≡ true → Every (λ e. each_once e.objects ≡ true) es →
+any-fresh : (t : ℕ) (es : List Entry) (c : Client) (os : List ObjId) (p : Pair) → is_in_order es ≡ true → AllByRecursion (λ e. each_once e.objects ≡ true) es →
     (list_any (same_pair p) (kept_pairs t es) || list_any (same_pair p) (pairs_of c os)) ≡ (list_any (same_pair p) (pairs_of c (fresh t (entry_of es c) os)) || list_any (same_pair p) (kept_pairs t es))
 any-fresh t es c os p order once =
     ap (λ v. kept || v) (any-pairs p c os)
@@ -339,19 +339,19 @@ any-fresh t es c os p order once =
         (any-kept_pairs t p es order once ∙ ap (λ d. entry_remembers t p.object (entry_of es d)) (same_client-equal p.client c e))
 
 -- The new pairs were not kept.
-fresh-apart : (t : ℕ) (es : List Entry) (c : Client) (os : List ObjId) → is_in_order es ≡ true → Every (λ e. each_once e.objects ≡ true) es →
-    Every (λ p. list_any (same_pair p) (kept_pairs t es) ≡ false) (pairs_of c (filter (λ o. not (entry_remembers t o (entry_of es c))) os))
+fresh-apart : (t : ℕ) (es : List Entry) (c : Client) (os : List ObjId) → is_in_order es ≡ true → AllByRecursion (λ e. each_once e.objects ≡ true) es →
+    AllByRecursion (λ p. list_any (same_pair p) (kept_pairs t es) ≡ false) (pairs_of c (filter (λ o. not (entry_remembers t o (entry_of es c))) os))
 fresh-apart t es c [] order once = tt
 fresh-apart t es c (o ∷ os) order once = go (not (entry_remembers t o (entry_of es c))) refl (fresh-apart t es c os order once)
   where
-    go : (b : Bool) → not (entry_remembers t o (entry_of es c)) ≡ b → Every (λ p. list_any (same_pair p) (kept_pairs t es) ≡ false) (pairs_of c (filter (λ x. not (entry_remembers t x (entry_of es c))) os)) →
-        Every (λ p. list_any (same_pair p) (kept_pairs t es) ≡ false)
+    go : (b : Bool) → not (entry_remembers t o (entry_of es c)) ≡ b → AllByRecursion (λ p. list_any (same_pair p) (kept_pairs t es) ≡ false) (pairs_of c (filter (λ x. not (entry_remembers t x (entry_of es c))) os)) →
+        AllByRecursion (λ p. list_any (same_pair p) (kept_pairs t es) ≡ false)
         (pairs_of c (cond b (o ∷ filter (λ x. not (entry_remembers t x (entry_of es c))) os) (filter (λ x. not (entry_remembers t x (entry_of es c))) os)))
     go true h rest = (any-kept_pairs t (record { client = c; object = o }) es order once ∙ absent_is (entry_remembers t o (entry_of es c)) h, rest)
     go false h rest = rest
 
 -- How many pairs there are with a client's.
-pairs-with : (t : ℕ) (es : List Entry) (c : Client) (os : List ObjId) (before : List Pair) → is_in_order es ≡ true → Every (λ e. each_once e.objects ≡ true) es →
+pairs-with : (t : ℕ) (es : List Entry) (c : Client) (os : List ObjId) (before : List Pair) → is_in_order es ≡ true → AllByRecursion (λ e. each_once e.objects ≡ true) es →
     ((p : Pair) → list_any (same_pair p) before ≡ list_any (same_pair p) (kept_pairs t es)) → length (distinct same_pair (before ++ pairs_of c os)) ≡ remembered t es + fresh_of t (entry_of es c) os
 pairs-with t es c os before order once same =
     length-distinct decides-pair (before ++ pairs_of c os) (pairs_of c news ++ kept_pairs t es)
@@ -369,7 +369,7 @@ pairs-with t es c os before order once same =
     news = filter (λ o. not (entry_remembers t o (entry_of es c))) (distinct same_id os)
 
 -- How many pairs there are with no others.
-pub pairs-alone : (t : ℕ) (es : List Entry) (before : List Pair) → is_in_order es ≡ true → Every (λ e. each_once e.objects ≡ true) es →
+pub pairs-alone : (t : ℕ) (es : List Entry) (before : List Pair) → is_in_order es ≡ true → AllByRecursion (λ e. each_once e.objects ≡ true) es →
     ((p : Pair) → list_any (same_pair p) before ≡ list_any (same_pair p) (kept_pairs t es)) → length (distinct same_pair (before ++ [])) ≡ remembered t es + 0
 pairs-alone t es before order once same =
     length-distinct decides-pair (before ++ []) (kept_pairs t es) (once-kept_pairs t es order once)
@@ -377,7 +377,7 @@ pairs-alone t es before order once same =
     ∙ length-kept_pairs t es ∙ omega arith
 
 new-brought : (lease : ℕ) (before : List Call) (kind : CallKind) (now : ℕ) (c : Client) (n : ℤ) (os : List ObjId) →
-    new_pairs lease before (new_call kind now c n os) ≡ (if counts_lem kind (has_time lease now (calls_of c before)) then pairs_of c os else [])
+    new_pairs lease before (new_call kind now c n os) ≡ (if call_counts kind (has_time lease now (calls_of c before)) then pairs_of c os else [])
 unfolding new_pairs
 new-brought lease before Dirty now c n os = refl
 new-brought lease before Weak now c n os = refl
@@ -388,10 +388,10 @@ pub pairs-counted : (lease m : ℕ) (table : LeaseTable) (calls : List Call) (ki
     pairs_with_call lease calls (new_call kind now c n os) ≡ pairs_after now table.entries c kind os
 pairs-counted lease m table calls kind now c n os le s order =
     ap (λ l. length (distinct same_pair (pairs lease now calls ++ l)))
-    (new-brought lease calls kind now c n os ∙ ap (λ b. if counts_lem kind b then pairs_of c os else []) (time-left lease m now (entry_of table.entries c) (calls_of c calls) le (s.each c)))
-    ∙ go (counts_lem kind (has_time_left now (entry_of table.entries c)))
+    (new-brought lease calls kind now c n os ∙ ap (λ b. if call_counts kind b then pairs_of c os else []) (time-left lease m now (entry_of table.entries c) (calls_of c calls) le (s.each c)))
+    ∙ go (call_counts kind (has_time_left now (entry_of table.entries c)))
   where
-    once : Every (λ e. each_once e.objects ≡ true) table.entries
+    once : AllByRecursion (λ e. each_once e.objects ≡ true) table.entries
     once = entries-once lease m table calls s order
 
     -- the kept pairs are the remembered ones

@@ -16,11 +16,11 @@ use Rattle.object_ids.proofs.Exact.{same_client-equal, same_client-true, same_id
 use Rattle.object_ids.proofs.Order.{client_cmp-equal, client_cmp-self}
 use Rattle.history.specs.declared.calls.CallKind.{CallKind}
 use Rattle.history.specs.declared.calls.CallKind.TheVariants.{Dirty, Weak, Strong}
-use Rattle.history.specs.Lists.{distinct}
-use Rattle.history.proofs.ListLemmas.{AllOnce, length-fewer, or_true}
+use Rattle.history.specs.Lists.{distinct, AllOnce}
+use Rattle.history.proofs.ListLemmas.{length-fewer, or_true}
 use Rattle.dgc_server.specs.declared.numbers.Numbers.{Numbers}
 use Rattle.dgc_server.specs.Numbers.{larger, noted, is_remembered}
-use Rattle.dgc_server.specs.Entry.{ObjectEntry, Entry, numbers_of, is_in, has_number, each_has_number, with_numbers, object_noted, objects_noted, objects_after, counts_lem, has_strong, strong_only, tenure_forgotten, lapsed, is_entry_kept, has_time_left, remembered_of, entry_remembers, fresh_of, entry_without}
+use Rattle.dgc_server.specs.Entry.{ObjectEntry, Entry, numbers_of, is_in, has_number, each_has_number, with_numbers, object_noted, objects_noted, objects_after, call_counts, has_strong, strong_only, tenure_forgotten, lapsed, is_entry_kept, has_time_left, remembered_of, entry_remembers, fresh_of, entry_without}
 use Rattle.dgc_server.specs.Table.{no_entry, entry_of, with_entry, after_lapse, remembered, pairs_after}
 use Rattle.dgc_server.specs.Stands.{is_in_order, each_once, entry_after}
 use Rattle.dgc_server.proofs.Counting.{decides-object, object-turned, kept_of, any-kept, once-kept_of, fresh}
@@ -142,7 +142,7 @@ numbered-objects kind n [] es h = h
 numbered-objects kind n (o ∷ os) es h = numbered-objects kind n os (object_noted kind n o es) (numbered-with o (noted kind n (numbers_of es o)) es (number-noted kind n (numbers_of es o)) h)
 
 pub numbered-after : (left : Bool) (kind : CallKind) (n : ℤ) (os : List ObjId) (es : List ObjectEntry) → each_has_number es ≡ true → each_has_number (objects_after left kind n os es) ≡ true
-numbered-after left kind n os es h = counted (counts_lem kind left) (if left then es else tenure_forgotten es) (before left)
+numbered-after left kind n os es h = counted (call_counts kind left) (if left then es else tenure_forgotten es) (before left)
   where
     before : (b : Bool) → each_has_number (if b then es else tenure_forgotten es) ≡ true
     before true = h
@@ -261,14 +261,14 @@ remembered-later m k (e ∷ es) le =
 
 -- What is remembered after a call was remembered before it, or the call counts and names it.
 remembered-then : (after left : Bool) (kind : CallKind) (n : ℤ) (named : Bool) (numbers : Numbers) → is_remembered after (numbers_after left kind n named numbers) ≡ true →
-    (is_remembered left numbers || (counts_lem kind left && named)) ≡ true
+    (is_remembered left numbers || (call_counts kind left && named)) ≡ true
 remembered-then after true kind n true numbers h = rw (always kind) (or_true (is_remembered true numbers))
   where
-    always : (k : CallKind) → counts_lem k true ≡ true
+    always : (k : CallKind) → call_counts k true ≡ true
     always Dirty = refl
     always Weak = refl
     always Strong = refl
-remembered-then after true kind n false numbers h = first (is_remembered true numbers) (counts_lem kind true && false) (wider after (before kind h))
+remembered-then after true kind n false numbers h = first (is_remembered true numbers) (call_counts kind true && false) (wider after (before kind h))
   where
     first : (a b : Bool) → a ≡ true → (a || b) ≡ true
     first true b e = refl
@@ -315,22 +315,22 @@ length-kept_of t e = length-map (λ (x : ObjectEntry). x.object) (filter (λ x. 
 
 -- What a call brings to what is remembered of its client.
 remembered-entry : (lease t : ℕ) (kind : CallKind) (n : ℤ) (os : List ObjId) (e : Entry) → each_once e.objects ≡ true →
-    remembered_of t (entry_after lease kind n os t e) ≤ remembered_of t e + (if counts_lem kind (has_time_left t e) then fresh_of t e os else 0)
+    remembered_of t (entry_after lease kind n os t e) ≤ remembered_of t e + (if call_counts kind (has_time_left t e) then fresh_of t e os else 0)
 remembered-entry lease t kind n os e once =
     let next = entry_after lease kind n os t e in
     let next_once = once-after (has_time_left t e) kind n os e.objects once in
-    let both = kept_of t e ++ (if counts_lem kind (has_time_left t e) then fresh t e os else []) in
+    let both = kept_of t e ++ (if call_counts kind (has_time_left t e) then fresh t e os else []) in
     let few : length (kept_of t next) ≤ length both =
     length-fewer same_id (record { self = same_id-self; equal = same_id-equal }) (kept_of t next) both (once-all (kept_of t next) (once-kept_of t next next_once))
-    (λ o h. list_any-append (same_id o) (kept_of t e) (if counts_lem kind (has_time_left t e) then fresh t e os else [])
-    ∙ ap (λ v. v || list_any (same_id o) (if counts_lem kind (has_time_left t e) then fresh t e os else [])) (any-kept_of t e o once)
-    ∙ member o (entry_remembers t o e) (counts_lem kind (has_time_left t e)) refl
-    (ap (λ v. entry_remembers t o e || (counts_lem kind (has_time_left t e) && v)) (sym (named-turned o os))
+    (λ o h. list_any-append (same_id o) (kept_of t e) (if call_counts kind (has_time_left t e) then fresh t e os else [])
+    ∙ ap (λ v. v || list_any (same_id o) (if call_counts kind (has_time_left t e) then fresh t e os else [])) (any-kept_of t e o once)
+    ∙ member o (entry_remembers t o e) (call_counts kind (has_time_left t e)) refl
+    (ap (λ v. entry_remembers t o e || (call_counts kind (has_time_left t e) && v)) (sym (named-turned o os))
     ∙ remembered-then (has_time_left t next) (has_time_left t e) kind n (is_in o os) (numbers_of e.objects o)
     (ap (is_remembered (has_time_left t next)) (sym (numbers-after (has_time_left t e) kind n os e.objects o once)) ∙ sym (any-kept_of t next o next_once) ∙ h))) in
     let a = length-kept_of t next in let b = length-kept_of t e in
-    let c = length-append (kept_of t e) (if counts_lem kind (has_time_left t e) then fresh t e os else []) in
-    let d = size (counts_lem kind (has_time_left t e)) in omega arith
+    let c = length-append (kept_of t e) (if call_counts kind (has_time_left t e) then fresh t e os else []) in
+    let d = size (call_counts kind (has_time_left t e)) in omega arith
   where
     size : (b : Bool) → length (if b then fresh t e os else []) ≡ (if b then fresh_of t e os else 0)
     size true = refl

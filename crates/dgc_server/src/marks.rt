@@ -6,7 +6,7 @@ ghost use Rattle.indexmap.specs.IndexSet.{contains};
 ghost use Rattle.object_ids.specs.declared.ids.ObjId.{ObjId};
 ghost use Rattle.object_ids.specs.Same.{same_id};
 ghost use Rattle.dgc_server.specs.Numbers.{no_numbers, strong_part, is_dirty_highest, is_remembered};
-ghost use Rattle.dgc_server.specs.Entry.{object_entries, each_has_number, numbers_of, is_in, dirty_in, fresh_in, with_numbers, object_noted, objects_noted, objects_after, tenure_forgotten, counts_lem};
+ghost use Rattle.dgc_server.specs.Entry.{object_entries, each_has_number, numbers_of, is_in, dirty_in, fresh_in, with_numbers, object_noted, objects_noted, objects_after, tenure_forgotten, call_counts};
 ghost use Rattle.dgc_server.specs.Stands.{each_once};
 ghost use Rattle.dgc_server.specs.Index.{same_key, held_at, has_count, one_if};
 
@@ -214,7 +214,7 @@ pub fn note(
 /// Whether a call of this kind counts, where its client has time left or has not: a weak clean without
 /// time left is forgotten.
 pub fn counts_for(kind: CallKind, left: bool) -> bool
-    ensures { result ≡ counts_lem kind left }
+    ensures { result ≡ call_counts kind left }
 {
     match kind {
         CallKind::Dirty | CallKind::Strong => true,

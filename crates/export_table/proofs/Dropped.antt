@@ -7,7 +7,7 @@ use Rattle.std.proofs.lemmas.List.Folds.{list_any-append}
 use Rattle.object_ids.specs.declared.ids.ObjId.{ObjId}
 use Rattle.object_ids.specs.Same.{same_id}
 use Rattle.history.specs.declared.calls.Call.{Call}
-use Rattle.history.proofs.ListLemmas.{filter-filter, filter-same, Every-always}
+use Rattle.history.proofs.ListLemmas.{filter-filter, filter-same, every-always}
 use Rattle.dgc_server.specs.Counts.{without}
 use Rattle.dgc_server.specs.Stands.{LeaseTable, StandsFor}
 use Rattle.export_table.specs.Rows.{without_all}
@@ -25,7 +25,7 @@ one-out os o x =
     ap (λ (ys : List ObjId). record x { objects = ys })
     (filter-filter (λ y. not (same_id y o)) (λ y. not (list_any (λ p. same_id y p) os)) x.objects
     ∙ filter-same (λ y. not (same_id y o) && not (list_any (λ p. same_id y p) os)) (λ y. not (list_any (λ p. same_id y p) (os ++ o ∷ []))) x.objects
-    (Every-always (λ y. (not (same_id y o) && not (list_any (λ p. same_id y p) os)) ≡ not (list_any (λ p. same_id y p) (os ++ o ∷ []))) each x.objects))
+    (every-always (λ y. (not (same_id y o) && not (list_any (λ p. same_id y p) os)) ≡ not (list_any (λ p. same_id y p) (os ++ o ∷ []))) each x.objects))
   where
     both : (a b : Bool) → (not a && not b) ≡ not (b || (a || false))
     both true true = refl

@@ -1,7 +1,7 @@
 -- What an export table keeps and adds is what a history keeps and exports, and what other events leave.
 use Rattle.std.proofs.Common.{◌≡◌, ℕ, ◌+◌, List, [], ◌∷◌, length, refl, ap, sym, subst, ◌∙◌, cond, map, max, arith}
 use Rattle.std.specs.Prelude.{Bool, true, false, ◌&&◌, ◌||◌, filter, nat_lt, if◌then◌else◌}
-use Rattle.std.specs.List.{list_any}
+use Rattle.std.specs.List.{list_any, AllByRecursion}
 use Rattle.object_ids.specs.declared.ids.Uid.{Uid}
 use Rattle.object_ids.specs.declared.ids.ObjId.{ObjId}
 use Rattle.object_ids.specs.Same.{same_id}
@@ -20,7 +20,6 @@ use Rattle.history.specs.Places.{now, next, id_at, exported_from}
 use Rattle.history.specs.Running.{begins_any, ends_any, running, running_calls, is_running}
 use Rattle.history.specs.Table.{is_pinned, is_kept, is_effective, exports, place_of, places}
 use Rattle.history.proofs.AwaitingLaws.{is_awaited-members}
-use Rattle.history.proofs.ListLemmas.{Every}
 use Rattle.history.proofs.NumberLaws.{length-exported_from}
 use Rattle.history.proofs.Partitions.{one_if}
 use Rattle.history.proofs.RunningLaws.{running_calls-push, is_running-calls}
@@ -90,7 +89,7 @@ exports-are config h e = go e.ask
     go Tick = refl
 
 -- Objects of which no call runs have the rows with which they are added.
-pub added-rows : (space : Uid) (k place : ℕ) (count : ObjId → ℕ) (pinned : Bool) (kinds : List ℕ) → Every (λ (x : Exported). count x.id ≡ 0) (exported_from space k place pinned kinds) →
+pub added-rows : (space : Uid) (k place : ℕ) (count : ObjId → ℕ) (pinned : Bool) (kinds : List ℕ) → AllByRecursion (λ (x : Exported). count x.id ≡ 0) (exported_from space k place pinned kinds) →
     map (row_with count) (exported_from space k place pinned kinds) ≡ added_rows space k pinned kinds
 added-rows space k place count pinned [] none = refl
 added-rows space k place count pinned (kind ∷ kinds) none =
@@ -100,7 +99,7 @@ added-rows space k place count pinned (kind ∷ kinds) none =
 pub exports-are-added : ExportsAreAdded
 exports-are-added config events e =
     let kinds : List ℕ = kinds_exported (is_effective config (places config events) e.by e.ask) e.ask in
-    let P : List Exported → Type 0 = λ l. Every (λ (x : Exported). running_calls (place_of config (places config events) e ∷ places config events) x.id ≡ 0) l in
+    let P : List Exported → Type 0 = λ l. AllByRecursion (λ (x : Exported). running_calls (place_of config (places config events) e ∷ places config events) x.id ≡ 0) l in
     let H : List Place → Type 0 = λ h. rows_of h (place_of config (places config events) e).exported_here ≡ added_rows config.uid (next (places config events)) (is_exported_pinned e.ask) kinds in
     subst H (sym (places-push config events e)) (
     ap (rows_of (place_of config (places config events) e ∷ places config events)) (exports-are config (places config events) e)

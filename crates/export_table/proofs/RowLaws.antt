@@ -9,7 +9,8 @@ use Rattle.object_ids.specs.declared.ids.ObjId.{ObjId}
 use Rattle.object_ids.specs.Same.{same_id, same_uid}
 use Rattle.object_ids.proofs.Exact.{same_id-equal, same_uid-equal}
 use Rattle.history.specs.Places.{id_at}
-use Rattle.history.proofs.ListLemmas.{AllOnce, list_any-filter, or_false, and_false}
+use Rattle.history.specs.Lists.{AllOnce}
+use Rattle.history.proofs.ListLemmas.{list_any-filter, or_false, and_false}
 use Rattle.export_table.specs.declared.rows.Export.{Export}
 use Rattle.export_table.specs.declared.waits.Wait.{Wait}
 use Rattle.export_table.specs.Rows.{is_of, row_of, is_exported, kind_of, ids, is_rising, is_given, changed, is_row_kept, withdrawn}

@@ -1,10 +1,9 @@
 -- Objects of the table of a history: running calls are of them, and what an event exports was nowhere before.
 use Rattle.std.proofs.Common.{true≢false, ◌≡◌, ℕ, ◌+◌, ◌<◌, inl, inr, List, [], ◌∷◌, ◌++◌, length, refl, ap, sym, subst, ◌∙◌, cond, arith}
-use Rattle.std.specs.Prelude.{Bool, true, false, ◌&&◌, ◌||◌, filter, reverse}
+use Rattle.std.specs.Prelude.{Bool, true, false, ◌&&◌, ◌||◌, filter}
+use Rattle.std.specs.List.{AllByRecursion}
 use Rattle.std.proofs.str.Laws.{order}
-use Rattle.std.proofs.lemmas.Bool.{lt-ltb, and_parts, or_left, or_cases}
-use Rattle.std.proofs.lemmas.List.{reverse-reverse}
-use Rattle.std.proofs.lemmas.List.Folds.{list_any-append}
+use Rattle.std.proofs.lemmas.Bool.{lt-ltb, and_parts, or_cases}
 use Rattle.object_ids.specs.declared.ids.Uid.{Uid}
 use Rattle.object_ids.specs.declared.ids.ObjId.{ObjId}
 use Rattle.object_ids.specs.Same.{same_id}
@@ -22,45 +21,12 @@ use Rattle.history.specs.Names.{is_named}
 use Rattle.history.specs.Places.{has, now, added, id_at}
 use Rattle.history.specs.Running.{begins_any, ends_any, running_calls}
 use Rattle.history.specs.Table.{is_pinned, is_kept, is_effective, table, place_of, places}
-use Rattle.history.proofs.ListLemmas.{Every, Every-weaker, reverse-cons}
+use Rattle.history.proofs.ListLemmas.{every-weaker}
+use Rattle.history.proofs.NamedLaws.{by-events, stays, in-front}
 use Rattle.history.proofs.NumberLaws.{NumberedFrom, adds-numbered, added-numbered, has-smaller, has-self, table-exported}
 use Rattle.history.proofs.Partitions.{one_if}
 use Rattle.history.proofs.RunningLaws.{running_calls-difference, running_calls-push, is_running-calls}
-use Rattle.history.proofs.TableLaws.{places-numbered, places-push, places-none, table-place}
-
--- ---- from event to event
-
--- What holds of no events, and of one more where it held before, holds of all lists of events.
-pub by-events : (P : List Event → Type 0) → P [] → ((events : List Event) (e : Event) → P events → P (events ++ e ∷ [])) → (events : List Event) → P events
-by-events P nothing more events = subst P (reverse-reverse events) (go (reverse events))
-  where
-    go : (es : List Event) → P (reverse es)
-    go [] = nothing
-    go (e ∷ es) = subst P (sym (reverse-cons e es)) (more (reverse es) e (go es))
-
--- ---- an object that is kept stays
-
-has-kept : (test : Exported → Bool) (xs : List Exported) (o : ObjId) → ((x : Exported) → x.id ≡ o → test x ≡ true) → has xs o ≡ true → has (filter test xs) o ≡ true
-has-kept test [] o k h = absurd (cc)
-has-kept test (x ∷ xs) o k h = go (test x) (same_id x.id o) refl refl h (has-kept test xs o k)
-  where
-    go : (a b : Bool) → test x ≡ a → same_id x.id o ≡ b → (b || has xs o) ≡ true → (has xs o ≡ true → has (filter test xs) o ≡ true) → has (cond a (x ∷ filter test xs) (filter test xs)) o ≡ true
-    go true true e f h rest = rw f refl
-    go true false e f h rest = rw f (rest h)
-    go false true e f h rest = absurd (let yes = k x (same_id-equal x.id o f) in cc)
-    go false false e f h rest = rest h
-
--- An object of the table, or a new one, that is kept after an event is in the table then.
-pub stays : (config : SpaceConfig) (events : List Event) (e : Event) (o : ObjId) →
-    ((x : Exported) → x.id ≡ o → is_kept config (place_of config (places config events) e ∷ places config events) x ≡ true) →
-    has (table config (places config events) ++ (place_of config (places config events) e).exported_here) o ≡ true →
-    has (table config (place_of config (places config events) e ∷ places config events)) o ≡ true
-stays config events e o k h =
-    ap (λ l. has l o) (table-place config (places config events) e (places-numbered config events))
-    ∙ has-kept (is_kept config (place_of config (places config events) e ∷ places config events)) (table config (places config events) ++ (place_of config (places config events) e).exported_here) o k h
-
-pub in-front : (xs ys : List Exported) (o : ObjId) → has xs o ≡ true → has (xs ++ ys) o ≡ true
-in-front xs ys o h = list_any-append (λ (x : Exported). same_id x.id o) xs ys ∙ or_left (has xs o) (has ys o) h
+use Rattle.history.proofs.TableLaws.{places-push, places-none}
 
 -- ---- running calls are of objects of the table
 
@@ -151,10 +117,10 @@ not-there-runs-none config events y h = elim (order 0 (running_calls (places con
 
 -- No call of a new object runs.
 pub new-runs-none : (config : SpaceConfig) (events : List Event) (e : Event) →
-    Every (λ (x : Exported). running_calls (place_of config (places config events) e ∷ places config events) x.id ≡ 0) (place_of config (places config events) e).exported_here
+    AllByRecursion (λ (x : Exported). running_calls (place_of config (places config events) e ∷ places config events) x.id ≡ 0) (place_of config (places config events) e).exported_here
 unfolding one_if
 new-runs-none config events e =
-    Every-weaker (λ (x : Exported). has (place_of config (places config events) e).exported_here x.id ≡ true) _ (λ x there. one x.id there)
+    every-weaker (λ (x : Exported). has (place_of config (places config events) e).exported_here x.id ≡ true) _ (λ x there. one x.id there)
     (place_of config (places config events) e).exported_here (has-self (place_of config (places config events) e).exported_here)
   where
     one : (o : ObjId) → has (place_of config (places config events) e).exported_here o ≡ true → running_calls (place_of config (places config events) e ∷ places config events) o ≡ 0

@@ -12,11 +12,11 @@ use Rattle.history.specs.declared.asks.Event.{Event}
 use Rattle.history.specs.declared.places.Place.{Place}
 use Rattle.history.specs.declared.places.Returned.{Returned}
 use Rattle.history.specs.Awaiting.{same_returned, returns, is_ack_of, awaits, awaiting, awaiting_of, until_of}
-use Rattle.history.specs.Lists.{distinct}
+use Rattle.history.specs.Lists.{distinct, AllOnce}
 use Rattle.history.specs.Places.{now}
 use Rattle.history.specs.Table.{place_of, places_back, places}
 use Rattle.history.proofs.AwaitingLaws.{returned-equality, awaiting-member, awaiting-once}
-use Rattle.history.proofs.ListLemmas.{AllOnce, IsEquality, AllOnce-distinct, AllOnce-filter, length-members, list_any-distinct, same_test, and_false}
+use Rattle.history.proofs.ListLemmas.{IsEquality, AllOnce-distinct, AllOnce-filter, length-members, list_any-distinct, same_test, and_false}
 use Rattle.history.proofs.TableLaws.{IsNumbered, index-place_of, adds-place, places_back-numbered, moment-place_of, now-push, places-numbered}
 use Rattle.dgc_server.proofs.Distinct.{Decides, any-filtered, turned}
 use Rattle.dgc_server.proofs.Outputs.{no_time}

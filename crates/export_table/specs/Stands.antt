@@ -16,7 +16,7 @@ use Rattle.history.specs.Names.{is_named}
 use Rattle.history.specs.Places.{has, now, next, id_at}
 use Rattle.history.specs.Running.{begins_any, ends_any, running_calls}
 use Rattle.history.specs.Table.{is_effective, is_kept, place_of, places}
-use Rattle.history.proofs.ListLemmas.{AllOnce}
+use Rattle.history.specs.Lists.{AllOnce}
 use Rattle.export_table.specs.declared.rows.Export.{Export}
 use Rattle.export_table.specs.declared.waits.Wait.{Wait}
 use Rattle.export_table.specs.Rows.{running_of, new_row, changed, begun, ended, is_row_kept, held_by}

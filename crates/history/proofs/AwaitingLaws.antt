@@ -8,7 +8,7 @@ use Rattle.object_ids.specs.declared.ids.Uid.{Uid}
 use Rattle.object_ids.specs.declared.ids.ObjId.{ObjId}
 use Rattle.object_ids.specs.Same.{same_id, same_uid}
 use Rattle.object_ids.proofs.Exact.{same_id-equal, same_id-self, same_uid-equal, same_uid-self}
-use Rattle.history.specs.Lists.{option_any}
+use Rattle.history.specs.Lists.{option_any, AllOnce}
 use Rattle.history.specs.declared.places.Place.{Place}
 use Rattle.history.specs.declared.places.Returned.{Returned}
 use Rattle.history.specs.declared.asks.SpaceConfig.{SpaceConfig}
@@ -16,7 +16,7 @@ use Rattle.history.specs.declared.asks.Event.{Event}
 use Rattle.history.specs.Awaiting.{same_returned, returned, returns, is_ack_of, until_of, awaits, references, awaiting, is_awaited}
 use Rattle.history.specs.Laws.{is_acknowledged, awaits_since_return, AwaitsSinceReturn}
 use Rattle.history.specs.Table.{places}
-use Rattle.history.proofs.ListLemmas.{IsEquality, AllOnce, AllOnce-distinct, list_any-distinct, list_any-filter, list_any-members, and_true, and_false, same_test, test-Somewhere, Somewhere, Somewhere-test}
+use Rattle.history.proofs.ListLemmas.{IsEquality, AllOnce-distinct, list_any-distinct, list_any-filter, list_any-members, and_true, and_false, same_test, test-Somewhere, Somewhere, Somewhere-test}
 use Rattle.history.proofs.TableLaws.{IsNumbered, places-numbered}
 
 pub returned-equality : IsEquality same_returned

@@ -1,6 +1,7 @@
 -- Laws of withdrawals: what is still to be told, and what a turn tells as gone.
 use Rattle.std.proofs.Common.{◌≡◌, ℕ, ◌+◌, ◌<◌, ◌≤◌, List, [], ◌∷◌, ◌++◌, length, refl, ap, sym, ◌∙◌, arith, cond, Some}
 use Rattle.std.specs.Prelude.{Bool, true, false, not, filter, find, map, nat_le, reverse, if◌then◌else◌, option_map, unwrap_or}
+use Rattle.std.specs.List.{AllByRecursion}
 use Rattle.std.proofs.lemmas.Bool.{le-leb, lt-leb}
 use Rattle.std.proofs.lemmas.List.{map-append}
 use Rattle.std.proofs.lemmas.List.Elements.{filter-append}
@@ -13,7 +14,7 @@ use Rattle.history.specs.Table.{place_of, places_back, places, withdrawn, withdr
 pub use Rattle.history.specs.Replies.{pending}
 use Rattle.history.specs.Replies.{ids, is_abandon, gone}
 use Rattle.history.specs.Laws.{first_untold, withdrawn_from, GoneSinceLast}
-use Rattle.history.proofs.ListLemmas.{Every, Every-append, Every-weaker}
+use Rattle.history.proofs.ListLemmas.{every-append, every-weaker}
 use Rattle.history.proofs.TableLaws.{IsNumbered, index-place_of, ask-place_of, places_back-numbered}
 
 -- One more place withdraws what it withdraws.
@@ -39,7 +40,7 @@ pending-none config = refl
 
 -- ---- since the last event that is no Abandon
 
-at_place : (n : ℕ) (xs : List Exported) → Every (λ (w : Withdrawal). w.place ≡ n) (map (λ x. record { object = x.id; place = n }) xs)
+at_place : (n : ℕ) (xs : List Exported) → AllByRecursion (λ (w : Withdrawal). w.place ≡ n) (map (λ x. record { object = x.id; place = n }) xs)
 at_place n [] = tt
 at_place n (x ∷ xs) = (refl, at_place n xs)
 
@@ -48,18 +49,18 @@ unfolding withdrawals
 withdrawals-none config = refl
 
 -- Each withdrawal stands at a place of the history.
-withdrawals-below : (config : SpaceConfig) (h : List Place) → IsNumbered h → Every (λ (w : Withdrawal). w.place < length h) (withdrawals config h)
+withdrawals-below : (config : SpaceConfig) (h : List Place) → IsNumbered h → AllByRecursion (λ (w : Withdrawal). w.place < length h) (withdrawals config h)
 withdrawals-below config [] n = rw withdrawals-none tt
 withdrawals-below config (p ∷ h) n =
-    rw withdrawals-push (Every-append (λ (w : Withdrawal). w.place < length (p ∷ h)) (withdrawals config h) (withdrawals_at_end config (p ∷ h))
-    (Every-weaker (λ (w : Withdrawal). w.place < length h) (λ (w : Withdrawal). w.place < length (p ∷ h)) (λ w a. omega arith) (withdrawals config h) (withdrawals-below config h n.2))
-    (Every-weaker (λ (w : Withdrawal). w.place ≡ p.index) (λ (w : Withdrawal). w.place < length (p ∷ h)) (λ w a. let b = n.0 in omega arith) (withdrawals_at_end config (p ∷ h)) (at_place p.index (withdrawn config (p ∷ h)))))
+    rw withdrawals-push (every-append (λ (w : Withdrawal). w.place < length (p ∷ h)) (withdrawals config h) (withdrawals_at_end config (p ∷ h))
+    (every-weaker (λ (w : Withdrawal). w.place < length h) (λ (w : Withdrawal). w.place < length (p ∷ h)) (λ w a. omega arith) (withdrawals config h) (withdrawals-below config h n.2))
+    (every-weaker (λ (w : Withdrawal). w.place ≡ p.index) (λ (w : Withdrawal). w.place < length (p ∷ h)) (λ w a. let b = n.0 in omega arith) (withdrawals_at_end config (p ∷ h)) (at_place p.index (withdrawn config (p ∷ h)))))
 
-filter-all : {X : Type 0} (test : X → Bool) (xs : List X) → Every (λ x. test x ≡ true) xs → filter test xs ≡ xs
+filter-all : {X : Type 0} (test : X → Bool) (xs : List X) → AllByRecursion (λ x. test x ≡ true) xs → filter test xs ≡ xs
 filter-all test [] e = refl
 filter-all test (x ∷ xs) e = rw (e.0, filter-all test xs e.1) refl
 
-filter-none : {X : Type 0} (test : X → Bool) (xs : List X) → Every (λ x. test x ≡ false) xs → filter test xs ≡ []
+filter-none : {X : Type 0} (test : X → Bool) (xs : List X) → AllByRecursion (λ x. test x ≡ false) xs → filter test xs ≡ []
 filter-none test [] e = refl
 filter-none test (x ∷ xs) e = rw (e.0, filter-none test xs e.1) refl
 
@@ -84,7 +85,7 @@ told-next config h e n =
     ∙ map-append (λ (w : Withdrawal). w.object) (filter (λ w. nat_le (first_untold h) w.place) (withdrawals config h)) (filter (λ w. nat_le (first_untold h) w.place) (withdrawals_at_end config (place_of config h e ∷ h)))
     ∙ ap (λ l. map (λ (w : Withdrawal). w.object) (filter (λ w. nat_le (first_untold h) w.place) (withdrawals config h)) ++ l)
     (ap (map (λ (w : Withdrawal). w.object)) (filter-all (λ w. nat_le (first_untold h) w.place) (withdrawals_at_end config (place_of config h e ∷ h))
-    (Every-weaker (λ (w : Withdrawal). w.place ≡ (place_of config h e).index) (λ (w : Withdrawal). nat_le (first_untold h) w.place ≡ true)
+    (every-weaker (λ (w : Withdrawal). w.place ≡ (place_of config h e).index) (λ (w : Withdrawal). nat_le (first_untold h) w.place ≡ true)
     (λ w a. le-leb (first_untold h) w.place (let i = index-place_of config h e in let l = untold-within h n in omega arith))
     (withdrawals_at_end config (place_of config h e ∷ h)) (at_place (place_of config h e).index (withdrawn config (place_of config h e ∷ h)))))
     ∙ objects-at (place_of config h e).index (withdrawn config (place_of config h e ∷ h)))
@@ -100,7 +101,7 @@ told-after config h e n = go (is_abandon e.ask) (ap is_abandon (ask-place_of con
     go true p q = rw (p ∙ q) refl
     go false p q =
         ap (map (λ (w : Withdrawal). w.object)) (filter-none (λ w. nat_le (first_untold (place_of config h e ∷ h)) w.place) (withdrawals config (place_of config h e ∷ h))
-        (Every-weaker (λ (w : Withdrawal). w.place < length (place_of config h e ∷ h)) (λ (w : Withdrawal). nat_le (first_untold (place_of config h e ∷ h)) w.place ≡ false)
+        (every-weaker (λ (w : Withdrawal). w.place < length (place_of config h e ∷ h)) (λ (w : Withdrawal). nat_le (first_untold (place_of config h e ∷ h)) w.place ≡ false)
         (λ w a. rw (p ∙ q) (lt-leb ((place_of config h e).index + 1) w.place (let i = index-place_of config h e in omega arith)))
         (withdrawals config (place_of config h e ∷ h)) (withdrawals-below config (place_of config h e ∷ h) n)))
 

@@ -1,7 +1,7 @@
 -- Laws of the leases.
 use Rattle.std.proofs.Common.{◌≡◌, ℕ, inl, inr, List, [], ◌∷◌, length, refl, ap, sym, subst, ◌∙◌, arith, cond, Ordering}
 use Rattle.std.specs.Prelude.{ℤ, Bool, true, false, ◌&&◌, ◌||◌, nat_lt, not, map, int_lt}
-use Rattle.std.specs.List.{list_any, list_all}
+use Rattle.std.specs.List.{list_any, list_all, AllByRecursion}
 use Rattle.std.specs.Ordering.{is_eq, int_eq}
 use Rattle.std.specs.declared.cmp.Ordering.TheVariants.{Less, Equal, Greater}
 use Rattle.std.proofs.lemmas.Int.{ints}
@@ -11,7 +11,7 @@ use Rattle.object_ids.specs.Client.{Client, client_cmp}
 use Rattle.object_ids.proofs.Order.{client_cmp-equal}
 use Rattle.history.specs.declared.calls.Call.{Call}
 use Rattle.history.specs.Leases.{is_dirty, is_higher, highest_is_dirty, calls_of, clients, holds, holders, is_held}
-use Rattle.history.proofs.ListLemmas.{Every, Every-two, Every-test, Somewhere, Somewhere-test, test-Somewhere, Somewhere-both, Respects, list_any-filter, list_any-in_order, list_any-map, list_any-length, same_test}
+use Rattle.history.proofs.ListLemmas.{every-two, every-test, Somewhere, Somewhere-test, test-Somewhere, Somewhere-both, Respects, list_any-filter, list_any-in_order, list_any-map, list_any-length, same_test}
 
 -- ---- the highest call
 
@@ -44,7 +44,7 @@ higher-dirty x y d = rw d (go (int_lt x.number y.number) (int_eq x.number y.numb
 record IsGreatest (calls : List Call) (m : Call) : Type 0 where
   dirty : is_dirty m ≡ true
   there : Somewhere (λ x. x ≡ m) calls
-  above : Every (λ x. is_dirty x ≡ true → int_lt m.number x.number ≡ false) calls
+  above : AllByRecursion (λ x. is_dirty x ≡ true → int_lt m.number x.number ≡ false) calls
 
 greatest : (calls : List Call) → list_any is_dirty calls ≡ true → (m : Call) × IsGreatest calls m
 greatest [] h = absurd (cc)
@@ -53,13 +53,13 @@ greatest (x ∷ calls) h = go (is_dirty x) (list_any is_dirty calls) refl refl h
     self : int_lt x.number x.number ≡ false
     self = false_from_ne_true (int_lt x.number x.number) (λ e. let f = int_lt-asym x.number x.number e in cc)
 
-    nothing : (ys : List Call) → list_any is_dirty ys ≡ false → Every (λ y. is_dirty y ≡ true → int_lt x.number y.number ≡ false) ys
+    nothing : (ys : List Call) → list_any is_dirty ys ≡ false → AllByRecursion (λ y. is_dirty y ≡ true → int_lt x.number y.number ≡ false) ys
     nothing [] e = tt
     nothing (y ∷ ys) e = none (is_dirty y) (list_any is_dirty ys) refl refl e (nothing ys)
       where
         none : (a b : Bool) → is_dirty y ≡ a → list_any is_dirty ys ≡ b → (a || b) ≡ false →
-            (list_any is_dirty ys ≡ false → Every (λ z. is_dirty z ≡ true → int_lt x.number z.number ≡ false) ys) →
-            Every (λ z. is_dirty z ≡ true → int_lt x.number z.number ≡ false) (y ∷ ys)
+            (list_any is_dirty ys ≡ false → AllByRecursion (λ z. is_dirty z ≡ true → int_lt x.number z.number ≡ false) ys) →
+            AllByRecursion (λ z. is_dirty z ≡ true → int_lt x.number z.number ≡ false) (y ∷ ys)
         none false false p q r rest = ((λ d. absurd (cc)), rest q)
         none true b p q r rest = absurd (cc)
         none false true p q r rest = absurd (cc)
@@ -72,7 +72,7 @@ greatest (x ∷ calls) h = go (is_dirty x) (list_any is_dirty calls) refl refl h
         there = inl refl;
         above = (
           (λ z. self),
-          Every-two (λ y. is_dirty y ≡ true → int_lt m.number y.number ≡ false) (λ y. Unit {0}) (λ y. is_dirty y ≡ true → int_lt x.number y.number ≡ false)
+          every-two (λ y. is_dirty y ≡ true → int_lt m.number y.number ≡ false) (λ y. Unit {0}) (λ y. is_dirty y ≡ true → int_lt x.number y.number ≡ false)
               (λ y f u z. not_above m y (f z) e) calls g.above (every_unit calls),
         );
       },
@@ -81,7 +81,7 @@ greatest (x ∷ calls) h = go (is_dirty x) (list_any is_dirty calls) refl refl h
         not_above : (m y : Call) → int_lt m.number y.number ≡ false → int_lt m.number x.number ≡ true → int_lt x.number y.number ≡ false
         not_above m y f e = grind (arith, ints)
 
-        every_unit : (ys : List Call) → Every (λ y. Unit {0}) ys
+        every_unit : (ys : List Call) → AllByRecursion (λ y. Unit {0}) ys
         every_unit [] = tt
         every_unit (y ∷ ys) = (tt, every_unit ys)
     compared m g false e d = (m, record { dirty = g.dirty; there = inr g.there; above = ((λ z. e), g.above) })
@@ -130,7 +130,7 @@ highest_is_dirty-scan calls =
 
     -- the greatest dirty is as high as that one
     below : (d m : Call) → is_dirty d ≡ true → is_dirty m ≡ true → int_lt m.number d.number ≡ false → (ys : List Call) →
-        Every (λ y. (is_dirty y || int_lt y.number d.number) ≡ true) ys → Every (λ y. is_dirty y ≡ true → int_lt m.number y.number ≡ false) ys →
+        AllByRecursion (λ y. (is_dirty y || int_lt y.number d.number) ≡ true) ys → AllByRecursion (λ y. is_dirty y ≡ true → int_lt m.number y.number ≡ false) ys →
         list_any (λ y. is_higher y m) ys ≡ false
     below d m dd dm n [] a b = refl
     below d m dd dm n (y ∷ ys) a b = rw (one (is_dirty y) refl, below d m dd dm n ys a.1 b.1) refl
@@ -160,7 +160,7 @@ highest_is_dirty-scan calls =
             lowest : Somewhere (λ d. (list_any (λ y. is_higher y m) calls) ≡ false) calls
             lowest = Somewhere-both (λ d. (is_dirty d && list_all (λ x. is_dirty x || int_lt x.number d.number) calls) ≡ true) (λ d. is_dirty d ≡ true → int_lt m.number d.number ≡ false) (λ d. (list_any (λ y. is_higher y m) calls) ≡ false)
                 (λ d e f. let two = and_parts (is_dirty d) (list_all (λ x. is_dirty x || int_lt x.number d.number) calls) e in
-                below d m two.0 g.dirty (f two.0) calls (Every-test (λ x. is_dirty x || int_lt x.number d.number) calls two.1) g.above) calls s g.above
+                below d m two.0 g.dirty (f two.0) calls (every-test (λ x. is_dirty x || int_lt x.number d.number) calls two.1) g.above) calls s g.above
 
             none_higher : (P : Type 0) (ys : List Call) → Somewhere (λ d. P) ys → P
             none_higher P [] s = absurd s

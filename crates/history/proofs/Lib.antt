@@ -6,8 +6,10 @@ pub mod LeaseRows
 pub mod GoneLaws
 pub mod LeaseLaws
 pub mod ListLemmas
+pub mod NameCounts
 pub mod NameLaws
 pub mod NamedCalls
+pub mod NamedLaws
 pub mod NumberLaws
 pub mod Partitions
 pub mod PlainLaws

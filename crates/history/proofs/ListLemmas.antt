@@ -1,12 +1,12 @@
 -- Facts on lists, filters and tests.
 use Rattle.std.proofs.Common.{◌≡◌, suc, ◌+◌, ◌≤◌, ◌⊎◌, inl, inr, List, [], ◌∷◌, ◌++◌, length, refl, ap, sym, subst, ◌∙◌, arith, cond, Option, Some, Ordering}
 use Rattle.std.specs.Prelude.{Bool, true, false, ◌&&◌, ◌||◌, nat_lt, not, filter, find, if◌then◌else◌, map, reverse}
-use Rattle.std.specs.List.{list_any, list_all}
+use Rattle.std.specs.List.{list_any, list_all, AllByRecursion}
 use Rattle.std.specs.Ordering.{is_lt, is_eq}
 use Rattle.std.specs.declared.cmp.Ordering.TheVariants.{Less, Equal, Greater}
 use Rattle.std.proofs.lemmas.List.{reverse-append}
 use Rattle.std.proofs.lemmas.Bool.{or_cases, or_left, or_right, or_parts, and_parts, lt-ltb}
-use Rattle.history.specs.Lists.{with_item, in_order, distinct}
+use Rattle.history.specs.Lists.{with_item, in_order, distinct, AllOnce}
 
 -- ---- truth values
 
@@ -38,44 +38,40 @@ same_test false false f g = refl
 
 -- ---- every item
 
-abbrev pub Every : {X : Type 0} → (X → Type 0) → List X → Type 0
-Every P [] = Unit {0}
-Every P (x ∷ xs) = P x × Every P xs
+pub every-append : {X : Type 0} (P : X → Type 0) (xs ys : List X) → AllByRecursion P xs → AllByRecursion P ys → AllByRecursion P (xs ++ ys)
+every-append P [] ys a b = b
+every-append P (x ∷ xs) ys a b = (a.0, every-append P xs ys a.1 b)
 
-pub Every-append : {X : Type 0} (P : X → Type 0) (xs ys : List X) → Every P xs → Every P ys → Every P (xs ++ ys)
-Every-append P [] ys a b = b
-Every-append P (x ∷ xs) ys a b = (a.0, Every-append P xs ys a.1 b)
+pub every-weaker : {X : Type 0} (P Q : X → Type 0) → ((x : X) → P x → Q x) → (xs : List X) → AllByRecursion P xs → AllByRecursion Q xs
+every-weaker P Q f [] h = tt
+every-weaker P Q f (x ∷ xs) h = (f x h.0, every-weaker P Q f xs h.1)
 
-pub Every-weaker : {X : Type 0} (P Q : X → Type 0) → ((x : X) → P x → Q x) → (xs : List X) → Every P xs → Every Q xs
-Every-weaker P Q f [] h = tt
-Every-weaker P Q f (x ∷ xs) h = (f x h.0, Every-weaker P Q f xs h.1)
+pub every-always : {X : Type 0} (P : X → Type 0) → ((x : X) → P x) → (xs : List X) → AllByRecursion P xs
+every-always P f [] = tt
+every-always P f (x ∷ xs) = (f x, every-always P f xs)
 
-pub Every-always : {X : Type 0} (P : X → Type 0) → ((x : X) → P x) → (xs : List X) → Every P xs
-Every-always P f [] = tt
-Every-always P f (x ∷ xs) = (f x, Every-always P f xs)
+pub every-two : {X : Type 0} (P Q R : X → Type 0) → ((x : X) → P x → Q x → R x) → (xs : List X) → AllByRecursion P xs → AllByRecursion Q xs → AllByRecursion R xs
+every-two P Q R f [] p q = tt
+every-two P Q R f (x ∷ xs) p q = (f x p.0 q.0, every-two P Q R f xs p.1 q.1)
 
-pub Every-two : {X : Type 0} (P Q R : X → Type 0) → ((x : X) → P x → Q x → R x) → (xs : List X) → Every P xs → Every Q xs → Every R xs
-Every-two P Q R f [] p q = tt
-Every-two P Q R f (x ∷ xs) p q = (f x p.0 q.0, Every-two P Q R f xs p.1 q.1)
-
-pub Every-filter : {X : Type 0} (P : X → Type 0) (test : X → Bool) (xs : List X) → Every P xs → Every P (filter test xs)
-Every-filter P test [] h = tt
-Every-filter P test (x ∷ xs) h = go (test x) (Every-filter P test xs h.1)
+pub every-filter : {X : Type 0} (P : X → Type 0) (test : X → Bool) (xs : List X) → AllByRecursion P xs → AllByRecursion P (filter test xs)
+every-filter P test [] h = tt
+every-filter P test (x ∷ xs) h = go (test x) (every-filter P test xs h.1)
   where
-    go : (b : Bool) → Every P (filter test xs) → Every P (cond b (x ∷ filter test xs) (filter test xs))
+    go : (b : Bool) → AllByRecursion P (filter test xs) → AllByRecursion P (cond b (x ∷ filter test xs) (filter test xs))
     go true r = (h.0, r)
     go false r = r
 
-pub Every-if : {X : Type 0} (P : X → Type 0) (b : Bool) (xs : List X) → Every P xs → Every P (if b then xs else [])
-Every-if P true xs h = h
-Every-if P false xs h = tt
+pub every-if : {X : Type 0} (P : X → Type 0) (b : Bool) (xs : List X) → AllByRecursion P xs → AllByRecursion P (if b then xs else [])
+every-if P true xs h = h
+every-if P false xs h = tt
 
 pub reverse-cons : {X : Type 0} (x : X) (xs : List X) → reverse (x ∷ xs) ≡ reverse xs ++ x ∷ []
 reverse-cons x xs = reverse-append (x ∷ []) xs
 
-pub Every-reverse : {X : Type 0} (P : X → Type 0) (xs : List X) → Every P xs → Every P (reverse xs)
-Every-reverse P [] e = tt
-Every-reverse P (x ∷ xs) e = rw (reverse-cons x xs) (Every-append P (reverse xs) (x ∷ []) (Every-reverse P xs e.1) (e.0, tt))
+pub every-reverse : {X : Type 0} (P : X → Type 0) (xs : List X) → AllByRecursion P xs → AllByRecursion P (reverse xs)
+every-reverse P [] e = tt
+every-reverse P (x ∷ xs) e = rw (reverse-cons x xs) (every-append P (reverse xs) (x ∷ []) (every-reverse P xs e.1) (e.0, tt))
 
 -- ---- some item
 
@@ -94,22 +90,22 @@ test-Somewhere P test f (x ∷ xs) h = elim h [
   | inr there ↦ or_right (test x) (list_any test xs) (test-Somewhere P test f xs there)
 ]
 
-pub Every-test : {X : Type 0} (test : X → Bool) (xs : List X) → list_all test xs ≡ true → Every (λ x. test x ≡ true) xs
-Every-test test [] h = tt
-Every-test test (x ∷ xs) h = let two = and_parts (test x) (list_all test xs) h in (two.0, Every-test test xs two.1)
+pub every-test : {X : Type 0} (test : X → Bool) (xs : List X) → list_all test xs ≡ true → AllByRecursion (λ x. test x ≡ true) xs
+every-test test [] h = tt
+every-test test (x ∷ xs) h = let two = and_parts (test x) (list_all test xs) h in (two.0, every-test test xs two.1)
 
-pub test-Every : {X : Type 0} (P : X → Type 0) (test : X → Bool) → ((x : X) → P x → test x ≡ true) → (xs : List X) → Every P xs → list_all test xs ≡ true
-test-Every P test f [] h = refl
-test-Every P test f (x ∷ xs) h = rw (f x h.0, test-Every P test f xs h.1) refl
+pub test-AllByRecursion : {X : Type 0} (P : X → Type 0) (test : X → Bool) → ((x : X) → P x → test x ≡ true) → (xs : List X) → AllByRecursion P xs → list_all test xs ≡ true
+test-AllByRecursion P test f [] h = refl
+test-AllByRecursion P test f (x ∷ xs) h = rw (f x h.0, test-AllByRecursion P test f xs h.1) refl
 
 -- An item of which one thing holds, in a list where another holds of each.
-pub Somewhere-both : {X : Type 0} (P Q R : X → Type 0) → ((x : X) → P x → Q x → R x) → (xs : List X) → Somewhere P xs → Every Q xs → Somewhere R xs
+pub Somewhere-both : {X : Type 0} (P Q R : X → Type 0) → ((x : X) → P x → Q x → R x) → (xs : List X) → Somewhere P xs → AllByRecursion Q xs → Somewhere R xs
 Somewhere-both P Q R f [] s e = absurd s
 Somewhere-both P Q R f (x ∷ xs) s e = elim s [ inl here ↦ inl (f x here e.0) | inr there ↦ inr (Somewhere-both P Q R f xs there e.1) ]
 
 -- ---- filters
 
-pub filter-same : {X : Type 0} (p q : X → Bool) (xs : List X) → Every (λ x. p x ≡ q x) xs → filter p xs ≡ filter q xs
+pub filter-same : {X : Type 0} (p q : X → Bool) (xs : List X) → AllByRecursion (λ x. p x ≡ q x) xs → filter p xs ≡ filter q xs
 filter-same p q [] h = refl
 filter-same p q (x ∷ xs) h = rw (h.0, filter-same p q xs h.1) refl
 
@@ -220,11 +216,6 @@ list_any-distinct same p r (x ∷ xs) = go (list_any (same x) xs) refl (list_any
 pub record IsEquality {K : Type 0} (same : K → K → Bool) : Type 0 where
   pub self : (k : K) → same k k ≡ true
   pub equal : (j k : K) → same j k ≡ true → j ≡ k
-
--- No item stands twice.
-abbrev pub AllOnce : {X : Type 0} → (X → X → Bool) → List X → Type 0
-AllOnce same [] = Unit {0}
-AllOnce same (x ∷ xs) = (list_any (same x) xs ≡ false) × AllOnce same xs
 
 pub AllOnce-distinct : {X : Type 0} (same : X → X → Bool) → IsEquality same → (xs : List X) → AllOnce same (distinct same xs)
 AllOnce-distinct same e [] = tt

@@ -1,14 +1,14 @@
 -- Laws of the names: what one more event does to them.
 use Rattle.std.proofs.Common.{◌≡◌, ℕ, ◌+◌, ◌<◌, ◌≤◌, List, [], ◌∷◌, ◌++◌, length, refl, ap, sym, subst, ◌∙◌, arith, cond, Option, Some, None, append-nil}
 use Rattle.std.specs.Prelude.{Bool, true, false, ◌&&◌, ◌||◌, ◌==◌, not, filter, find, filter_map, reverse, is_none, is_some, option_and_then, option_to_list, if◌then◌else◌}
-use Rattle.std.specs.List.{list_any, cons_option}
+use Rattle.std.specs.List.{list_any, cons_option, AllByRecursion}
 use Rattle.std.proofs.lemmas.Bool.{lt-ltb, le-ltb, and_parts, and_from}
 use Rattle.std.proofs.lemmas.Bool.Decides.{Decides-eqb}
 use Rattle.std.proofs.lemmas.List.Folds.{list_any-append}
 use Rattle.std.proofs.lemmas.List.Elements.{filter-append, filter_map-append}
 use Rattle.object_ids.specs.declared.ids.ObjId.{ObjId}
 use Rattle.object_ids.specs.Same.{same_bytes}
-use Rattle.history.specs.Lists.{option_any}
+use Rattle.history.specs.Lists.{option_any, AllOnce}
 use Rattle.history.specs.declared.asks.SpaceConfig.{SpaceConfig}
 use Rattle.history.specs.declared.asks.Event.{Event}
 use Rattle.history.specs.declared.asks.Ask.{Ask}
@@ -17,7 +17,7 @@ use Rattle.history.specs.declared.places.Place.{Place}
 pub use Rattle.history.specs.Names.{unbinds, name_begun}
 use Rattle.history.specs.Names.{name_in, name_bound, object_bound, is_bind_of, is_unbind_of, changes_name, stands_for, names}
 use Rattle.history.specs.Laws.{is_unbound_after, begins_name, StandsForLast, NamesInOrder}
-use Rattle.history.proofs.ListLemmas.{Every, Every-weaker, Every-reverse, reverse-cons, filter-same, filter-filter, list_any-filter, IsEquality, AllOnce, AllOnce-filter, AllOnce-push, same_test, and_false}
+use Rattle.history.proofs.ListLemmas.{every-weaker, every-reverse, reverse-cons, filter-same, filter-filter, list_any-filter, IsEquality, AllOnce-filter, AllOnce-push, same_test, and_false}
 use Rattle.history.specs.Table.{place_of, places_back, places}
 use Rattle.history.proofs.TableLaws.{IsNumbered, index-place_of, adds-place, places_back-numbered, places-numbered}
 
@@ -55,10 +55,10 @@ stands-for-last (p ∷ h) n = stands_for-push p h n ∙ go (stands-for-last h n)
 -- ---- the order of names
 
 -- Every place of a history stands below its length.
-places-below : (h : List Place) → IsNumbered h → Every (λ (q : Place). q.index < length h) h
+places-below : (h : List Place) → IsNumbered h → AllByRecursion (λ (q : Place). q.index < length h) h
 places-below [] n = tt
 places-below (p ∷ h) n =
-    ((let b = n.0 in omega arith), Every-weaker (λ (q : Place). q.index < length h) (λ (q : Place). q.index < length (p ∷ h)) (λ q a. omega arith) h (places-below h n.2))
+    ((let b = n.0 in omega arith), every-weaker (λ (q : Place). q.index < length h) (λ (q : Place). q.index < length (p ∷ h)) (λ q a. omega arith) h (places-below h n.2))
 
 -- No place stands after the newest one.
 none_after : (n : List ℕ) (h : List Place) (p : Place) → IsNumbered h → length h ≤ p.index + 1 → is_unbound_after h n p ≡ false
@@ -120,8 +120,8 @@ in_order-push p h i =
     ∙ ap (λ l. l ++ filter_map (λ (q : Place). name_bound q.event.ask) (filter (begins_name (p ∷ h)) (p ∷ []))) (
     ap (filter_map (λ (q : Place). name_bound q.event.ask))
     (filter-same (begins_name (p ∷ h)) (λ q. option_any (λ n. not (unbinds p n)) (name_bound q.event.ask) && begins_name h q) (reverse h)
-    (Every-weaker (λ (q : Place). q.index < length h) (λ q. begins_name (p ∷ h) q ≡ (option_any (λ n. not (unbinds p n)) (name_bound q.event.ask) && begins_name h q))
-    (λ q l. begins-before p h q (let b = i.0 in omega arith)) (reverse h) (Every-reverse (λ (q : Place). q.index < length h) h (places-below h i.2)))
+    (every-weaker (λ (q : Place). q.index < length h) (λ q. begins_name (p ∷ h) q ≡ (option_any (λ n. not (unbinds p n)) (name_bound q.event.ask) && begins_name h q))
+    (λ q l. begins-before p h q (let b = i.0 in omega arith)) (reverse h) (every-reverse (λ (q : Place). q.index < length h) h (places-below h i.2)))
     ∙ sym (filter-filter (λ q. option_any (λ n. not (unbinds p n)) (name_bound q.event.ask)) (begins_name h) (reverse h)))
     ∙ filter_map-filter (λ (q : Place). name_bound q.event.ask) (λ n. not (unbinds p n)) (filter (begins_name h) (reverse h)))
     ∙ ap (λ l. filter (λ n. not (unbinds p n)) (filter_map (λ (q : Place). name_bound q.event.ask) (filter (begins_name h) (reverse h))) ++ l) (begins-here p h i)
@@ -158,12 +158,12 @@ same_bytes-turned a b = same_test (same_bytes a b) (same_bytes b a) (λ h. turn 
     turn x y h = let P : List ℕ → Type 0 = λ z. same_bytes z x ≡ true in subst P (same_bytes-equal x y h) (same_bytes-self x)
 
 -- The names of a history and the name that its next event, which is effective or not, begins or unbinds.
-after_ask : Bool → Option ObjId → Ask → List (List ℕ) → List (List ℕ)
+unfoldable pub after_ask : Bool → Option ObjId → Ask → List (List ℕ) → List (List ℕ)
 after_ask effective stood a ns =
     filter (λ n. not (effective && is_unbind_of n a)) ns ++ (if effective && is_none stood then option_to_list (name_bound a) else [])
 
 -- What a name stands for after it.
-stands_after : Bool → Ask → List ℕ → Option ObjId → Option ObjId
+unfoldable pub stands_after : Bool → Ask → List ℕ → Option ObjId → Option ObjId
 stands_after effective a n before = if effective && (is_bind_of n a || is_unbind_of n a) then object_bound a else before
 
 all_stay : (ns : List (List ℕ)) → filter (λ n. not false) ns ≡ ns
@@ -250,12 +250,12 @@ member-after effective a ns n stands ih = go effective a
     go true _ = nothing true
     go false _ = same_stay (filter (λ k. not false) ns) (all_stay ns)
 
-names-after : (config : SpaceConfig) (e : Event) (h : List Place) → IsNumbered h →
+pub names-after : (config : SpaceConfig) (e : Event) (h : List Place) → IsNumbered h →
     names (place_of config h e ∷ h) ≡ after_ask (place_of config h e).effective (option_and_then (stands_for h) (name_in e.ask)) e.ask (names h)
 unfolding after_ask place_of
 names-after config e h i = names-push (place_of config h e) h (index-place_of config h e, adds-place config h e, i)
 
-stands-after : (config : SpaceConfig) (e : Event) (h : List Place) (n : List ℕ) →
+pub stands-after : (config : SpaceConfig) (e : Event) (h : List Place) (n : List ℕ) →
     stands_for (place_of config h e ∷ h) n ≡ stands_after (place_of config h e).effective e.ask n (stands_for h n)
 unfolding stands_after place_of
 stands-after config e h n = stands_for-push (place_of config h e) h n

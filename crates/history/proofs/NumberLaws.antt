@@ -1,6 +1,7 @@
 -- The numbers of the objects that a space exports rise, and none is given twice.
 use Rattle.std.proofs.Common.{◌≡◌, ℕ, suc, ◌+◌, ◌<◌, ◌≤◌, List, [], ◌∷◌, ◌++◌, length, refl, ap, sym, subst, ◌∙◌, arith, cond, length-append}
 use Rattle.std.specs.Prelude.{pos, Bool, true, false, ◌||◌, filter, if◌then◌else◌, reverse}
+use Rattle.std.specs.List.{AllByRecursion}
 use Rattle.std.specs.Ordering.{int_eq}
 use Rattle.std.proofs.lemmas.Bool.Decides.{Decides-int_eq}
 use Rattle.object_ids.specs.declared.ids.Uid.{Uid}
@@ -17,7 +18,7 @@ use Rattle.history.specs.Places.{has, kind_of, added, next, id_at, exported_from
 use Rattle.history.specs.Table.{is_kept, table, exports, place_of, places_back, places}
 use Rattle.history.specs.Laws.{is_kept_since_export, NextIsCounted}
 use Rattle.std.proofs.lemmas.List.Folds.{list_any-append}
-use Rattle.history.proofs.ListLemmas.{Every, Every-weaker, or_true}
+use Rattle.history.proofs.ListLemmas.{every-weaker, or_true}
 use Rattle.history.proofs.TableLaws.{table-is-kept}
 
 -- The objects of a list are a space's k-th and those that follow.
@@ -165,15 +166,15 @@ table-exported config (p ∷ h) o t =
     go ih false e = absurd (let never = has-filter (is_kept config (p ∷ h)) (table config h ++ p.exported_here) o e in cc)
 
 -- Each object of a list is among its objects, and has its kind there.
-pub has-self : (xs : List Exported) → Every (λ (x : Exported). has xs x.id ≡ true) xs
+pub has-self : (xs : List Exported) → AllByRecursion (λ (x : Exported). has xs x.id ≡ true) xs
 has-self [] = tt
-has-self (a ∷ xs) = (rw (same_id-self a.id) refl, Every-weaker (λ (x : Exported). has xs x.id ≡ true) (λ (x : Exported). (same_id a.id x.id || has xs x.id) ≡ true) (λ x e. rw e (or_true (same_id a.id x.id))) xs (has-self xs))
+has-self (a ∷ xs) = (rw (same_id-self a.id) refl, every-weaker (λ (x : Exported). has xs x.id ≡ true) (λ (x : Exported). (same_id a.id x.id || has xs x.id) ≡ true) (λ x e. rw e (or_true (same_id a.id x.id))) xs (has-self xs))
 
-pub kind_of-self : (xs : List Exported) → AllApart xs → Every (λ (x : Exported). kind_of xs x.id ≡ x.kind) xs
+pub kind_of-self : (xs : List Exported) → AllApart xs → AllByRecursion (λ (x : Exported). kind_of xs x.id ≡ x.kind) xs
 kind_of-self [] a = tt
 kind_of-self (y ∷ ys) a = (rw (same_id-self y.id) refl, others ys (kind_of-self ys a.1) a.0)
   where
-    others : (zs : List Exported) → Every (λ (x : Exported). kind_of ys x.id ≡ x.kind) zs → has zs y.id ≡ false → Every (λ (x : Exported). kind_of (y ∷ ys) x.id ≡ x.kind) zs
+    others : (zs : List Exported) → AllByRecursion (λ (x : Exported). kind_of ys x.id ≡ x.kind) zs → has zs y.id ≡ false → AllByRecursion (λ (x : Exported). kind_of (y ∷ ys) x.id ≡ x.kind) zs
     others [] r h = tt
     others (z ∷ zs) r h = go (same_id z.id y.id) (has zs y.id) refl refl h (others zs r.1)
       where
@@ -187,8 +188,8 @@ kind_of-self (y ∷ ys) a = (rw (same_id-self y.id) refl, others ys (kind_of-sel
                 let self : same_id z.id y.id ≡ true = subst P (sym same) (same_id-self z.id) in absurd (cc)
             turned false f = refl
 
-        go : (b c : Bool) → same_id z.id y.id ≡ b → has zs y.id ≡ c → (b || c) ≡ false → (has zs y.id ≡ false → Every (λ (x : Exported). kind_of (y ∷ ys) x.id ≡ x.kind) zs) →
-            Every (λ (x : Exported). kind_of (y ∷ ys) x.id ≡ x.kind) (z ∷ zs)
+        go : (b c : Bool) → same_id z.id y.id ≡ b → has zs y.id ≡ c → (b || c) ≡ false → (has zs y.id ≡ false → AllByRecursion (λ (x : Exported). kind_of (y ∷ ys) x.id ≡ x.kind) zs) →
+            AllByRecursion (λ (x : Exported). kind_of (y ∷ ys) x.id ≡ x.kind) (z ∷ zs)
         go false false p q s rest = (rw (apart p) r.0, rest q)
         go true c p q s rest = absurd (cc)
         go false true p q s rest = absurd (cc)

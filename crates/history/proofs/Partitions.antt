@@ -1,11 +1,11 @@
 -- A count over a list is the sum of the counts over its parts, one for each key.
 use Rattle.std.proofs.Common.{◌≡◌, ℕ, ◌+◌, ◌-◌, ◌<◌, ◌≤◌, inl, inr, List, [], ◌∷◌, length, refl, ap, sym, subst, ◌∙◌, arith, cond}
 use Rattle.std.specs.Prelude.{Bool, true, false, ◌&&◌, ◌||◌, filter, if◌then◌else◌, sum_by, map, nat_lt}
-use Rattle.std.specs.List.{list_any}
+use Rattle.std.specs.List.{list_any, AllByRecursion}
 use Rattle.std.proofs.lemmas.List.Sums.{sum_by-cons}
 use Rattle.std.proofs.lemmas.Bool.{or_cases, or_left, lt-ltb, ltb-true, ltb-false}
 use Rattle.history.specs.Lists.{distinct}
-use Rattle.history.proofs.ListLemmas.{Every, Every-weaker, IsEquality, same_test, and_false, and_true}
+use Rattle.history.proofs.ListLemmas.{every-weaker, IsEquality, same_test, and_false, and_true}
 
 unfoldable pub one_if : Bool → ℕ
 one_if true = 1
@@ -71,7 +71,7 @@ unfolding one_if
 share same k true ks once = sum_by-same (λ j. one_if (same k j && true)) (λ j. one_if (same k j)) (λ j. ap one_if (and_true (same k j))) ks ∙ once
 share same k false ks once = sum_by-same (λ j. one_if (same k j && false)) (λ j. 0) (λ j. ap one_if (and_false (same k j))) ks ∙ sum_by-none ks
 
-parts : {X K : Type 0} (same : K → K → Bool) (key : X → K) (q : X → Bool) (ks : List K) (xs : List X) → Every (λ x. times same (key x) ks ≡ 1) xs →
+parts : {X K : Type 0} (same : K → K → Bool) (key : X → K) (q : X → Bool) (ks : List K) (xs : List X) → AllByRecursion (λ x. times same (key x) ks ≡ 1) xs →
     sum_by (λ k. length (filter (λ x. same (key x) k && q x) xs)) ks ≡ length (filter q xs)
 parts same key q ks [] h = sum_by-none ks
 parts same key q ks (x ∷ xs) h =
@@ -82,12 +82,12 @@ parts same key q ks (x ∷ xs) h =
     ∙ ap (λ n. one_if (q x) + n) (parts same key q ks xs h.1)
     ∙ sym (length-filter-cons q x xs)
 
-once_each : {X K : Type 0} (same : K → K → Bool) → IsEquality same → (key : X → K) (xs : List X) → Every (λ x. times same (key x) (distinct same (map key xs)) ≡ 1) xs
+once_each : {X K : Type 0} (same : K → K → Bool) → IsEquality same → (key : X → K) (xs : List X) → AllByRecursion (λ x. times same (key x) (distinct same (map key xs)) ≡ 1) xs
 unfolding one_if
-once_each {X} {K} same e key xs = Every-weaker (λ x. list_any (same (key x)) (map key xs) ≡ true) (λ x. times same (key x) (distinct same (map key xs)) ≡ 1)
+once_each {X} {K} same e key xs = every-weaker (λ x. list_any (same (key x)) (map key xs) ≡ true) (λ x. times same (key x) (distinct same (map key xs)) ≡ 1)
     (λ x h. times-distinct same e (key x) (map key xs) ∙ ap one_if h) xs (among xs)
   where
-    later : (x : X) (ys : List X) (zs : List X) → Every (λ y. list_any (same (key y)) (map key ys) ≡ true) zs → Every (λ y. list_any (same (key y)) (map key (x ∷ ys)) ≡ true) zs
+    later : (x : X) (ys : List X) (zs : List X) → AllByRecursion (λ y. list_any (same (key y)) (map key ys) ≡ true) zs → AllByRecursion (λ y. list_any (same (key y)) (map key (x ∷ ys)) ≡ true) zs
     later x ys [] h = tt
     later x ys (z ∷ zs) h = (rw h.0 (or_true (same (key z) (key x))), later x ys zs h.1)
       where
@@ -95,7 +95,7 @@ once_each {X} {K} same e key xs = Every-weaker (λ x. list_any (same (key x)) (m
         or_true true = refl
         or_true false = refl
 
-    among : (ys : List X) → Every (λ y. list_any (same (key y)) (map key ys) ≡ true) ys
+    among : (ys : List X) → AllByRecursion (λ y. list_any (same (key y)) (map key ys) ≡ true) ys
     among [] = tt
     among (y ∷ ys) = (or_left (same (key y) (key y)) (list_any (same (key y)) (map key ys)) (e.self (key y)), later y ys ys (among ys))
 

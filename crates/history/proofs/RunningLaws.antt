@@ -18,7 +18,7 @@ use Rattle.history.specs.Running.{is_begin_of, is_end_of, begins_call, ends_call
 use Rattle.history.specs.Laws.{RunningIsCounted, SomeConnectionRuns, RunningIsSome}
 use Rattle.history.specs.Limits.{is_begin, is_end, starts, ends, reserved}
 use Rattle.history.specs.Table.{is_effective, place_of, places_back, places}
-use Rattle.history.proofs.ListLemmas.{Every-always, IsEquality, filter-same, list_any-distinct}
+use Rattle.history.proofs.ListLemmas.{every-always, IsEquality, filter-same, list_any-distinct}
 use Rattle.history.proofs.Partitions.{one_if, length-filter-cons, sum_by-plus, sum_by-minus, sum_by-same, sum_by-parts, list_any-sum_by}
 
 -- ---- a call ends only where it runs
@@ -126,14 +126,14 @@ begun_by : (h : List Place) (o : ObjId) → sum_by (λ by. length (filter (begin
 unfolding connections
 begun_by h o =
     sum_by-same (λ by. length (filter (begins_call by o) h)) (λ by. length (filter (λ p. p.event.by == by && begins_any o p) h))
-    (λ by. ap length (filter-same (begins_call by o) (λ p. p.event.by == by && begins_any o p) h (Every-always (λ p. begins_call by o p ≡ (p.event.by == by && begins_any o p)) (λ p. turned p.effective (p.event.by == by) (is_begin_of o p.event.ask)) h))) (connections h)
+    (λ by. ap length (filter-same (begins_call by o) (λ p. p.event.by == by && begins_any o p) h (every-always (λ p. begins_call by o p ≡ (p.event.by == by && begins_any o p)) (λ p. turned p.effective (p.event.by == by) (is_begin_of o p.event.ask)) h))) (connections h)
     ∙ sum_by-parts (λ a b. a == b) eqb-equality (λ p. p.event.by) (begins_any o) h
 
 ended_by : (h : List Place) (o : ObjId) → sum_by (λ by. length (filter (ends_call by o) h)) (connections h) ≡ length (filter (ends_any o) h)
 unfolding connections
 ended_by h o =
     sum_by-same (λ by. length (filter (ends_call by o) h)) (λ by. length (filter (λ p. p.event.by == by && ends_any o p) h))
-    (λ by. ap length (filter-same (ends_call by o) (λ p. p.event.by == by && ends_any o p) h (Every-always (λ p. ends_call by o p ≡ (p.event.by == by && ends_any o p)) (λ p. turned p.effective (p.event.by == by) (is_end_of o p.event.ask)) h))) (connections h)
+    (λ by. ap length (filter-same (ends_call by o) (λ p. p.event.by == by && ends_any o p) h (every-always (λ p. ends_call by o p ≡ (p.event.by == by && ends_any o p)) (λ p. turned p.effective (p.event.by == by) (is_end_of o p.event.ask)) h))) (connections h)
     ∙ sum_by-parts (λ a b. a == b) eqb-equality (λ p. p.event.by) (ends_any o) h
 
 -- The calls of each are the begins of all less the ends of all.
@@ -368,11 +368,11 @@ starts_and_ends config es =
     let all : List Line = distinct same_line (map line_of (places_back config es)) in
     let started : sum_by (λ k. length (filter (begins_call k.by k.object) (places_back config es))) all ≡ length (filter starts (places_back config es)) =
     sum_by-same (λ k. length (filter (begins_call k.by k.object) (places_back config es))) (λ k. length (filter (λ p. same_line (line_of p) k && starts p) (places_back config es)))
-    (λ k. ap length (filter-same (begins_call k.by k.object) (λ p. same_line (line_of p) k && starts p) (places_back config es) (Every-always (λ p. begins_call k.by k.object p ≡ (same_line (line_of p) k && starts p)) (start_line k) (places_back config es)))) all
+    (λ k. ap length (filter-same (begins_call k.by k.object) (λ p. same_line (line_of p) k && starts p) (places_back config es) (every-always (λ p. begins_call k.by k.object p ≡ (same_line (line_of p) k && starts p)) (start_line k) (places_back config es)))) all
     ∙ sum_by-parts same_line line-equality line_of starts (places_back config es) in
     let ended : sum_by (λ k. length (filter (ends_call k.by k.object) (places_back config es))) all ≡ length (filter ends (places_back config es)) =
     sum_by-same (λ k. length (filter (ends_call k.by k.object) (places_back config es))) (λ k. length (filter (λ p. same_line (line_of p) k && ends p) (places_back config es)))
-    (λ k. ap length (filter-same (ends_call k.by k.object) (λ p. same_line (line_of p) k && ends p) (places_back config es) (Every-always (λ p. ends_call k.by k.object p ≡ (same_line (line_of p) k && ends p)) (end_line k) (places_back config es)))) all
+    (λ k. ap length (filter-same (ends_call k.by k.object) (λ p. same_line (line_of p) k && ends p) (places_back config es) (every-always (λ p. ends_call k.by k.object p ≡ (same_line (line_of p) k && ends p)) (end_line k) (places_back config es)))) all
     ∙ sum_by-parts same_line line-equality line_of ends (places_back config es) in
     let minus = sum_by-minus (λ k. length (filter (begins_call k.by k.object) (places_back config es))) (λ k. length (filter (ends_call k.by k.object) (places_back config es)))
     (λ k. balanced config es k.by k.object) all in

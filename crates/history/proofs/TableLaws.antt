@@ -1,6 +1,7 @@
 -- Laws of the table: what one more event does to it.
 use Rattle.std.proofs.Common.{◌≡◌, ℕ, suc, ◌+◌, ◌<◌, ◌≤◌, List, [], ◌∷◌, ◌++◌, length, refl, ap, sym, ◌∙◌, arith}
 use Rattle.std.specs.Prelude.{Bool, true, false, ◌&&◌, filter, reverse, max, not}
+use Rattle.std.specs.List.{AllByRecursion}
 use Rattle.std.proofs.lemmas.Bool.{le-leb, lt-leb}
 use Rattle.std.proofs.lemmas.List.{reverse-append, length-reverse}
 use Rattle.std.proofs.lemmas.List.Elements.{filter-append}
@@ -16,28 +17,28 @@ use Rattle.history.specs.Places.{now, added, next, exported_from}
 use Rattle.history.specs.Limits.{units_of, units}
 use Rattle.history.specs.Table.{is_kept, table, exports, place_of, places_back, places, withdrawn}
 use Rattle.history.specs.Laws.{is_kept_since_export, TableIsKept}
-use Rattle.history.proofs.ListLemmas.{Every, Every-append, Every-weaker, Every-if, filter-same, filter-filter, and_true}
+use Rattle.history.proofs.ListLemmas.{every-append, every-weaker, every-if, filter-same, filter-filter, and_true}
 
 -- ---- places
 
 -- Each place has its number, and what it exports has that number as its place.
 abbrev pub IsNumbered : List Place → Type 0
 IsNumbered [] = Unit {0}
-IsNumbered (p ∷ before) = (p.index ≡ length before) × Every (λ (x : Exported). x.place ≡ length before) p.exported_here × IsNumbered before
+IsNumbered (p ∷ before) = (p.index ≡ length before) × AllByRecursion (λ (x : Exported). x.place ≡ length before) p.exported_here × IsNumbered before
 
-exported_from-place : (space : Uid) (k place : ℕ) (pinned : Bool) (kinds : List ℕ) → Every (λ (x : Exported). x.place ≡ place) (exported_from space k place pinned kinds)
+exported_from-place : (space : Uid) (k place : ℕ) (pinned : Bool) (kinds : List ℕ) → AllByRecursion (λ (x : Exported). x.place ≡ place) (exported_from space k place pinned kinds)
 exported_from-place space k place pinned [] = tt
 exported_from-place space k place pinned (kind ∷ kinds) = (refl, exported_from-place space (k + 1) place pinned kinds)
 
-exports-place : (config : SpaceConfig) (h : List Place) (a : Ask) → Every (λ (x : Exported). x.place ≡ length h) (exports config h a)
+exports-place : (config : SpaceConfig) (h : List Place) (a : Ask) → AllByRecursion (λ (x : Exported). x.place ≡ length h) (exports config h a)
 unfolding exports
 exports-place config h (Open kind pinned) = exported_from-place config.uid (next h) (length h) pinned (kind ∷ [])
 exports-place config h (Finish object made listed uid) = exported_from-place config.uid (next h) (length h) false made
 exports-place config h _ = tt
 
-pub adds-place : (config : SpaceConfig) (h : List Place) (e : Event) → Every (λ (x : Exported). x.place ≡ length h) (place_of config h e).exported_here
+pub adds-place : (config : SpaceConfig) (h : List Place) (e : Event) → AllByRecursion (λ (x : Exported). x.place ≡ length h) (place_of config h e).exported_here
 unfolding place_of
-adds-place config h e = Every-if (λ (x : Exported). x.place ≡ length h) (place_of config h e).effective (exports config h e.ask) (exports-place config h e.ask)
+adds-place config h e = every-if (λ (x : Exported). x.place ≡ length h) (place_of config h e).effective (exports config h e.ask) (exports-place config h e.ask)
 
 pub index-place_of : (config : SpaceConfig) (h : List Place) (e : Event) → (place_of config h e).index ≡ length h
 unfolding place_of
@@ -90,13 +91,13 @@ pub added-push : (p : Place) (h : List Place) → added (p ∷ h) ≡ added h ++
 unfolding added
 added-push p h = refl
 
-pub added-before : (h : List Place) → IsNumbered h → Every (λ (x : Exported). x.place < length h) (added h)
+pub added-before : (h : List Place) → IsNumbered h → AllByRecursion (λ (x : Exported). x.place < length h) (added h)
 unfolding added
 added-before [] n = tt
 added-before (p ∷ h) n =
-    Every-append (λ (x : Exported). x.place < length (p ∷ h)) (added h) p.exported_here
-    (Every-weaker (λ (x : Exported). x.place < length h) (λ (x : Exported). x.place < length (p ∷ h)) (λ x a. omega arith) (added h) (added-before h n.2))
-    (Every-weaker (λ (x : Exported). x.place ≡ length h) (λ (x : Exported). x.place < length (p ∷ h)) (λ x a. omega arith) p.exported_here n.1)
+    every-append (λ (x : Exported). x.place < length (p ∷ h)) (added h) p.exported_here
+    (every-weaker (λ (x : Exported). x.place < length h) (λ (x : Exported). x.place < length (p ∷ h)) (λ x a. omega arith) (added h) (added-before h n.2))
+    (every-weaker (λ (x : Exported). x.place ≡ length h) (λ (x : Exported). x.place < length (p ∷ h)) (λ x a. omega arith) p.exported_here n.1)
 
 -- An object that is exported later has no prefix at which it has to be kept.
 later : (kept : List Place → Exported → Bool) (h : List Place) (x : Exported) → length h ≤ x.place → is_kept_since_export kept h x ≡ true
@@ -121,11 +122,11 @@ survivors-push kept p h n =
     filter-append (is_kept_since_export kept (p ∷ h)) (added h) p.exported_here
     ∙ ap (λ l. l ++ filter (is_kept_since_export kept (p ∷ h)) p.exported_here)
     (filter-same (is_kept_since_export kept (p ∷ h)) (λ x. kept (p ∷ h) x && is_kept_since_export kept h x) (added h)
-    (Every-weaker (λ (x : Exported). x.place < length h) (λ x. is_kept_since_export kept (p ∷ h) x ≡ (kept (p ∷ h) x && is_kept_since_export kept h x)) (λ x a. earlier kept p h x a) (added h) (added-before h n.2))
+    (every-weaker (λ (x : Exported). x.place < length h) (λ x. is_kept_since_export kept (p ∷ h) x ≡ (kept (p ∷ h) x && is_kept_since_export kept h x)) (λ x a. earlier kept p h x a) (added h) (added-before h n.2))
     ∙ sym (filter-filter (kept (p ∷ h)) (is_kept_since_export kept h) (added h)))
     ∙ ap (λ l. filter (kept (p ∷ h)) (filter (is_kept_since_export kept h) (added h)) ++ l)
     (filter-same (is_kept_since_export kept (p ∷ h)) (kept (p ∷ h)) p.exported_here
-    (Every-weaker (λ (x : Exported). x.place ≡ length h) (λ x. is_kept_since_export kept (p ∷ h) x ≡ kept (p ∷ h) x) (λ x a. now_exported kept p h x a) p.exported_here n.1))
+    (every-weaker (λ (x : Exported). x.place ≡ length h) (λ x. is_kept_since_export kept (p ∷ h) x ≡ kept (p ∷ h) x) (λ x a. now_exported kept p h x a) p.exported_here n.1))
     ∙ sym (filter-append (kept (p ∷ h)) (filter (is_kept_since_export kept h) (added h)) p.exported_here)
 
 -- THE STEP: the table after one more event has those objects of the table before it, and of those that the event exports, that are

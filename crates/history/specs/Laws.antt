@@ -1,5 +1,5 @@
 -- What the definitions of a history, which go by its newest place, say of the whole history.
-use Rattle.std.specs.Prelude.{◌≡◌, ℕ, ◌+◌, ◌<◌, ◌↔◌, Bool, true, not, List, [], ◌∷◌, length, reverse, ◌&&◌, ◌||◌, nat_lt, nat_le, filter, find, filter_map, map, is_none, Option, option_and_then, option_map, unwrap_or}
+use Rattle.std.specs.Prelude.{◌≡◌, ℕ, ◌+◌, ◌<◌, ◌↔◌, Bool, true, not, List, [], ◌∷◌, length, reverse, ◌&&◌, ◌||◌, nat_lt, nat_le, filter, find, filter_map, map, is_none, Option, Some, option_and_then, option_map, unwrap_or}
 use Rattle.std.specs.List.{list_all, list_any}
 use Rattle.object_ids.specs.declared.ids.Uid.{Uid}
 use Rattle.object_ids.specs.declared.ids.ObjId.{ObjId}
@@ -9,7 +9,7 @@ use Rattle.history.specs.declared.places.Place.{Place}
 use Rattle.history.specs.declared.places.Exported.{Exported}
 use Rattle.history.specs.declared.places.Returned.{Returned}
 use Rattle.history.specs.Lists.{option_any}
-use Rattle.history.specs.Places.{History, added, next}
+use Rattle.history.specs.Places.{History, has, added, next}
 use Rattle.history.specs.Running.{begins_call, ends_call, begins_any, ends_any, running, running_calls, is_running}
 use Rattle.history.specs.Awaiting.{returns, is_ack_of, awaits}
 use Rattle.history.specs.Names.{name_bound, object_bound, is_unbind_of, changes_name, stands_for, names}
@@ -74,6 +74,11 @@ begins_name h p = p.effective && is_none p.name_stood_for && option_any (λ n. n
 abbrev pub NamesInOrder : SpaceConfig → List Event → Type 0
 NamesInOrder config events =
     names (places config events) ≡ filter_map (λ p. name_bound p.event.ask) (filter (begins_name (places config events)) (reverse (places config events)))
+
+-- What a name stands for is an object of the table: the name keeps it there.
+abbrev pub NamedIsExported : SpaceConfig → List Event → Type 0
+NamedIsExported config events =
+    (n : List ℕ) (o : ObjId) → stands_for (places config events) n ≡ Some o → has (table config (places config events)) o ≡ true
 
 -- ---- running calls: effective begins less effective ends
 

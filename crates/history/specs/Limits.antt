@@ -67,7 +67,8 @@ limits = record {
   units = MAX_UNITS;
 }
 
--- ---- entries: those of a history at an event's moment, and those that the event brings, each once
+-- ---- how many entries each table has with an event: those of the history at the event's moment, and those that the event adds. An
+-- entry is counted once.
 
 -- Exported objects.
 unfoldable pub exports_with_event : SpaceConfig → History → Event → ℕ

@@ -1,8 +1,13 @@
--- Words on lists and options: each item once, items in order, a test of what may be there.
-use Rattle.std.specs.Prelude.{Bool, false, List, [], ◌∷◌, if◌then◌else◌, Option, Some, None}
+-- Words on lists and options: no item twice, each item once, items in order, a test of what may be there.
+use Rattle.std.specs.Prelude.{◌≡◌, Bool, false, List, [], ◌∷◌, if◌then◌else◌, Option, Some, None}
 use Rattle.std.specs.List.{list_any}
 use Rattle.std.specs.Ordering.{is_lt, is_eq}
 use Rattle.std.specs.declared.cmp.Ordering.{Ordering}
+
+-- No item stands twice, where the test says which are the same.
+abbrev pub AllOnce : {X : Type 0} → (X → X → Bool) → List X → Type 0
+AllOnce same [] = Unit {0}
+AllOnce same (x ∷ xs) = (list_any (same x) xs ≡ false) × AllOnce same xs
 
 -- Each of these items once, where the test says which are the same.
 abbrev pub distinct : {X : Type 0} → (X → X → Bool) → List X → List X

@@ -1,5 +1,5 @@
 -- The names of the registry (Java RMI Specification, chapter 6).
-use Rattle.std.specs.Prelude.{ℕ, Bool, false, not, List, [], ◌∷◌, ◌++◌, ◌&&◌, filter, Option, Some, None, option_to_list, is_none, ◌||◌, if◌then◌else◌}
+use Rattle.std.specs.Prelude.{ℕ, Bool, true, false, not, List, [], ◌∷◌, ◌++◌, ◌&&◌, filter, Option, Some, None, option_to_list, is_none, ◌||◌, if◌then◌else◌}
 use Rattle.std.specs.List.{list_any}
 use Rattle.object_ids.specs.declared.ids.ObjId.{ObjId}
 use Rattle.object_ids.specs.Same.{same_id, same_bytes}
@@ -29,6 +29,13 @@ object_bound (Bind name object) = Some object
 object_bound (Rebind name object) = Some object
 object_bound _ = None
 
+-- A Bind, a Rebind or an Unbind, which changes what a name stands for where it is effective.
+abbrev pub is_name_change : Ask → Bool
+is_name_change (Bind name object) = true
+is_name_change (Rebind name object) = true
+is_name_change (Unbind name) = true
+is_name_change _ = false
+
 -- A Bind or a Rebind of the name.
 abbrev pub is_bind_of : List ℕ → Ask → Bool
 is_bind_of n (Bind name object) = same_bytes name n
@@ -53,7 +60,8 @@ stands_for (p ∷ before) n = if changes_name n p then object_bound p.event.ask 
 abbrev pub unbinds : Place → List ℕ → Bool
 unbinds p n = p.effective && is_unbind_of n p.event.ask
 
--- The name that a place begins, where there is one: that of an effective Bind or Rebind which stood for nothing before.
+-- The name that a place begins, if it begins one: an effective Bind or Rebind begins its name where the name stood for nothing
+-- before.
 abbrev pub name_begun : Place → List (List ℕ)
 name_begun p = if p.effective && is_none p.name_stood_for then option_to_list (name_bound p.event.ask) else []
 

@@ -78,7 +78,8 @@ outline config events =
     ++ flat_map (name_line config h) (names h)
     ++ flat_map (withdrawal_line config) (withdrawals config h)
 
--- The summary of a history: the outline's first line, and how many lines of each kind there are.
+-- The summary of a history: the outline's first line, and a line with the numbers of exported objects, clients with time left,
+-- remembered pairs, awaiting references, names and withdrawals.
 unfoldable pub summary : SpaceConfig → List Event → List ℕ
 summary config events =
     let h = places config events in

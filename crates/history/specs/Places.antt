@@ -31,7 +31,7 @@ unfoldable pub added : History → List Exported
 added [] = []
 added (p ∷ before) = added before ++ p.exported_here
 
--- How many they are: the next object to be exported is the space's `next`-th.
+-- How many objects were ever exported. The next one gets this number, counted from 0.
 unfoldable pub next : History → ℕ
 next [] = 0
 next (p ∷ before) = next before + length p.exported_here

@@ -3,7 +3,7 @@ ghost use Rattle.std.specs.Prelude.{ℕ, List};
 ghost use Rattle.history.specs.declared.asks.Event.{Event};
 ghost use Rattle.history.specs.declared.asks.SpaceConfig.{SpaceConfig};
 ghost use Rattle.history.specs.Collector.{Collects};
-ghost use Rattle.history.specs.Laws.{TableIsKept, NextIsCounted, AwaitsSinceReturn, StandsForLast, NamesInOrder, RunningIsCounted, AllRunningIsCounted, RunningIsSome, GoneSinceLast};
+ghost use Rattle.history.specs.Laws.{TableIsKept, NextIsCounted, AwaitsSinceReturn, StandsForLast, NamesInOrder, NamedIsExported, RunningIsCounted, AllRunningIsCounted, RunningIsSome, GoneSinceLast};
 ghost use Rattle.history.specs.Places.{History};
 ghost use Rattle.history.specs.Table.{with_event};
 
@@ -28,6 +28,11 @@ pub fn a_reference_awaits_since_its_last_return()
 pub fn a_name_stands_for_its_last_change()
     ensures standing { (h : History) → StandsForLast h }
     ensures order { (config : SpaceConfig) (events : List Event) → NamesInOrder config events }
+{}
+
+/// What a name stands for is exported as long as the name stands for it.
+pub fn what_a_name_stands_for_is_exported()
+    ensures { (config : SpaceConfig) (events : List Event) → NamedIsExported config events }
 {}
 
 /// The running calls of a connection are its effective begins less its effective ends, and so are those of all

@@ -1,6 +1,7 @@
 -- What an ask does to the export table and to the running calls is what its event does to the history.
 use Rattle.std.proofs.Common.{◌≡◌, ℕ, ◌+◌, ◌<◌, List, [], ◌∷◌, ◌++◌, length, refl, ap, sym, subst, ◌∙◌, map, max, arith, None, append-nil}
 use Rattle.std.specs.Prelude.{Bool, true, false, ◌&&◌, ◌==◌, filter, flat_map, nat_lt, if◌then◌else◌, option_to_list}
+use Rattle.std.specs.List.{AllByRecursion}
 use Rattle.std.proofs.lemmas.List.{map-append}
 use Rattle.object_ids.specs.declared.ids.Uid.{Uid}
 use Rattle.object_ids.specs.declared.ids.ObjId.{ObjId}
@@ -18,7 +19,7 @@ use Rattle.history.specs.Places.{has, now, id_at, exported_from, next}
 use Rattle.history.specs.Replies.{ids}
 use Rattle.history.specs.Running.{is_begin_of, is_end_of, running, running_calls}
 use Rattle.history.specs.Table.{is_effective, exports, lists, table, place_of, places}
-use Rattle.history.proofs.ListLemmas.{Every, list_any-length, and_false}
+use Rattle.history.proofs.ListLemmas.{list_any-length, and_false}
 use Rattle.history.proofs.Partitions.{one_if}
 use Rattle.history.proofs.TableLaws.{ask-place_of}
 use Rattle.export_table.specs.declared.rows.Export.{Export}
@@ -44,7 +45,7 @@ use Rattle.export_table.proofs.StandLaws.{begun-row, count-push, ended-row, expo
 -- THE ROWS after an ask.
 acted-rows : (config : SpaceConfig) (old new : ObjId → ℕ) (objects : List Exported) (t : ExportTable) (place : ℕ) (effective : Bool) (now_at : ℕ) (a : Ask) → IsBuilt a →
     ((o : ObjId) → new o + one_if (effective && is_end_of o a) ≡ old o + one_if (effective && is_begin_of o a)) →
-    t.space ≡ config.uid → t.rows ≡ map (row_with old) objects → Every (λ (x : Exported). new x.id ≡ 0) (opened_by config t.added place effective a) →
+    t.space ≡ config.uid → t.rows ≡ map (row_with old) objects → AllByRecursion (λ (x : Exported). new x.id ≡ 0) (opened_by config t.added place effective a) →
     (acted effective now_at a t).rows ≡ map (row_with new) (objects ++ opened_by config t.added place effective a)
 unfolding one_if
 acted-rows config old new objects t place effective now_at a b step space rows none = go a b effective step none
@@ -60,7 +61,7 @@ acted-rows config old new objects t place effective now_at a b step space rows n
     still false n m e = omega (arith, e)
 
     go : (a : Ask) → IsBuilt a → (effective : Bool) → ((o : ObjId) → new o + one_if (effective && is_end_of o a) ≡ old o + one_if (effective && is_begin_of o a)) →
-        Every (λ (x : Exported). new x.id ≡ 0) (opened_by config t.added place effective a) →
+        AllByRecursion (λ (x : Exported). new x.id ≡ 0) (opened_by config t.added place effective a) →
         (acted effective now_at a t).rows ≡ map (row_with new) (objects ++ opened_by config t.added place effective a)
     go (Open kind pinned) b effective s none =
         ap (λ l. l ++ new_row (id_at t.space t.added) kind pinned ∷ []) (rows ∙ row-same old new (λ o. still effective (new o) (old o) (s o)) objects)
@@ -104,7 +105,7 @@ pub rows-act : (config : SpaceConfig) (events : List Event) (e : Event) (t : Exp
 rows-act config events e t at b space count rows =
     let adds : opened_by config t.added (length (places config events)) (is_effective config (places config events) e.by e.ask) e.ask ≡ (place_of config (places config events) e).exported_here =
     ap (λ n. opened_by config n (length (places config events)) (is_effective config (places config events) e.by e.ask) e.ask) count ∙ sym (adds-built config (places config events) e b) in
-    let P : List Exported → Type 0 = λ l. Every (λ (x : Exported). running_calls (place_of config (places config events) e ∷ places config events) x.id ≡ 0) l in
+    let P : List Exported → Type 0 = λ l. AllByRecursion (λ (x : Exported). running_calls (place_of config (places config events) e ∷ places config events) x.id ≡ 0) l in
     acted-rows config (running_calls (places config events)) (running_calls (place_of config (places config events) e ∷ places config events)) (table config (places config events)) t (length (places config events))
     (is_effective config (places config events) e.by e.ask) at e.ask b (count-push config events e) space rows (subst P (sym adds) (new-runs-none config events e))
     ∙ ap (λ l. rows_of (place_of config (places config events) e ∷ places config events) (table config (places config events) ++ l)) adds

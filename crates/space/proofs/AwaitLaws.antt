@@ -16,10 +16,9 @@ use Rattle.history.specs.declared.places.Exported.{Exported}
 use Rattle.history.specs.declared.replies.Refused.TheVariants.{Full}
 use Rattle.history.specs.Awaiting.{same_returned, returned, return_uid, awaiting}
 use Rattle.history.specs.Limits.{awaiting_with_event}
-use Rattle.history.specs.Lists.{distinct}
+use Rattle.history.specs.Lists.{distinct, AllOnce}
 use Rattle.history.specs.Places.{has, now, exported_from, next}
 use Rattle.history.specs.Table.{is_effective, table, place_of, places}
-use Rattle.history.proofs.ListLemmas.{AllOnce}
 use Rattle.history.proofs.NumberLaws.{exported_from-numbered, NumberedFrom-apart}
 use Rattle.history.proofs.TableLaws.{moment-place_of}
 use Rattle.export_table.specs.declared.rows.Export.{Export}

@@ -1,7 +1,7 @@
 -- What is kept after one more event, and what a turn answers.
 use Rattle.std.proofs.Common.{◌≡◌, ℕ, suc, ◌+◌, ◌<◌, ◌≤◌, ◌^◌, inl, inr, List, [], ◌∷◌, ◌++◌, length, refl, ap, sym, subst, ◌∙◌, cond, map, arith, max, drop, Some, None, Ok, Err, length-append}
 use Rattle.std.specs.Prelude.{Bool, true, false, not, ◌||◌, reverse, filter, find, nat_lt, if◌then◌else◌, Option, is_some, option_map, unwrap_or}
-use Rattle.std.specs.List.{list_any}
+use Rattle.std.specs.List.{list_any, AllByRecursion}
 use Rattle.std.proofs.lemmas.List.{reverse-append, map-append, drop-append-le, drop_all}
 use Rattle.object_ids.specs.declared.ids.ObjId.{ObjId}
 use Rattle.object_ids.specs.Same.{same_id}
@@ -25,7 +25,7 @@ use Rattle.history.specs.Replies.{reply, gone, ids, is_abandon}
 use Rattle.history.specs.Steps.{turn_of, answer_with, history_with, Step}
 use Rattle.history.specs.Table.{is_effective, exports, is_kept, table, place_of, places, withdrawn, withdrawals}
 use Rattle.history.proofs.GoneLaws.{pending, pending-push, withdrawals-push}
-use Rattle.history.proofs.ListLemmas.{Every, Every-weaker}
+use Rattle.history.proofs.ListLemmas.{every-weaker}
 use Rattle.history.proofs.StepLaws.{IsLegal-step}
 use Rattle.history.proofs.TableLaws.{places-push, places-numbered, length-places, now-push, table-place, units-push, ask-place_of, index-place_of}
 use Rattle.dgc_server.specs.Stands.{LeaseTable, StandsFor}
@@ -55,7 +55,7 @@ use Rattle.export_table.proofs.WaitLaws.{numbered-place}
 
 -- ---- lists
 
-filter-rows : (h : List Place) (p : Export → Bool) (q : Exported → Bool) (xs : List Exported) → Every (λ x. p (row_of h x) ≡ q x) xs → filter p (rows_of h xs) ≡ rows_of h (filter q xs)
+filter-rows : (h : List Place) (p : Export → Bool) (q : Exported → Bool) (xs : List Exported) → AllByRecursion (λ x. p (row_of h x) ≡ q x) xs → filter p (rows_of h xs) ≡ rows_of h (filter q xs)
 filter-rows h p q [] e = refl
 filter-rows h p q (x ∷ xs) e = go (p (row_of h x)) (q x) e.0 (filter-rows h p q xs e.1)
   where
@@ -65,7 +65,7 @@ filter-rows h p q (x ∷ xs) e = go (p (row_of h x)) (q x) e.0 (filter-rows h p 
     go true false e r = absurd (cc)
     go false true e r = absurd (cc)
 
-gone-rows : (h : List Place) (p : Export → Bool) (q : Exported → Bool) (xs : List Exported) → Every (λ x. p (row_of h x) ≡ q x) xs →
+gone-rows : (h : List Place) (p : Export → Bool) (q : Exported → Bool) (xs : List Exported) → AllByRecursion (λ x. p (row_of h x) ≡ q x) xs →
     map (λ (r : Export). r.id) (filter (λ r. not (p r)) (rows_of h xs)) ≡ ids (filter (λ x. not (q x)) xs)
 gone-rows h p q [] e = refl
 gone-rows h p q (x ∷ xs) e = go (p (row_of h x)) (q x) e.0 (gone-rows h p q xs e.1)
@@ -100,13 +100,13 @@ told_calls config events e = call_with (has (table config (places config events)
 
 -- What the table keeps of its rows is what is kept.
 rows-kept : (config : SpaceConfig) (events : List Event) (e : Event) (leases : LeaseTable) (exports : ExportTable) (runs : List Run) → AllBuilt (reverse events) → IsBuilt e.ask → IsActed config events e leases exports runs →
-    Every (λ x. row_kept (max e.moment (now (places config events))) (held_by config.lease_ms (max e.moment (now (places config events))) (told_calls config events e)) exports.waits (row_of (place_of config (places config events) e ∷ places config events) x)
+    AllByRecursion (λ x. row_kept (max e.moment (now (places config events))) (held_by config.lease_ms (max e.moment (now (places config events))) (told_calls config events e)) exports.waits (row_of (place_of config (places config events) e ∷ places config events) x)
     ≡ is_kept config (place_of config (places config events) e ∷ places config events) x)
     (table config (places config events) ++ (place_of config (places config events) e).exported_here)
 rows-kept config events e leases exports runs all b a =
     let time : now (place_of config (places config events) e ∷ places config events) ≡ max e.moment (now (places config events)) = now-push config (places config events) e in
-    let q : Every IsQuiet (place_of config (places config events) e ∷ places config events) = (quiet-place config (places config events) e b, quiet config events all) in
-    Every-weaker _ _ (λ x k. sym (
+    let q : AllByRecursion IsQuiet (place_of config (places config events) e ∷ places config events) = (quiet-place config (places config events) e b, quiet config events all) in
+    every-weaker _ _ (λ x k. sym (
     k
     ∙ ap (λ v. (x.pinned || v || nat_lt 0 (running_calls (place_of config (places config events) e ∷ places config events) x.id))
     || list_any (λ r. same_id r.object x.id) (waiting_refs reference_of end_of (max e.moment (now (places config events))) exports.waits)

@@ -22,14 +22,14 @@ use Rattle.history.specs.Awaiting.{same_returned, returned, returns, is_ack_of, 
 use Rattle.history.specs.LeaseCalls.{call_with, lease_calls}
 use Rattle.history.specs.Leases.{is_dirty, calls_of, clients_with_time_left, is_remembered, same_pair, pairs_with, pairs, new_pairs}
 use Rattle.history.specs.Limits.{units_of, units, starts, ends, reserved, limits, exports_with_event, awaiting_with_event, lease_call, clients_with_event, pairs_with_event, names_with_event, is_full, refusal}
-use Rattle.history.specs.Lists.{distinct}
+use Rattle.history.specs.Lists.{distinct, AllOnce}
 use Rattle.history.specs.Names.{name_bound, names}
 use Rattle.history.specs.Places.{has, now, added}
 use Rattle.history.specs.Replies.{ids}
 use Rattle.history.specs.Table.{is_kept, table, place_of, places}
 use Rattle.history.proofs.AlikeCalls.{AllAlike-append, AllAlike-self, is_remembered-alike, calls_of-alike}
 use Rattle.history.proofs.AwaitingLaws.{returned-equality, awaits-acknowledged, awaits-passed, awaiting-member, awaiting-once}
-use Rattle.history.proofs.ListLemmas.{Every-append, IsEquality, AllOnce, length-fewer, list_any-filter, list_any-distinct}
+use Rattle.history.proofs.ListLemmas.{every-append, IsEquality, length-fewer, list_any-filter, list_any-distinct}
 use Rattle.history.proofs.NameLaws.{unbinds, name_begun, names-push, names-once, bytes-equality}
 use Rattle.history.proofs.NamedCalls.{call_with-alike}
 use Rattle.history.proofs.NumberLaws.{has-filter}
@@ -208,7 +208,7 @@ pairs-more config events e p r =
     exported : has (added (places config events)) p.object ≡ true
     exported =
         naming-has (added (places config events)) p.object (call_with (has (added (places config events))) (max e.moment (now (places config events))) e.ask ++ lease_calls (places config events))
-        (Every-append (NamesOnly (added (places config events))) (call_with (has (added (places config events))) (max e.moment (now (places config events))) e.ask) (lease_calls (places config events)) (call-names (added (places config events)) (max e.moment (now (places config events))) e.ask) (calls-names (places config events)))
+        (every-append (NamesOnly (added (places config events))) (call_with (has (added (places config events))) (max e.moment (now (places config events))) e.ask) (lease_calls (places config events)) (call-names (added (places config events)) (max e.moment (now (places config events))) e.ask) (calls-names (places config events)))
         (remembered-named config.lease_ms (max e.moment (now (places config events))) p.client (call_with (has (added (places config events))) (max e.moment (now (places config events))) e.ask ++ lease_calls (places config events)) p.object parts.1)
 
     there : has (table config (places config events)) p.object ≡ true

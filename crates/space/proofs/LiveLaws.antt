@@ -2,7 +2,7 @@
 -- same, and as objects leave the table the live calls forget them.
 use Rattle.std.proofs.Common.{◌≡◌, ℕ, ◌+◌, List, [], ◌∷◌, ◌++◌, refl, ap, sym, ◌∙◌, cond, map, Some}
 use Rattle.std.specs.Prelude.{Bool, true, false, ◌&&◌, ◌||◌, not, filter, find, nat_lt, if◌then◌else◌, option_map, unwrap_or}
-use Rattle.std.specs.List.{list_any}
+use Rattle.std.specs.List.{list_any, AllByRecursion}
 use Rattle.std.proofs.lemmas.Bool.{or_parts}
 use Rattle.std.proofs.lemmas.List.Folds.{list_any-append}
 use Rattle.std.proofs.lemmas.List.{map-append}
@@ -22,7 +22,7 @@ use Rattle.history.specs.Leases.{is_dirty, is_strong, is_naming, lease_end, has_
 use Rattle.history.specs.Places.{has}
 use Rattle.history.specs.Replies.{ids}
 use Rattle.history.proofs.AlikeCalls.{AllAlike, AllAlike-append, AllAlike-map, holders-alike, is_held-alike, is_remembered-alike, calls_of-alike}
-use Rattle.history.proofs.ListLemmas.{Every, list_any-filter, list_any-same, and_false}
+use Rattle.history.proofs.ListLemmas.{list_any-filter, list_any-same, and_false}
 use Rattle.history.proofs.NamedCalls.{call_with-alike}
 use Rattle.history.proofs.NumberLaws.{AllApart}
 use Rattle.space.specs.Kept.{live_call, live_calls}
@@ -111,7 +111,7 @@ lease_rows-live objects lease t calls =
 
 -- ---- the pairs
 
-pub live-names : (objects : List Exported) (calls : List Call) → Every (NamesOnly objects) (live_calls objects calls)
+pub live-names : (objects : List Exported) (calls : List Call) → AllByRecursion (NamesOnly objects) (live_calls objects calls)
 live-names objects [] = tt
 live-names objects (x ∷ calls) = (passing (has objects) x.objects, live-names objects calls)
 
@@ -150,7 +150,7 @@ without_all os x = record x { objects = filter (λ y. not (list_any (λ o. same_
 abbrev among : ObjId → List ObjId → Bool
 among y os = list_any (λ o. same_id y o) os
 
-filter-two : (p q r s : ObjId → Bool) (ys : List ObjId) → Every (λ y. (p y && q y) ≡ (r y && s y)) ys → filter p (filter q ys) ≡ filter r (filter s ys)
+filter-two : (p q r s : ObjId → Bool) (ys : List ObjId) → AllByRecursion (λ y. (p y && q y) ≡ (r y && s y)) ys → filter p (filter q ys) ≡ filter r (filter s ys)
 filter-two p q r s [] e = refl
 filter-two p q r s (y ∷ ys) e = go (p y) (q y) (r y) (s y) refl refl refl refl e.0 (filter-two p q r s ys e.1)
   where
@@ -241,22 +241,22 @@ live-told objects more exported objects' stays n ys =
         and_false (has objects' y)
         ∙ sym (ap (λ v. not (among y (gone_of (objects ++ more) stays)) && v) (has-nowhere objects more exported objects' stays n y e) ∙ and_false (not (among y (gone_of (objects ++ more) stays))))
 
-    all : (zs : List ObjId) → Every (λ y. (has objects' y && has exported y) ≡ (not (among y (gone_of (objects ++ more) stays)) && has objects y)) zs
+    all : (zs : List ObjId) → AllByRecursion (λ y. (has objects' y && has exported y) ≡ (not (among y (gone_of (objects ++ more) stays)) && has objects y)) zs
     all [] = tt
     all (z ∷ zs) = (each z (has exported z) refl, all zs)
 
-live-kept : (objects more exported objects' : List Exported) (stays : Exported → Bool) → IsNext objects more exported objects' stays → (calls : List Call) → Every (NamesOnly exported) calls →
+live-kept : (objects more exported objects' : List Exported) (stays : Exported → Bool) → IsNext objects more exported objects' stays → (calls : List Call) → AllByRecursion (NamesOnly exported) calls →
     live_calls objects' calls ≡ map (without_all (gone_of (objects ++ more) stays)) (live_calls objects calls)
 live-kept objects more exported objects' stays n [] e = refl
 live-kept objects more exported objects' stays n (x ∷ calls) e =
     ap (λ (os : List ObjId). record x { objects = os } ∷ live_calls objects' calls) (same x.objects e.0)
     ∙ ap (λ l. without_all (gone_of (objects ++ more) stays) (live_call objects x) ∷ l) (live-kept objects more exported objects' stays n calls e.1)
   where
-    whole : (ys : List ObjId) → Every (λ y. has exported y ≡ true) ys → filter (has exported) ys ≡ ys
+    whole : (ys : List ObjId) → AllByRecursion (λ y. has exported y ≡ true) ys → filter (has exported) ys ≡ ys
     whole [] f = refl
     whole (y ∷ ys) f = rw (f.0, whole ys f.1) refl
 
-    same : (ys : List ObjId) → Every (λ y. has exported y ≡ true) ys → filter (has objects') ys ≡ filter (λ y. not (among y (gone_of (objects ++ more) stays))) (filter (has objects) ys)
+    same : (ys : List ObjId) → AllByRecursion (λ y. has exported y ≡ true) ys → filter (has objects') ys ≡ filter (λ y. not (among y (gone_of (objects ++ more) stays))) (filter (has objects) ys)
     same ys f = ap (filter (has objects')) (sym (whole ys f)) ∙ live-told objects more exported objects' stays n ys
 
 live-call : (objects more exported objects' : List Exported) (stays : Exported → Bool) → IsNext objects more exported objects' stays → (moment : ℕ) (a : Ask) →
@@ -268,7 +268,7 @@ live-call objects more exported objects' stays n moment (Clean client number nam
 live-call objects more exported objects' stays n moment _ = refl
 
 -- THE LIVE CALLS AFTER AN EVENT are those before it with the event's own, without the objects that go.
-pub live-push : (objects more exported objects' : List Exported) (stays : Exported → Bool) → IsNext objects more exported objects' stays → (moment : ℕ) (a : Ask) (calls : List Call) → Every (NamesOnly exported) calls →
+pub live-push : (objects more exported objects' : List Exported) (stays : Exported → Bool) → IsNext objects more exported objects' stays → (moment : ℕ) (a : Ask) (calls : List Call) → AllByRecursion (NamesOnly exported) calls →
     live_calls objects' (call_with (has exported) moment a ++ calls)
     ≡ map (without_all (gone_of (objects ++ more) stays)) (call_with (has objects) moment a ++ live_calls objects calls)
 live-push objects more exported objects' stays n moment a calls e =

@@ -2,7 +2,7 @@
 use Rattle.std.proofs.Common.{◌≡◌, ℕ, ◌+◌, ◌<◌, ◌≤◌, List, [], ◌∷◌, ◌++◌, length, drop, get_or, refl, ap, sym, ◌∙◌, arith, add-one, append_assoc, append-nil}
 use Rattle.std.proofs.Math.Seq.{drop-cons}
 use Rattle.std.specs.Prelude.{Bool, true, false, not, ◌&&◌, ◌||◌, filter, if◌then◌else◌}
-use Rattle.std.specs.List.{list_any}
+use Rattle.std.specs.List.{list_any, AllByRecursion}
 use Rattle.std.proofs.lemmas.Bool.{or_left, or_right}
 use Rattle.std.proofs.lemmas.List.{drop_all}
 use Rattle.std.proofs.lemmas.List.Folds.{list_any-append}
@@ -12,7 +12,7 @@ use Rattle.object_ids.specs.Same.{same_id}
 use Rattle.object_ids.proofs.Exact.{same_id-self}
 use Rattle.history.specs.Lists.{distinct}
 use Rattle.history.specs.Places.{id_at}
-use Rattle.history.proofs.ListLemmas.{Every, Every-append, Every-weaker}
+use Rattle.history.proofs.ListLemmas.{every-append, every-weaker}
 use Rattle.export_table.specs.declared.rows.Export.{Export}
 use Rattle.export_table.specs.Rows.{is_of, is_exported, new_row, changed, ended}
 use Rattle.export_table.proofs.RowLaws.{exported-changed}
@@ -92,21 +92,21 @@ end-same : (o x : ObjId) (rows more : List Export) → is_exported (changed ende
 end-same o x rows more =
     list_any-append (is_of o) (changed ended x rows) more ∙ ap (λ v. v || is_exported more o) (exported-changed ended x o (λ r. refl) rows) ∙ sym (list_any-append (is_of o) rows more)
 
-pub there-after : (x : ObjId) (rows more all : List Export) (os : List ObjId) → all ≡ changed ended x rows ++ more → Every (λ o. is_exported (rows ++ more) o ≡ true) os → Every (λ o. is_exported all o ≡ true) os
-there-after x rows more all os e = Every-weaker (λ o. is_exported (rows ++ more) o ≡ true) (λ o. is_exported all o ≡ true) (λ o h. ap (λ l. is_exported l o) e ∙ end-same o x rows more ∙ h) os
+pub there-after : (x : ObjId) (rows more all : List Export) (os : List ObjId) → all ≡ changed ended x rows ++ more → AllByRecursion (λ o. is_exported (rows ++ more) o ≡ true) os → AllByRecursion (λ o. is_exported all o ≡ true) os
+there-after x rows more all os e = every-weaker (λ o. is_exported (rows ++ more) o ≡ true) (λ o. is_exported all o ≡ true) (λ o h. ap (λ l. is_exported l o) e ∙ end-same o x rows more ∙ h) os
 
-new-there : (space : Uid) (k : ℕ) (made : List ℕ) → Every (λ o. is_exported (new_rows space k made) o ≡ true) (new_ids space k made)
+new-there : (space : Uid) (k : ℕ) (made : List ℕ) → AllByRecursion (λ o. is_exported (new_rows space k made) o ≡ true) (new_ids space k made)
 new-there space k [] = tt
 new-there space k (kind ∷ made) = (
   or_left (same_id (id_at space k) (id_at space k)) (is_exported (new_rows space (k + 1) made) (id_at space k)) (same_id-self (id_at space k)),
-  Every-weaker (λ o. is_exported (new_rows space (k + 1) made) o ≡ true) (λ o. is_exported (new_rows space k (kind ∷ made)) o ≡ true)
+  every-weaker (λ o. is_exported (new_rows space (k + 1) made) o ≡ true) (λ o. is_exported (new_rows space k (kind ∷ made)) o ≡ true)
       (λ o h. or_right (same_id (id_at space k) o) (is_exported (new_rows space (k + 1) made) o) h) (new_ids space (k + 1) made) (new-there space (k + 1) made),
 )
 
-pub all-there : (space : Uid) (k : ℕ) (rows : List Export) (made : List ℕ) (listed : List ObjId) → Every (λ o. is_exported (rows ++ new_rows space k made) o ≡ true) (new_ids space k made ++ filter (is_exported rows) listed)
+pub all-there : (space : Uid) (k : ℕ) (rows : List Export) (made : List ℕ) (listed : List ObjId) → AllByRecursion (λ o. is_exported (rows ++ new_rows space k made) o ≡ true) (new_ids space k made ++ filter (is_exported rows) listed)
 all-there space k rows made listed =
-    Every-append (λ o. is_exported (rows ++ new_rows space k made) o ≡ true) (new_ids space k made) (filter (is_exported rows) listed)
-    (Every-weaker (λ o. is_exported (new_rows space k made) o ≡ true) (λ o. is_exported (rows ++ new_rows space k made) o ≡ true)
+    every-append (λ o. is_exported (rows ++ new_rows space k made) o ≡ true) (new_ids space k made) (filter (is_exported rows) listed)
+    (every-weaker (λ o. is_exported (new_rows space k made) o ≡ true) (λ o. is_exported (rows ++ new_rows space k made) o ≡ true)
     (λ o h. list_any-append (is_of o) rows (new_rows space k made) ∙ or_right (is_exported rows o) (is_exported (new_rows space k made) o) h) (new_ids space k made) (new-there space k made))
-    (Every-weaker (λ o. is_exported rows o ≡ true) (λ o. is_exported (rows ++ new_rows space k made) o ≡ true)
+    (every-weaker (λ o. is_exported rows o ≡ true) (λ o. is_exported (rows ++ new_rows space k made) o ≡ true)
     (λ o h. list_any-append (is_of o) rows (new_rows space k made) ∙ or_left (is_exported rows o) (is_exported (new_rows space k made) o) h) (filter (is_exported rows) listed) (passing (is_exported rows) listed))

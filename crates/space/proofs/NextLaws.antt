@@ -1,7 +1,7 @@
 -- The table, the live calls and what is kept, from one event to the next, generic in the ask.
 use Rattle.std.proofs.Common.{◌≡◌, ℕ, List, [], ◌∷◌, ◌++◌, length, refl, ap, sym, subst, ◌∙◌, map, max}
 use Rattle.std.specs.Prelude.{Bool, true, false, ◌||◌, nat_lt}
-use Rattle.std.specs.List.{list_any}
+use Rattle.std.specs.List.{list_any, AllByRecursion}
 use Rattle.std.proofs.lemmas.Bool.{or_left, or_right}
 use Rattle.std.proofs.lemmas.List.Folds.{list_any-append}
 use Rattle.object_ids.specs.declared.ids.ObjId.{ObjId}
@@ -23,7 +23,7 @@ use Rattle.history.specs.Table.{is_pinned, is_kept, table, place_of, places, wit
 use Rattle.history.proofs.AlikeCalls.{AllAlike, is_held-alike}
 use Rattle.history.proofs.AwaitingLaws.{is_awaited-members}
 use Rattle.history.proofs.GoneLaws.{pending, gone-push}
-use Rattle.history.proofs.ListLemmas.{Every, Every-append, Every-weaker}
+use Rattle.history.proofs.ListLemmas.{every-append, every-weaker}
 use Rattle.history.proofs.NumberLaws.{NumberedFrom-apart, adds-numbered, has-self, AllApart, table-apart, table-exported}
 use Rattle.history.proofs.RunningLaws.{is_running-calls}
 use Rattle.history.proofs.TableLaws.{places-numbered, table-place, now-push, withdrawn-place}
@@ -123,14 +123,14 @@ told-both config events e o same =
     (λ h. not-exported-named config events o (same ∙ h)))
 
 pub held-next : (config : SpaceConfig) (events : List Event) (e : Event) (t : ℕ) →
-    Every (λ x. is_held config.lease_ms t (lease_calls (place_of config (places config events) e ∷ places config events)) x.id
+    AllByRecursion (λ x. is_held config.lease_ms t (lease_calls (place_of config (places config events) e ∷ places config events)) x.id
     ≡ is_held config.lease_ms t (call_with (has (table config (places config events))) (max e.moment (now (places config events))) e.ask ++ live_calls (table config (places config events)) (lease_calls (places config events))) x.id)
     (table config (places config events) ++ (place_of config (places config events) e).exported_here)
 held-next config events e t =
-    Every-append _ (table config (places config events)) (place_of config (places config events) e).exported_here
-    (Every-weaker (λ (x : Exported). has (table config (places config events)) x.id ≡ true) _
+    every-append _ (table config (places config events)) (place_of config (places config events) e).exported_here
+    (every-weaker (λ (x : Exported). has (table config (places config events)) x.id ≡ true) _
     (λ x h. one x (table-exported config (places config events) x.id h ∙ sym h)) (table config (places config events)) (has-self (table config (places config events))))
-    (Every-weaker (λ (x : Exported). has (place_of config (places config events) e).exported_here x.id ≡ true) _
+    (every-weaker (λ (x : Exported). has (place_of config (places config events) e).exported_here x.id ≡ true) _
     (λ x h. (let new = new-not-old config events e x.id h in one x (new ∙ sym (not-exported-nowhere config events x.id new)))) (place_of config (places config events) e).exported_here (has-self (place_of config (places config events) e).exported_here))
   where
     one : (x : Exported) → has (added (places config events)) x.id ≡ has (table config (places config events)) x.id →
@@ -145,7 +145,7 @@ held-next config events e t =
 -- lease table was told before objects go.
 pub kept-next : (config : SpaceConfig) (events : List Event) (e : Event) (waits : List Returned) →
     ((r : Returned) → list_any (same_returned r) waits ≡ awaits config.ack_ms (now (place_of config (places config events) e ∷ places config events)) (place_of config (places config events) e ∷ places config events) r) →
-    Every (λ x. is_kept config (place_of config (places config events) e ∷ places config events) x
+    AllByRecursion (λ x. is_kept config (place_of config (places config events) e ∷ places config events) x
     ≡ ((x.pinned || is_named (place_of config (places config events) e ∷ places config events) x.id || nat_lt 0 (running_calls (place_of config (places config events) e ∷ places config events) x.id))
     || list_any (λ r. same_id r.object x.id) waits
     || is_held config.lease_ms (max e.moment (now (places config events)))
@@ -153,7 +153,7 @@ pub kept-next : (config : SpaceConfig) (events : List Event) (e : Event) (waits 
     (table config (places config events) ++ (place_of config (places config events) e).exported_here)
 unfolding is_kept is_pinned
 kept-next config events e waits await =
-    Every-weaker _ _ (λ x held.
+    every-weaker _ _ (λ x held.
     ap (λ v. (x.pinned || is_named (place_of config (places config events) e ∷ places config events) x.id || v)
     || is_awaited config.ack_ms (now (place_of config (places config events) e ∷ places config events)) (place_of config (places config events) e ∷ places config events) x.id
     || is_held config.lease_ms (now (place_of config (places config events) e ∷ places config events)) (lease_calls (place_of config (places config events) e ∷ places config events)) x.id)

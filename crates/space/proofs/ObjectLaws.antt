@@ -28,24 +28,10 @@ use Rattle.history.proofs.NameLaws.{stands_for-push, stands_for-none, names-memb
 use Rattle.history.proofs.TableLaws.{places-push, places-none, now-push}
 use Rattle.dgc_server.proofs.Steps.{earlier}
 use Rattle.space.proofs.Named.{any-ids}
-use Rattle.export_table.proofs.ThereLaws.{by-events, stays, in-front}
+use Rattle.history.proofs.NamedLaws.{by-events, stays, in-front, named-exported}
 use Rattle.export_table.proofs.WaitLaws.{awaits-until, numbered-place}
 
 -- ---- names stand for objects of the table
-
-bound-there : (config : SpaceConfig) (h : List Place) (e : Event) (n : List ℕ) (o : ObjId) → changes_name n (place_of config h e) ≡ true → object_bound (place_of config h e).event.ask ≡ Some o → has (table config h) o ≡ true
-unfolding place_of is_effective
-bound-there config h e n o c b = go e.ask c b
-  where
-    go : (a : Ask) → changes_name n (place_of config h (record e { ask = a })) ≡ true → object_bound a ≡ Some o → has (table config h) o ≡ true
-    go (Bind m x) c b =
-        let two = and_parts (has (table config h) x && is_none (stands_for h m)) (is_bind_of n (Bind m x) || is_unbind_of n (Bind m x)) c in
-        let one = and_parts (has (table config h) x) (is_none (stands_for h m)) two.0 in
-        let same : x ≡ o = cc in ap (has (table config h)) (sym same) ∙ one.0
-    go (Rebind m x) c b =
-        let two = and_parts (has (table config h) x) (is_bind_of n (Rebind m x) || is_unbind_of n (Rebind m x)) c in
-        let same : x ≡ o = cc in ap (has (table config h)) (sym same) ∙ two.0
-    go _ c b = absurd (cc)
 
 any-at : {X : Type 0} (same : X → X → Bool) → ((a b : X) → same a b ≡ true → a ≡ b) → (test : X → Bool) (n : X) (xs : List X) → list_any (same n) xs ≡ true → test n ≡ true → list_any test xs ≡ true
 any-at same equal test n [] h t = absurd (cc)
@@ -54,51 +40,13 @@ any-at same equal test n (x ∷ xs) h t = elim (or_cases (same n x) (list_any (s
   | inr there ↦ or_right (test x) (list_any test xs) (any-at same equal test n xs there t)
 ]
 
-pub named-standing : (config : SpaceConfig) (events : List Event) (n : List ℕ) (o : ObjId) → stands_for (places config events) n ≡ Some o → is_named (places config events) o ≡ true
-unfolding is_named
-named-standing config events n o s =
-    any-at same_bytes bytes-equality.equal (is_name_of (places config events) o) n (names (places config events)) (names-member config events n ∙ ap is_some s)
-    (ap (option_any (λ x. same_id x o)) s ∙ same_id-self o)
-
-kept-named : (config : SpaceConfig) (h : List Place) (x : Exported) → is_named h x.id ≡ true → is_kept config h x ≡ true
-unfolding is_kept is_pinned
-kept-named config h x n = rw n (go x.pinned (is_running h x.id) (is_awaited config.ack_ms (now h) h x.id) (is_held config.lease_ms (now h) (lease_calls h) x.id))
-  where
-    go : (a b c d : Bool) → (((a || true) || b) || c || d) ≡ true
-    go true b c d = refl
-    go false b c d = refl
-
-pub standing-there : (config : SpaceConfig) (events : List Event) (n : List ℕ) (o : ObjId) → stands_for (places config events) n ≡ Some o → has (table config (places config events)) o ≡ true
-standing-there config = by-events
-    (λ events. (n : List ℕ) (o : ObjId) → stands_for (places config events) n ≡ Some o → has (table config (places config events)) o ≡ true) none more
-  where
-    none : (n : List ℕ) (o : ObjId) → stands_for (places config []) n ≡ Some o → has (table config (places config [])) o ≡ true
-    none n o s = absurd (let nothing = ap (λ h. stands_for h n) (places-none config) ∙ stands_for-none n in cc)
-
-    more : (events : List Event) (e : Event) → ((n : List ℕ) (o : ObjId) → stands_for (places config events) n ≡ Some o → has (table config (places config events)) o ≡ true) →
-        (n : List ℕ) (o : ObjId) → stands_for (places config (events ++ e ∷ [])) n ≡ Some o → has (table config (places config (events ++ e ∷ []))) o ≡ true
-    more events e ih n o s =
-        ap (λ h. has (table config h) o) (places-push config events e) ∙ stays config events e o (λ x i. kept-named config (place_of config (places config events) e ∷ places config events) x (ap (is_named (place_of config (places config events) e ∷ places config events)) i ∙ there))
-        (in-front (table config (places config events)) (place_of config (places config events) e).exported_here o (before (changes_name n (place_of config (places config events) e)) refl))
-      where
-        there : is_named (place_of config (places config events) e ∷ places config events) o ≡ true
-        there = ap (λ h. is_named h o) (sym (places-push config events e)) ∙ named-standing config (events ++ e ∷ []) n o s
-
-        step : (if changes_name n (place_of config (places config events) e) then object_bound (place_of config (places config events) e).event.ask else stands_for (places config events) n) ≡ Some o
-        step = sym (stands_for-push (place_of config (places config events) e) (places config events) n) ∙ ap (λ h. stands_for h n) (sym (places-push config events e)) ∙ s
-
-        before : (b : Bool) → changes_name n (place_of config (places config events) e) ≡ b → has (table config (places config events)) o ≡ true
-        before true t =
-            bound-there config (places config events) e n o t (ap (λ b. if b then object_bound (place_of config (places config events) e).event.ask else stands_for (places config events) n) (sym t) ∙ step)
-        before false t = ih n o (ap (λ b. if b then object_bound (place_of config (places config events) e).event.ask else stands_for (places config events) n) (sym t) ∙ step)
-
 pub named-there : (config : SpaceConfig) (events : List Event) (o : ObjId) → is_named (places config events) o ≡ true → has (table config (places config events)) o ≡ true
 unfolding is_named
 named-there config events o h = go (names (places config events)) h
   where
     one : (n : List ℕ) (s : Option ObjId) → stands_for (places config events) n ≡ s → option_any (λ x. same_id x o) s ≡ true → has (table config (places config events)) o ≡ true
     one n None e t = absurd (cc)
-    one n (Some x) e t = ap (has (table config (places config events))) (sym (same_id-equal x o t)) ∙ standing-there config events n x e
+    one n (Some x) e t = ap (has (table config (places config events))) (sym (same_id-equal x o t)) ∙ named-exported config events n x e
 
     go : (ns : List (List ℕ)) → list_any (is_name_of (places config events) o) ns ≡ true → has (table config (places config events)) o ≡ true
     go [] t = absurd (cc)
@@ -160,7 +108,7 @@ listed-there config events e o h = go e.ask h
     looked : (s : Option ObjId) (n : List ℕ) → stands_for (places config events) n ≡ s → list_any (same_id o) (if is_some s then option_to_list s else []) ≡ true → has (table config (places config events)) o ≡ true
     looked None n e t = absurd (cc)
     looked (Some x) n e t = elim (or_cases (same_id o x) false t) [
-      | inl here ↦ standing-there config events n o (e ∙ ap (λ y. Some y) (sym (same_id-equal o x here)))
+      | inl here ↦ named-exported config events n o (e ∙ ap (λ y. Some y) (sym (same_id-equal o x here)))
       | inr never ↦ absurd (cc)
     ]
 

@@ -1,6 +1,7 @@
 -- What the served asks leave out: names.
 use Rattle.std.proofs.Common.{◌≡◌, ℕ, ◌+◌, suc, List, [], ◌∷◌, ◌++◌, length, refl, ap, ◌∙◌, None}
 use Rattle.std.specs.Prelude.{Bool, true, false, not, ◌&&◌, filter, reverse, is_none, option_to_list, if◌then◌else◌}
+use Rattle.std.specs.List.{AllByRecursion}
 use Rattle.object_ids.specs.declared.ids.ObjId.{ObjId}
 use Rattle.object_ids.specs.declared.ids.Uid.{Uid}
 use Rattle.history.specs.declared.asks.SpaceConfig.{SpaceConfig}
@@ -12,7 +13,6 @@ use Rattle.history.specs.declared.places.Exported.{Exported}
 use Rattle.history.specs.Places.{exported_from, next}
 use Rattle.history.specs.Names.{name_bound, names, names_of, is_named, name_begun, unbinds}
 use Rattle.history.specs.Table.{is_effective, exports, place_of, places_back, places}
-use Rattle.history.proofs.ListLemmas.{Every}
 use Rattle.space.specs.Built.{IsBuilt}
 use Rattle.space.specs.Kept.{AllBuilt}
 use Rattle.space.specs.Acts.{opens}
@@ -86,27 +86,27 @@ adds-length config h e b = ap length (adds-built config h e b) ∙ opened-length
 
 -- ---- all places
 
-quiet_back : (config : SpaceConfig) (es : List Event) → AllBuilt es → Every IsQuiet (places_back config es)
+quiet_back : (config : SpaceConfig) (es : List Event) → AllBuilt es → AllByRecursion IsQuiet (places_back config es)
 unfolding places_back
 quiet_back config [] b = tt
 quiet_back config (e ∷ es) b = (quiet-place config (places_back config es) e b.0, quiet_back config es b.1)
 
-pub quiet : (config : SpaceConfig) (events : List Event) → AllBuilt (reverse events) → Every IsQuiet (places config events)
+pub quiet : (config : SpaceConfig) (events : List Event) → AllBuilt (reverse events) → AllByRecursion IsQuiet (places config events)
 unfolding places
 quiet config events b = quiet_back config (reverse events) b
 
 none-begun : (p : Place) → IsQuiet p → name_begun p ≡ []
 none-begun p q = ap (λ b. if p.effective && is_none p.name_stood_for then option_to_list b else []) q.binds ∙ none-either (p.effective && is_none p.name_stood_for)
 
-pub no-names : (h : List Place) → Every IsQuiet h → names h ≡ []
+pub no-names : (h : List Place) → AllByRecursion IsQuiet h → names h ≡ []
 unfolding names
 no-names [] q = refl
 no-names (p ∷ h) q = ap (λ l. filter (λ n. not (unbinds p n)) l ++ name_begun p) (no-names h q.1) ∙ none-begun p q.0
 
-pub no-names_of : (h : List Place) (o : ObjId) → Every IsQuiet h → names_of h o ≡ []
+pub no-names_of : (h : List Place) (o : ObjId) → AllByRecursion IsQuiet h → names_of h o ≡ []
 unfolding names_of
 no-names_of h o q = rw (no-names h q) refl
 
-pub not-named : (h : List Place) (o : ObjId) → Every IsQuiet h → is_named h o ≡ false
+pub not-named : (h : List Place) (o : ObjId) → AllByRecursion IsQuiet h → is_named h o ≡ false
 unfolding is_named
 not-named h o q = rw (no-names h q) refl

@@ -13,9 +13,9 @@ use Rattle.object_ids.proofs.Exact.{same_uid-self, same_uid-equal}
 use Rattle.history.specs.declared.limits.TheConstants.{MAX_AWAITING}
 use Rattle.history.specs.declared.places.Returned.{Returned}
 use Rattle.history.specs.Awaiting.{same_returned}
-use Rattle.history.specs.Lists.{distinct}
+use Rattle.history.specs.Lists.{distinct, AllOnce}
 use Rattle.history.proofs.AwaitingLaws.{returned-equality}
-use Rattle.history.proofs.ListLemmas.{IsEquality, AllOnce, AllOnce-distinct, AllOnce-filter, AllOnce-push, length-members, and_true, and_false}
+use Rattle.history.proofs.ListLemmas.{IsEquality, AllOnce-distinct, AllOnce-filter, AllOnce-push, length-members, and_true, and_false}
 use Rattle.dgc_server.proofs.Distinct.{Decides, any-filtered, turned}
 use Rattle.export_table.specs.declared.waits.Wait.{Wait}
 use Rattle.export_table.specs.declared.exports.ExportFault.{ExportFault}

@@ -1,6 +1,7 @@
 -- When an event is refused, by what is kept.
 use Rattle.std.proofs.Common.{◌≡◌, ℕ, ◌+◌, ◌≤◌, List, [], ◌++◌, length, refl, ap, ◌∙◌, arith, max, Option, Some, None, append-nil}
 use Rattle.std.specs.Prelude.{filter, Bool, true, false, ◌&&◌, nat_lt, if◌then◌else◌}
+use Rattle.std.specs.List.{AllByRecursion}
 use Rattle.std.proofs.lemmas.Bool.{le-ltb}
 use Rattle.object_ids.specs.declared.ids.FullKind.TheVariants.{Exports, Awaiting, Clients, Pairs, Names}
 use Rattle.object_ids.specs.Same.{same_client, same_bytes}
@@ -21,7 +22,7 @@ use Rattle.history.specs.Places.{has, now}
 use Rattle.history.specs.Replies.{ids}
 use Rattle.history.specs.Table.{is_effective, table, place_of}
 use Rattle.history.proofs.AwaitingLaws.{returned-equality, awaiting-member}
-use Rattle.history.proofs.ListLemmas.{Every, AllOnce-distinct, list_any-distinct}
+use Rattle.history.proofs.ListLemmas.{AllOnce-distinct, list_any-distinct}
 use Rattle.history.proofs.TableLaws.{moment-place_of}
 use Rattle.dgc_server.specs.Counts.{dirty_call, clean_call}
 use Rattle.space.specs.Acts.{opens, room_refusal, lease_refusal, first_of_two}
@@ -62,7 +63,7 @@ awaiting-few config h e b w =
     let few = w.awaits in
     omega (arith, none, whole, once, later, few)
 
-names-is : (config : SpaceConfig) (h : List Place) (e : Event) → Every IsQuiet h → IsBuilt e.ask → names_with_event config h e ≡ 0
+names-is : (config : SpaceConfig) (h : List Place) (e : Event) → AllByRecursion IsQuiet h → IsBuilt e.ask → names_with_event config h e ≡ 0
 unfolding names_with_event place_of
 names-is config h e q b = rw (no-names h q, (quiet-place config h e b).binds) (go (place_of config h e).effective)
   where
@@ -135,7 +136,7 @@ chain false false false false true false await more g h m = m ∙ ap (λ o. firs
 chain false false false false false false await more g h m = m ∙ ap (λ o. first_of_two o more) g
 
 -- THE REFUSAL of an event is that for want of room, then that of the references that it returns, and then that of its lease call.
-pub refusal-is : (config : SpaceConfig) (h : List Place) (e : Event) (await : Option Refused) → Every IsQuiet h → IsBuilt e.ask → IsWithin config h →
+pub refusal-is : (config : SpaceConfig) (h : List Place) (e : Event) (await : Option Refused) → AllByRecursion IsQuiet h → IsBuilt e.ask → IsWithin config h →
     (if nat_lt MAX_AWAITING (awaiting_with_event config h e) then Some (Full Awaiting) else None) ≡ await →
     refusal limits config h e
     ≡ first_of_two (room_refusal (units h) (reserved h) (length (table config h)) (is_effective config h e.by e.ask) e.ask)

@@ -1,7 +1,7 @@
 -- What an outline and a summary say of a table, by what is kept, generic in the ask.
 use Rattle.std.proofs.Common.{◌≡◌, ℕ, List, [], ◌∷◌, ◌++◌, length, refl, ap, sym, ◌∙◌, arith}
 use Rattle.std.specs.Prelude.{Bool, true, false, ◌&&◌, ◌||◌, not, filter, flat_map, nat_lt}
-use Rattle.std.specs.List.{list_any}
+use Rattle.std.specs.List.{list_any, AllByRecursion}
 use Rattle.std.proofs.lemmas.Bool.{and_parts, or_parts}
 use Rattle.std.proofs.lemmas.List.Folds.{list_any-append}
 use Rattle.object_ids.specs.declared.ids.ObjId.{ObjId}
@@ -18,14 +18,14 @@ use Rattle.history.specs.declared.places.Returned.{Returned}
 use Rattle.history.specs.Awaiting.{awaiting_of}
 use Rattle.history.specs.LeaseCalls.{lease_calls}
 use Rattle.history.specs.Leases.{calls_of, clients, holders, is_remembered, same_pair, pairs_of, pairs_with, pairs, objects_named}
-use Rattle.history.specs.Lists.{distinct}
+use Rattle.history.specs.Lists.{distinct, AllOnce}
 use Rattle.history.specs.Names.{names_of}
 use Rattle.history.specs.Outline.{ObjectRow, object_row}
 use Rattle.history.specs.Places.{has, now}
 use Rattle.history.specs.Replies.{ids}
 use Rattle.history.specs.Running.{running_calls}
 use Rattle.history.specs.Table.{table, places}
-use Rattle.history.proofs.ListLemmas.{Every, Every-weaker, AllOnce, AllOnce-filter, AllOnce-distinct, IsEquality, length-members}
+use Rattle.history.proofs.ListLemmas.{every-weaker, AllOnce-filter, AllOnce-distinct, IsEquality, length-members}
 use Rattle.history.proofs.NumberLaws.{AllApart, has-self, table-apart}
 use Rattle.dgc_server.proofs.Distinct.{all_once, absent_is}
 use Rattle.dgc_server.proofs.Rising.{rising-clients, rising-once}
@@ -45,7 +45,7 @@ four x a b c d a' b' c' p q r = cc
 
 pub row-kept : {R W : Type 0} (by : R → ℕ) (object : R → ObjId) (ref : W → Returned) (until : W → ℕ) (config : SpaceConfig) (h : List Place) (runs : List R) (ws : List W) →
     RunsStand by object h runs → WaitsStand ref until config.ack_ms (now h) h ws →
-    Every (λ x. object_row config h x ≡ record {
+    AllByRecursion (λ x. object_row config h x ≡ record {
       object = x.id;
       kind = x.kind;
       pinned = x.pinned;
@@ -55,7 +55,7 @@ pub row-kept : {R W : Type 0} (by : R → ℕ) (object : R → ObjId) (ref : W �
       names = length (names_of h x.id);
     }) (table config h)
 row-kept by object ref until config h runs ws r s =
-    Every-weaker (λ (x : Exported). has (table config h) x.id ≡ true) _
+    every-weaker (λ (x : Exported). has (table config h) x.id ≡ true) _
     (λ x there. four x (running_calls h x.id) (length (awaiting_of config.ack_ms (now h) h x.id)) (length (holders config.lease_ms (now h) (lease_calls h) x.id)) (length (names_of h x.id))
     (length (filter (is_run_on object x.id) runs)) (length (filter (λ w. nat_lt (now h) (until w) && same_id (ref w).object x.id) ws)) (length (holders config.lease_ms (now h) (live_calls (table config h) (lease_calls h)) x.id))
     (sym (r.calls x.id)) (awaiting_of-counted ref until config.ack_ms (now h) (now h) h x.id ws (omega arith) s) (ap length (holders-live (table config h) x.id config.lease_ms (now h) (lease_calls h) there)))

@@ -36,7 +36,7 @@ use Rattle.space.proofs.LiveLaws.{left-live}
 use Rattle.space.proofs.Quiet.{quiet, no-names}
 use Rattle.space.proofs.RowLaws.{pairs-counted-live}
 use Rattle.export_table.proofs.StandLaws.{awaiting-counted}
-use Rattle.export_table.proofs.ThereLaws.{by-events}
+use Rattle.history.proofs.NamedLaws.{by-events}
 
 -- ---- counts
 

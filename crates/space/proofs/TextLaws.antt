@@ -1,6 +1,7 @@
 -- The outline, by what is kept.
 use Rattle.std.proofs.Common.{◌≡◌, ℕ, ◌+◌, ◌<◌, ◌≤◌, List, [], ◌∷◌, ◌++◌, length, refl, ap, sym, subst, ◌∙◌, arith, map, max, take, get_or, append-nil, append_assoc}
 use Rattle.std.specs.Prelude.{true, flat_map, reverse}
+use Rattle.std.specs.List.{AllByRecursion}
 use Rattle.std.proofs.lemmas.List.{take_all, take_more}
 use Rattle.std.proofs.lemmas.List.Concat.{flat_map-append}
 use Rattle.history.specs.declared.asks.SpaceConfig.{SpaceConfig}
@@ -18,7 +19,7 @@ use Rattle.history.specs.Outline.{ObjectRow, object_row, object_line, lease_line
 use Rattle.history.specs.Places.{has, now}
 use Rattle.history.specs.Running.{running_calls}
 use Rattle.history.specs.Table.{table, places, withdrawals}
-use Rattle.history.proofs.ListLemmas.{Every, Every-weaker}
+use Rattle.history.proofs.ListLemmas.{every-weaker}
 use Rattle.history.proofs.NumberLaws.{has-self}
 use Rattle.history.proofs.TableLaws.{length-places}
 use Rattle.journal.specs.Rows.{events_text}
@@ -61,17 +62,17 @@ five : (x : Exported) (a b c d b' c' d' : ℕ) → b ≡ b' → c ≡ c' → d �
 five x a b c d b' c' d' p q r = cc
 
 -- The row of an object of the table, by the export table and the live calls.
-row-is : (config : SpaceConfig) (h : List Place) (waits : List Wait) → Every IsQuiet h → WaitsStand reference_of end_of config.ack_ms (now h) h waits →
-    Every (λ x. object_row config h x ≡ held_row config.lease_ms (now h) (live_calls (table config h) (lease_calls h)) (row_at (now h) waits (row_of h x))) (table config h)
+row-is : (config : SpaceConfig) (h : List Place) (waits : List Wait) → AllByRecursion IsQuiet h → WaitsStand reference_of end_of config.ack_ms (now h) h waits →
+    AllByRecursion (λ x. object_row config h x ≡ held_row config.lease_ms (now h) (live_calls (table config h) (lease_calls h)) (row_at (now h) waits (row_of h x))) (table config h)
 row-is config h waits q w =
-    Every-weaker (λ (x : Exported). has (table config h) x.id ≡ true) _
+    every-weaker (λ (x : Exported). has (table config h) x.id ≡ true) _
     (λ x there. five x (running_calls h x.id) (length (awaiting_of config.ack_ms (now h) h x.id)) (length (holders config.lease_ms (now h) (lease_calls h) x.id)) (length (names_of h x.id))
     (length (waits_of (now h) x.id waits)) (length (holders config.lease_ms (now h) (live_calls (table config h) (lease_calls h)) x.id)) 0
     (awaiting_of-counted reference_of end_of config.ack_ms (now h) (now h) h x.id waits (omega arith) w) (ap length (holders-live (table config h) x.id config.lease_ms (now h) (lease_calls h) there))
     (ap length (no-names_of h x.id q)))
     (table config h) (has-self (table config h))
 
-rows-lines : (config : SpaceConfig) (h : List Place) (calls : List Call) (waits : List Wait) (xs : List Exported) → Every (λ x. object_row config h x ≡ held_row config.lease_ms (now h) calls (row_at (now h) waits (row_of h x))) xs →
+rows-lines : (config : SpaceConfig) (h : List Place) (calls : List Call) (waits : List Wait) (xs : List Exported) → AllByRecursion (λ x. object_row config h x ≡ held_row config.lease_ms (now h) calls (row_at (now h) waits (row_of h x))) xs →
     flat_map (object_line config) (map (object_row config h) xs) ≡ flat_map (λ r. object_line config (held_row config.lease_ms (now h) calls r)) (map (row_at (now h) waits) (rows_of h xs))
 rows-lines config h calls waits [] e = refl
 rows-lines config h calls waits (x ∷ xs) e =

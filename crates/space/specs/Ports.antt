@@ -57,8 +57,8 @@ begins_with o _ _ = false
 abbrev pub begins : ObjId → Asked → Bool
 begins o entry = begins_with o entry.ask entry.end
 
--- The entry ends a call of the object: a Finish that was answered Finished, an Abandon that was answered Done, or a call that the port ended by
--- its own `abandon`, which has no answer.
+-- The entry ends a call of the object. It is a Finish that was answered Finished, an Abandon that was answered Done, or the port's own
+-- `abandon`, which has no answer.
 abbrev pub ends_with : ObjId → Ask → AskedEnd → Bool
 ends_with o (Finish object made listed uid) (Turned turn) = same_id object o && is_finished turn.reply
 ends_with o (Abandon object) (Turned turn) = same_id object o && is_done turn.reply

@@ -1,11 +1,11 @@
 //! What an ask does to the exported objects and to the withdrawals.
 ghost use Rattle.std.specs.Prelude.{◌≡◌, ◌≤◌, ◌<◌, ◌+◌, ◌^◌, ◌++◌, ◌∷◌, [], ℕ, List, Bool, true, map, drop, length, IfOk, vec_len, vec_capacity};
+ghost use Rattle.std.specs.List.{AllByRecursion};
 ghost use Rattle.object_ids.specs.declared.ids.ObjId.{ObjId};
 ghost use Rattle.object_ids.specs.declared.ids.Uid.{Uid};
 ghost use Rattle.history.specs.declared.limits.TheConstants.{MAX_EXPORTS, MAX_AWAITING};
 ghost use Rattle.history.specs.declared.asks.Ask.TheVariants.{Abandon, Finish};
 ghost use Rattle.history.specs.Places.{id_at};
-ghost use Rattle.history.proofs.ListLemmas.{Every};
 ghost use Rattle.export_table.specs.Rows.{is_exported, running_of, new_row};
 ghost use Rattle.space.specs.Acts.{acted, awaiting_with, new_rows, opens, returned_by, returned_from, withdrawal_at};
 ghost use Rattle.export_table.specs.Stands.{waits_once, reference_of};
@@ -101,7 +101,7 @@ fn end_with(
     requires early { now < 2 ^ 62 }
     requires some { 1 ≤ exports.old.ack }
     requires once { waits_once reference_of exports.old.waits }
-    requires exported { Every (λ o. is_exported (exports.old.rows ++ new_rows exports.old.space exports.old.added made.now) o ≡ true) returned.now }
+    requires exported { AllByRecursion (λ o. is_exported (exports.old.rows ++ new_rows exports.old.space exports.old.added made.now) o ≡ true) returned.now }
     requires awaiting { awaiting_with now uid.now returned.now exports.old.waits ≤ MAX_AWAITING }
     requires objects_room { length made.now ≤ exports.old.room.exports }
     requires waits_room { length returned.now ≤ exports.old.room.waits }
@@ -144,7 +144,7 @@ fn add_all(exports: &mut Exports, made: &[u32])
 
 /// Has references to exported objects await, as listed in a return at a moment. There is room for them.
 fn await_all(exports: &mut Exports, now: u64, objects: &[ObjId], uid: &Uid)
-    requires exported { Every (λ o. is_exported exports.old.rows o ≡ true) objects.now }
+    requires exported { AllByRecursion (λ o. is_exported exports.old.rows o ≡ true) objects.now }
     requires early { now < 2 ^ 62 }
     requires some { 1 ≤ exports.old.ack }
     requires once { waits_once reference_of exports.old.waits }

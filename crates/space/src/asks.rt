@@ -10,8 +10,9 @@ use crate::returns::new_ids;
 use crate::runs::{Run, is_running};
 use export_table::Exports;
 use history::limits::{MAX_EXPORTS, MAX_UNITS};
-use history::plain::limits::units_of;
+use history::plain::limits::{is_begin, is_end, is_past, units_of};
 use history::plain::places::id_at;
+use history::plain::turns::is_abandon;
 use history::{Ask, Refused, Reply, SpaceConfig};
 use object_ids::{FullKind, ObjId, ObjIds};
 use std::alloc::{AllocError, Global};
@@ -40,39 +41,6 @@ pub(crate) fn is_effective(exports: &Exports, runs: &[Run], by: u32, ask: &Ask) 
     }
 }
 
-fn is_begin(ask: &Ask) -> bool
-    ensures { result ≡ limit_words.is_begin ask.now }
-{
-    match ask {
-        Ask::Begin { object: _ } => true,
-        _ => false,
-    }
-}
-
-fn is_end(ask: &Ask) -> bool
-    ensures { result ≡ limit_words.is_end ask.now }
-{
-    match ask {
-        Ask::Finish {
-            object: _,
-            made: _,
-            listed: _,
-            uid: _,
-        } => true,
-        Ask::Abandon { object: _ } => true,
-        _ => false,
-    }
-}
-
-fn is_abandon(ask: &Ask) -> bool
-    ensures { result ≡ reply_words.is_abandon ask.now }
-{
-    match ask {
-        Ask::Abandon { object: _ } => true,
-        _ => false,
-    }
-}
-
 /// How many objects an ask exports.
 pub(crate) fn opens(effective: bool, ask: &Ask) -> u64
     ensures value { result ≡ opens effective ask.now }
@@ -96,21 +64,6 @@ pub(crate) fn opens(effective: bool, ask: &Ask) -> u64
     }
 }
 
-fn one_if(test: bool) -> u128
-    ensures value { result ≡ (if test then 1 else 0) }
-    ensures bound { result ≤ 1 }
-{
-    if test { 1 } else { 0 }
-}
-
-/// Whether so many units, and one more if a call starts, pass the limit, and one more if a call ends.
-fn is_past(used: u128, starts: bool, ends: bool) -> bool
-    requires { used < 2 ^ 127 }
-    ensures { result ≡ nat_lt (MAX_UNITS + (if ends then 1 else 0)) (used + (if starts then 1 else 0)) }
-{
-    u128::from(MAX_UNITS) + one_if(ends) < used + one_if(starts)
-}
-
 /// Why there is no room for an ask, if there is none: in a history of so many units and running calls, or
 /// among so many exported objects.
 pub(crate) fn room_refusal(
@@ -123,7 +76,12 @@ pub(crate) fn room_refusal(
     ensures { result ≡ room_refusal units running exported effective ask.now }
 {
     let used = u128::from(units) + running as u128 + u128::from(units_of(ask));
-    if is_past(used, effective && is_begin(ask), effective && is_end(ask)) {
+    if is_past(
+        MAX_UNITS,
+        used,
+        effective && is_begin(ask),
+        effective && is_end(ask),
+    ) {
         Some(Refused::HistoryFull)
     } else if u64::from(exported) + opens(effective, ask) > MAX_EXPORTS {
         Some(Refused::Full(FullKind::Exports))
@@ -186,8 +144,8 @@ fn started_reply(kind: Option<u32>) -> Reply
     }
 }
 
-/// How many of a space's withdrawals were told as gone, once an ask is answered: all there are then, but after an Abandon, which is told
-/// none, only those that were told before it.
+/// How many of the space's withdrawals are told as gone once an ask is answered. That is all of them; but an Abandon tells none, and
+/// leaves the number as it was.
 pub(crate) fn told_after(told: usize, all: usize, ask: &Ask) -> usize
     ensures { result ≡ told_after told all ask.now }
 {

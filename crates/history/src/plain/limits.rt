@@ -68,7 +68,8 @@ pub fn units(places: &[Place]) -> u128
     }
 }
 
-fn is_begin(ask: &Ask) -> bool
+/// Whether an ask begins a call.
+pub fn is_begin(ask: &Ask) -> bool
     ensures { result ≡ words.is_begin ask.now }
 {
     match ask {
@@ -77,7 +78,8 @@ fn is_begin(ask: &Ask) -> bool
     }
 }
 
-fn is_end(ask: &Ask) -> bool
+/// Whether an ask ends a call, by a return or without one.
+pub fn is_end(ask: &Ask) -> bool
     ensures { result ≡ words.is_end ask.now }
 {
     match ask {
@@ -151,11 +153,12 @@ fn one_if(test: bool) -> u128
     if test { 1 } else { 0 }
 }
 
-fn is_past(limit: u64, back: bool, used: u128, more: bool) -> bool
+/// Whether so many units, and one more if a call starts, pass a limit, and one more if a call ends.
+pub fn is_past(limit: u64, used: u128, starts: bool, ends: bool) -> bool
     requires { used < 2 ^ 127 }
-    ensures { result ≡ nat_lt (limit + (if back then 1 else 0)) (used + (if more then 1 else 0)) }
+    ensures { result ≡ nat_lt (limit + (if ends then 1 else 0)) (used + (if starts then 1 else 0)) }
 {
-    u128::from(limit) + one_if(back) < used + one_if(more)
+    u128::from(limit) + one_if(ends) < used + one_if(starts)
 }
 
 /// Whether the history is full for an event.
@@ -173,7 +176,7 @@ fn is_full(
     let used = units(places) + reserved(places) as u128 + u128::from(units_of(&event.ask));
     let starts = effective && is_begin(&event.ask);
     let ends = effective && is_end(&event.ask);
-    Ok(is_past(limit, ends, used, starts))
+    Ok(is_past(limit, used, starts, ends))
 }
 
 // ---- entries

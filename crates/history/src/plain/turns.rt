@@ -234,7 +234,8 @@ pub fn withdrawals(
     }
 }
 
-fn is_abandon(ask: &Ask) -> bool
+/// Whether an ask ends a call without a return.
+pub fn is_abandon(ask: &Ask) -> bool
     ensures { result ≡ reply_words.is_abandon ask.now }
 {
     match ask {
