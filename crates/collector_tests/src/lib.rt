@@ -15,6 +15,8 @@ mod lease_rows;
 #[cfg(test)]
 mod limits;
 #[cfg(test)]
+mod name_rows;
+#[cfg(test)]
 mod ports;
 #[cfg(test)]
 mod scripts;

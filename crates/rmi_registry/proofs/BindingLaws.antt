@@ -8,7 +8,9 @@ use Rattle.std.specs.List.{list_any}
 use Rattle.object_ids.specs.declared.ids.ObjId.{ObjId}
 use Rattle.object_ids.specs.Same.{same_id, same_bytes}
 use Rattle.history.specs.declared.limits.TheConstants.{MAX_NAMES, MAX_NAME_UNITS}
-use Rattle.history.proofs.ListLemmas.{Every, Every-append, Every-filter, AllOnce, AllOnce-filter, AllOnce-push, same_test}
+use Rattle.std.specs.List.{AllByRecursion}
+use Rattle.history.specs.Lists.{AllOnce}
+use Rattle.history.proofs.ListLemmas.{every-append, every-filter, AllOnce-filter, AllOnce-push, same_test}
 use Rattle.history.proofs.NameLaws.{bytes-equality}
 use Rattle.rmi_registry.specs.declared.binding.Binding.{Binding}
 use Rattle.rmi_registry.specs.Named.{object_of, is_bound, names_in, count_of, rebound, without, IsRegistry}
@@ -95,10 +97,10 @@ registry-added bs n o r absent units room =
     let b : Binding = record { name = n; object = o } in
     let names : names_in (bs ++ b ∷ []) ≡ names_in bs ++ n ∷ [] = names-added bs (b ∷ []) in
     let P : List (List ℕ) → Type 0 = λ l. AllOnce same_bytes l in
-    let Q : List (List ℕ) → Type 0 = λ l. Every (λ k. length k ≤ MAX_NAME_UNITS) l in
+    let Q : List (List ℕ) → Type 0 = λ l. AllByRecursion (λ k. length k ≤ MAX_NAME_UNITS) l in
     let more = one_more bs b in record {
       once = subst P (sym names) (AllOnce-push same_bytes bytes-equality (names_in bs) n r.once (sym (bound-named bs n) ∙ absent));
-      short = subst Q (sym names) (Every-append (λ k. length k ≤ MAX_NAME_UNITS) (names_in bs) (n ∷ []) r.short (units, tt));
+      short = subst Q (sym names) (every-append (λ k. length k ≤ MAX_NAME_UNITS) (names_in bs) (n ∷ []) r.short (units, tt));
       few = omega arith;
     }
 
@@ -116,7 +118,7 @@ pub registry-rebound : (bs : List Binding) (n : List ℕ) (o : ObjId) → IsRegi
 registry-rebound bs n o r bound =
     let names = names-rebound bs n o bound in
     let P : List (List ℕ) → Type 0 = λ l. AllOnce same_bytes l in
-    let Q : List (List ℕ) → Type 0 = λ l. Every (λ k. length k ≤ MAX_NAME_UNITS) l in
+    let Q : List (List ℕ) → Type 0 = λ l. AllByRecursion (λ k. length k ≤ MAX_NAME_UNITS) l in
     let same = length-rebound bs n o bound in let few = r.few in record {
       once = subst P (sym names) r.once;
       short = subst Q (sym names) r.short;
@@ -144,10 +146,10 @@ pub registry-without : (bs : List Binding) (n : List ℕ) → IsRegistry bs → 
 registry-without bs n r =
     let names = names-without bs n in
     let P : List (List ℕ) → Type 0 = λ l. AllOnce same_bytes l in
-    let Q : List (List ℕ) → Type 0 = λ l. Every (λ k. length k ≤ MAX_NAME_UNITS) l in
+    let Q : List (List ℕ) → Type 0 = λ l. AllByRecursion (λ k. length k ≤ MAX_NAME_UNITS) l in
     let fewer = length-filter (λ (b : Binding). not (same_bytes b.name n)) bs in let few = r.few in record {
       once = subst P (sym names) (AllOnce-filter same_bytes (λ k. not (same_bytes k n)) (names_in bs) r.once);
-      short = subst Q (sym names) (Every-filter (λ k. length k ≤ MAX_NAME_UNITS) (λ k. not (same_bytes k n)) (names_in bs) r.short);
+      short = subst Q (sym names) (every-filter (λ k. length k ≤ MAX_NAME_UNITS) (λ k. not (same_bytes k n)) (names_in bs) r.short);
       few = omega arith;
     }
 

@@ -5,7 +5,7 @@ use Rattle.std.specs.Cmp.Lexicographic.{pointwise}
 use Rattle.std.specs.Map.{keys_of, values_of, lookup, remove_entry, set_value}
 use Rattle.object_ids.specs.declared.ids.ObjId.{ObjId}
 use Rattle.object_ids.specs.Same.{same_id, same_bytes}
-use Rattle.history.proofs.ListLemmas.{AllOnce}
+use Rattle.history.specs.Lists.{AllOnce}
 use Rattle.rmi_registry.specs.Kept.{bindings_of}
 use Rattle.rmi_registry.specs.Named.{object_of, names_in, count_of, rebound, without}
 use Rattle.rmi_registry.proofs.BindingLaws.{turned, without-rest}

@@ -15,7 +15,8 @@ use Rattle.history.specs.Lists.{option_any}
 use Rattle.history.specs.Names.{stands_for, names, names_of, is_named, is_name_of, changes_name, unbinds, name_begun, name_in, name_bound, object_bound, is_bind_of, is_unbind_of}
 use Rattle.history.specs.Places.{History, has}
 use Rattle.history.specs.Table.{is_effective, table, place_of, places}
-use Rattle.history.proofs.ListLemmas.{AllOnce, list_any-length, or_false}
+use Rattle.history.specs.Lists.{AllOnce}
+use Rattle.history.proofs.ListLemmas.{list_any-length, or_false}
 use Rattle.history.proofs.NameLaws.{bytes-equality, names-push, stands_for-push, names-none, stands_for-none}
 use Rattle.history.proofs.TableLaws.{IsNumbered, places-push, places-numbered}
 use Rattle.rmi_registry.specs.declared.binding.Binding.{Binding}

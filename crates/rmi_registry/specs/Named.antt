@@ -3,7 +3,8 @@ use Rattle.std.specs.Prelude.{ℕ, ◌≤◌, Bool, not, List, [], ◌∷◌, Op
 use Rattle.object_ids.specs.declared.ids.ObjId.{ObjId}
 use Rattle.object_ids.specs.Same.{same_id, same_bytes}
 use Rattle.history.specs.declared.limits.TheConstants.{MAX_NAMES, MAX_NAME_UNITS}
-use Rattle.history.proofs.ListLemmas.{Every, AllOnce}
+use Rattle.std.specs.List.{AllByRecursion}
+use Rattle.history.specs.Lists.{AllOnce}
 use Rattle.rmi_registry.specs.declared.binding.Binding.{Binding}
 
 -- The object for which a name stands, if it stands for one.
@@ -34,5 +35,5 @@ without bs n = filter (λ b. not (same_bytes b.name n)) bs
 -- What holds of the bindings of each registry: no name stands twice, none is too long, and there are no more than can be.
 pub record IsRegistry (bs : List Binding) : Type 0 where
   pub once : AllOnce same_bytes (names_in bs)
-  pub short : Every (λ n. length n ≤ MAX_NAME_UNITS) (names_in bs)
+  pub short : AllByRecursion (λ n. length n ≤ MAX_NAME_UNITS) (names_in bs)
   pub few : length bs ≤ MAX_NAMES

@@ -3,7 +3,8 @@ ghost use Rattle.std.specs.Prelude.{◌≡◌, ◌≤◌, ◌++◌, ◌∷◌, [
 ghost use Rattle.indexmap.specs.IndexMap.{values};
 ghost use Rattle.object_ids.specs.Same.{same_id, same_bytes};
 ghost use Rattle.history.specs.declared.limits.TheConstants.{MAX_NAME_UNITS};
-ghost use Rattle.history.proofs.ListLemmas.{Every, AllOnce};
+ghost use Rattle.std.specs.List.{AllByRecursion};
+ghost use Rattle.history.specs.Lists.{AllOnce};
 ghost use Rattle.rmi_registry.specs.Kept.{bindings_of};
 ghost use Rattle.rmi_registry.specs.Named.{object_of, names_in, count_of, rebound, without};
 
@@ -91,7 +92,7 @@ pub fn names(alloc: Global, bound: &Bound) -> Result<NameList, AllocError>
 
 /// The bindings, in order.
 pub fn bindings(alloc: Global, bound: &Bound) -> Result<BindingList, AllocError>
-    requires { Every (λ n. length n ≤ MAX_NAME_UNITS) (names_in (bindings_of bound.now.entries)) }
+    requires { AllByRecursion (λ n. length n ≤ MAX_NAME_UNITS) (names_in (bindings_of bound.now.entries)) }
     ensures { IfOk result (λ bindings. bindings ≡ bindings_of bound.now.entries) }
 {
     let mut bindings = BindingList::new(alloc);

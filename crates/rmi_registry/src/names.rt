@@ -1,5 +1,5 @@
 //! The names of a registry.
-ghost use Rattle.std.specs.Prelude.{◌≡◌, ◌≢◌, ◌⊎◌, ◌≤◌, ◌↔◌, ◌++◌, ◌∷◌, [], Ok, Err, None, true, false, IsTrue, IsOk, IfOk, IfErr, OnOk, OnErr, length, if◌then◌else◌};
+ghost use Rattle.std.specs.Prelude.{◌≡◌, ◌≢◌, ◌⊎◌, ◌≤◌, ◌↔◌, ◌++◌, ◌∷◌, [], Ok, Err, None, true, false, IsTrue, IsOk, IfOk, IfErr, OnOk, OnErr, length, nat_le, if◌then◌else◌};
 ghost use Rattle.std.specs.Result.{result_ok};
 ghost use Rattle.history.specs.declared.limits.TheConstants.{MAX_NAMES};
 ghost use Rattle.object_ids.specs.declared.ids.FullKind.TheVariants.{Names as FullNames};
@@ -159,6 +159,13 @@ impl Names {
         self.lookup(name).is_ok()
     }
 
+    /// Whether as many names as can be are bound.
+    fn is_full(&self) -> bool
+        ensures { result ≡ nat_le MAX_NAMES (length self.now) }
+    {
+        self.bound.len() as u64 >= MAX_NAMES
+    }
+
     /// Binds a name that is there to another object, and answers the one that stood there; nothing changes where it is not there.
     fn replace(&mut self, name: &Name, object: ObjId) -> Option<ObjId>
         ensures stood { result ≡ object_of self.old name.now }
@@ -175,7 +182,7 @@ impl Names {
         ensures faults { IfErr result (λ fault. (fault ≡ NameFault.Full FullNames) ⊎ (fault ≡ NameFault.OutOfMemory)) }
         ensures err { OnErr result (self.new ≡ self.old) }
     {
-        if self.bound.len() as u64 >= MAX_NAMES {
+        if self.is_full() {
             return Err(NameFault::Full(FullKind::Names));
         }
         let units = name.units().as_slice();

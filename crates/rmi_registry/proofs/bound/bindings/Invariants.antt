@@ -1,6 +1,6 @@
 use Rattle.std.proofs.Common.{◌≡◌, ◌++◌, ◌≤◌, length}
 use Rattle.history.specs.declared.limits.TheConstants.{MAX_NAME_UNITS}
-use Rattle.history.proofs.ListLemmas.{Every}
+use Rattle.std.specs.List.{AllByRecursion}
 use Rattle.rmi_registry.specs.Kept.{bindings_of}
 use Rattle.rmi_registry.specs.Named.{names_in}
 use Rattle.rmi_registry.proofs.bound.bindings.Given as goal
@@ -9,5 +9,5 @@ abbrev pub invariant-loop-units : goal.invariant-loop-units
 invariant-loop-units l =
     record {
       rest : l.bindings ++ bindings_of l.units-iterator ≡ bindings_of l.bound.entries;
-      short : Every (λ n. length n ≤ MAX_NAME_UNITS) (names_in (bindings_of l.units-iterator));
+      short : AllByRecursion (λ n. length n ≤ MAX_NAME_UNITS) (names_in (bindings_of l.units-iterator));
     }
