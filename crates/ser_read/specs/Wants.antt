@@ -5,6 +5,7 @@ use Rattle.class_desc.specs.declared.slot.Item.{Item}
 use Rattle.class_desc.specs.declared.slot.Item.TheVariants as items
 use Rattle.ser_values.specs.declared.node.Node.{Node}
 use Rattle.ser_values.specs.declared.node.Place.TheVariants as places
+use Rattle.ser_values.specs.declared.limits.TheConstants.{LEVELS}
 use Rattle.ser_values.specs.Reading.{Fault, short, bad, bad_code, reset, inner_exception, Progress, byte_at, slot_at, coded, magic_at}
 use Rattle.wire_io.specs.Pulled.{Place, place}
 use Rattle.wire_io.specs.declared.pull.Pull.{Pull}
@@ -74,7 +75,7 @@ bytes_at end n s bs = run_at end n s.block bs ▸ λ r. Ok (r.0, record { progre
 
 abbrev pub only_slot : ℕ → Progress → Head × List ℕ → Result (Slot × Progress × List ℕ) WantFault
 only_slot end now (Block n, bs) = Err (block_left (end - length bs))
-only_slot end now (Code code at, bs) = lifted (coded end 200 (slot_at end 199) places.Reference [] at code now bs)
+only_slot end now (Code code at, bs) = lifted (coded end LEVELS (slot_at end (LEVELS - 1)) places.Reference [] at code now bs)
 
 unfoldable pub reference_at : ℕ → Progress → List ℕ → Result (Slot × Progress × List ℕ) WantFault
 reference_at end now bs = lifted (head_at end bs) ▸ only_slot end now

@@ -3,6 +3,7 @@ ghost use Rattle.std.specs.Prelude.{◌≡◌, ◌∷◌, [], ◌&&◌, ◌||◌
 ghost use Rattle.class_desc.specs.ClassDesc.{has_flag, lacks_flag};
 ghost use Rattle.class_desc.specs.declared.slot.Slot.{Slot};
 ghost use Rattle.class_desc.specs.declared.slot.Slot.TheVariants as slots;
+ghost use Rattle.ser_values.specs.declared.limits.TheConstants.{PARTS};
 ghost use Rattle.ser_values.specs.Reading.{Row, chain_above, chain_of, class_fault, rows_of, old_external, bad_desc};
 ghost use Rattle.ser_read.specs.Rows.{class_rows};
 ghost use Rattle.ser_read.specs.Chains.{shown, climbed};
@@ -120,8 +121,8 @@ fn step_up(alloc: Global, nodes: &[Node], slot: Slot) -> Result<Climb, AllocErro
 
 /// The chain of a class, the class's own row first.
 fn chain_up(alloc: Global, nodes: &[Node], class: u32) -> Result<Chain, AllocError>
-    ensures rows { IfOk result (λ chain. reverse chain.rows.items ≡ (shown (chain_of 1048576 nodes.now (slots.Node class))).0) }
-    ensures is_serial { IfOk result (λ chain. chain.is_serial ≡ (shown (chain_of 1048576 nodes.now (slots.Node class))).1) }
+    ensures rows { IfOk result (λ chain. reverse chain.rows.items ≡ (shown (chain_of PARTS nodes.now (slots.Node class))).0) }
+    ensures is_serial { IfOk result (λ chain. chain.is_serial ≡ (shown (chain_of PARTS nodes.now (slots.Node class))).1) }
 {
     let mut rows = Vec::new(alloc);
     let mut is_serial = true;
@@ -159,8 +160,8 @@ fn chain_up(alloc: Global, nodes: &[Node], class: u32) -> Result<Chain, AllocErr
 
 /// The chain of a class, the highest superclass first.
 fn chain_of(alloc: Global, nodes: &[Node], class: u32) -> Result<Chain, AllocError>
-    ensures rows { IfOk result (λ chain. chain.rows.items ≡ class_rows (chain_of 1048576 nodes.now (slots.Node class)).0) }
-    ensures is_serial { IfOk result (λ chain. chain.is_serial ≡ (chain_of 1048576 nodes.now (slots.Node class)).1) }
+    ensures rows { IfOk result (λ chain. chain.rows.items ≡ class_rows (chain_of PARTS nodes.now (slots.Node class)).0) }
+    ensures is_serial { IfOk result (λ chain. chain.is_serial ≡ (chain_of PARTS nodes.now (slots.Node class)).1) }
 {
     let mut chain = chain_up(alloc, nodes, class)?;
     chain.rows.reverse();
@@ -210,8 +211,8 @@ fn external_rows(alloc: Global) -> Result<Vec<ClassRow>, AllocError>
 /// The parts that an object of a class has, and why the class has no objects. A chain that is looked through has a part for
 /// each of its classes.
 pub(crate) fn shape_of(alloc: Global, table: &Table, class: u32) -> Result<ClassShape, AllocError>
-    ensures rows { IfOk result (λ shape. shape.rows.items ≡ class_rows (rows_of (slice_get table.now.nodes.items class) (chain_of 1048576 table.now.nodes.items (slots.Node class)).0)) }
-    ensures fault { IfOk result (λ shape. option_map kind_of shape.fault ≡ class_fault (slice_get table.now.nodes.items class) (chain_of 1048576 table.now.nodes.items (slots.Node class)).1) }
+    ensures rows { IfOk result (λ shape. shape.rows.items ≡ class_rows (rows_of (slice_get table.now.nodes.items class) (chain_of PARTS table.now.nodes.items (slots.Node class)).0)) }
+    ensures fault { IfOk result (λ shape. option_map kind_of shape.fault ≡ class_fault (slice_get table.now.nodes.items class) (chain_of PARTS table.now.nodes.items (slots.Node class)).1) }
     ensures known { IfOk result (λ shape. IfSome shape.fault IsInBytes) }
 {
     match table.node(class) {

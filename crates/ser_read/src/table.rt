@@ -1,5 +1,6 @@
 //! The nodes of a stream that is being read.
 ghost use Rattle.std.specs.Prelude.{◌≡◌, ◌+◌, ◌<◌, ◌≤◌, ◌++◌, ◌∷◌, [], map, not, nat_lt, length, option_map, slice_get, IfOk, IfSome, OnOk, Some, None, List, ℕ, ◌^◌, if◌then◌else◌};
+ghost use Rattle.ser_values.specs.declared.limits.TheConstants.{NODES, PARTS};
 ghost use Rattle.ser_values.specs.Loose.{elements_in, elements_at};
 ghost use Rattle.ser_values.specs.Node.{has, is_desc, is_text};
 
@@ -22,8 +23,8 @@ pub(crate) struct Table {
     /// The descriptions that are still being read, the outermost first.
     unread: Vec<u32>,
     ghost known: { elements.items ≡ map elements_in nodes.items },
-    ghost few_nodes: { length nodes.items ≤ 65536 },
-    ghost few_parts: { parts ≤ 1048576 },
+    ghost few_nodes: { length nodes.items ≤ NODES },
+    ghost few_parts: { parts ≤ PARTS },
 }
 
 /// The type of the elements of the array class that a text or a description names.
@@ -102,14 +103,14 @@ impl Table {
 
     /// Whether no further node has room.
     pub(crate) fn is_full(&self) -> bool
-        ensures { result ≡ not (nat_lt (length self.now.nodes.items) 65536) }
+        ensures { result ≡ not (nat_lt (length self.now.nodes.items) NODES) }
     {
         self.nodes.len() >= NODES
     }
 
     /// Gives a node the next handle. The answer is its number.
     pub(crate) fn begin(&mut self, node: Node) -> Result<u32, AllocError>
-        requires { length self.old.nodes.items < 65536 }
+        requires { length self.old.nodes.items < NODES }
         ensures number { IfOk result (λ number. number ≡ length self.old.nodes.items) }
         ensures now { OnOk result (now_of self.new ≡ push (now_of self.old) node) }
         ensures unread { self.new.unread.items ≡ self.old.unread.items }
@@ -156,14 +157,14 @@ impl Table {
     /// Whether an object of so many parts has no room.
     pub(crate) fn lacks_parts(&self, more: usize) -> bool
         requires { more ≤ 2 ^ 62 }
-        ensures { result ≡ nat_lt 1048576 (self.now.parts + more) }
+        ensures { result ≡ nat_lt PARTS (self.now.parts + more) }
     {
         self.parts + more > PARTS
     }
 
     /// Counts an object's parts.
     pub(crate) fn add_parts(&mut self, more: usize)
-        requires { self.old.parts + more ≤ 1048576 }
+        requires { self.old.parts + more ≤ PARTS }
         ensures now { now_of self.new ≡ record { nodes = self.old.nodes.items; parts = self.old.parts + more } }
         ensures unread { self.new.unread.items ≡ self.old.unread.items }
     {

@@ -5,6 +5,7 @@ ghost use Rattle.wire_io.specs.Wire.{NothingLeft};
 ghost use Rattle.wire_io.specs.Pulled.{place, Takes};
 ghost use Rattle.ser_values.specs.declared.node.Node.{Node};
 ghost use Rattle.ser_values.specs.declared.node.Place.TheVariants.{Reference};
+ghost use Rattle.ser_values.specs.declared.limits.TheConstants.{LEVELS};
 ghost use Rattle.ser_values.specs.Reading.{short, byte_at, items_at, slot_at};
 ghost use Rattle.ser_values.specs.Spelled.{IsStream};
 ghost use Rattle.ser_read.specs.declared.fault.StreamFault.TheVariants.{Truncated, TooLarge};
@@ -16,7 +17,7 @@ ghost use Rattle.ser_read.specs.Whole.{stream_at, going_on, ReadsAll, BreaksWhol
 use crate::fault::{Large, StreamFault};
 use crate::header::magic;
 use crate::pieces::add;
-use crate::reading::item;
+use crate::reading::annotations::item;
 use crate::table::Table;
 use class_desc::Items;
 use ser_values::Graph;
@@ -53,8 +54,8 @@ fn items_to_end<S: Source>(
     table: &mut Table,
 ) -> Result<Items, StreamFault>
     ensures lent { pull.new.source.ghost_name ≡ pull.old.source.ghost_name }
-    ensures reads { IfOk result (λ items. ReadsAll (place S.left S.faults pull.old) (place S.left S.faults pull.new) (λ end. items_at end (slot_at end 200 Reference table.old.unread.items) false (now_of table.old)) (items, now_of table.new, [])) }
-    ensures stops { IfErr result (λ e. BreaksWhole (place S.left S.faults pull.old) (place S.left S.faults pull.new) e (λ end. items_at end (slot_at end 200 Reference table.old.unread.items) false (now_of table.old))) }
+    ensures reads { IfOk result (λ items. ReadsAll (place S.left S.faults pull.old) (place S.left S.faults pull.new) (λ end. items_at end (slot_at end LEVELS Reference table.old.unread.items) false (now_of table.old)) (items, now_of table.new, [])) }
+    ensures stops { IfErr result (λ e. BreaksWhole (place S.left S.faults pull.old) (place S.left S.faults pull.new) e (λ end. items_at end (slot_at end LEVELS Reference table.old.unread.items) false (now_of table.old))) }
 {
     let mut items = Vec::new(alloc);
     loop {

@@ -25,85 +25,85 @@ use Rattle.class_desc.specs.ClassDesc.{is_good_desc}
 use Rattle.ser_values.specs.Shape.{fits_type}
 use Rattle.ser_values.specs.declared.node.Node.TheVariants as nodes
 
-pub array-returns-clause-reads : goal.array-returns-clause-reads
-array-returns-clause-reads g t c = said_last _ _ _ c.array_in.result (λ end bs here. with_class_is _ _ _ _ _ bs) (last _ _ _ c.array_in.result c.in_ok-class.ensures.reads (rw c.in_ok-class.ensures.unread at c.array_in.ensures.reads))
+pub arrays::array-returns-clause-reads : goal.arrays::array-returns-clause-reads
+arrays::array-returns-clause-reads g t c = said_last _ _ _ c.array_in.result (λ end bs here. with_class_is _ _ _ _ _ bs) (last _ _ _ c.array_in.result c.in_ok-class.ensures.reads (rw c.in_ok-class.ensures.unread at c.array_in.ensures.reads))
 
-pub object-returns-clause-reads : goal.object-returns-clause-reads
-object-returns-clause-reads g t c = said_last _ _ _ c.object_in.result (λ end bs here. with_class_is _ _ _ _ _ bs) (last _ _ _ c.object_in.result c.in_ok-class.ensures.reads (rw c.in_ok-class.ensures.unread at c.object_in.ensures.reads))
+pub objects::object-returns-clause-reads : goal.objects::object-returns-clause-reads
+objects::object-returns-clause-reads g t c = said_last _ _ _ c.object_in.result (λ end bs here. with_class_is _ _ _ _ _ bs) (last _ _ _ c.object_in.result c.in_ok-class.ensures.reads (rw c.in_ok-class.ensures.unread at c.object_in.ensures.reads))
 
-pub constant-returns-clause-reads : goal.constant-returns-clause-reads
-constant-returns-clause-reads g t c = said_last _ _ _ c.constant_in.result (λ end bs here. with_class_is _ _ _ _ _ bs) (last _ _ _ c.constant_in.result c.in_ok-class.ensures.reads (rw c.in_ok-class.ensures.unread at c.constant_in.ensures.reads))
+pub constants::constant-returns-clause-reads : goal.constants::constant-returns-clause-reads
+constants::constant-returns-clause-reads g t c = said_last _ _ _ c.constant_in.result (λ end bs here. with_class_is _ _ _ _ _ bs) (last _ _ _ c.constant_in.result c.in_ok-class.ensures.reads (rw c.in_ok-class.ensures.unread at c.constant_in.ensures.reads))
 
-pub array_of-returns-clause-reads : goal.array_of-returns-clause-reads
+pub arrays::array_of-returns-clause-reads : goal.arrays::array_of-returns-clause-reads
 unfolding array_of
-array_of-returns-clause-reads g t c = then _ c.in_ok-n.ensures.reads (then _ (rw (c.begin.ensures.unread, c.in_ok-number.ensures.now, c.new.ensures) at c.in_ok-values.ensures.reads)
+arrays::array_of-returns-clause-reads g t c = then _ c.in_ok-n.ensures.reads (then _ (rw (c.begin.ensures.unread, c.in_ok-number.ensures.now, c.new.ensures) at c.in_ok-values.ensures.reads)
     (done (λ end bs. made _ _ _ _ _ bs _ refl c.in_ok-number.ensures.number c.fill.ensures.now)))
 
 pub coded-returns-then-code-eq112-clause-reads : goal.coded-returns-then-code-eq112-clause-reads
 coded-returns-then-code-eq112-clause-reads g t c = null_reads _ c.args.left (λ end. slot_at end (c.args.left - 1)) c.args.place c.args.table.now.unread.items c.args.at c.args.code (now_of c.args.table.now) c.null.result c.if-code-eq112.true c.null.ensures.gives
 
-pub desc-returns-clause-reads : goal.desc-returns-clause-reads
+pub descriptions::desc-returns-clause-reads : goal.descriptions::desc-returns-clause-reads
 unfolding desc_at
-desc-returns-clause-reads g t c = then _ c.in_ok-name.ensures.reads (then _ c.in_ok-suid.ensures.reads (then _ c.in_ok-flags.ensures.reads
+descriptions::desc-returns-clause-reads g t c = then _ c.in_ok-name.ensures.reads (then _ c.in_ok-suid.ensures.reads (then _ c.in_ok-flags.ensures.reads
     (then _ (rw (c.in_ok-open.ensures.unread, c.begin.ensures.unread, c.open.ensures.now, c.in_ok-number.ensures.now, c.blank.ensures, c.in_ok-number.ensures.number) at c.in_ok-desc.ensures.reads)
     (done (λ end bs. made _ _ _ _ _ bs _ refl c.in_ok-number.ensures.number (c.fill.ensures.now ∙ ap (λ (n : Progress). fill n c.in_ok-number.number (nodes.Desc c.in_ok-desc.desc)) c.close.ensures.now))))))
 
-pub proxy-returns-clause-reads : goal.proxy-returns-clause-reads
+pub descriptions::proxy-returns-clause-reads : goal.descriptions::proxy-returns-clause-reads
 unfolding proxy_at
-proxy-returns-clause-reads g t c = then _ c.in_ok-n.ensures.reads (then _ (c.in_ok-names.ensures.reads (push (now_of c.args.table.now) (nodes.Desc blank)))
+descriptions::proxy-returns-clause-reads g t c = then _ c.in_ok-n.ensures.reads (then _ (c.in_ok-names.ensures.reads (push (now_of c.args.table.now) (nodes.Desc blank)))
     (then _ (rw (c.in_ok-open.ensures.unread, c.begin.ensures.unread, c.open.ensures.now, c.in_ok-number.ensures.now, c.blank.ensures, c.in_ok-number.ensures.number) at c.in_ok-note.ensures.reads)
     (then _ (rw (c.in_ok-note.ensures.unread, c.in_ok-open.ensures.unread, c.begin.ensures.unread, c.in_ok-number.ensures.number) at c.in_ok-parent.ensures.reads)
     (done (λ end bs. made _ _ _ _ _ bs _ refl c.in_ok-number.ensures.number (c.fill.ensures.now ∙ ap (λ (n : Progress). fill n c.in_ok-number.number (nodes.Proxy (record { names = c.in_ok-names.names; note = c.in_ok-note.note; parent = c.in_ok-parent.parent }))) c.close.ensures.now))))))
 
-pub desc_after-returns-clause-reads : goal.desc_after-returns-clause-reads
+pub descriptions::desc_after-returns-clause-reads : goal.descriptions::desc_after-returns-clause-reads
 unfolding desc_after
-desc_after-returns-clause-reads g t c =
+descriptions::desc_after-returns-clause-reads g t c =
     let good : is_good_desc (record { name = c.args.name; suid = cast_signed w64 c.args.suid; flags = c.args.flags; fields = c.in_ok-fields.fields; note = []; parent = slots.Null }) ≡ true = search rules in
     let fits : FitsSigned w64 c.cast_signed.result = search rules in
     rw (to_z-of_z w64 c.cast_signed.result fits, c.cast_signed.ensures) (then _ c.in_ok-n.ensures.reads (then _ c.in_ok-fields.ensures.reads (when _ good (then _ (rw c.in_ok-fields.ensures.unread at c.in_ok-desc.ensures.reads)
     (then _ (rw (c.in_ok-desc.ensures.unread, c.in_ok-fields.ensures.unread) at c.in_ok-desc-2.ensures.reads) (done (λ end bs. refl)))))))
 
-pub elements-returns-then-is_primitive-clause-reads : goal.elements-returns-then-is_primitive-clause-reads
-elements-returns-then-is_primitive-clause-reads g t c = said_last _ _ _ c.primitives.result (λ end bs here. elements_any c.args.code c.args.n (slot_at end c.args.left Reference c.args.table.now.unread.items) (slot_at 0 c.args.left Reference c.args.table.now.unread.items) (now_of c.args.table.now) bs (sym c.is_primitive.ensures ∙ c.if-is_primitive.true)) (c.primitives.ensures.reads (slot_at 0 c.args.left Reference c.args.table.now.unread.items) (now_of c.args.table.now))
+pub arrays::elements-returns-then-is_primitive-clause-reads : goal.arrays::elements-returns-then-is_primitive-clause-reads
+arrays::elements-returns-then-is_primitive-clause-reads g t c = said_last _ _ _ c.primitives.result (λ end bs here. elements_any c.args.code c.args.n (slot_at end c.args.left Reference c.args.table.now.unread.items) (slot_at 0 c.args.left Reference c.args.table.now.unread.items) (now_of c.args.table.now) bs (sym c.is_primitive.ensures ∙ c.if-is_primitive.true)) (c.primitives.ensures.reads (slot_at 0 c.args.left Reference c.args.table.now.unread.items) (now_of c.args.table.now))
 
-pub value-returns-then-is_primitive-clause-reads : goal.value-returns-then-is_primitive-clause-reads
-value-returns-then-is_primitive-clause-reads g t c = said_last _ _ _ c.primitive.result (λ end bs here. value_any c.args.code (slot_at end c.args.left Reference c.args.table.now.unread.items) (slot_at 0 c.args.left Reference c.args.table.now.unread.items) (now_of c.args.table.now) bs (sym c.is_primitive.ensures ∙ c.if-is_primitive.true)) (c.primitive.ensures.reads (slot_at 0 c.args.left Reference c.args.table.now.unread.items) (now_of c.args.table.now))
+pub objects::value-returns-then-is_primitive-clause-reads : goal.objects::value-returns-then-is_primitive-clause-reads
+objects::value-returns-then-is_primitive-clause-reads g t c = said_last _ _ _ c.primitive.result (λ end bs here. value_any c.args.code (slot_at end c.args.left Reference c.args.table.now.unread.items) (slot_at 0 c.args.left Reference c.args.table.now.unread.items) (now_of c.args.table.now) bs (sym c.is_primitive.ensures ∙ c.if-is_primitive.true)) (c.primitive.ensures.reads (slot_at 0 c.args.left Reference c.args.table.now.unread.items) (now_of c.args.table.now))
 
-pub object_in-returns-clause-reads : goal.object_in-returns-clause-reads
-object_in-returns-clause-reads g t c =
+pub objects::object_in-returns-clause-reads : goal.objects::object_in-returns-clause-reads
+objects::object_in-returns-clause-reads g t c =
     let rows = c.as_slice-rows.ensures.value ∙ c.in_ok-shape.ensures.rows in
     let few = sym c.lacks_parts.ensures ∙ c.if-lacks_parts.false in
     let good = sym c.in_ok-shape.ensures.fault ∙ ap (λ (f : Option StreamKind). option_map kind_of f) c.in-None.is in
     said_last _ _ _ c.object_after.result (λ end bs here. object_here end c.args.at (slot_at end c.args.left Reference c.args.table.now.unread.items) c.args.class c.as_slice-rows.result.now (now_of c.args.table.now) bs rows few good) c.object_after.ensures.reads
 
-pub field-returns-in-Some-clause-reads : goal.field-returns-in-Some-clause-reads
+pub descriptions::field-returns-in-Some-clause-reads : goal.descriptions::field-returns-in-Some-clause-reads
 unfolding field_at
-field-returns-in-Some-clause-reads g t c =
+descriptions::field-returns-in-Some-clause-reads g t c =
     let e : code_of c.in_ok-letter.letter ≡ Some c.in-Some.code = sym c.from_letter.ensures.value ∙ c.in-Some.is in
     last _ _ _ c.field_of.result c.in_ok-letter.ensures.reads (rw (← e) at c.field_of.ensures.reads)
 
-pub field_of-returns-clause-reads : goal.field_of-returns-clause-reads
+pub descriptions::field_of-returns-clause-reads : goal.descriptions::field_of-returns-clause-reads
 unfolding field_of
-field_of-returns-clause-reads g t c =
+descriptions::field_of-returns-clause-reads g t c =
     let prim : is_primitive c.args.code ≡ false = sym c.is_primitive.ensures ∙ c.if-is_primitive.false in
     let fits : fits_type c.slot.new.table.nodes.items c.args.code c.in_ok-type_text.type_text ≡ true = search rules in
     then _ c.in_ok-name.ensures.reads (otherwise _ prim (then _ c.in_ok-type_text.ensures.reads (when _ fits (done (λ end bs. refl)))))
 
-pub item-returns-in_ok-take-clause-reads : goal.item-returns-in_ok-take-clause-reads
-item-returns-in_ok-take-clause-reads g t c = said (λ end bs here. item_block end _ c.args.code _ bs c.if-code-eq119.true) (then _ c.in_ok-n.ensures.reads (then _ (rw c.from.ensures at c.in_ok-take.ensures.reads) (done (λ end bs. refl))))
+pub annotations::item-returns-in_ok-take-clause-reads : goal.annotations::item-returns-in_ok-take-clause-reads
+annotations::item-returns-in_ok-take-clause-reads g t c = said (λ end bs here. item_block end _ c.args.code _ bs c.if-code-eq119.true) (then _ c.in_ok-n.ensures.reads (then _ (rw c.from.ensures at c.in_ok-take.ensures.reads) (done (λ end bs. refl))))
 
-pub item-returns-in_ok-take-2-clause-reads : goal.item-returns-in_ok-take-2-clause-reads
-item-returns-in_ok-take-2-clause-reads g t c = said (λ end bs here. item_long end _ c.args.code _ bs c.if-code-eq122.true) (then _ c.in_ok-n-2.ensures.reads (then _ (rw c.from-then-code-eq122.ensures at c.in_ok-take-2.ensures.reads) (done (λ end bs. refl))))
+pub annotations::item-returns-in_ok-take-2-clause-reads : goal.annotations::item-returns-in_ok-take-2-clause-reads
+annotations::item-returns-in_ok-take-2-clause-reads g t c = said (λ end bs here. item_long end _ c.args.code _ bs c.if-code-eq122.true) (then _ c.in_ok-n-2.ensures.reads (then _ (rw c.from-then-code-eq122.ensures at c.in_ok-take-2.ensures.reads) (done (λ end bs. refl))))
 
-pub part-returns-clause-reads : goal.part-returns-clause-reads
+pub objects::part-returns-clause-reads : goal.objects::part-returns-clause-reads
 unfolding part_by
-part-returns-clause-reads g t c = then _ (rw c.as_slice.ensures at c.in_ok-values.ensures.reads) (then _ (rw c.in_ok-values.ensures.unread at c.in_ok-note.ensures.reads) (done (λ end bs. refl)))
+objects::part-returns-clause-reads g t c = then _ (rw c.as_slice.ensures at c.in_ok-values.ensures.reads) (then _ (rw c.in_ok-values.ensures.unread at c.in_ok-note.ensures.reads) (done (λ end bs. refl)))
 
 pub slot-returns-clause-reads : goal.slot-returns-clause-reads
 slot-returns-clause-reads g t c = said_last _ _ _ c.coded.result (λ end bs here. slot_here end c.args.left c.args.place c.args.table.now.unread.items (now_of c.args.table.now) bs c.args.pull.now.at here) (last _ _ _ c.coded.result c.in_ok-code.ensures.reads c.coded.ensures.reads)
 
-pub slots-loop-preserved : goal.slots-loop-preserved
-slots-loop-preserved g t c = record {
+pub arrays::slots-loop-preserved : goal.arrays::slots-loop-preserved
+arrays::slots-loop-preserved g t c = record {
   lent = c.in_ok-slot.ensures.lent ∙ c.loop.invariant.lent;
   grows = omega (arith, c.slot.ensures.grows, c.loop.invariant.grows);
   unread = c.in_ok-slot.ensures.unread ∙ c.loop.invariant.unread;
@@ -111,11 +111,11 @@ slots-loop-preserved g t c = record {
       (λ end bs here is. many_err (slot_at end c.args.left Reference c.args.table.now.unread.items) c.loop.slots c.args.n c.loop.counter (now_of c.loop.table) bs short c.loop-test.true is);
 }
 
-pub slots-returns-clause-reads : goal.slots-returns-clause-reads
-slots-returns-clause-reads g t c = leads_done c.loop.invariant.leads (λ end bs. many_end (slot_at end c.args.left Reference c.args.table.now.unread.items) c.loop.slots c.args.n c.loop.counter (now_of c.loop.table) bs c.loop-test.false)
+pub arrays::slots-returns-clause-reads : goal.arrays::slots-returns-clause-reads
+arrays::slots-returns-clause-reads g t c = leads_done c.loop.invariant.leads (λ end bs. many_end (slot_at end c.args.left Reference c.args.table.now.unread.items) c.loop.slots c.args.n c.loop.counter (now_of c.loop.table) bs c.loop-test.false)
 
-pub fields-loop-preserved : goal.fields-loop-preserved
-fields-loop-preserved g t c = record {
+pub descriptions::fields-loop-preserved : goal.descriptions::fields-loop-preserved
+descriptions::fields-loop-preserved g t c = record {
   lent = c.in_ok-field.ensures.lent ∙ c.loop.invariant.lent;
   grows = omega (arith, c.field.ensures.grows, c.loop.invariant.grows);
   unread = c.in_ok-field.ensures.unread ∙ c.loop.invariant.unread;
@@ -123,20 +123,20 @@ fields-loop-preserved g t c = record {
       (λ end bs here is. many_err (field_at end c.args.at (slot_at end c.args.left Text c.args.table.now.unread.items)) c.loop.fields c.args.n c.loop.counter (now_of c.loop.table) bs short c.loop-test.true is);
 }
 
-pub fields-returns-clause-reads : goal.fields-returns-clause-reads
-fields-returns-clause-reads g t c = leads_done c.loop.invariant.leads (λ end bs. many_end (field_at end c.args.at (slot_at end c.args.left Text c.args.table.now.unread.items)) c.loop.fields c.args.n c.loop.counter (now_of c.loop.table) bs c.loop-test.false)
+pub descriptions::fields-returns-clause-reads : goal.descriptions::fields-returns-clause-reads
+descriptions::fields-returns-clause-reads g t c = leads_done c.loop.invariant.leads (λ end bs. many_end (field_at end c.args.at (slot_at end c.args.left Text c.args.table.now.unread.items)) c.loop.fields c.args.n c.loop.counter (now_of c.loop.table) bs c.loop-test.false)
 
-pub values-loop-code-init : goal.values-loop-code-init
+pub objects::values-loop-code-init : goal.objects::values-loop-code-init
 unfolding values_by
-values-loop-code-init g t c = record {
+objects::values-loop-code-init g t c = record {
   lent = refl;
   grows = omega arith;
   unread = refl;
   leads = rw c.new-values.ensures (leads_start _ _ _ (λ end bs. all_start (value_at (slot_at end c.args.left Reference c.args.table.now.unread.items)) c.args.codes.now (now_of c.args.table.now) bs));
 }
 
-pub values-loop-code-preserved : goal.values-loop-code-preserved
-values-loop-code-preserved g t c = record {
+pub objects::values-loop-code-preserved : goal.objects::values-loop-code-preserved
+objects::values-loop-code-preserved g t c = record {
   lent = c.in_ok-value.ensures.lent ∙ c.loop-code.invariant.lent;
   grows = omega (arith, c.value.ensures.grows, c.loop-code.invariant.grows);
   unread = c.in_ok-value.ensures.unread ∙ c.loop-code.invariant.unread;
@@ -144,20 +144,20 @@ values-loop-code-preserved g t c = record {
       (λ end bs here is. all_err (value_at (slot_at end c.args.left Reference c.args.table.now.unread.items)) c.loop-code.values c.args.codes.now c.loop-code.code-index _ (now_of c.loop-code.table) bs short c.loop-code-test.true is);
 }
 
-pub values-returns-clause-reads : goal.values-returns-clause-reads
-values-returns-clause-reads g t c = leads_done c.loop-code.invariant.leads (λ end bs. all_end (value_at (slot_at end c.args.left Reference c.args.table.now.unread.items)) c.loop-code.values c.args.codes.now c.loop-code.code-index (now_of c.loop-code.table) bs c.loop-code-test.false)
+pub objects::values-returns-clause-reads : goal.objects::values-returns-clause-reads
+objects::values-returns-clause-reads g t c = leads_done c.loop-code.invariant.leads (λ end bs. all_end (value_at (slot_at end c.args.left Reference c.args.table.now.unread.items)) c.loop-code.values c.args.codes.now c.loop-code.code-index (now_of c.loop-code.table) bs c.loop-code-test.false)
 
-pub parts-loop-row-init : goal.parts-loop-row-init
+pub objects::parts-loop-row-init : goal.objects::parts-loop-row-init
 unfolding parts_by
-parts-loop-row-init g t c = record {
+objects::parts-loop-row-init g t c = record {
   lent = refl;
   grows = omega arith;
   unread = refl;
   leads = rw c.new-parts.ensures (leads_start _ _ _ (λ end bs. all_start (part_by end (slot_at end c.args.left Reference c.args.table.now.unread.items)) c.args.rows.now (now_of c.args.table.now) bs));
 }
 
-pub parts-loop-row-preserved : goal.parts-loop-row-preserved
-parts-loop-row-preserved g t c = record {
+pub objects::parts-loop-row-preserved : goal.objects::parts-loop-row-preserved
+objects::parts-loop-row-preserved g t c = record {
   lent = c.in_ok-part.ensures.lent ∙ c.loop-row.invariant.lent;
   grows = omega (arith, c.part.ensures.grows, c.loop-row.invariant.grows);
   unread = c.in_ok-part.ensures.unread ∙ c.loop-row.invariant.unread;
@@ -165,22 +165,22 @@ parts-loop-row-preserved g t c = record {
       (λ end bs here is. all_err_item (part_by end (slot_at end c.args.left Reference c.args.table.now.unread.items)) c.loop-row.parts c.args.rows.now c.loop-row.row-index c.row-item.result (now_of c.loop-row.table) bs short c.loop-row-test.true c.row-item.is is);
 }
 
-pub parts-returns-clause-reads : goal.parts-returns-clause-reads
-parts-returns-clause-reads g t c = leads_done c.loop-row.invariant.leads (λ end bs. all_end (part_by end (slot_at end c.args.left Reference c.args.table.now.unread.items)) c.loop-row.parts c.args.rows.now c.loop-row.row-index (now_of c.loop-row.table) bs c.loop-row-test.false)
+pub objects::parts-returns-clause-reads : goal.objects::parts-returns-clause-reads
+objects::parts-returns-clause-reads g t c = leads_done c.loop-row.invariant.leads (λ end bs. all_end (part_by end (slot_at end c.args.left Reference c.args.table.now.unread.items)) c.loop-row.parts c.args.rows.now c.loop-row.row-index (now_of c.loop-row.table) bs c.loop-row-test.false)
 
-pub items-loop-items-init : goal.items-loop-items-init
-items-loop-items-init g t c = record {
+pub annotations::items-loop-items-init : goal.annotations::items-loop-items-init
+annotations::items-loop-items-init g t c = record {
   lent = refl;
   grows = omega arith;
   unread = refl;
   slack = rw c.new-items.ensures.items (slack_start _ _ _ _);
 }
 
-pub items-returns-then-code-eq120-clause-reads : goal.items-returns-then-code-eq120-clause-reads
-items-returns-then-code-eq120-clause-reads g t c = rw c.from_vec.ensures (slack_end c.loop-items.invariant.slack c.in_ok-code.ensures.reads c.if-code-eq120.true)
+pub annotations::items-returns-then-code-eq120-clause-reads : goal.annotations::items-returns-then-code-eq120-clause-reads
+annotations::items-returns-then-code-eq120-clause-reads g t c = rw c.from_vec.ensures (slack_end c.loop-items.invariant.slack c.in_ok-code.ensures.reads c.if-code-eq120.true)
 
-pub items-loop-items-preserved : goal.items-loop-items-preserved
-items-loop-items-preserved g t c = record {
+pub annotations::items-loop-items-preserved : goal.annotations::items-loop-items-preserved
+annotations::items-loop-items-preserved g t c = record {
   lent = c.in_ok-item.ensures.lent ∙ c.in_ok-code.ensures.lent ∙ c.loop-items.invariant.lent;
   grows = omega (arith, c.item.ensures.grows, c.loop-items.invariant.grows);
   unread = c.in_ok-item.ensures.unread ∙ c.loop-items.invariant.unread;
@@ -197,77 +197,77 @@ slot-returns-clause-stops g t c = breaks_said_last _ _ c.coded.result (λ end bs
 pub coded-returns-then-code-eq112-clause-stops : goal.coded-returns-then-code-eq112-clause-stops
 coded-returns-then-code-eq112-clause-stops g t c = null_stops _ c.args.left (λ end. slot_at end (c.args.left - 1)) c.args.place c.args.table.now.unread.items c.args.at c.args.code (now_of c.args.table.now) c.null.result c.if-code-eq112.true c.null.ensures.gives c.null.ensures.cause
 
-pub desc-returns-in_err-name-clause-stops : goal.desc-returns-in_err-name-clause-stops
+pub descriptions::desc-returns-in_err-name-clause-stops : goal.descriptions::desc-returns-in_err-name-clause-stops
 unfolding desc_at
-desc-returns-in_err-name-clause-stops g t c = raised c.from_residual.result c.from_residual.ensures.1 (first _ c.in_err-name.ensures.stops)
+descriptions::desc-returns-in_err-name-clause-stops g t c = raised c.from_residual.result c.from_residual.ensures.1 (first _ c.in_err-name.ensures.stops)
 
-pub desc-returns-in_err-suid-clause-stops : goal.desc-returns-in_err-suid-clause-stops
+pub descriptions::desc-returns-in_err-suid-clause-stops : goal.descriptions::desc-returns-in_err-suid-clause-stops
 unfolding desc_at
-desc-returns-in_err-suid-clause-stops g t c = raised c.from_residual-in_err-suid.result c.from_residual-in_err-suid.ensures.1 (later _ c.in_ok-name.ensures.reads (first _ c.in_err-suid.ensures.stops))
+descriptions::desc-returns-in_err-suid-clause-stops g t c = raised c.from_residual-in_err-suid.result c.from_residual-in_err-suid.ensures.1 (later _ c.in_ok-name.ensures.reads (first _ c.in_err-suid.ensures.stops))
 
-pub desc-returns-in_err-flags-clause-stops : goal.desc-returns-in_err-flags-clause-stops
+pub descriptions::desc-returns-in_err-flags-clause-stops : goal.descriptions::desc-returns-in_err-flags-clause-stops
 unfolding desc_at
-desc-returns-in_err-flags-clause-stops g t c = raised c.from_residual-in_err-flags.result c.from_residual-in_err-flags.ensures.1 (later _ c.in_ok-name.ensures.reads (later _ c.in_ok-suid.ensures.reads (first _ c.in_err-flags.ensures.stops)))
+descriptions::desc-returns-in_err-flags-clause-stops g t c = raised c.from_residual-in_err-flags.result c.from_residual-in_err-flags.ensures.1 (later _ c.in_ok-name.ensures.reads (later _ c.in_ok-suid.ensures.reads (first _ c.in_err-flags.ensures.stops)))
 
-pub desc-returns-in_err-number-clause-stops : goal.desc-returns-in_err-number-clause-stops
+pub descriptions::desc-returns-in_err-number-clause-stops : goal.descriptions::desc-returns-in_err-number-clause-stops
 unfolding desc_at
-desc-returns-in_err-number-clause-stops g t c = raised c.from_residual-in_err-number.result c.from_residual-in_err-number.ensures.1 (later _ c.in_ok-name.ensures.reads (later _ c.in_ok-suid.ensures.reads (first _ (took c.in_ok-flags.ensures.reads))))
+descriptions::desc-returns-in_err-number-clause-stops g t c = raised c.from_residual-in_err-number.result c.from_residual-in_err-number.ensures.1 (later _ c.in_ok-name.ensures.reads (later _ c.in_ok-suid.ensures.reads (first _ (took c.in_ok-flags.ensures.reads))))
 
-pub desc-returns-in_err-open-clause-stops : goal.desc-returns-in_err-open-clause-stops
+pub descriptions::desc-returns-in_err-open-clause-stops : goal.descriptions::desc-returns-in_err-open-clause-stops
 unfolding desc_at
-desc-returns-in_err-open-clause-stops g t c = raised c.from_residual-in_err-open.result c.from_residual-in_err-open.ensures.1 (later _ c.in_ok-name.ensures.reads (later _ c.in_ok-suid.ensures.reads (first _ (took c.in_ok-flags.ensures.reads))))
+descriptions::desc-returns-in_err-open-clause-stops g t c = raised c.from_residual-in_err-open.result c.from_residual-in_err-open.ensures.1 (later _ c.in_ok-name.ensures.reads (later _ c.in_ok-suid.ensures.reads (first _ (took c.in_ok-flags.ensures.reads))))
 
-pub desc-returns-in_err-desc-clause-stops : goal.desc-returns-in_err-desc-clause-stops
+pub descriptions::desc-returns-in_err-desc-clause-stops : goal.descriptions::desc-returns-in_err-desc-clause-stops
 unfolding desc_at
-desc-returns-in_err-desc-clause-stops g t c = raised c.from_residual-in_err-desc.result c.from_residual-in_err-desc.ensures.1 (later _ c.in_ok-name.ensures.reads (later _ c.in_ok-suid.ensures.reads (later _ c.in_ok-flags.ensures.reads (first _ (rw (c.in_ok-open.ensures.unread, c.begin.ensures.unread, c.open.ensures.now, c.in_ok-number.ensures.now, c.blank.ensures, c.in_ok-number.ensures.number) at c.in_err-desc.ensures.stops)))))
+descriptions::desc-returns-in_err-desc-clause-stops g t c = raised c.from_residual-in_err-desc.result c.from_residual-in_err-desc.ensures.1 (later _ c.in_ok-name.ensures.reads (later _ c.in_ok-suid.ensures.reads (later _ c.in_ok-flags.ensures.reads (first _ (rw (c.in_ok-open.ensures.unread, c.begin.ensures.unread, c.open.ensures.now, c.in_ok-number.ensures.now, c.blank.ensures, c.in_ok-number.ensures.number) at c.in_err-desc.ensures.stops)))))
 
-pub proxy-returns-in_err-n-clause-stops : goal.proxy-returns-in_err-n-clause-stops
+pub descriptions::proxy-returns-in_err-n-clause-stops : goal.descriptions::proxy-returns-in_err-n-clause-stops
 unfolding proxy_at
-proxy-returns-in_err-n-clause-stops g t c = raised c.from_residual.result c.from_residual.ensures.1 (first _ c.in_err-n.ensures.stops)
+descriptions::proxy-returns-in_err-n-clause-stops g t c = raised c.from_residual.result c.from_residual.ensures.1 (first _ c.in_err-n.ensures.stops)
 
-pub proxy-returns-in_err-number-clause-stops : goal.proxy-returns-in_err-number-clause-stops
+pub descriptions::proxy-returns-in_err-number-clause-stops : goal.descriptions::proxy-returns-in_err-number-clause-stops
 unfolding proxy_at
-proxy-returns-in_err-number-clause-stops g t c = raised c.from_residual-in_err-number.result c.from_residual-in_err-number.ensures.1 (first _ (took c.in_ok-n.ensures.reads))
+descriptions::proxy-returns-in_err-number-clause-stops g t c = raised c.from_residual-in_err-number.result c.from_residual-in_err-number.ensures.1 (first _ (took c.in_ok-n.ensures.reads))
 
-pub proxy-returns-in_err-open-clause-stops : goal.proxy-returns-in_err-open-clause-stops
+pub descriptions::proxy-returns-in_err-open-clause-stops : goal.descriptions::proxy-returns-in_err-open-clause-stops
 unfolding proxy_at
-proxy-returns-in_err-open-clause-stops g t c = raised c.from_residual-in_err-open.result c.from_residual-in_err-open.ensures.1 (first _ (took c.in_ok-n.ensures.reads))
+descriptions::proxy-returns-in_err-open-clause-stops g t c = raised c.from_residual-in_err-open.result c.from_residual-in_err-open.ensures.1 (first _ (took c.in_ok-n.ensures.reads))
 
-pub proxy-returns-in_err-names-clause-stops : goal.proxy-returns-in_err-names-clause-stops
+pub descriptions::proxy-returns-in_err-names-clause-stops : goal.descriptions::proxy-returns-in_err-names-clause-stops
 unfolding proxy_at
-proxy-returns-in_err-names-clause-stops g t c = raised c.from_residual-in_err-names.result c.from_residual-in_err-names.ensures.1 (later _ c.in_ok-n.ensures.reads (first _ (c.in_err-names.ensures.stops (push (now_of c.args.table.now) (nodes.Desc blank)))))
+descriptions::proxy-returns-in_err-names-clause-stops g t c = raised c.from_residual-in_err-names.result c.from_residual-in_err-names.ensures.1 (later _ c.in_ok-n.ensures.reads (first _ (c.in_err-names.ensures.stops (push (now_of c.args.table.now) (nodes.Desc blank)))))
 
-pub proxy-returns-in_err-note-clause-stops : goal.proxy-returns-in_err-note-clause-stops
+pub descriptions::proxy-returns-in_err-note-clause-stops : goal.descriptions::proxy-returns-in_err-note-clause-stops
 unfolding proxy_at
-proxy-returns-in_err-note-clause-stops g t c = raised c.from_residual-in_err-note.result c.from_residual-in_err-note.ensures.1 (later _ c.in_ok-n.ensures.reads (later _ (c.in_ok-names.ensures.reads (push (now_of c.args.table.now) (nodes.Desc blank))) (first _ (rw (c.in_ok-open.ensures.unread, c.begin.ensures.unread, c.open.ensures.now, c.in_ok-number.ensures.now, c.blank.ensures, c.in_ok-number.ensures.number) at c.in_err-note.ensures.stops))))
+descriptions::proxy-returns-in_err-note-clause-stops g t c = raised c.from_residual-in_err-note.result c.from_residual-in_err-note.ensures.1 (later _ c.in_ok-n.ensures.reads (later _ (c.in_ok-names.ensures.reads (push (now_of c.args.table.now) (nodes.Desc blank))) (first _ (rw (c.in_ok-open.ensures.unread, c.begin.ensures.unread, c.open.ensures.now, c.in_ok-number.ensures.now, c.blank.ensures, c.in_ok-number.ensures.number) at c.in_err-note.ensures.stops))))
 
-pub proxy-returns-in_err-parent-clause-stops : goal.proxy-returns-in_err-parent-clause-stops
+pub descriptions::proxy-returns-in_err-parent-clause-stops : goal.descriptions::proxy-returns-in_err-parent-clause-stops
 unfolding proxy_at
-proxy-returns-in_err-parent-clause-stops g t c = raised c.from_residual-in_err-parent.result c.from_residual-in_err-parent.ensures.1 (later _ c.in_ok-n.ensures.reads (later _ (c.in_ok-names.ensures.reads (push (now_of c.args.table.now) (nodes.Desc blank))) (later _ (rw (c.in_ok-open.ensures.unread, c.begin.ensures.unread, c.open.ensures.now, c.in_ok-number.ensures.now, c.blank.ensures, c.in_ok-number.ensures.number) at c.in_ok-note.ensures.reads) (first _ (rw (c.in_ok-note.ensures.unread, c.in_ok-open.ensures.unread, c.begin.ensures.unread, c.in_ok-number.ensures.number) at c.in_err-parent.ensures.stops)))))
+descriptions::proxy-returns-in_err-parent-clause-stops g t c = raised c.from_residual-in_err-parent.result c.from_residual-in_err-parent.ensures.1 (later _ c.in_ok-n.ensures.reads (later _ (c.in_ok-names.ensures.reads (push (now_of c.args.table.now) (nodes.Desc blank))) (later _ (rw (c.in_ok-open.ensures.unread, c.begin.ensures.unread, c.open.ensures.now, c.in_ok-number.ensures.now, c.blank.ensures, c.in_ok-number.ensures.number) at c.in_ok-note.ensures.reads) (first _ (rw (c.in_ok-note.ensures.unread, c.in_ok-open.ensures.unread, c.begin.ensures.unread, c.in_ok-number.ensures.number) at c.in_err-parent.ensures.stops)))))
 
-pub desc_after-returns-in_err-n-clause-stops : goal.desc_after-returns-in_err-n-clause-stops
+pub descriptions::desc_after-returns-in_err-n-clause-stops : goal.descriptions::desc_after-returns-in_err-n-clause-stops
 unfolding desc_after
-desc_after-returns-in_err-n-clause-stops g t c = raised c.from_residual.result c.from_residual.ensures.1 (first _ c.in_err-n.ensures.stops)
+descriptions::desc_after-returns-in_err-n-clause-stops g t c = raised c.from_residual.result c.from_residual.ensures.1 (first _ c.in_err-n.ensures.stops)
 
-pub desc_after-returns-in_err-fields-clause-stops : goal.desc_after-returns-in_err-fields-clause-stops
+pub descriptions::desc_after-returns-in_err-fields-clause-stops : goal.descriptions::desc_after-returns-in_err-fields-clause-stops
 unfolding desc_after
-desc_after-returns-in_err-fields-clause-stops g t c = raised c.from_residual-in_err-fields.result c.from_residual-in_err-fields.ensures.1 (later _ c.in_ok-n.ensures.reads (first _ c.in_err-fields.ensures.stops))
+descriptions::desc_after-returns-in_err-fields-clause-stops g t c = raised c.from_residual-in_err-fields.result c.from_residual-in_err-fields.ensures.1 (later _ c.in_ok-n.ensures.reads (first _ c.in_err-fields.ensures.stops))
 
-pub desc_after-returns-in_err-desc-clause-stops : goal.desc_after-returns-in_err-desc-clause-stops
+pub descriptions::desc_after-returns-in_err-desc-clause-stops : goal.descriptions::desc_after-returns-in_err-desc-clause-stops
 unfolding desc_after
-desc_after-returns-in_err-desc-clause-stops g t c =
+descriptions::desc_after-returns-in_err-desc-clause-stops g t c =
     let good : is_good_desc (record { name = c.args.name; suid = cast_signed w64 c.args.suid; flags = c.args.flags; fields = c.in_ok-fields.fields; note = []; parent = slots.Null }) ≡ true = search rules in
     raised c.from_residual-in_err-desc.result c.from_residual-in_err-desc.ensures.1 (later _ c.in_ok-n.ensures.reads (later _ c.in_ok-fields.ensures.reads (stops_when _ good (first _ (rw c.in_ok-fields.ensures.unread at c.in_err-desc.ensures.stops)))))
 
-pub desc_after-returns-in_err-desc-2-clause-stops : goal.desc_after-returns-in_err-desc-2-clause-stops
+pub descriptions::desc_after-returns-in_err-desc-2-clause-stops : goal.descriptions::desc_after-returns-in_err-desc-2-clause-stops
 unfolding desc_after
-desc_after-returns-in_err-desc-2-clause-stops g t c =
+descriptions::desc_after-returns-in_err-desc-2-clause-stops g t c =
     let good : is_good_desc (record { name = c.args.name; suid = cast_signed w64 c.args.suid; flags = c.args.flags; fields = c.in_ok-fields.fields; note = []; parent = slots.Null }) ≡ true = search rules in
     raised c.from_residual-in_err-desc-2.result c.from_residual-in_err-desc-2.ensures.1 (later _ c.in_ok-n.ensures.reads (later _ c.in_ok-fields.ensures.reads (stops_when _ good (later _ (rw c.in_ok-fields.ensures.unread at c.in_ok-desc.ensures.reads) (first _ (rw (c.in_ok-desc.ensures.unread, c.in_ok-fields.ensures.unread) at c.in_err-desc-2.ensures.stops))))))
 
-pub desc_after-returns-then-is_err-clause-stops : goal.desc_after-returns-then-is_err-clause-stops
+pub descriptions::desc_after-returns-then-is_err-clause-stops : goal.descriptions::desc_after-returns-then-is_err-clause-stops
 unfolding desc_after
-desc_after-returns-then-is_err-clause-stops g t c =
+descriptions::desc_after-returns-then-is_err-clause-stops g t c =
     let poor : is_good_desc (record { name = c.args.name; suid = cast_signed w64 c.args.suid; flags = c.args.flags; fields = c.in_ok-fields.fields; note = []; parent = slots.Null }) ≡ false = search rules in
     rw c.bad.ensures (later _ c.in_ok-n.ensures.reads (later _ c.in_ok-fields.ensures.reads (stops_otherwise _ poor (bad_here BadDesc c.args.at tt (λ end bs here. refl)))))
 
@@ -275,170 +275,170 @@ pub class-returns-in_err-slot-clause-stops : goal.class-returns-in_err-slot-clau
 unfolding class_named
 class-returns-in_err-slot-clause-stops g t c = raised c.from_residual.result c.from_residual.ensures.1 (first _ c.in_err-slot.ensures.stops)
 
-pub object-returns-in_err-class-clause-stops : goal.object-returns-in_err-class-clause-stops
-object-returns-in_err-class-clause-stops g t c = raised c.from_residual.result c.from_residual.ensures.1 (breaks_said (λ end bs here. with_class_is _ _ _ _ _ bs) (first _ c.in_err-class.ensures.stops))
+pub objects::object-returns-in_err-class-clause-stops : goal.objects::object-returns-in_err-class-clause-stops
+objects::object-returns-in_err-class-clause-stops g t c = raised c.from_residual.result c.from_residual.ensures.1 (breaks_said (λ end bs here. with_class_is _ _ _ _ _ bs) (first _ c.in_err-class.ensures.stops))
 
-pub object-returns-clause-stops : goal.object-returns-clause-stops
-object-returns-clause-stops g t c = breaks_said_last _ _ c.object_in.result (λ end bs here. with_class_is _ _ _ _ _ bs) (later_last _ _ c.object_in.result c.in_ok-class.ensures.reads (rw c.in_ok-class.ensures.unread at c.object_in.ensures.stops))
+pub objects::object-returns-clause-stops : goal.objects::object-returns-clause-stops
+objects::object-returns-clause-stops g t c = breaks_said_last _ _ c.object_in.result (λ end bs here. with_class_is _ _ _ _ _ bs) (later_last _ _ c.object_in.result c.in_ok-class.ensures.reads (rw c.in_ok-class.ensures.unread at c.object_in.ensures.stops))
 
-pub array-returns-in_err-class-clause-stops : goal.array-returns-in_err-class-clause-stops
-array-returns-in_err-class-clause-stops g t c = raised c.from_residual.result c.from_residual.ensures.1 (breaks_said (λ end bs here. with_class_is _ _ _ _ _ bs) (first _ c.in_err-class.ensures.stops))
+pub arrays::array-returns-in_err-class-clause-stops : goal.arrays::array-returns-in_err-class-clause-stops
+arrays::array-returns-in_err-class-clause-stops g t c = raised c.from_residual.result c.from_residual.ensures.1 (breaks_said (λ end bs here. with_class_is _ _ _ _ _ bs) (first _ c.in_err-class.ensures.stops))
 
-pub array-returns-clause-stops : goal.array-returns-clause-stops
-array-returns-clause-stops g t c = breaks_said_last _ _ c.array_in.result (λ end bs here. with_class_is _ _ _ _ _ bs) (later_last _ _ c.array_in.result c.in_ok-class.ensures.reads (rw c.in_ok-class.ensures.unread at c.array_in.ensures.stops))
+pub arrays::array-returns-clause-stops : goal.arrays::array-returns-clause-stops
+arrays::array-returns-clause-stops g t c = breaks_said_last _ _ c.array_in.result (λ end bs here. with_class_is _ _ _ _ _ bs) (later_last _ _ c.array_in.result c.in_ok-class.ensures.reads (rw c.in_ok-class.ensures.unread at c.array_in.ensures.stops))
 
-pub constant-returns-in_err-class-clause-stops : goal.constant-returns-in_err-class-clause-stops
-constant-returns-in_err-class-clause-stops g t c = raised c.from_residual.result c.from_residual.ensures.1 (breaks_said (λ end bs here. with_class_is _ _ _ _ _ bs) (first _ c.in_err-class.ensures.stops))
+pub constants::constant-returns-in_err-class-clause-stops : goal.constants::constant-returns-in_err-class-clause-stops
+constants::constant-returns-in_err-class-clause-stops g t c = raised c.from_residual.result c.from_residual.ensures.1 (breaks_said (λ end bs here. with_class_is _ _ _ _ _ bs) (first _ c.in_err-class.ensures.stops))
 
-pub constant-returns-clause-stops : goal.constant-returns-clause-stops
-constant-returns-clause-stops g t c = breaks_said_last _ _ c.constant_in.result (λ end bs here. with_class_is _ _ _ _ _ bs) (later_last _ _ c.constant_in.result c.in_ok-class.ensures.reads (rw c.in_ok-class.ensures.unread at c.constant_in.ensures.stops))
+pub constants::constant-returns-clause-stops : goal.constants::constant-returns-clause-stops
+constants::constant-returns-clause-stops g t c = breaks_said_last _ _ c.constant_in.result (λ end bs here. with_class_is _ _ _ _ _ bs) (later_last _ _ c.constant_in.result c.in_ok-class.ensures.reads (rw c.in_ok-class.ensures.unread at c.constant_in.ensures.stops))
 
-pub class_value-returns-in_err-class-clause-stops : goal.class_value-returns-in_err-class-clause-stops
-class_value-returns-in_err-class-clause-stops g t c = raised c.from_residual.result c.from_residual.ensures.1 (breaks_said (λ end bs here. with_class_is _ _ _ _ _ bs) (first _ c.in_err-class.ensures.stops))
+pub constants::class_value-returns-in_err-class-clause-stops : goal.constants::class_value-returns-in_err-class-clause-stops
+constants::class_value-returns-in_err-class-clause-stops g t c = raised c.from_residual.result c.from_residual.ensures.1 (breaks_said (λ end bs here. with_class_is _ _ _ _ _ bs) (first _ c.in_err-class.ensures.stops))
 
-pub class_value-returns-in_err-number-clause-stops : goal.class_value-returns-in_err-number-clause-stops
-class_value-returns-in_err-number-clause-stops g t c = raised c.from_residual-in_err-number.result c.from_residual-in_err-number.ensures.1 (breaks_said (λ end bs here. with_class_is _ _ _ _ _ bs) (first _ (took c.in_ok-class.ensures.reads)))
+pub constants::class_value-returns-in_err-number-clause-stops : goal.constants::class_value-returns-in_err-number-clause-stops
+constants::class_value-returns-in_err-number-clause-stops g t c = raised c.from_residual-in_err-number.result c.from_residual-in_err-number.ensures.1 (breaks_said (λ end bs here. with_class_is _ _ _ _ _ bs) (first _ (took c.in_ok-class.ensures.reads)))
 
-pub object_in-returns-in_err-shape-clause-stops : goal.object_in-returns-in_err-shape-clause-stops
-object_in-returns-in_err-shape-clause-stops g t c = raised c.from_residual.result c.from_residual.ensures.1 (no_memory)
+pub objects::object_in-returns-in_err-shape-clause-stops : goal.objects::object_in-returns-in_err-shape-clause-stops
+objects::object_in-returns-in_err-shape-clause-stops g t c = raised c.from_residual.result c.from_residual.ensures.1 (no_memory)
 
-pub object_in-returns-clause-stops : goal.object_in-returns-clause-stops
-object_in-returns-clause-stops g t c =
+pub objects::object_in-returns-clause-stops : goal.objects::object_in-returns-clause-stops
+objects::object_in-returns-clause-stops g t c =
     let rows = c.as_slice-rows.ensures.value ∙ c.in_ok-shape.ensures.rows in
     let few = sym c.lacks_parts.ensures ∙ c.if-lacks_parts.false in
     let good = sym c.in_ok-shape.ensures.fault ∙ ap (λ (f : Option StreamKind). option_map kind_of f) c.in-None.is in
     breaks_said_last _ _ c.object_after.result (λ end bs here. object_here end c.args.at (slot_at end c.args.left Reference c.args.table.now.unread.items) c.args.class c.as_slice-rows.result.now (now_of c.args.table.now) bs rows few good) c.object_after.ensures.stops
 
-pub object_after-returns-in_err-number-clause-stops : goal.object_after-returns-in_err-number-clause-stops
-object_after-returns-in_err-number-clause-stops g t c = raised c.from_residual.result c.from_residual.ensures.1 (no_memory)
+pub objects::object_after-returns-in_err-number-clause-stops : goal.objects::object_after-returns-in_err-number-clause-stops
+objects::object_after-returns-in_err-number-clause-stops g t c = raised c.from_residual.result c.from_residual.ensures.1 (no_memory)
 
-pub array_in-returns-in-None-clause-stops : goal.array_in-returns-in-None-clause-stops
+pub arrays::array_in-returns-in-None-clause-stops : goal.arrays::array_in-returns-in-None-clause-stops
 unfolding array_at array_of
-array_in-returns-in-None-clause-stops g t c =
+arrays::array_in-returns-in-None-clause-stops g t c =
     let none : type_in (slice_get c.args.table.now.nodes.items c.args.class) ≡ None = sym c.element_type.ensures ∙ c.in-None.is in
     rw c.bad.ensures (bad_here BadDesc c.args.at tt (λ end bs here. rw none refl))
 
-pub array_of-returns-in_err-n-clause-stops : goal.array_of-returns-in_err-n-clause-stops
+pub arrays::array_of-returns-in_err-n-clause-stops : goal.arrays::array_of-returns-in_err-n-clause-stops
 unfolding array_of
-array_of-returns-in_err-n-clause-stops g t c = raised c.from_residual.result c.from_residual.ensures.1 (first _ c.in_err-n.ensures.stops)
+arrays::array_of-returns-in_err-n-clause-stops g t c = raised c.from_residual.result c.from_residual.ensures.1 (first _ c.in_err-n.ensures.stops)
 
-pub array_of-returns-in_err-number-clause-stops : goal.array_of-returns-in_err-number-clause-stops
+pub arrays::array_of-returns-in_err-number-clause-stops : goal.arrays::array_of-returns-in_err-number-clause-stops
 unfolding array_of
-array_of-returns-in_err-number-clause-stops g t c = raised c.from_residual-in_err-number.result c.from_residual-in_err-number.ensures.1 (first _ (took c.in_ok-n.ensures.reads))
+arrays::array_of-returns-in_err-number-clause-stops g t c = raised c.from_residual-in_err-number.result c.from_residual-in_err-number.ensures.1 (first _ (took c.in_ok-n.ensures.reads))
 
-pub array_of-returns-in_err-values-clause-stops : goal.array_of-returns-in_err-values-clause-stops
+pub arrays::array_of-returns-in_err-values-clause-stops : goal.arrays::array_of-returns-in_err-values-clause-stops
 unfolding array_of
-array_of-returns-in_err-values-clause-stops g t c = raised c.from_residual-in_err-values.result c.from_residual-in_err-values.ensures.1 (later _ c.in_ok-n.ensures.reads (first _ (rw (c.begin.ensures.unread, c.in_ok-number.ensures.now, c.new.ensures) at c.in_err-values.ensures.stops)))
+arrays::array_of-returns-in_err-values-clause-stops g t c = raised c.from_residual-in_err-values.result c.from_residual-in_err-values.ensures.1 (later _ c.in_ok-n.ensures.reads (first _ (rw (c.begin.ensures.unread, c.in_ok-number.ensures.now, c.new.ensures) at c.in_err-values.ensures.stops)))
 
-pub elements-returns-then-is_primitive-clause-stops : goal.elements-returns-then-is_primitive-clause-stops
-elements-returns-then-is_primitive-clause-stops g t c = breaks_said_last _ _ c.primitives.result (λ end bs here. elements_any c.args.code c.args.n (slot_at end c.args.left Reference c.args.table.now.unread.items) (slot_at 0 c.args.left Reference c.args.table.now.unread.items) (now_of c.args.table.now) bs (sym c.is_primitive.ensures ∙ c.if-is_primitive.true)) (c.primitives.ensures.stops (slot_at 0 c.args.left Reference c.args.table.now.unread.items) (now_of c.args.table.now))
+pub arrays::elements-returns-then-is_primitive-clause-stops : goal.arrays::elements-returns-then-is_primitive-clause-stops
+arrays::elements-returns-then-is_primitive-clause-stops g t c = breaks_said_last _ _ c.primitives.result (λ end bs here. elements_any c.args.code c.args.n (slot_at end c.args.left Reference c.args.table.now.unread.items) (slot_at 0 c.args.left Reference c.args.table.now.unread.items) (now_of c.args.table.now) bs (sym c.is_primitive.ensures ∙ c.if-is_primitive.true)) (c.primitives.ensures.stops (slot_at 0 c.args.left Reference c.args.table.now.unread.items) (now_of c.args.table.now))
 
-pub elements-returns-in_err-slots-clause-stops : goal.elements-returns-in_err-slots-clause-stops
-elements-returns-in_err-slots-clause-stops g t c = raised c.from_residual.result c.from_residual.ensures.1 (breaks_said (λ end bs here. elements_refs c.args.code c.args.n (slot_at end c.args.left Reference c.args.table.now.unread.items) (now_of c.args.table.now) bs (sym c.is_primitive.ensures ∙ c.if-is_primitive.false)) (first _ c.in_err-slots.ensures.stops))
+pub arrays::elements-returns-in_err-slots-clause-stops : goal.arrays::elements-returns-in_err-slots-clause-stops
+arrays::elements-returns-in_err-slots-clause-stops g t c = raised c.from_residual.result c.from_residual.ensures.1 (breaks_said (λ end bs here. elements_refs c.args.code c.args.n (slot_at end c.args.left Reference c.args.table.now.unread.items) (now_of c.args.table.now) bs (sym c.is_primitive.ensures ∙ c.if-is_primitive.false)) (first _ c.in_err-slots.ensures.stops))
 
-pub value-returns-then-is_primitive-clause-stops : goal.value-returns-then-is_primitive-clause-stops
-value-returns-then-is_primitive-clause-stops g t c = breaks_said_last _ _ c.primitive.result (λ end bs here. value_any c.args.code (slot_at end c.args.left Reference c.args.table.now.unread.items) (slot_at 0 c.args.left Reference c.args.table.now.unread.items) (now_of c.args.table.now) bs (sym c.is_primitive.ensures ∙ c.if-is_primitive.true)) (c.primitive.ensures.stops (slot_at 0 c.args.left Reference c.args.table.now.unread.items) (now_of c.args.table.now))
+pub objects::value-returns-then-is_primitive-clause-stops : goal.objects::value-returns-then-is_primitive-clause-stops
+objects::value-returns-then-is_primitive-clause-stops g t c = breaks_said_last _ _ c.primitive.result (λ end bs here. value_any c.args.code (slot_at end c.args.left Reference c.args.table.now.unread.items) (slot_at 0 c.args.left Reference c.args.table.now.unread.items) (now_of c.args.table.now) bs (sym c.is_primitive.ensures ∙ c.if-is_primitive.true)) (c.primitive.ensures.stops (slot_at 0 c.args.left Reference c.args.table.now.unread.items) (now_of c.args.table.now))
 
-pub value-returns-in_err-slot-clause-stops : goal.value-returns-in_err-slot-clause-stops
-value-returns-in_err-slot-clause-stops g t c = raised c.from_residual.result c.from_residual.ensures.1 (breaks_said (λ end bs here. value_refs c.args.code (slot_at end c.args.left Reference c.args.table.now.unread.items) (now_of c.args.table.now) bs (sym c.is_primitive.ensures ∙ c.if-is_primitive.false)) (first _ c.in_err-slot.ensures.stops))
+pub objects::value-returns-in_err-slot-clause-stops : goal.objects::value-returns-in_err-slot-clause-stops
+objects::value-returns-in_err-slot-clause-stops g t c = raised c.from_residual.result c.from_residual.ensures.1 (breaks_said (λ end bs here. value_refs c.args.code (slot_at end c.args.left Reference c.args.table.now.unread.items) (now_of c.args.table.now) bs (sym c.is_primitive.ensures ∙ c.if-is_primitive.false)) (first _ c.in_err-slot.ensures.stops))
 
-pub constant_in-returns-in_err-number-clause-stops : goal.constant_in-returns-in_err-number-clause-stops
-constant_in-returns-in_err-number-clause-stops g t c = raised c.from_residual.result c.from_residual.ensures.1 (no_memory)
+pub constants::constant_in-returns-in_err-number-clause-stops : goal.constants::constant_in-returns-in_err-number-clause-stops
+constants::constant_in-returns-in_err-number-clause-stops g t c = raised c.from_residual.result c.from_residual.ensures.1 (no_memory)
 
-pub field-returns-in_err-letter-clause-stops : goal.field-returns-in_err-letter-clause-stops
+pub descriptions::field-returns-in_err-letter-clause-stops : goal.descriptions::field-returns-in_err-letter-clause-stops
 unfolding field_at
-field-returns-in_err-letter-clause-stops g t c = raised c.from_residual.result c.from_residual.ensures.1 (first _ c.in_err-letter.ensures.stops)
+descriptions::field-returns-in_err-letter-clause-stops g t c = raised c.from_residual.result c.from_residual.ensures.1 (first _ c.in_err-letter.ensures.stops)
 
-pub field-returns-in-Some-clause-stops : goal.field-returns-in-Some-clause-stops
+pub descriptions::field-returns-in-Some-clause-stops : goal.descriptions::field-returns-in-Some-clause-stops
 unfolding field_at
-field-returns-in-Some-clause-stops g t c =
+descriptions::field-returns-in-Some-clause-stops g t c =
     let e : code_of c.in_ok-letter.letter ≡ Some c.in-Some.code = sym c.from_letter.ensures.value ∙ c.in-Some.is in
     later_last _ _ c.field_of.result c.in_ok-letter.ensures.reads (rw (← e) at c.field_of.ensures.stops)
 
-pub field-returns-in-None-clause-stops : goal.field-returns-in-None-clause-stops
+pub descriptions::field-returns-in-None-clause-stops : goal.descriptions::field-returns-in-None-clause-stops
 unfolding field_at field_of
-field-returns-in-None-clause-stops g t c =
+descriptions::field-returns-in-None-clause-stops g t c =
     let e : code_of c.in_ok-letter.letter ≡ None = sym c.from_letter.ensures.value ∙ c.in-None.is in
     rw c.bad.ensures (later _ c.in_ok-letter.ensures.reads (bad_here BadDesc c.args.at tt (λ end bs here. rw e refl)))
 
-pub field_of-returns-in_err-name-clause-stops : goal.field_of-returns-in_err-name-clause-stops
+pub descriptions::field_of-returns-in_err-name-clause-stops : goal.descriptions::field_of-returns-in_err-name-clause-stops
 unfolding field_of
-field_of-returns-in_err-name-clause-stops g t c = raised c.from_residual.result c.from_residual.ensures.1 (first _ c.in_err-name.ensures.stops)
+descriptions::field_of-returns-in_err-name-clause-stops g t c = raised c.from_residual.result c.from_residual.ensures.1 (first _ c.in_err-name.ensures.stops)
 
-pub field_of-returns-in_err-type_text-clause-stops : goal.field_of-returns-in_err-type_text-clause-stops
+pub descriptions::field_of-returns-in_err-type_text-clause-stops : goal.descriptions::field_of-returns-in_err-type_text-clause-stops
 unfolding field_of
-field_of-returns-in_err-type_text-clause-stops g t c =
+descriptions::field_of-returns-in_err-type_text-clause-stops g t c =
     let prim : is_primitive c.args.code ≡ false = sym c.is_primitive.ensures ∙ c.if-is_primitive.false in
     raised c.from_residual-in_err-type_text.result c.from_residual-in_err-type_text.ensures.1 (later _ c.in_ok-name.ensures.reads (stops_otherwise _ prim (first _ c.in_err-type_text.ensures.stops)))
 
-pub field_of-returns-then-not-fits_type-clause-stops : goal.field_of-returns-then-not-fits_type-clause-stops
+pub descriptions::field_of-returns-then-not-fits_type-clause-stops : goal.descriptions::field_of-returns-then-not-fits_type-clause-stops
 unfolding field_of
-field_of-returns-then-not-fits_type-clause-stops g t c =
+descriptions::field_of-returns-then-not-fits_type-clause-stops g t c =
     let prim : is_primitive c.args.code ≡ false = sym c.is_primitive.ensures ∙ c.if-is_primitive.false in
     let unfit : fits_type c.slot.new.table.nodes.items c.args.code c.in_ok-type_text.type_text ≡ false = search rules in
     rw c.bad.ensures (later _ c.in_ok-name.ensures.reads (stops_otherwise _ prim (later _ c.in_ok-type_text.ensures.reads (stops_otherwise _ unfit (bad_here BadDesc c.args.at tt (λ end bs here. refl))))))
 
-pub item-returns-in_err-n-clause-stops : goal.item-returns-in_err-n-clause-stops
-item-returns-in_err-n-clause-stops g t c = raised c.from_residual.result c.from_residual.ensures.1 (breaks_said (λ end bs here. item_block end _ c.args.code _ bs c.if-code-eq119.true) (first _ c.in_err-n.ensures.stops))
+pub annotations::item-returns-in_err-n-clause-stops : goal.annotations::item-returns-in_err-n-clause-stops
+annotations::item-returns-in_err-n-clause-stops g t c = raised c.from_residual.result c.from_residual.ensures.1 (breaks_said (λ end bs here. item_block end _ c.args.code _ bs c.if-code-eq119.true) (first _ c.in_err-n.ensures.stops))
 
-pub item-returns-in_err-take-clause-stops : goal.item-returns-in_err-take-clause-stops
-item-returns-in_err-take-clause-stops g t c = raised c.from_residual-in_err-take.result c.from_residual-in_err-take.ensures.1 (breaks_said (λ end bs here. item_block end _ c.args.code _ bs c.if-code-eq119.true) (later _ c.in_ok-n.ensures.reads (first _ (rw c.from.ensures at c.in_err-take.ensures.stops))))
+pub annotations::item-returns-in_err-take-clause-stops : goal.annotations::item-returns-in_err-take-clause-stops
+annotations::item-returns-in_err-take-clause-stops g t c = raised c.from_residual-in_err-take.result c.from_residual-in_err-take.ensures.1 (breaks_said (λ end bs here. item_block end _ c.args.code _ bs c.if-code-eq119.true) (later _ c.in_ok-n.ensures.reads (first _ (rw c.from.ensures at c.in_err-take.ensures.stops))))
 
-pub item-returns-in_err-n-2-clause-stops : goal.item-returns-in_err-n-2-clause-stops
-item-returns-in_err-n-2-clause-stops g t c = raised c.from_residual-in_err-n-2.result c.from_residual-in_err-n-2.ensures.1 (breaks_said (λ end bs here. item_long end _ c.args.code _ bs c.if-code-eq122.true) (first _ c.in_err-n-2.ensures.stops))
+pub annotations::item-returns-in_err-n-2-clause-stops : goal.annotations::item-returns-in_err-n-2-clause-stops
+annotations::item-returns-in_err-n-2-clause-stops g t c = raised c.from_residual-in_err-n-2.result c.from_residual-in_err-n-2.ensures.1 (breaks_said (λ end bs here. item_long end _ c.args.code _ bs c.if-code-eq122.true) (first _ c.in_err-n-2.ensures.stops))
 
-pub item-returns-in_err-take-2-clause-stops : goal.item-returns-in_err-take-2-clause-stops
-item-returns-in_err-take-2-clause-stops g t c = raised c.from_residual-in_err-take-2.result c.from_residual-in_err-take-2.ensures.1 (breaks_said (λ end bs here. item_long end _ c.args.code _ bs c.if-code-eq122.true) (later _ c.in_ok-n-2.ensures.reads (first _ (rw c.from-then-code-eq122.ensures at c.in_err-take-2.ensures.stops))))
+pub annotations::item-returns-in_err-take-2-clause-stops : goal.annotations::item-returns-in_err-take-2-clause-stops
+annotations::item-returns-in_err-take-2-clause-stops g t c = raised c.from_residual-in_err-take-2.result c.from_residual-in_err-take-2.ensures.1 (breaks_said (λ end bs here. item_long end _ c.args.code _ bs c.if-code-eq122.true) (later _ c.in_ok-n-2.ensures.reads (first _ (rw c.from-then-code-eq122.ensures at c.in_err-take-2.ensures.stops))))
 
-pub item-returns-in_err-coded-clause-stops : goal.item-returns-in_err-coded-clause-stops
-item-returns-in_err-coded-clause-stops g t c = raised c.from_residual-in_err-coded.result c.from_residual-in_err-coded.ensures.1 (breaks_said (λ end bs here. item_other end _ c.args.code _ bs (ne_eqb c.args.code 119 c.if-code-eq119.false) (ne_eqb c.args.code 122 c.if-code-eq122.false)) (first _ c.in_err-coded.ensures.stops))
+pub annotations::item-returns-in_err-coded-clause-stops : goal.annotations::item-returns-in_err-coded-clause-stops
+annotations::item-returns-in_err-coded-clause-stops g t c = raised c.from_residual-in_err-coded.result c.from_residual-in_err-coded.ensures.1 (breaks_said (λ end bs here. item_other end _ c.args.code _ bs (ne_eqb c.args.code 119 c.if-code-eq119.false) (ne_eqb c.args.code 122 c.if-code-eq122.false)) (first _ c.in_err-coded.ensures.stops))
 
-pub part-returns-in_err-values-clause-stops : goal.part-returns-in_err-values-clause-stops
+pub objects::part-returns-in_err-values-clause-stops : goal.objects::part-returns-in_err-values-clause-stops
 unfolding part_by
-part-returns-in_err-values-clause-stops g t c = raised c.from_residual.result c.from_residual.ensures.1 (first _ (rw c.as_slice.ensures at c.in_err-values.ensures.stops))
+objects::part-returns-in_err-values-clause-stops g t c = raised c.from_residual.result c.from_residual.ensures.1 (first _ (rw c.as_slice.ensures at c.in_err-values.ensures.stops))
 
-pub part-returns-in_err-note-clause-stops : goal.part-returns-in_err-note-clause-stops
+pub objects::part-returns-in_err-note-clause-stops : goal.objects::part-returns-in_err-note-clause-stops
 unfolding part_by
-part-returns-in_err-note-clause-stops g t c = raised c.from_residual-in_err-note.result c.from_residual-in_err-note.ensures.1 (later _ (rw c.as_slice.ensures at c.in_ok-values.ensures.reads) (first _ (rw c.in_ok-values.ensures.unread at c.in_err-note.ensures.stops)))
+objects::part-returns-in_err-note-clause-stops g t c = raised c.from_residual-in_err-note.result c.from_residual-in_err-note.ensures.1 (later _ (rw c.as_slice.ensures at c.in_ok-values.ensures.reads) (first _ (rw c.in_ok-values.ensures.unread at c.in_err-note.ensures.stops)))
 
-pub slots-returns-in_err-slot-clause-stops : goal.slots-returns-in_err-slot-clause-stops
-slots-returns-in_err-slot-clause-stops g t c = raised c.from_residual.result c.from_residual.ensures.1 (loop_stops c.loop.invariant.leads (λ end bs f here is. many_err (slot_at end c.args.left Reference c.args.table.now.unread.items) c.loop.slots c.args.n c.loop.counter (now_of c.loop.table) bs f c.loop-test.true is) (rw c.loop.invariant.unread at c.in_err-slot.ensures.stops))
+pub arrays::slots-returns-in_err-slot-clause-stops : goal.arrays::slots-returns-in_err-slot-clause-stops
+arrays::slots-returns-in_err-slot-clause-stops g t c = raised c.from_residual.result c.from_residual.ensures.1 (loop_stops c.loop.invariant.leads (λ end bs f here is. many_err (slot_at end c.args.left Reference c.args.table.now.unread.items) c.loop.slots c.args.n c.loop.counter (now_of c.loop.table) bs f c.loop-test.true is) (rw c.loop.invariant.unread at c.in_err-slot.ensures.stops))
 
-pub slots-returns-in_err-push-clause-stops : goal.slots-returns-in_err-push-clause-stops
-slots-returns-in_err-push-clause-stops g t c = raised c.from_residual-in_err-push.result c.from_residual-in_err-push.ensures.1 (loop_stops c.loop.invariant.leads (λ end bs f here is. many_err (slot_at end c.args.left Reference c.args.table.now.unread.items) c.loop.slots c.args.n c.loop.counter (now_of c.loop.table) bs f c.loop-test.true is) (took (rw c.loop.invariant.unread at c.in_ok-slot.ensures.reads)))
+pub arrays::slots-returns-in_err-push-clause-stops : goal.arrays::slots-returns-in_err-push-clause-stops
+arrays::slots-returns-in_err-push-clause-stops g t c = raised c.from_residual-in_err-push.result c.from_residual-in_err-push.ensures.1 (loop_stops c.loop.invariant.leads (λ end bs f here is. many_err (slot_at end c.args.left Reference c.args.table.now.unread.items) c.loop.slots c.args.n c.loop.counter (now_of c.loop.table) bs f c.loop-test.true is) (took (rw c.loop.invariant.unread at c.in_ok-slot.ensures.reads)))
 
-pub fields-returns-in_err-field-clause-stops : goal.fields-returns-in_err-field-clause-stops
-fields-returns-in_err-field-clause-stops g t c = raised c.from_residual.result c.from_residual.ensures.1 (loop_stops c.loop.invariant.leads (λ end bs f here is. many_err (field_at end c.args.at (slot_at end c.args.left Text c.args.table.now.unread.items)) c.loop.fields c.args.n c.loop.counter (now_of c.loop.table) bs f c.loop-test.true is) (rw c.loop.invariant.unread at c.in_err-field.ensures.stops))
+pub descriptions::fields-returns-in_err-field-clause-stops : goal.descriptions::fields-returns-in_err-field-clause-stops
+descriptions::fields-returns-in_err-field-clause-stops g t c = raised c.from_residual.result c.from_residual.ensures.1 (loop_stops c.loop.invariant.leads (λ end bs f here is. many_err (field_at end c.args.at (slot_at end c.args.left Text c.args.table.now.unread.items)) c.loop.fields c.args.n c.loop.counter (now_of c.loop.table) bs f c.loop-test.true is) (rw c.loop.invariant.unread at c.in_err-field.ensures.stops))
 
-pub fields-returns-in_err-push-clause-stops : goal.fields-returns-in_err-push-clause-stops
-fields-returns-in_err-push-clause-stops g t c = raised c.from_residual-in_err-push.result c.from_residual-in_err-push.ensures.1 (loop_stops c.loop.invariant.leads (λ end bs f here is. many_err (field_at end c.args.at (slot_at end c.args.left Text c.args.table.now.unread.items)) c.loop.fields c.args.n c.loop.counter (now_of c.loop.table) bs f c.loop-test.true is) (took (rw c.loop.invariant.unread at c.in_ok-field.ensures.reads)))
+pub descriptions::fields-returns-in_err-push-clause-stops : goal.descriptions::fields-returns-in_err-push-clause-stops
+descriptions::fields-returns-in_err-push-clause-stops g t c = raised c.from_residual-in_err-push.result c.from_residual-in_err-push.ensures.1 (loop_stops c.loop.invariant.leads (λ end bs f here is. many_err (field_at end c.args.at (slot_at end c.args.left Text c.args.table.now.unread.items)) c.loop.fields c.args.n c.loop.counter (now_of c.loop.table) bs f c.loop-test.true is) (took (rw c.loop.invariant.unread at c.in_ok-field.ensures.reads)))
 
-pub values-returns-in_err-value-clause-stops : goal.values-returns-in_err-value-clause-stops
-values-returns-in_err-value-clause-stops g t c = raised c.from_residual.result c.from_residual.ensures.1 (loop_stops c.loop-code.invariant.leads (λ end bs f here is. all_err (value_at (slot_at end c.args.left Reference c.args.table.now.unread.items)) c.loop-code.values c.args.codes.now c.loop-code.code-index _ (now_of c.loop-code.table) bs f c.loop-code-test.true is) (rw c.loop-code.invariant.unread at c.in_err-value.ensures.stops))
+pub objects::values-returns-in_err-value-clause-stops : goal.objects::values-returns-in_err-value-clause-stops
+objects::values-returns-in_err-value-clause-stops g t c = raised c.from_residual.result c.from_residual.ensures.1 (loop_stops c.loop-code.invariant.leads (λ end bs f here is. all_err (value_at (slot_at end c.args.left Reference c.args.table.now.unread.items)) c.loop-code.values c.args.codes.now c.loop-code.code-index _ (now_of c.loop-code.table) bs f c.loop-code-test.true is) (rw c.loop-code.invariant.unread at c.in_err-value.ensures.stops))
 
-pub values-returns-in_err-push-clause-stops : goal.values-returns-in_err-push-clause-stops
-values-returns-in_err-push-clause-stops g t c = raised c.from_residual-in_err-push.result c.from_residual-in_err-push.ensures.1 (loop_stops c.loop-code.invariant.leads (λ end bs f here is. all_err (value_at (slot_at end c.args.left Reference c.args.table.now.unread.items)) c.loop-code.values c.args.codes.now c.loop-code.code-index _ (now_of c.loop-code.table) bs f c.loop-code-test.true is) (took (rw c.loop-code.invariant.unread at c.in_ok-value.ensures.reads)))
+pub objects::values-returns-in_err-push-clause-stops : goal.objects::values-returns-in_err-push-clause-stops
+objects::values-returns-in_err-push-clause-stops g t c = raised c.from_residual-in_err-push.result c.from_residual-in_err-push.ensures.1 (loop_stops c.loop-code.invariant.leads (λ end bs f here is. all_err (value_at (slot_at end c.args.left Reference c.args.table.now.unread.items)) c.loop-code.values c.args.codes.now c.loop-code.code-index _ (now_of c.loop-code.table) bs f c.loop-code-test.true is) (took (rw c.loop-code.invariant.unread at c.in_ok-value.ensures.reads)))
 
-pub parts-returns-in_err-part-clause-stops : goal.parts-returns-in_err-part-clause-stops
-parts-returns-in_err-part-clause-stops g t c = raised c.from_residual.result c.from_residual.ensures.1 (loop_stops c.loop-row.invariant.leads (λ end bs f here is. all_err_item (part_by end (slot_at end c.args.left Reference c.args.table.now.unread.items)) c.loop-row.parts c.args.rows.now c.loop-row.row-index c.row-item.result (now_of c.loop-row.table) bs f c.loop-row-test.true c.row-item.is is) (rw c.loop-row.invariant.unread at c.in_err-part.ensures.stops))
+pub objects::parts-returns-in_err-part-clause-stops : goal.objects::parts-returns-in_err-part-clause-stops
+objects::parts-returns-in_err-part-clause-stops g t c = raised c.from_residual.result c.from_residual.ensures.1 (loop_stops c.loop-row.invariant.leads (λ end bs f here is. all_err_item (part_by end (slot_at end c.args.left Reference c.args.table.now.unread.items)) c.loop-row.parts c.args.rows.now c.loop-row.row-index c.row-item.result (now_of c.loop-row.table) bs f c.loop-row-test.true c.row-item.is is) (rw c.loop-row.invariant.unread at c.in_err-part.ensures.stops))
 
-pub parts-returns-in_err-push-clause-stops : goal.parts-returns-in_err-push-clause-stops
-parts-returns-in_err-push-clause-stops g t c = raised c.from_residual-in_err-push.result c.from_residual-in_err-push.ensures.1 (loop_stops c.loop-row.invariant.leads (λ end bs f here is. all_err_item (part_by end (slot_at end c.args.left Reference c.args.table.now.unread.items)) c.loop-row.parts c.args.rows.now c.loop-row.row-index c.row-item.result (now_of c.loop-row.table) bs f c.loop-row-test.true c.row-item.is is) (took (rw c.loop-row.invariant.unread at c.in_ok-part.ensures.reads)))
+pub objects::parts-returns-in_err-push-clause-stops : goal.objects::parts-returns-in_err-push-clause-stops
+objects::parts-returns-in_err-push-clause-stops g t c = raised c.from_residual-in_err-push.result c.from_residual-in_err-push.ensures.1 (loop_stops c.loop-row.invariant.leads (λ end bs f here is. all_err_item (part_by end (slot_at end c.args.left Reference c.args.table.now.unread.items)) c.loop-row.parts c.args.rows.now c.loop-row.row-index c.row-item.result (now_of c.loop-row.table) bs f c.loop-row-test.true c.row-item.is is) (took (rw c.loop-row.invariant.unread at c.in_ok-part.ensures.reads)))
 
-pub items-returns-in_err-code-clause-stops : goal.items-returns-in_err-code-clause-stops
-items-returns-in_err-code-clause-stops g t c = raised c.from_residual.result c.from_residual.ensures.1 (loop_stops (slack_leads c.loop-items.invariant.slack) (λ end bs f here is. code_err end (slot_at end c.args.left Reference c.args.table.now.unread.items) _ (now_of c.loop-items.table) c.loop-items.items.items bs f is) c.in_err-code.ensures.stops)
+pub annotations::items-returns-in_err-code-clause-stops : goal.annotations::items-returns-in_err-code-clause-stops
+annotations::items-returns-in_err-code-clause-stops g t c = raised c.from_residual.result c.from_residual.ensures.1 (loop_stops (slack_leads c.loop-items.invariant.slack) (λ end bs f here is. code_err end (slot_at end c.args.left Reference c.args.table.now.unread.items) _ (now_of c.loop-items.table) c.loop-items.items.items bs f is) c.in_err-code.ensures.stops)
 
-pub items-returns-in_err-item-clause-stops : goal.items-returns-in_err-item-clause-stops
-items-returns-in_err-item-clause-stops g t c = raised c.from_residual-in_err-item.result c.from_residual-in_err-item.ensures.1 (slack_stops (λ end. coded end c.args.left (slot_at end (c.args.left - 1)) Reference c.args.table.now.unread.items c.loop-items.pull.at c.in_ok-code.code) c.loop-items.invariant.slack c.in_ok-code.ensures.reads (ne_eqb c.in_ok-code.code 120 c.if-code-eq120.false) (λ end bs here. slot_gives end c.args.left Reference c.args.table.now.unread.items (now_of c.loop-items.table) (c.in_ok-code.code ∷ bs) c.loop-items.pull.at c.in_ok-code.code bs here refl) (rw c.loop-items.invariant.unread at c.in_err-item.ensures.stops))
+pub annotations::items-returns-in_err-item-clause-stops : goal.annotations::items-returns-in_err-item-clause-stops
+annotations::items-returns-in_err-item-clause-stops g t c = raised c.from_residual-in_err-item.result c.from_residual-in_err-item.ensures.1 (slack_stops (λ end. coded end c.args.left (slot_at end (c.args.left - 1)) Reference c.args.table.now.unread.items c.loop-items.pull.at c.in_ok-code.code) c.loop-items.invariant.slack c.in_ok-code.ensures.reads (ne_eqb c.in_ok-code.code 120 c.if-code-eq120.false) (λ end bs here. slot_gives end c.args.left Reference c.args.table.now.unread.items (now_of c.loop-items.table) (c.in_ok-code.code ∷ bs) c.loop-items.pull.at c.in_ok-code.code bs here refl) (rw c.loop-items.invariant.unread at c.in_err-item.ensures.stops))
 
-pub items-returns-in_err-add-clause-stops : goal.items-returns-in_err-add-clause-stops
-items-returns-in_err-add-clause-stops g t c = raised c.from_residual-in_err-add.result c.from_residual-in_err-add.ensures.1 (slack_stops (λ end. coded end c.args.left (slot_at end (c.args.left - 1)) Reference c.args.table.now.unread.items c.loop-items.pull.at c.in_ok-code.code) c.loop-items.invariant.slack c.in_ok-code.ensures.reads (ne_eqb c.in_ok-code.code 120 c.if-code-eq120.false) (λ end bs here. slot_gives end c.args.left Reference c.args.table.now.unread.items (now_of c.loop-items.table) (c.in_ok-code.code ∷ bs) c.loop-items.pull.at c.in_ok-code.code bs here refl) (took (rw c.loop-items.invariant.unread at c.in_ok-item.ensures.reads)))
+pub annotations::items-returns-in_err-add-clause-stops : goal.annotations::items-returns-in_err-add-clause-stops
+annotations::items-returns-in_err-add-clause-stops g t c = raised c.from_residual-in_err-add.result c.from_residual-in_err-add.ensures.1 (slack_stops (λ end. coded end c.args.left (slot_at end (c.args.left - 1)) Reference c.args.table.now.unread.items c.loop-items.pull.at c.in_ok-code.code) c.loop-items.invariant.slack c.in_ok-code.ensures.reads (ne_eqb c.in_ok-code.code 120 c.if-code-eq120.false) (λ end bs here. slot_gives end c.args.left Reference c.args.table.now.unread.items (now_of c.loop-items.table) (c.in_ok-code.code ∷ bs) c.loop-items.pull.at c.in_ok-code.code bs here refl) (took (rw c.loop-items.invariant.unread at c.in_ok-item.ensures.reads)))
 
-pub items-loop-items-smaller : goal.items-loop-items-smaller
-items-loop-items-smaller g t c = nearer c.in_ok-code.ensures.reads c.in_ok-item.ensures.reads c.item.new.pull.within
+pub annotations::items-loop-items-smaller : goal.annotations::items-loop-items-smaller
+annotations::items-loop-items-smaller g t c = nearer c.in_ok-code.ensures.reads c.in_ok-item.ensures.reads c.item.new.pull.within
 
-pub object_in-returns-then-lacks_parts-clause-stops : goal.object_in-returns-then-lacks_parts-clause-stops
-object_in-returns-then-lacks_parts-clause-stops g t c =
+pub objects::object_in-returns-then-lacks_parts-clause-stops : goal.objects::object_in-returns-then-lacks_parts-clause-stops
+objects::object_in-returns-then-lacks_parts-clause-stops g t c =
     let rows = c.as_slice-rows.ensures.value ∙ c.in_ok-shape.ensures.rows in
     let lacks = sym c.lacks_parts.ensures ∙ c.if-lacks_parts.true in
     many_here c.args.at (λ end bs here. object_is end c.args.at (slot_at end c.args.left Reference c.args.table.now.unread.items) c.args.class c.as_slice-rows.result.now (now_of c.args.table.now) bs rows ∙ rw lacks refl)
@@ -459,22 +459,22 @@ coded-returns-then-is_full-clause-stops g t c =
     let some = sym c.admits_code.ensures ∙ c.if-not-admits_code.false in
     many_here c.args.at (λ end bs here. coded_full end c.args.left (slot_at end (c.args.left - 1)) c.args.place c.args.table.now.unread.items c.args.at c.args.code (now_of c.args.table.now) bs (ne_eqb c.args.code 112 c.if-code-eq112.false) (ne_eqb c.args.code 113 c.if-code-eq113.false) some (omega arith) (sym c.is_full.ensures ∙ c.if-is_full.true))
 
-pub constant_in-returns-then-not-is_enum-clause-stops : goal.constant_in-returns-then-not-is_enum-clause-stops
+pub constants::constant_in-returns-then-not-is_enum-clause-stops : goal.constants::constant_in-returns-then-not-is_enum-clause-stops
 unfolding enum_at
-constant_in-returns-then-not-is_enum-clause-stops g t c =
+constants::constant_in-returns-then-not-is_enum-clause-stops g t c =
     let none = sym c.is_enum.ensures ∙ c.if-not-is_enum.true in
     rw c.bad.ensures (bad_here BadDesc c.args.at tt (λ end bs here. rw none refl))
 
-pub fields-loop-init : goal.fields-loop-init
-fields-loop-init g t c = record {
+pub descriptions::fields-loop-init : goal.descriptions::fields-loop-init
+descriptions::fields-loop-init g t c = record {
   lent = refl;
   grows = omega arith;
   unread = refl;
   leads = rw c.new-fields.ensures (leads_start _ _ _ (λ end bs. many_start (field_at end c.args.at (slot_at end c.args.left Text c.args.table.now.unread.items)) c.args.n (now_of c.args.table.now) bs));
 }
 
-pub slots-loop-init : goal.slots-loop-init
-slots-loop-init g t c = record {
+pub arrays::slots-loop-init : goal.arrays::slots-loop-init
+arrays::slots-loop-init g t c = record {
   lent = refl;
   grows = omega arith;
   unread = refl;
@@ -485,12 +485,12 @@ pub fresh-returns-in_default-clause-stops : goal.fresh-returns-in_default-clause
 unfolding fresh_at
 fresh-returns-in_default-clause-stops g t c = rw c.bad.ensures (bad_here BadCode c.args.at tt (λ end bs here. search rules))
 
-pub note-returns-else-writes-clause-reads : goal.note-returns-else-writes-clause-reads
+pub annotations::note-returns-else-writes-clause-reads : goal.annotations::note-returns-else-writes-clause-reads
 unfolding note_at
-note-returns-else-writes-clause-reads g t c = rw (c.new.ensures, c.if-writes.false) (done (λ end bs. refl))
+annotations::note-returns-else-writes-clause-reads g t c = rw (c.new.ensures, c.if-writes.false) (done (λ end bs. refl))
 
-pub object_in-returns-in-Some-clause-stops : goal.object_in-returns-in-Some-clause-stops
-object_in-returns-in-Some-clause-stops g t c =
+pub objects::object_in-returns-in-Some-clause-stops : goal.objects::object_in-returns-in-Some-clause-stops
+objects::object_in-returns-in-Some-clause-stops g t c =
     let rows = c.as_slice-rows.ensures.value ∙ c.in_ok-shape.ensures.rows in
     let few = sym c.lacks_parts.ensures ∙ c.if-lacks_parts.false in
     let wrong = sym c.in_ok-shape.ensures.fault ∙ ap (λ (f : Option StreamKind). option_map kind_of f) c.in-Some.is in

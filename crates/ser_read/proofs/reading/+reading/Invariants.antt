@@ -17,86 +17,86 @@ decreases-coded g l = 16 * l.left + 0
 abbrev pub decreases-slot : goal.decreases-slot
 decreases-slot g l = 16 * l.left + 1
 
-abbrev pub decreases-slots : goal.decreases-slots
-decreases-slots g l = 16 * l.left + 2
+abbrev pub decreases-arrays::slots : goal.decreases-arrays::slots
+decreases-arrays::slots g l = 16 * l.left + 2
 
-abbrev pub decreases-value : goal.decreases-value
-decreases-value g l = 16 * l.left + 2
+abbrev pub decreases-objects::value : goal.decreases-objects::value
+decreases-objects::value g l = 16 * l.left + 2
 
-abbrev pub decreases-field_of : goal.decreases-field_of
-decreases-field_of g l = 16 * l.left + 2
+abbrev pub decreases-descriptions::field_of : goal.decreases-descriptions::field_of
+decreases-descriptions::field_of g l = 16 * l.left + 2
 
 abbrev pub decreases-class : goal.decreases-class
 decreases-class g l = 16 * l.left + 2
 
-abbrev pub decreases-item : goal.decreases-item
-decreases-item g l = 16 * l.left + 2
+abbrev pub decreases-annotations::item : goal.decreases-annotations::item
+decreases-annotations::item g l = 16 * l.left + 2
 
-abbrev pub decreases-items : goal.decreases-items
-decreases-items g l = 16 * l.left + 3
+abbrev pub decreases-annotations::items : goal.decreases-annotations::items
+decreases-annotations::items g l = 16 * l.left + 3
 
-abbrev pub decreases-values : goal.decreases-values
-decreases-values g l = 16 * l.left + 3
+abbrev pub decreases-objects::values : goal.decreases-objects::values
+decreases-objects::values g l = 16 * l.left + 3
 
-abbrev pub decreases-field : goal.decreases-field
-decreases-field g l = 16 * l.left + 3
+abbrev pub decreases-descriptions::field : goal.decreases-descriptions::field
+decreases-descriptions::field g l = 16 * l.left + 3
 
-abbrev pub decreases-elements : goal.decreases-elements
-decreases-elements g l = 16 * l.left + 3
+abbrev pub decreases-arrays::elements : goal.decreases-arrays::elements
+decreases-arrays::elements g l = 16 * l.left + 3
 
-abbrev pub decreases-constant_in : goal.decreases-constant_in
-decreases-constant_in g l = 16 * l.left + 3
+abbrev pub decreases-constants::constant_in : goal.decreases-constants::constant_in
+decreases-constants::constant_in g l = 16 * l.left + 3
 
-abbrev pub decreases-class_value : goal.decreases-class_value
-decreases-class_value g l = 16 * l.left + 3
+abbrev pub decreases-constants::class_value : goal.decreases-constants::class_value
+decreases-constants::class_value g l = 16 * l.left + 3
 
-abbrev pub decreases-note : goal.decreases-note
-decreases-note g l = 16 * l.left + 4
+abbrev pub decreases-annotations::note : goal.decreases-annotations::note
+decreases-annotations::note g l = 16 * l.left + 4
 
-abbrev pub decreases-part : goal.decreases-part
-decreases-part g l = 16 * l.left + 5
+abbrev pub decreases-objects::part : goal.decreases-objects::part
+decreases-objects::part g l = 16 * l.left + 5
 
-abbrev pub decreases-parts : goal.decreases-parts
-decreases-parts g l = 16 * l.left + 6
+abbrev pub decreases-objects::parts : goal.decreases-objects::parts
+decreases-objects::parts g l = 16 * l.left + 6
 
-abbrev pub decreases-fields : goal.decreases-fields
-decreases-fields g l = 16 * l.left + 4
+abbrev pub decreases-descriptions::fields : goal.decreases-descriptions::fields
+decreases-descriptions::fields g l = 16 * l.left + 4
 
-abbrev pub decreases-array_of : goal.decreases-array_of
-decreases-array_of g l = 16 * l.left + 4
+abbrev pub decreases-arrays::array_of : goal.decreases-arrays::array_of
+decreases-arrays::array_of g l = 16 * l.left + 4
 
-abbrev pub decreases-array_in : goal.decreases-array_in
-decreases-array_in g l = 16 * l.left + 5
+abbrev pub decreases-arrays::array_in : goal.decreases-arrays::array_in
+decreases-arrays::array_in g l = 16 * l.left + 5
 
-abbrev pub decreases-desc_after : goal.decreases-desc_after
-decreases-desc_after g l = 16 * l.left + 5
+abbrev pub decreases-descriptions::desc_after : goal.decreases-descriptions::desc_after
+decreases-descriptions::desc_after g l = 16 * l.left + 5
 
-abbrev pub decreases-object_after : goal.decreases-object_after
-decreases-object_after g l = 16 * l.left + 7
+abbrev pub decreases-objects::object_after : goal.decreases-objects::object_after
+decreases-objects::object_after g l = 16 * l.left + 7
 
-abbrev pub decreases-object_in : goal.decreases-object_in
-decreases-object_in g l = 16 * l.left + 8
+abbrev pub decreases-objects::object_in : goal.decreases-objects::object_in
+decreases-objects::object_in g l = 16 * l.left + 8
 
-abbrev pub decreases-desc : goal.decreases-desc
-decreases-desc g l = 16 * l.left + 7
+abbrev pub decreases-descriptions::desc : goal.decreases-descriptions::desc
+decreases-descriptions::desc g l = 16 * l.left + 7
 
-abbrev pub decreases-proxy : goal.decreases-proxy
-decreases-proxy g l = 16 * l.left + 7
+abbrev pub decreases-descriptions::proxy : goal.decreases-descriptions::proxy
+decreases-descriptions::proxy g l = 16 * l.left + 7
 
-abbrev pub decreases-array : goal.decreases-array
-decreases-array g l = 16 * l.left + 6
+abbrev pub decreases-arrays::array : goal.decreases-arrays::array
+decreases-arrays::array g l = 16 * l.left + 6
 
-abbrev pub decreases-object : goal.decreases-object
-decreases-object g l = 16 * l.left + 9
+abbrev pub decreases-objects::object : goal.decreases-objects::object
+decreases-objects::object g l = 16 * l.left + 9
 
-abbrev pub decreases-constant : goal.decreases-constant
-decreases-constant g l = 16 * l.left + 4
+abbrev pub decreases-constants::constant : goal.decreases-constants::constant
+decreases-constants::constant g l = 16 * l.left + 4
 
 abbrev pub decreases-fresh : goal.decreases-fresh
 decreases-fresh g l = 16 * l.left + 15
 
-abbrev pub invariant-slots-loop : goal.invariant-slots-loop
-invariant-slots-loop g l =
+abbrev pub invariant-arrays::slots-loop : goal.invariant-arrays::slots-loop
+invariant-arrays::slots-loop g l =
     record {
       lent : l.pull.source.ghost_name ≡ l.fn.pull.source.ghost_name;
       grows : length l.fn.table.nodes.items ≤ length l.table.nodes.items;
@@ -104,8 +104,8 @@ invariant-slots-loop g l =
       leads : Leads short (place g.S.Source.left g.S.Source.faults l.fn.pull) (place g.S.Source.left g.S.Source.faults l.pull) (λ end. many_at (slot_at end l.left Reference l.fn.table.unread.items) l.n (now_of l.fn.table)) (λ end bs. front_of l.slots (many_at (slot_at end l.left Reference l.fn.table.unread.items) (l.n - l.counter) (now_of l.table) bs));
     }
 
-abbrev pub invariant-fields-loop : goal.invariant-fields-loop
-invariant-fields-loop g l =
+abbrev pub invariant-descriptions::fields-loop : goal.invariant-descriptions::fields-loop
+invariant-descriptions::fields-loop g l =
     record {
       lent : l.pull.source.ghost_name ≡ l.fn.pull.source.ghost_name;
       grows : length l.fn.table.nodes.items ≤ length l.table.nodes.items;
@@ -113,8 +113,8 @@ invariant-fields-loop g l =
       leads : Leads short (place g.S.Source.left g.S.Source.faults l.fn.pull) (place g.S.Source.left g.S.Source.faults l.pull) (λ end. many_at (field_at end l.at (slot_at end l.left Text l.fn.table.unread.items)) l.n (now_of l.fn.table)) (λ end bs. front_of l.fields (many_at (field_at end l.at (slot_at end l.left Text l.fn.table.unread.items)) (l.n - l.counter) (now_of l.table) bs));
     }
 
-abbrev pub invariant-values-loop-code : goal.invariant-values-loop-code
-invariant-values-loop-code g l =
+abbrev pub invariant-objects::values-loop-code : goal.invariant-objects::values-loop-code
+invariant-objects::values-loop-code g l =
     record {
       lent : l.pull.source.ghost_name ≡ l.fn.pull.source.ghost_name;
       grows : length l.fn.table.nodes.items ≤ length l.table.nodes.items;
@@ -122,8 +122,8 @@ invariant-values-loop-code g l =
       leads : Leads short (place g.S.Source.left g.S.Source.faults l.fn.pull) (place g.S.Source.left g.S.Source.faults l.pull) (λ end. values_by (slot_at end l.left Reference l.fn.table.unread.items) l.codes (now_of l.fn.table)) (λ end bs. front_of l.values (all_at (value_at (slot_at end l.left Reference l.fn.table.unread.items)) (drop l.code-index l.codes) (now_of l.table) bs));
     }
 
-abbrev pub invariant-parts-loop-row : goal.invariant-parts-loop-row
-invariant-parts-loop-row g l =
+abbrev pub invariant-objects::parts-loop-row : goal.invariant-objects::parts-loop-row
+invariant-objects::parts-loop-row g l =
     record {
       lent : l.pull.source.ghost_name ≡ l.fn.pull.source.ghost_name;
       grows : length l.fn.table.nodes.items ≤ length l.table.nodes.items;
@@ -131,8 +131,8 @@ invariant-parts-loop-row g l =
       leads : Leads short (place g.S.Source.left g.S.Source.faults l.fn.pull) (place g.S.Source.left g.S.Source.faults l.pull) (λ end. parts_by end (slot_at end l.left Reference l.fn.table.unread.items) l.rows (now_of l.fn.table)) (λ end bs. front_of l.parts (all_at (part_by end (slot_at end l.left Reference l.fn.table.unread.items)) (drop l.row-index l.rows) (now_of l.table) bs));
     }
 
-abbrev pub invariant-items-loop-items : goal.invariant-items-loop-items
-invariant-items-loop-items g l =
+abbrev pub invariant-annotations::items-loop-items : goal.invariant-annotations::items-loop-items
+invariant-annotations::items-loop-items g l =
     record {
       lent : l.pull.source.ghost_name ≡ l.fn.pull.source.ghost_name;
       grows : length l.fn.table.nodes.items ≤ length l.table.nodes.items;
@@ -140,5 +140,5 @@ invariant-items-loop-items g l =
       slack : Slack (place g.S.Source.left g.S.Source.faults l.fn.pull) (place g.S.Source.left g.S.Source.faults l.pull) (λ end. (slot_at end l.left Reference l.fn.table.unread.items)) true (now_of l.fn.table) (now_of l.table) l.items.items;
     }
 
-abbrev pub decreases-items-loop-items : goal.decreases-items-loop-items
-decreases-items-loop-items g l = l.pull.stop - l.pull.at
+abbrev pub decreases-annotations::items-loop-items : goal.decreases-annotations::items-loop-items
+decreases-annotations::items-loop-items g l = l.pull.stop - l.pull.at

@@ -1,0 +1,99 @@
+//! Annotations: blocks of bytes and references, up to their end.
+ghost use Rattle.std.specs.Prelude.{◌≡◌, ◌-◌, ◌≤◌, length, OnOk, true};
+ghost use Rattle.ser_values.specs.declared.node.Place.TheVariants.{Reference};
+ghost use Rattle.ser_values.specs.declared.limits.TheConstants.{LEVELS};
+ghost use Rattle.ser_values.specs.Reading.{slot_at, coded, items_at, note_at};
+ghost use Rattle.ser_read.specs.Named.{item_at};
+ghost use Rattle.ser_read.specs.Tables.{now_of};
+ghost use Rattle.ser_read.specs.Here.{ReadsTaken, StopsTaken};
+
+use crate::fault::StreamFault;
+use crate::pieces::add;
+use crate::pulled::{byte, count, take};
+use crate::reading::coded;
+use crate::table::Table;
+use class_desc::{Item, Items};
+use ser_values::Place;
+use std::alloc::Global;
+use wire_io::pull::Pull;
+use wire_io::source::Source;
+
+/// A part's note.
+#[cycle(reading)]
+#[tactic(auto, unfolding(ser_values::specs::Reading::note_at))]
+pub(super) fn note<S: Source>(
+    alloc: Global,
+    pull: &mut Pull<'_, S>,
+    table: &mut Table,
+    writes: bool,
+    left: u32,
+) -> Result<Items, StreamFault>
+    requires left { left ≤ LEVELS }
+    ensures lent { pull.new.source.ghost_name ≡ pull.old.source.ghost_name }
+    ensures grows { length table.old.nodes.items ≤ length table.new.nodes.items }
+    ensures unread { OnOk result (table.new.unread.items ≡ table.old.unread.items) }
+    ensures reads { ReadsTaken S.left S.faults pull.old pull.new result (λ end. note_at end (slot_at end left Reference table.old.unread.items) writes (now_of table.old)) (λ x rest. (x, now_of table.new, rest)) }
+    ensures stops { StopsTaken S.left S.faults pull.old pull.new result (λ end. note_at end (slot_at end left Reference table.old.unread.items) writes (now_of table.old)) }
+{
+    if writes {
+        items(alloc, pull, table, left)
+    } else {
+        Ok(Items::new(alloc))
+    }
+}
+
+/// Items up to the end of an annotation.
+#[cycle(reading)]
+pub(super) fn items<S: Source>(
+    alloc: Global,
+    pull: &mut Pull<'_, S>,
+    table: &mut Table,
+    left: u32,
+) -> Result<Items, StreamFault>
+    requires left { left ≤ LEVELS }
+    ensures lent { pull.new.source.ghost_name ≡ pull.old.source.ghost_name }
+    ensures grows { length table.old.nodes.items ≤ length table.new.nodes.items }
+    ensures unread { OnOk result (table.new.unread.items ≡ table.old.unread.items) }
+    ensures reads { ReadsTaken S.left S.faults pull.old pull.new result (λ end. items_at end (slot_at end left Reference table.old.unread.items) true (now_of table.old)) (λ x rest. (x, now_of table.new, rest)) }
+    ensures stops { StopsTaken S.left S.faults pull.old pull.new result (λ end. items_at end (slot_at end left Reference table.old.unread.items) true (now_of table.old)) }
+{
+    let mut items = Vec::new(alloc);
+    loop {
+        let at = pull.at;
+        let code = byte(pull)?;
+        if code == 0x78 {
+            return Ok(Items::from_vec(items));
+        }
+        let item = item(alloc, pull, table, at, code, left)?;
+        add(&mut items, item)?;
+    }
+}
+
+/// A block, or a reference, after its code.
+#[cycle(reading)]
+#[tactic(auto, unfolding(crate::specs::Named::item_at))]
+pub(crate) fn item<S: Source>(
+    alloc: Global,
+    pull: &mut Pull<'_, S>,
+    table: &mut Table,
+    at: u64,
+    code: u8,
+    left: u32,
+) -> Result<Item, StreamFault>
+    requires left { left ≤ LEVELS }
+    ensures lent { pull.new.source.ghost_name ≡ pull.old.source.ghost_name }
+    ensures grows { length table.old.nodes.items ≤ length table.new.nodes.items }
+    ensures unread { OnOk result (table.new.unread.items ≡ table.old.unread.items) }
+    ensures reads { ReadsTaken S.left S.faults pull.old pull.new result (λ end. item_at end (coded end left (slot_at end (left - 1)) Reference table.old.unread.items at code) code (now_of table.old)) (λ x rest. (x, now_of table.new, rest)) }
+    ensures stops { StopsTaken S.left S.faults pull.old pull.new result (λ end. item_at end (coded end left (slot_at end (left - 1)) Reference table.old.unread.items at code) code (now_of table.old)) }
+{
+    if code == 0x77 {
+        let n = byte(pull)?;
+        Ok(Item::Bytes(take(alloc, pull, u64::from(n))?))
+    } else if code == 0x7A {
+        let n = count(pull)?;
+        Ok(Item::Bytes(take(alloc, pull, u64::from(n))?))
+    } else {
+        Ok(Item::Ref(coded(alloc, pull, table, Place::Reference, left, at, code)?))
+    }
+}

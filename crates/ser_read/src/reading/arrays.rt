@@ -1,0 +1,149 @@
+//! Arrays.
+ghost use Rattle.std.specs.Prelude.{◌≡◌, ◌≢◌, ◌≤◌, ◌<◌, length, IfOk, OnOk, Some};
+ghost use Rattle.class_desc.specs.declared.slot.Slot.TheVariants.{Null};
+ghost use Rattle.ser_values.specs.declared.node.Place.TheVariants.{Reference};
+ghost use Rattle.ser_values.specs.declared.limits.TheConstants.{LEVELS, NODES};
+ghost use Rattle.ser_values.specs.Reading.{slot_at, many_at, elements_at, with_class, array_at, array_of};
+ghost use Rattle.ser_read.specs.Tables.{now_of};
+ghost use Rattle.ser_read.specs.Here.{ReadsTaken, StopsTaken};
+
+use crate::fault::{StreamFault, StreamKind};
+use crate::numbers::primitives;
+use crate::pieces::bad;
+use crate::pulled::count;
+use crate::reading::{class, slot};
+use crate::table::Table;
+use class_desc::{Slot, SlotList, TypeCode, is_primitive};
+use mod_utf::list::ByteList;
+use ser_values::{Node, Place, Values};
+use std::alloc::Global;
+use wire_io::pull::Pull;
+use wire_io::source::Source;
+
+/// An array.
+#[cycle(reading)]
+#[tactic(auto, using(crate::proofs::Parts::with_class_is))]
+pub(super) fn array<S: Source>(
+    alloc: Global,
+    pull: &mut Pull<'_, S>,
+    table: &mut Table,
+    at: u64,
+    left: u32,
+) -> Result<Slot, StreamFault>
+    requires left { left ≤ LEVELS }
+    ensures lent { pull.new.source.ghost_name ≡ pull.old.source.ghost_name }
+    ensures grows { length table.old.nodes.items ≤ length table.new.nodes.items }
+    ensures unread { OnOk result (table.new.unread.items ≡ table.old.unread.items) }
+    ensures some { IfOk result (λ slot. slot ≢ Null) }
+    ensures reads { ReadsTaken S.left S.faults pull.old pull.new result (λ end. with_class (slot_at end left) table.old.unread.items at (array_at end at (slot_at end left Reference table.old.unread.items)) (now_of table.old)) (λ x rest. (x, now_of table.new, rest)) }
+    ensures stops { StopsTaken S.left S.faults pull.old pull.new result (λ end. with_class (slot_at end left) table.old.unread.items at (array_at end at (slot_at end left Reference table.old.unread.items)) (now_of table.old)) }
+{
+    let class = class(alloc, pull, table, at, left)?;
+    array_in(alloc, pull, table, at, class, left)
+}
+
+/// An array, whose class was read.
+#[cycle(reading)]
+#[tactic(auto, unfolding(ser_values::specs::Reading::array_at, ser_values::specs::Reading::array_of))]
+fn array_in<S: Source>(
+    alloc: Global,
+    pull: &mut Pull<'_, S>,
+    table: &mut Table,
+    at: u64,
+    class: u32,
+    left: u32,
+) -> Result<Slot, StreamFault>
+    requires room { length table.old.nodes.items < NODES }
+    requires left { left ≤ LEVELS }
+    ensures lent { pull.new.source.ghost_name ≡ pull.old.source.ghost_name }
+    ensures grows { length table.old.nodes.items ≤ length table.new.nodes.items }
+    ensures unread { OnOk result (table.new.unread.items ≡ table.old.unread.items) }
+    ensures some { IfOk result (λ slot. slot ≢ Null) }
+    ensures reads { ReadsTaken S.left S.faults pull.old pull.new result (λ end. array_at end at (slot_at end left Reference table.old.unread.items) class (now_of table.old)) (λ x rest. (x, now_of table.new, rest)) }
+    ensures stops { StopsTaken S.left S.faults pull.old pull.new result (λ end. array_at end at (slot_at end left Reference table.old.unread.items) class (now_of table.old)) }
+{
+    match table.element_type(class) {
+        None => Err(bad(StreamKind::BadDesc, at)),
+        Some(code) => array_of(alloc, pull, table, class, code, left),
+    }
+}
+
+/// The elements of an array.
+#[cycle(reading)]
+#[tactic(auto, unfolding(ser_values::specs::Reading::array_of))]
+fn array_of<S: Source>(
+    alloc: Global,
+    pull: &mut Pull<'_, S>,
+    table: &mut Table,
+    class: u32,
+    code: TypeCode,
+    left: u32,
+) -> Result<Slot, StreamFault>
+    requires room { length table.old.nodes.items < NODES }
+    requires left { left ≤ LEVELS }
+    ensures lent { pull.new.source.ghost_name ≡ pull.old.source.ghost_name }
+    ensures grows { length table.old.nodes.items ≤ length table.new.nodes.items }
+    ensures unread { OnOk result (table.new.unread.items ≡ table.old.unread.items) }
+    ensures some { IfOk result (λ slot. slot ≢ Null) }
+    ensures reads { ReadsTaken S.left S.faults pull.old pull.new result (λ end. array_of end 0 (slot_at end left Reference table.old.unread.items) class (Some code) (now_of table.old)) (λ x rest. (x, now_of table.new, rest)) }
+    ensures stops { StopsTaken S.left S.faults pull.old pull.new result (λ end. array_of end 0 (slot_at end left Reference table.old.unread.items) class (Some code) (now_of table.old)) }
+{
+    let n = count(pull)?;
+    let number = table.begin(Node::Array {
+        class,
+        values: Values::Bytes(ByteList::new(alloc)),
+    })?;
+    let values = elements(alloc, pull, table, code, n, left)?;
+    table.fill(number, Node::Array { class, values });
+    Ok(Slot::Node(number))
+}
+
+/// Elements of a type.
+#[cycle(reading)]
+#[tactic(auto, unfolding(ser_values::specs::Reading::elements_at))]
+fn elements<S: Source>(
+    alloc: Global,
+    pull: &mut Pull<'_, S>,
+    table: &mut Table,
+    code: TypeCode,
+    n: u32,
+    left: u32,
+) -> Result<Values, StreamFault>
+    requires left { left ≤ LEVELS }
+    ensures lent { pull.new.source.ghost_name ≡ pull.old.source.ghost_name }
+    ensures grows { length table.old.nodes.items ≤ length table.new.nodes.items }
+    ensures unread { OnOk result (table.new.unread.items ≡ table.old.unread.items) }
+    ensures reads { ReadsTaken S.left S.faults pull.old pull.new result (λ end. elements_at (slot_at end left Reference table.old.unread.items) code n (now_of table.old)) (λ x rest. (x, now_of table.new, rest)) }
+    ensures stops { StopsTaken S.left S.faults pull.old pull.new result (λ end. elements_at (slot_at end left Reference table.old.unread.items) code n (now_of table.old)) }
+{
+    if is_primitive(code) {
+        primitives(alloc, pull, code, n)
+    } else {
+        let slots = slots(alloc, pull, table, n, left)?;
+        Ok(Values::Refs(slots))
+    }
+}
+
+/// References, one after the other.
+#[cycle(reading)]
+fn slots<S: Source>(
+    alloc: Global,
+    pull: &mut Pull<'_, S>,
+    table: &mut Table,
+    n: u32,
+    left: u32,
+) -> Result<SlotList, StreamFault>
+    requires left { left ≤ LEVELS }
+    ensures lent { pull.new.source.ghost_name ≡ pull.old.source.ghost_name }
+    ensures grows { length table.old.nodes.items ≤ length table.new.nodes.items }
+    ensures unread { OnOk result (table.new.unread.items ≡ table.old.unread.items) }
+    ensures reads { ReadsTaken S.left S.faults pull.old pull.new result (λ end. many_at (slot_at end left Reference table.old.unread.items) n (now_of table.old)) (λ x rest. (x, now_of table.new, rest)) }
+    ensures stops { StopsTaken S.left S.faults pull.old pull.new result (λ end. many_at (slot_at end left Reference table.old.unread.items) n (now_of table.old)) }
+{
+    let mut slots = SlotList::new(alloc);
+    for _ in 0..n {
+        let slot = slot(alloc, pull, table, Place::Reference, left)?;
+        slots.push(slot)?;
+    }
+    Ok(slots)
+}

@@ -1,0 +1,213 @@
+//! Descriptions of classes and of dynamic proxy classes.
+ghost use Rattle.std.specs.Prelude.{◌≡◌, ◌≢◌, ◌≤◌, ◌<◌, length, IfOk, OnOk, Some};
+ghost use Rattle.class_desc.specs.declared.slot.Slot.TheVariants.{Null};
+ghost use Rattle.ser_values.specs.declared.node.Place.TheVariants.{Text};
+ghost use Rattle.ser_values.specs.declared.limits.TheConstants.{LEVELS, NODES};
+ghost use Rattle.ser_values.specs.Reading.{slot_at, many_at, field_at, field_of, desc_at, desc_after, proxy_at};
+ghost use Rattle.ser_read.specs.Tables.{now_of};
+ghost use Rattle.ser_read.specs.Here.{ReadsTaken, StopsTaken};
+
+use crate::fault::{StreamFault, StreamKind};
+use crate::pieces::{bad, blank, names};
+use crate::pulled::{byte, count, eight, field_count, short_text};
+use crate::reading::annotations::items;
+use crate::reading::slot;
+use crate::table::Table;
+use class_desc::{
+    ClassDesc, FieldDesc, FieldList, Items, ProxyDesc, Slot, TypeCode, check_desc, is_primitive,
+};
+use mod_utf::list::Units;
+use ser_values::{Node, Place};
+use std::alloc::Global;
+use wire_io::pull::Pull;
+use wire_io::source::Source;
+
+/// A class's description.
+#[cycle(reading)]
+#[tactic(auto, unfolding(ser_values::specs::Reading::desc_at))]
+pub(super) fn desc<S: Source>(
+    alloc: Global,
+    pull: &mut Pull<'_, S>,
+    table: &mut Table,
+    at: u64,
+    left: u32,
+) -> Result<Slot, StreamFault>
+    requires room { length table.old.nodes.items < NODES }
+    requires left { left ≤ LEVELS }
+    ensures lent { pull.new.source.ghost_name ≡ pull.old.source.ghost_name }
+    ensures grows { length table.old.nodes.items ≤ length table.new.nodes.items }
+    ensures unread { OnOk result (table.new.unread.items ≡ table.old.unread.items) }
+    ensures some { IfOk result (λ slot. slot ≢ Null) }
+    ensures reads { ReadsTaken S.left S.faults pull.old pull.new result (λ end. desc_at end at (slot_at end left) table.old.unread.items (now_of table.old)) (λ x rest. (x, now_of table.new, rest)) }
+    ensures stops { StopsTaken S.left S.faults pull.old pull.new result (λ end. desc_at end at (slot_at end left) table.old.unread.items (now_of table.old)) }
+{
+    let name = short_text(alloc, pull)?;
+    let suid = eight(pull)?;
+    let flags = byte(pull)?;
+    let number = table.begin(blank(alloc))?;
+    table.open(number)?;
+    let desc = desc_after(alloc, pull, table, at, name, suid, flags, left)?;
+    table.close();
+    table.fill(number, Node::Desc(desc));
+    Ok(Slot::Node(number))
+}
+
+/// What stands after a description's handle and flags.
+#[cycle(reading)]
+#[tactic(auto, unfolding(ser_values::specs::Reading::desc_after))]
+fn desc_after<S: Source>(
+    alloc: Global,
+    pull: &mut Pull<'_, S>,
+    table: &mut Table,
+    at: u64,
+    name: Units,
+    suid: u64,
+    flags: u8,
+    left: u32,
+) -> Result<ClassDesc, StreamFault>
+    requires left { left ≤ LEVELS }
+    ensures lent { pull.new.source.ghost_name ≡ pull.old.source.ghost_name }
+    ensures grows { length table.old.nodes.items ≤ length table.new.nodes.items }
+    ensures unread { OnOk result (table.new.unread.items ≡ table.old.unread.items) }
+    ensures reads { ReadsTaken S.left S.faults pull.old pull.new result (λ end. desc_after end at (slot_at end left) table.old.unread.items name suid flags (now_of table.old)) (λ x rest. (x, now_of table.new, rest)) }
+    ensures stops { StopsTaken S.left S.faults pull.old pull.new result (λ end. desc_after end at (slot_at end left) table.old.unread.items name suid flags (now_of table.old)) }
+{
+    let n = field_count(pull)?;
+    let fields = fields(alloc, pull, table, at, n, left)?;
+    let mut desc = ClassDesc {
+        name,
+        suid: suid.cast_signed(),
+        flags,
+        fields,
+        note: Items::new(alloc),
+        parent: Slot::Null,
+    };
+    if check_desc(&desc).is_err() {
+        return Err(bad(StreamKind::BadDesc, at));
+    }
+    desc.note = items(alloc, pull, table, left)?;
+    desc.parent = slot(alloc, pull, table, Place::Parent, left)?;
+    Ok(desc)
+}
+
+/// The fields of a description.
+#[cycle(reading)]
+fn fields<S: Source>(
+    alloc: Global,
+    pull: &mut Pull<'_, S>,
+    table: &mut Table,
+    at: u64,
+    n: u16,
+    left: u32,
+) -> Result<FieldList, StreamFault>
+    requires left { left ≤ LEVELS }
+    ensures lent { pull.new.source.ghost_name ≡ pull.old.source.ghost_name }
+    ensures grows { length table.old.nodes.items ≤ length table.new.nodes.items }
+    ensures unread { OnOk result (table.new.unread.items ≡ table.old.unread.items) }
+    ensures reads { ReadsTaken S.left S.faults pull.old pull.new result (λ end. many_at (field_at end at (slot_at end left Text table.old.unread.items)) n (now_of table.old)) (λ x rest. (x, now_of table.new, rest)) }
+    ensures stops { StopsTaken S.left S.faults pull.old pull.new result (λ end. many_at (field_at end at (slot_at end left Text table.old.unread.items)) n (now_of table.old)) }
+{
+    let mut fields = FieldList::new(alloc);
+    for _ in 0..n {
+        let field = field(alloc, pull, table, at, left)?;
+        fields.push(field)?;
+    }
+    Ok(fields)
+}
+
+/// A field.
+#[cycle(reading)]
+#[tactic(auto, unfolding(ser_values::specs::Reading::field_at, ser_values::specs::Reading::field_of))]
+fn field<S: Source>(
+    alloc: Global,
+    pull: &mut Pull<'_, S>,
+    table: &mut Table,
+    at: u64,
+    left: u32,
+) -> Result<FieldDesc, StreamFault>
+    requires left { left ≤ LEVELS }
+    ensures lent { pull.new.source.ghost_name ≡ pull.old.source.ghost_name }
+    ensures grows { length table.old.nodes.items ≤ length table.new.nodes.items }
+    ensures unread { OnOk result (table.new.unread.items ≡ table.old.unread.items) }
+    ensures reads { ReadsTaken S.left S.faults pull.old pull.new result (λ end. field_at end at (slot_at end left Text table.old.unread.items) (now_of table.old)) (λ x rest. (x, now_of table.new, rest)) }
+    ensures stops { StopsTaken S.left S.faults pull.old pull.new result (λ end. field_at end at (slot_at end left Text table.old.unread.items) (now_of table.old)) }
+{
+    let letter = byte(pull)?;
+    match TypeCode::from_letter(letter) {
+        None => Err(bad(StreamKind::BadDesc, at)),
+        Some(code) => field_of(alloc, pull, table, at, code, left),
+    }
+}
+
+/// A field of a type.
+#[cycle(reading)]
+#[tactic(auto, unfolding(ser_values::specs::Reading::field_of))]
+fn field_of<S: Source>(
+    alloc: Global,
+    pull: &mut Pull<'_, S>,
+    table: &mut Table,
+    at: u64,
+    code: TypeCode,
+    left: u32,
+) -> Result<FieldDesc, StreamFault>
+    requires left { left ≤ LEVELS }
+    ensures lent { pull.new.source.ghost_name ≡ pull.old.source.ghost_name }
+    ensures grows { length table.old.nodes.items ≤ length table.new.nodes.items }
+    ensures unread { OnOk result (table.new.unread.items ≡ table.old.unread.items) }
+    ensures reads { ReadsTaken S.left S.faults pull.old pull.new result (λ end. field_of end at (slot_at end left Text table.old.unread.items) (Some code) (now_of table.old)) (λ x rest. (x, now_of table.new, rest)) }
+    ensures stops { StopsTaken S.left S.faults pull.old pull.new result (λ end. field_of end at (slot_at end left Text table.old.unread.items) (Some code) (now_of table.old)) }
+{
+    let name = short_text(alloc, pull)?;
+    if is_primitive(code) {
+        return Ok(FieldDesc {
+            code,
+            name,
+            type_text: Slot::Null,
+        });
+    }
+    let type_text = slot(alloc, pull, table, Place::Text, left)?;
+    if !table.fits_type(code, type_text) {
+        return Err(bad(StreamKind::BadDesc, at));
+    }
+    Ok(FieldDesc {
+        code,
+        name,
+        type_text,
+    })
+}
+
+/// The description of a dynamic proxy class.
+#[cycle(reading)]
+#[tactic(auto, unfolding(ser_values::specs::Reading::proxy_at))]
+pub(super) fn proxy<S: Source>(
+    alloc: Global,
+    pull: &mut Pull<'_, S>,
+    table: &mut Table,
+    left: u32,
+) -> Result<Slot, StreamFault>
+    requires room { length table.old.nodes.items < NODES }
+    requires left { left ≤ LEVELS }
+    ensures lent { pull.new.source.ghost_name ≡ pull.old.source.ghost_name }
+    ensures grows { length table.old.nodes.items ≤ length table.new.nodes.items }
+    ensures unread { OnOk result (table.new.unread.items ≡ table.old.unread.items) }
+    ensures some { IfOk result (λ slot. slot ≢ Null) }
+    ensures reads { ReadsTaken S.left S.faults pull.old pull.new result (λ end. proxy_at end (slot_at end left) table.old.unread.items (now_of table.old)) (λ x rest. (x, now_of table.new, rest)) }
+    ensures stops { StopsTaken S.left S.faults pull.old pull.new result (λ end. proxy_at end (slot_at end left) table.old.unread.items (now_of table.old)) }
+{
+    let n = count(pull)?;
+    let number = table.begin(blank(alloc))?;
+    table.open(number)?;
+    let names = names(alloc, pull, n)?;
+    let note = items(alloc, pull, table, left)?;
+    let parent = slot(alloc, pull, table, Place::Parent, left)?;
+    table.close();
+    table.fill(
+        number,
+        Node::Proxy(ProxyDesc {
+            names,
+            note,
+            parent,
+        }),
+    );
+    Ok(Slot::Node(number))
+}

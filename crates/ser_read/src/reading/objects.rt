@@ -1,0 +1,205 @@
+//! Objects: for each class of the chain its values and its annotation.
+ghost use Rattle.std.specs.Prelude.{◌≡◌, ◌≢◌, ◌≤◌, ◌<◌, ◌+◌, length, IfOk, OnOk};
+ghost use Rattle.class_desc.specs.declared.slot.Slot.TheVariants.{Null};
+ghost use Rattle.ser_values.specs.declared.node.Place.TheVariants.{Reference};
+ghost use Rattle.ser_values.specs.declared.limits.TheConstants.{LEVELS, NODES, PARTS};
+ghost use Rattle.ser_values.specs.Reading.{slot_at, value_at, with_class, object_at};
+ghost use Rattle.ser_read.specs.Rows.{values_by, part_by, parts_by, object_by};
+ghost use Rattle.ser_read.specs.Tables.{now_of};
+ghost use Rattle.ser_read.specs.Here.{ReadsTaken, StopsTaken};
+
+use crate::fault::{Large, StreamFault};
+use crate::numbers::primitive;
+use crate::pieces::bad;
+use crate::reading::annotations::note;
+use crate::reading::{class, slot};
+use crate::row::ClassRow;
+use crate::shape::shape_of;
+use crate::table::Table;
+use class_desc::{Slot, TypeCode, is_primitive};
+use ser_values::{Node, Part, PartList, Place, Value, ValueList};
+use std::alloc::Global;
+use wire_io::pull::Pull;
+use wire_io::source::Source;
+
+/// An object.
+#[cycle(reading)]
+#[tactic(auto, using(crate::proofs::Parts::with_class_is))]
+pub(super) fn object<S: Source>(
+    alloc: Global,
+    pull: &mut Pull<'_, S>,
+    table: &mut Table,
+    at: u64,
+    left: u32,
+) -> Result<Slot, StreamFault>
+    requires left { left ≤ LEVELS }
+    ensures lent { pull.new.source.ghost_name ≡ pull.old.source.ghost_name }
+    ensures grows { length table.old.nodes.items ≤ length table.new.nodes.items }
+    ensures unread { OnOk result (table.new.unread.items ≡ table.old.unread.items) }
+    ensures some { IfOk result (λ slot. slot ≢ Null) }
+    ensures reads { ReadsTaken S.left S.faults pull.old pull.new result (λ end. with_class (slot_at end left) table.old.unread.items at (object_at end at (slot_at end left Reference table.old.unread.items)) (now_of table.old)) (λ x rest. (x, now_of table.new, rest)) }
+    ensures stops { StopsTaken S.left S.faults pull.old pull.new result (λ end. with_class (slot_at end left) table.old.unread.items at (object_at end at (slot_at end left Reference table.old.unread.items)) (now_of table.old)) }
+{
+    let class = class(alloc, pull, table, at, left)?;
+    object_in(alloc, pull, table, at, class, left)
+}
+
+/// An object, whose class was read.
+#[cycle(reading)]
+#[tactic(auto, unfolding(ser_values::specs::Reading::object_at), using(crate::proofs::Parts::object_is))]
+fn object_in<S: Source>(
+    alloc: Global,
+    pull: &mut Pull<'_, S>,
+    table: &mut Table,
+    at: u64,
+    class: u32,
+    left: u32,
+) -> Result<Slot, StreamFault>
+    requires room { length table.old.nodes.items < NODES }
+    requires left { left ≤ LEVELS }
+    ensures lent { pull.new.source.ghost_name ≡ pull.old.source.ghost_name }
+    ensures grows { length table.old.nodes.items ≤ length table.new.nodes.items }
+    ensures unread { OnOk result (table.new.unread.items ≡ table.old.unread.items) }
+    ensures some { IfOk result (λ slot. slot ≢ Null) }
+    ensures reads { ReadsTaken S.left S.faults pull.old pull.new result (λ end. object_at end at (slot_at end left Reference table.old.unread.items) class (now_of table.old)) (λ x rest. (x, now_of table.new, rest)) }
+    ensures stops { StopsTaken S.left S.faults pull.old pull.new result (λ end. object_at end at (slot_at end left Reference table.old.unread.items) class (now_of table.old)) }
+{
+    let shape = shape_of(alloc, table, class)?;
+    let rows = shape.rows.as_slice();
+    if table.lacks_parts(rows.len()) {
+        return Err(StreamFault::TooLarge {
+            what: Large::Nodes,
+            at,
+        });
+    }
+    match shape.fault {
+        Some(kind) => Err(bad(kind, at)),
+        None => object_after(alloc, pull, table, class, rows, left),
+    }
+}
+
+/// The parts of an object.
+#[cycle(reading)]
+#[tactic(auto, unfolding(crate::specs::Rows::object_by))]
+fn object_after<S: Source>(
+    alloc: Global,
+    pull: &mut Pull<'_, S>,
+    table: &mut Table,
+    class: u32,
+    rows: &[ClassRow],
+    left: u32,
+) -> Result<Slot, StreamFault>
+    requires room { length table.old.nodes.items < NODES }
+    requires parts { table.old.parts + length rows.now ≤ PARTS }
+    requires left { left ≤ LEVELS }
+    ensures lent { pull.new.source.ghost_name ≡ pull.old.source.ghost_name }
+    ensures grows { length table.old.nodes.items ≤ length table.new.nodes.items }
+    ensures unread { OnOk result (table.new.unread.items ≡ table.old.unread.items) }
+    ensures some { IfOk result (λ slot. slot ≢ Null) }
+    ensures reads { ReadsTaken S.left S.faults pull.old pull.new result (λ end. object_by end (slot_at end left Reference table.old.unread.items) class rows.now (now_of table.old)) (λ x rest. (x, now_of table.new, rest)) }
+    ensures stops { StopsTaken S.left S.faults pull.old pull.new result (λ end. object_by end (slot_at end left Reference table.old.unread.items) class rows.now (now_of table.old)) }
+{
+    table.add_parts(rows.len());
+    let number = table.begin(Node::Object {
+        class,
+        parts: PartList::new(alloc),
+    })?;
+    let parts = parts(alloc, pull, table, rows, left)?;
+    table.fill(number, Node::Object { class, parts });
+    Ok(Slot::Node(number))
+}
+
+/// Parts of an object.
+#[cycle(reading)]
+fn parts<S: Source>(
+    alloc: Global,
+    pull: &mut Pull<'_, S>,
+    table: &mut Table,
+    rows: &[ClassRow],
+    left: u32,
+) -> Result<PartList, StreamFault>
+    requires left { left ≤ LEVELS }
+    ensures lent { pull.new.source.ghost_name ≡ pull.old.source.ghost_name }
+    ensures grows { length table.old.nodes.items ≤ length table.new.nodes.items }
+    ensures unread { OnOk result (table.new.unread.items ≡ table.old.unread.items) }
+    ensures reads { ReadsTaken S.left S.faults pull.old pull.new result (λ end. parts_by end (slot_at end left Reference table.old.unread.items) rows.now (now_of table.old)) (λ x rest. (x, now_of table.new, rest)) }
+    ensures stops { StopsTaken S.left S.faults pull.old pull.new result (λ end. parts_by end (slot_at end left Reference table.old.unread.items) rows.now (now_of table.old)) }
+{
+    let mut parts = PartList::new(alloc);
+    for row in rows {
+        let part = part(alloc, pull, table, row, left)?;
+        parts.push(part)?;
+    }
+    Ok(parts)
+}
+
+/// A part of an object.
+#[cycle(reading)]
+#[tactic(auto, unfolding(crate::specs::Rows::part_by))]
+fn part<S: Source>(
+    alloc: Global,
+    pull: &mut Pull<'_, S>,
+    table: &mut Table,
+    row: &ClassRow,
+    left: u32,
+) -> Result<Part, StreamFault>
+    requires left { left ≤ LEVELS }
+    ensures lent { pull.new.source.ghost_name ≡ pull.old.source.ghost_name }
+    ensures grows { length table.old.nodes.items ≤ length table.new.nodes.items }
+    ensures unread { OnOk result (table.new.unread.items ≡ table.old.unread.items) }
+    ensures reads { ReadsTaken S.left S.faults pull.old pull.new result (λ end. part_by end (slot_at end left Reference table.old.unread.items) row.now (now_of table.old)) (λ x rest. (x, now_of table.new, rest)) }
+    ensures stops { StopsTaken S.left S.faults pull.old pull.new result (λ end. part_by end (slot_at end left Reference table.old.unread.items) row.now (now_of table.old)) }
+{
+    let values = values(alloc, pull, table, row.codes.as_slice(), left)?;
+    let note = note(alloc, pull, table, row.note, left)?;
+    Ok(Part { values, note })
+}
+
+/// Values of fields.
+#[cycle(reading)]
+fn values<S: Source>(
+    alloc: Global,
+    pull: &mut Pull<'_, S>,
+    table: &mut Table,
+    codes: &[TypeCode],
+    left: u32,
+) -> Result<ValueList, StreamFault>
+    requires left { left ≤ LEVELS }
+    ensures lent { pull.new.source.ghost_name ≡ pull.old.source.ghost_name }
+    ensures grows { length table.old.nodes.items ≤ length table.new.nodes.items }
+    ensures unread { OnOk result (table.new.unread.items ≡ table.old.unread.items) }
+    ensures reads { ReadsTaken S.left S.faults pull.old pull.new result (λ end. values_by (slot_at end left Reference table.old.unread.items) codes.now (now_of table.old)) (λ x rest. (x, now_of table.new, rest)) }
+    ensures stops { StopsTaken S.left S.faults pull.old pull.new result (λ end. values_by (slot_at end left Reference table.old.unread.items) codes.now (now_of table.old)) }
+{
+    let mut values = ValueList::new(alloc);
+    for code in codes {
+        let value = value(alloc, pull, table, *code, left)?;
+        values.push(value)?;
+    }
+    Ok(values)
+}
+
+/// The value of a field.
+#[cycle(reading)]
+#[tactic(auto, unfolding(ser_values::specs::Reading::value_at))]
+fn value<S: Source>(
+    alloc: Global,
+    pull: &mut Pull<'_, S>,
+    table: &mut Table,
+    code: TypeCode,
+    left: u32,
+) -> Result<Value, StreamFault>
+    requires left { left ≤ LEVELS }
+    ensures lent { pull.new.source.ghost_name ≡ pull.old.source.ghost_name }
+    ensures grows { length table.old.nodes.items ≤ length table.new.nodes.items }
+    ensures unread { OnOk result (table.new.unread.items ≡ table.old.unread.items) }
+    ensures reads { ReadsTaken S.left S.faults pull.old pull.new result (λ end. value_at (slot_at end left Reference table.old.unread.items) code (now_of table.old)) (λ x rest. (x, now_of table.new, rest)) }
+    ensures stops { StopsTaken S.left S.faults pull.old pull.new result (λ end. value_at (slot_at end left Reference table.old.unread.items) code (now_of table.old)) }
+{
+    if is_primitive(code) {
+        primitive(pull, code)
+    } else {
+        let slot = slot(alloc, pull, table, Place::Reference, left)?;
+        Ok(Value::Ref(slot))
+    }
+}
