@@ -6,11 +6,11 @@ use std::process::Abort;
 use std::test::Fail;
 
 /// A header of the stream protocol and a client's endpoint without a host.
-const OPENING: &str = "4A524D49 0002 4B 0000 00000000";
+pub(crate) const OPENING: &str = "4A524D49 0002 4B 0000 00000000";
 /// The acknowledgement to the peer 127.0.0.1, port 1234.
-const ACK: &str = "4E 0009 3132372E302E302E31 000004D2";
+pub(crate) const ACK: &str = "4E 0009 3132372E302E302E31 000004D2";
 /// The identifier of the first Return.
-const FIRST: &str = "00000002 0000000000000002 8000";
+pub(crate) const FIRST: &str = "00000002 0000000000000002 8000";
 
 /// A head of `add(J)J` on an object that is not exported.
 const ABSENT: &str =
@@ -19,19 +19,19 @@ const ABSENT: &str =
 const SPLIT: &str = "50 ACED0005 77 08 0000000000000063 77 00 7A 00000004 00000003 \
     77 16 0000000000000004 0000 FFFFFFFF DE3EC51A3025A10E";
 /// What an exceptional Return holds before its message.
-const FAULT: &str =
+pub(crate) const FAULT: &str =
     "73 72 0018 6A6176612E726D692E52656D6F7465457863657074696F6E B88C9D4EDEE47A22 02 0001 4C 0006 64657461696C 74 \
     0015 4C6A6176612F6C616E672F5468726F7761626C653B 70 78 72 0013 6A6176612E696F2E494F457863657074696F6E \
     6C8073646525F0AB 02 0000 70 78 72 0013 6A6176612E6C616E672E457863657074696F6E D0FD1F3E1A3B1CC4 02 0000 70 78 \
     72 0013 6A6176612E6C616E672E5468726F7761626C65 D5C635273977B8CB 03 0001 4C 000D 64657461696C4D657373616765 74 \
     0012 4C6A6176612F6C616E672F537472696E673B 70 78 70 74";
 /// Its message, and what comes after it.
-const NO_OBJECT: &str =
+pub(crate) const NO_OBJECT: &str =
     "002E 6A6176612E726D692E4E6F537563684F626A656374457863657074696F6E3A206E6F2073756368206F626A656374 78 70";
 
 /// What a connection gets after its opening, what it is answered after the acknowledgement, how many bytes are left, the line and
 /// the status. Both are hexadecimal digits, piece by piece.
-type Row = (
+pub(crate) type Row = (
     &'static [&'static str],
     &'static [&'static str],
     usize,
@@ -112,7 +112,11 @@ fn put_digits(bytes: &mut ByteList, digits: &str) -> Result<(), AllocError> {
 }
 
 /// The bytes of pieces, one after the other.
-fn bytes_of(alloc: Global, front: &str, pieces: &[&str]) -> Result<ByteList, AllocError> {
+pub(crate) fn bytes_of(
+    alloc: Global,
+    front: &str,
+    pieces: &[&str],
+) -> Result<ByteList, AllocError> {
     let mut bytes = ByteList::new(alloc);
     put_digits(&mut bytes, front)?;
     for piece in pieces {
@@ -122,7 +126,12 @@ fn bytes_of(alloc: Global, front: &str, pieces: &[&str]) -> Result<ByteList, All
 }
 
 /// Serves a row, cut in one way.
-fn check_row(rt: &impl Abort, alloc: Global, row: Row, cut: Option<u32>) -> Result<(), AllocError> {
+pub(crate) fn check_row(
+    rt: &impl Abort,
+    alloc: Global,
+    row: Row,
+    cut: Option<u32>,
+) -> Result<(), AllocError> {
     let (more, written, left, line, status) = row;
     let input = bytes_of(alloc, OPENING, more)?;
     let output = bytes_of(alloc, ACK, written)?;

@@ -22,6 +22,10 @@ mod promptness;
 #[cfg(test)]
 mod replays;
 #[cfg(test)]
+mod served;
+#[cfg(test)]
 mod shows;
 #[cfg(test)]
 mod wires;
+#[cfg(test)]
+mod workers;

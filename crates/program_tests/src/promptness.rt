@@ -10,17 +10,20 @@ use wire_io::mem::MemClock;
 use wire_io::sink::Sink;
 use wire_io::source::{Failed, Source};
 
-/// An opening, two Pings and the end.
-const INPUT: &[u8] = b"JRMI\x00\x02K\x00\x00\x00\x00\x00\x00RR";
+/// An opening, a Ping, a call of `get()J`, a Ping and the end.
+const INPUT: &[u8] =
+    b"JRMI\x00\x02K\x00\x00\x00\x00\x00\x00RP\xAC\xED\x00\x05w\x22\x00\x00\x00\x00\x00\x00\x00\x11\x00\x00\x00\x03\
+\x00\x00\x00\x00\x00\x00\x00\x04\x00\x00\xFF\xFF\xFF\xFF\xE2\xCA\x1A\x08\xEB\xC0\x2A\x8DR";
 
-/// How many bytes are to be written before the byte of this index is asked for: the acknowledgement after the header's 7, and an
-/// answer after each Ping.
+/// How many bytes are to be written before the byte of this index is asked for: the acknowledgement of 16 after the header's 7, and an
+/// answer after each message. The call has 41 bytes, and its Return 30.
 fn due(index: usize) -> usize {
     match index {
         0..=6 => 0,
         7..=13 => 16,
-        14 => 17,
-        _ => 18,
+        14..=54 => 17,
+        55 => 47,
+        _ => 48,
     }
 }
 
@@ -94,6 +97,6 @@ fn answers_are_written_before_more_is_read(rt: HostRuntime) -> Result<(), Fail> 
     must(&rt, status == 0, "status");
     must(&rt, host.input.at == INPUT.len(), "all was read");
     must(&rt, early.get() == 0, "reads before what was due");
-    must(&rt, written.get() == 18, "all was written");
+    must(&rt, written.get() == 48, "all was written");
     Ok(())
 }
