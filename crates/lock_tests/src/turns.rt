@@ -20,6 +20,19 @@ fn must(rt: &impl Abort, holds: bool, what: &str) {
     assert!(rt; holds, "{what}");
 }
 
+/// A pass that is split off the root, if there is one more.
+fn branch(root: &mut Root, lock: &TurnLock) -> Option<Pass>
+    requires { IsRootOf lock.now root.old }
+    ensures root { IsRootOf lock.now root.new }
+    ensures pass { IfSome result (λ p. IsBranchOf lock.now p × (p.room ≡ 2147483648)) }
+    ensures out { IfSome result (λ _. root.new.out ≡ root.old.out + 1) }
+{
+    match root.split(lock) {
+        Ok(pass) => Some(pass),
+        Err(_fault) => None,
+    }
+}
+
 /// The space after two passes with a thread each made so many ticks each, and how many of them were refused.
 fn by_two<R: Threads + Wait + Sync>(
     rt: &R,
@@ -32,8 +45,8 @@ fn by_two<R: Threads + Wait + Sync>(
     let Ok((lock, mut root)) = TurnLock::around(alloc, space) else {
         return None;
     };
-    let one = root.split(&lock).ok()?;
-    let two = root.split(&lock).ok()?;
+    let one = branch(&mut root, &lock)?;
+    let two = branch(&mut root, &lock)?;
     let top = &lock;
     let ((one, first), (two, second)) = join(
         rt,

@@ -19,7 +19,7 @@ use Rattle.turn_lock.specs.declared.view.View.{View}
 use Rattle.turn_lock.specs.declared.view.Stage.{Stage}
 use Rattle.turn_lock.specs.declared.view.Stage.TheVariants.{Idle, Drawn, Called}
 use Rattle.turn_lock.specs.Rule.{Events, StartsWith, events_by, longer, space_with, HasOwn, MayComeTo, Waits, Knows, Fits, HasEnded, Kept, root, spent, at_home, holding, in_stage, drew, looked, published, passed_over, advanced, absorbed, left_of, right_of, both_of, Settled}
-use Rattle.turn_lock.proofs.Views.{all_set, sum_set, sum_rest, sum_same, sum_le, within, same_at, put, put_here, put_else}
+use Rattle.turn_lock.proofs.Views.{all_set, sum_set, sum_one, sum_rest, sum_same, sum_le, within, same_at, put, put_here, put_else}
 
 abbrev St : Type 0
 St = State (Option SpaceHistory) View
@@ -341,7 +341,7 @@ advances h0 id v t hand called part s r deep at fits =
     )
 
 -- the events of one number, with one more event
-own_more : (n : ℕ) (tail : Events) (e : Event) → e.by ≡ n → events_by n (tail ++ e ∷ []) ≡ events_by n tail ++ e ∷ []
+pub own_more : (n : ℕ) (tail : Events) (e : Event) → e.by ≡ n → events_by n (tail ++ e ∷ []) ≡ events_by n tail ++ e ∷ []
 own_more n tail e is = filter-append (λ (x : Event). x.by == n) tail (e ∷ []) ∙ ap (λ b. events_by n tail ++ cond b (e ∷ []) []) (eq-eqb e.by n is)
 
 own_less : (n : ℕ) (tail : Events) (e : Event) → e.by ≢ n → events_by n (tail ++ e ∷ []) ≡ events_by n tail
@@ -551,7 +551,10 @@ absorbs h0 id v idle part s r deep at fits =
     let end = longer_starts log v.seen v.told mine.begun mine.begun_told (ltb (length v.seen) (length v.told)) in
     let both = longer_begins log v.seen v.told mine.begun mine.begun_told (ltb (length v.seen) (length v.told)) refl in
     let own_is : HasOwn h0.events id v.own w.seen = subst (HasOwn h0.events id v.own) (sym both.0.1)
-    (longer_own h0.events id v.own r.tail v.seen both.0.0 end.0 mine.owned_seen (end.1 ∙ ap (λ l. l ++ end.0) both.0.1) mine.owned) in (
+    (longer_own h0.events id v.own r.tail v.seen both.0.0 end.0 mine.owned_seen (end.1 ∙ ap (λ l. l ++ end.0) both.0.1) mine.owned) in
+    let own_now : HasOwn v.opening v.number v.own w.seen = subst (λ (x : Events × ℕ). HasOwn x.0 x.1 v.own w.seen) (λ i. (sym mine.opened i, sym mine.numbered i)) own_is in
+    let one = sum_one (λ (y : View). y.parts) s.views id v at in
+    let parts = r.parts in (
       w,
       keeps,
       tt,
@@ -564,7 +567,7 @@ absorbs h0 id v idle part s r deep at fits =
             waits = f.waits;
           })
           (λ j g other h. h) (λ m other. refl) (λ zero. refl) refl,
-      (refl, both.0, both.1),
+      (refl, both.0, both.1, own_now, omega (arith, one, parts)),
     )
 
 -- the first seat takes another's view in

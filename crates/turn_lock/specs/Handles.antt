@@ -7,7 +7,7 @@ use Rattle.turn_lock.specs.declared.view.Stage.TheVariants.{Idle}
 use Rattle.turn_lock.specs.declared.handles.TurnLock.{TurnLock}
 use Rattle.turn_lock.specs.declared.handles.Pass.{Pass}
 use Rattle.turn_lock.specs.declared.handles.Root.{Root}
-use Rattle.turn_lock.specs.Rule.{root, space_with}
+use Rattle.turn_lock.specs.Rule.{InOrder, root, space_with}
 
 -- The space round which the lock was made.
 abbrev pub opening_of : TurnLock → SpaceHistory
@@ -21,7 +21,7 @@ view_of p = p.seat.me.0
 abbrev pub seen_space : View → SpaceHistory
 seen_space v = space_with v.config v.seen
 
--- The pass is the lock's, and makes no turn. What it has seen is a legal history, and there is room for further turns of it.
+-- The pass is the lock's, and makes no turn. What it has seen is in order, and there is room for further turns of it.
 pub record IsPassOf (l : TurnLock) (p : Pass) : Type 0 where
   pub table : p.seat.table_id ≡ l.board.shared.table_id
   pub empty : p.seat.me.1 ≡ []
@@ -29,7 +29,9 @@ pub record IsPassOf (l : TurnLock) (p : Pass) : Type 0 where
   pub numbered : p.number ≡ p.seat.me.0.number
   pub part : 0 < p.seat.me.0.parts
   pub configured : p.seat.me.0.config ≡ l.board.shared.key.value.configuration
+  pub opened : p.seat.me.0.opening ≡ l.board.shared.key.value.events
   pub legal : IsLegal p.seat.me.0.config p.seat.me.0.seen
+  pub ordered : InOrder l.board.shared.key.value p.seat.me.0
   pub turns : p.seat.me.0.drawn + p.room ≤ 2147483648 * p.seat.me.0.parts
 
 -- A pass that was split off the root, which is one part.

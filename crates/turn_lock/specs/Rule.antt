@@ -167,9 +167,12 @@ passed_over st m n m' = (t : ℕ) (h : Events) → m.0.stage ≡ Called t h → 
 abbrev pub advanced : At → Sat → ℕ → Sat → Type 0
 advanced st m n m' = m' ≡ (in_stage m.0 Idle, rest m.1)
 
--- The longer of what was seen and what was told of is seen, which begins with both.
+-- The longer of what was seen and what was told of is seen, which begins with both and has the seat's own events. No seat has more parts than
+-- there are.
 abbrev pub absorbed : At → Sat → ℕ → Sat → Type 0
-absorbed st m n m' = (m' ≡ (record m.0 { seen = longer m.0.seen m.0.told }, m.1)) × StartsWith m'.0.seen m.0.seen × StartsWith m'.0.seen m.0.told
+absorbed st m n m' =
+    (m' ≡ (record m.0 { seen = longer m.0.seen m.0.told }, m.1)) × StartsWith m'.0.seen m.0.seen × StartsWith m'.0.seen m.0.told
+    × HasOwn m'.0.opening m'.0.number m'.0.own m'.0.seen × (m.0.parts ≤ 2147483649)
 
 abbrev pub left_of : View → View
 left_of v = record v { parts = v.parts - 1; made = v.made + 1 }
@@ -220,6 +223,14 @@ pub record TurnedAt (v : View) (before : Events) (e : Event) (answer : Result Tu
 -- now.
 abbrev pub TurnedBy : View → ℕ → ℕ → Ask → Result Turn Refused → View → Type 0
 TurnedBy v by moment ask answer w = (before : Events) × TurnedAt v before (event_of by moment ask) answer w × IsAnswerTo (λ o. 0 < running (places v.config before) by o) ask answer
+
+-- What a pass of a lock round this space has seen is a legal history that goes on from the space's, and of its further events those of the
+-- pass's number are exactly its own, in order.
+pub record InOrder (s : SpaceHistory) (v : View) : Type 0 where
+  pub legal : history.IsLegal s.configuration v.seen
+  pub tail : Events
+  pub begins : v.seen ≡ s.events ++ tail
+  pub own : events_by v.number tail ≡ v.own
 
 -- All passes have ended: a history is legal, begins with the opening one and with what the root has seen, and its further events are the
 -- root's own, those of the passes that were joined, each pass's in its order, and no others.

@@ -7,7 +7,7 @@ ghost use Rattle.history.specs.Table.{places};
 ghost use Rattle.space.specs.Acts.{event_of};
 ghost use Rattle.space.specs.Built.{IsBuilt};
 ghost use Rattle.space.specs.Entries.{entry_of};
-ghost use Rattle.turn_lock.specs.Rule.{Events, TurnedAt, TurnedBy, Settled, StartsWith, left_of, right_of, joined_of};
+ghost use Rattle.turn_lock.specs.Rule.{Events, InOrder, TurnedAt, TurnedBy, Settled, StartsWith, left_of, right_of, joined_of};
 ghost use Rattle.turn_lock.specs.Handles.{IsPassOf, IsBranchOf, IsFresh, IsRootOf, opening_of, view_of};
 
 use crate::handles::{Pass, Root, SplitFault, TurnLock};
@@ -27,7 +27,8 @@ const MOST: u32 = 2147483648;
 impl TurnLock {
     /// A lock round a space, and its root. It is refused only for want of memory; then the space comes back.
     pub fn around(alloc: Global, space: Space) -> Result<(TurnLock, Root), Space>
-        ensures { MatchResult result (λ t. IsFresh t.0 t.1 × (opening_of t.0 ≡ space)) (λ s. s ≡ space) }
+        ensures fresh { MatchResult result (λ t. IsFresh t.0 t.1 × (opening_of t.0 ≡ space)) (λ s. s ≡ space) }
+        ensures ordered { IfOk result (λ t. InOrder space (view_of t.1.pass)) }
     {
         let about = Snapshot::of(&space);
         let length = space.len();
@@ -89,11 +90,13 @@ impl Root {
             (λ p. IsBranchOf lock.now p × (p.room ≡ 2147483648) × (view_of p ≡ right_of (view_of self.old.pass)) × (view_of self.new.pass ≡ left_of (view_of self.old.pass))
             × (self.new.made ≡ self.old.made + 1) × (self.new.out ≡ self.old.out + 1) × (self.new.pass.room ≡ self.old.pass.room))
             (λ fault. (self.old.made ≡ 2147483648) × (self.new ≡ self.old)) }
+        ensures ordered { InOrder (opening_of lock.now) (view_of self.new.pass) × IfOk result (λ p. InOrder (opening_of lock.now) (view_of p)) }
     {
         if self.made == MOST {
             return Err(SplitFault::TooManyPasses);
         }
-        let seat = lock.board.shared.split_seat::<Parts>(&mut self.pass.seat);
+        let mut seat = lock.board.shared.split_seat::<Parts>(&mut self.pass.seat);
+        lock.board.shared.load::<Absorb>(&mut seat, TICKET);
         self.made += 1;
         self.out += 1;
         Ok(Pass {
@@ -106,12 +109,12 @@ impl Root {
     /// Takes a pass back: the root has then seen what the pass has seen, and keeps the list of its events beside its number.
     pub fn join(&mut self, lock: &TurnLock, pass: Pass)
         requires own { IsRootOf lock.now self.old × IsBranchOf lock.now pass }
-        requires some { 0 < self.old.out }
         ensures root { IsRootOf lock.now self.new × (self.new.out + 1 ≡ self.old.out) }
         ensures made { self.new.made ≡ self.old.made }
         ensures room { self.new.pass.room ≡ self.old.pass.room }
         ensures view { view_of self.new.pass ≡ joined_of (view_of self.old.pass) (view_of pass) }
         ensures seen { StartsWith (view_of self.new.pass).seen (view_of self.old.pass).seen × StartsWith (view_of self.new.pass).seen (view_of pass).seen }
+        ensures ordered { InOrder (opening_of lock.now) (view_of self.new.pass) }
     {
         let Pass {
             seat,
@@ -153,6 +156,7 @@ impl Pass {
             (λ refused. TurnedBy (view_of self.old) self.old.number moment ask (Err Refused.OutOfMemory) (view_of self.new)) }
         ensures noted { IfOk result (λ x. x.1 ≡ entry_of moment ask x.0) }
         ensures known { IfOk result (λ x. x.0 ≢ Err Refused.OutOfMemory) }
+        ensures ordered { InOrder (opening_of lock.now) (view_of self.new) }
     {
         let noted = steps::turn(
             rt,
@@ -181,6 +185,7 @@ impl Pass {
         ensures pass { IsPassOf lock.now self.new × (self.new.room + 1 ≡ self.old.room) × (self.new.seat.id ≡ self.old.seat.id) × (self.new.number ≡ self.old.number) }
         ensures turned { (before : Events) × TurnedAt (view_of self.old) before (event_of self.old.number moment (Abandon object)) (Ok (turn_of (view_of self.old).config before (event_of self.old.number moment (Abandon object)))) (view_of self.new)
             × (result ≡ length before) × (0 < running (places (view_of self.old).config before) self.old.number object) }
+        ensures ordered { InOrder (opening_of lock.now) (view_of self.new) }
     {
         let place = steps::abandon(
             rt,

@@ -4,9 +4,10 @@ ghost use Rattle.std.specs.Borrow.{sem};
 ghost use Rattle.space.specs.Ties.{IsTied};
 ghost use Rattle.space.specs.Built.{IsBuilt};
 ghost use Rattle.space.specs.Ports.{entries_of};
-ghost use Rattle.turn_lock.specs.Handles.{IsPassOf, IsRootOf, seen_space, view_of};
+ghost use Rattle.turn_lock.specs.Handles.{IsPassOf, IsRootOf, opening_of, seen_space, view_of};
 ghost use Rattle.turn_lock.specs.Lending.{LendsPass};
 ghost use Rattle.turn_lock.specs.Ports.{PassWent};
+ghost use Rattle.turn_lock.specs.Rule.{InOrder};
 
 use crate::handles::{Pass, Root, TurnLock};
 use crate::port::{PortOver, SeatPort};
@@ -58,6 +59,7 @@ impl Root {
         ensures went { PassWent self.old.pass self.new.pass result.1 }
         ensures asked { result.1 ≡ entries_of moment ask result.0 }
         ensures room { self.old.pass.room ≤ self.new.pass.room + 1 }
+        ensures ordered { InOrder (opening_of lock.now) (view_of self.new.pass) }
     {
         turned(rt, alloc, lock, self.own(), moment, ask)
     }

@@ -12,4 +12,7 @@ returns-clause-pass g c =
     let room : p.room - 1 + 1 ≡ p.room = omega (arith, some) in
     let e = c.abandon-place.ensures.seat in
     let t = c.abandon-place.ensures.turned in
-    (pass_after c.args.lock.now p q t.0 p.number c.args.moment (Abandon c.args.object) _ c.requires.own some e.0 e.2 refl room t.1, room, e.1, refl)
+    (pass_after c.args.lock.now p q t.0 p.number c.args.moment (Abandon c.args.object) _ c.requires.own refl some e.0 e.2 refl room t.1, room, e.1, refl)
+
+pub returns-clause-ordered : goal.returns-clause-ordered
+returns-clause-ordered g c = (returns-clause-pass g c).0.ordered

@@ -14,9 +14,12 @@ returns-clause-pass g c =
     let room : p.room - 1 + 1 ≡ p.room = omega (arith, some) in
     let e = c.turn-noted.ensures.seat in
     let t = c.turn-noted.ensures.turned in
-    (pass_after c.args.lock.now p q t.0 p.number c.args.moment c.args.ask (answer_of c.turn-noted.result) c.requires.own some e.0 e.2 refl room t.1, room, e.1, refl)
+    (pass_after c.args.lock.now p q t.0 p.number c.args.moment c.args.ask (answer_of c.turn-noted.result) c.requires.own refl some e.0 e.2 refl room t.1, room, e.1, refl)
 
 pub returns-clause-turned : goal.returns-clause-turned
 returns-clause-turned g c =
     let t = c.turn-noted.ensures.turned in
     noted_cases c.turn-noted.result (view_of c.args.self.now) c.turn-noted.new.seat.me.0 t.0 c.args.self.now.number c.args.moment c.args.ask t.1 t.2
+
+pub returns-clause-ordered : goal.returns-clause-ordered
+returns-clause-ordered g c = (returns-clause-pass g c).0.ordered

@@ -14,4 +14,5 @@ returns g c =
       went = went;
       asked = t.asked;
       room = subst (λ (p : Pass). p.room ≤ c.turned.new.pass.room + 1) c.own.ensures.value t.room;
+      ordered = t.own.ordered;
     }
