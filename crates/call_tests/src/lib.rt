@@ -9,3 +9,5 @@ mod listener_tests;
 mod message_tests;
 #[cfg(test)]
 mod method_tests;
+#[cfg(test)]
+mod served_tests;

@@ -1,5 +1,5 @@
 -- The nodes of a fault are a graph.
-use Rattle.std.proofs.Common.{◌≡◌, ◌<◌, ◌^◌, ℕ, suc, Bool, true, false, ◌&&◌, nat_lt, List, [], ◌∷◌, length, get_or, codes, refl, arith}
+use Rattle.std.proofs.Common.{◌≡◌, ◌<◌, ◌^◌, ℕ, zero, suc, Bool, true, false, ◌&&◌, nat_lt, List, [], ◌∷◌, length, slice_get, get_or, codes, Some, refl, arith}
 use Rattle.std.specs.Prelude.{All}
 use Rattle.std.specs.Int.{w64}
 use Rattle.std.proofs.lemmas.List.Elements.{All-nil, All-cons}
@@ -22,8 +22,10 @@ use Rattle.ser_values.specs.Node.{is_desc, is_text, admits, admits_null, item_wa
 use Rattle.ser_values.specs.Shape.{joined_from, are_typed, fit_values, fits_chain, is_shaped, parts_in}
 use Rattle.ser_values.specs.Ranges.{ItemFits, NodeFits, UnitsFitIn, PartFits, ValueFits, NameFits, TextFits}
 use Rattle.ser_values.specs.Numbered.{a_null, fresh, Numbered, IsGraph}
+use Rattle.java_shapes.specs.Objects.{same_text}
 use Rattle.java_shapes.specs.Fault.{FaultAt, class_node, fault_parts, fault_items, fault_nodes, reference, empty_part}
 use Rattle.java_shapes.specs.Put.{desc_with, no_codebase}
+use Rattle.java_shapes.proofs.Growth.{desc_differs, texts_differ}
 
 -- ---- its shape
 
@@ -203,6 +205,25 @@ is_graph m h fits = record {
 
 -- ---- its text
 
+string_differs : same_text (codes "Ljava/lang/Throwable;") (codes "Ljava/lang/String;") ≡ false
+unfolding same_text
+string_differs = refl
+
+-- No node before the sixth is the type text of a String, and none before the second that of a Throwable.
+no_string : (m : List ℕ) (k : ℕ) → k < 5 → slice_get (fault_nodes m) k ≡ Some (Text (codes "Ljava/lang/String;")) → ⊥
+unfolding fault_nodes
+no_string m zero lt e = desc_differs _ _ e
+no_string m (suc zero) lt e = texts_differ _ _ string_differs e
+no_string m (suc (suc zero)) lt e = desc_differs _ _ e
+no_string m (suc (suc (suc zero))) lt e = desc_differs _ _ e
+no_string m (suc (suc (suc (suc zero)))) lt e = desc_differs _ _ e
+no_string m (suc (suc (suc (suc (suc k))))) lt e = absurd (omega (arith, lt))
+
+no_throwable : (m : List ℕ) (k : ℕ) → k < 1 → slice_get (fault_nodes m) k ≡ Some (Text (codes "Ljava/lang/Throwable;")) → ⊥
+unfolding fault_nodes
+no_throwable m zero lt e = desc_differs _ _ e
+no_throwable m (suc k) lt e = absurd (omega (arith, lt))
+
 pub fault_at : (m : List ℕ) → FaultAt (fault_nodes m) m (slots.Node 6)
 unfolding fault_nodes
 fault_at m = record {
@@ -211,10 +232,10 @@ fault_at m = record {
   io_exception = slots.Node 2;
   remote_exception = slots.Node 0;
   text = slots.Node 7;
-  highest = record { texts = slots.Node 5 ∷ []; typed = (refl, refl); is = refl };
+  highest = record { texts = slots.Node 5 ∷ []; typed = ((5, refl, (refl, no_string m)), refl); is = refl };
   second = record { texts = []; typed = refl; is = refl };
   third = record { texts = []; typed = refl; is = refl };
-  own = record { texts = slots.Node 1 ∷ []; typed = (refl, refl); is = refl };
+  own = record { texts = slots.Node 1 ∷ []; typed = ((1, refl, (refl, no_throwable m)), refl); is = refl };
   told = refl;
   is = refl;
 }

@@ -86,9 +86,18 @@ text_is (Some (Enum c k)) t h = absurd cc
 pub text_grown : {n : ℕ} {a b : List Node} (g : Grows n a b) (s : Slot) (t : List ℕ) → text_at a s ≡ Some t → text_at b s ≡ Some t
 text_grown {a = a} g s t h = rw (node_grown g s (Text t) (text_is (node_at a s) t h)) refl
 
+get_same : (xs ys : List Node) (k j : ℕ) (i : Node) → slice_get xs j ≡ Some i → k < j → slice_get (xs ++ ys) k ≡ slice_get xs k
+get_same [] ys k j i h lt = absurd cc
+get_same (x ∷ xs) ys zero j i h lt = refl
+get_same (x ∷ xs) ys (suc k) zero i h lt = absurd (omega (arith, lt))
+get_same (x ∷ xs) ys (suc k) (suc j) i h lt = get_same xs ys k j i h (omega (arith, lt))
+
+first_grown : {n : ℕ} {a b : List Node} (g : Grows n a b) (t : List ℕ) (j : ℕ) → IsFirstText a t j → IsFirstText b t j
+first_grown {a = a} g t j h = rw g.is (get_more a g.added j (Text t) h.0, λ k lt e. h.1 k lt (sym (get_same a g.added k j (Text t) h.0 lt) ∙ e))
+
 named_grown : {n : ℕ} {a b : List Node} (g : Grows n a b) (primitive : Bool) (t : List ℕ) (s : Slot) → NamesText primitive a t s → NamesText primitive b t s
 named_grown g true t s h = h
-named_grown g false t s h = text_grown g s t h
+named_grown g false t s (j, is, first) = (j, is, first_grown g t j first)
 
 pub types_grown : {n : ℕ} {a b : List Node} (g : Grows n a b) (fs : List PartField) (ss : List Slot) → NameTypes a fs ss → NameTypes b fs ss
 types_grown g [] ss h = h
@@ -134,6 +143,13 @@ or_empty None = Text []
 some_one : (i k : Node) → Some i ≡ Some k → i ≡ k
 some_one i k e = ap or_empty e
 
+-- A description is no text, and a text is no other text.
+pub desc_differs : (d : ClassDesc) (t : List ℕ) → Some (Desc d) ≡ Some (Text t) → ⊥
+desc_differs d t e = cc
+
+pub texts_differ : (u t : List ℕ) → same_text u t ≡ false → Some (Text u) ≡ Some (Text t) → ⊥
+texts_differ u t differ e = same_not u t differ (text_one u t (some_one (Text u) (Text t) e))
+
 by_test : (u t : List ℕ) (b : Bool) → same_text u t ≡ b → (Text u ≡ Text t) ⊎ (Text u ≢ Text t)
 by_test u t true e = inl (ap Text (same_true u t e))
 by_test u t false e = inr (λ same. same_not u t e (text_one u t same))
@@ -170,14 +186,29 @@ sought : (nodes : List Node) (t : List ℕ) → Sought nodes t
 sought [] t = inr (λ k e. cc)
 sought (i ∷ is) t = here i is t (sought is t) (is_or_not t i)
 
-shared_at : (old new : List Node) (t : List ℕ) (r : Result Slot BuildFault) (j : ℕ) → slice_get old j ≡ Some (Text t) → r ≡ Ok (slots.Node j) → new ≡ old → Puts 1 (λ loose s. text_at loose s ≡ Some t) old new r
-shared_at old new t r j h e f = rw (e, f) (grows_none refl, rw h refl)
+shared_at : (old new : List Node) (t : List ℕ) (r : Result Slot BuildFault) (j : ℕ) → IsFirstText old t j → r ≡ Ok (slots.Node j) → new ≡ old → Puts 1 (λ loose s. NamesText false loose t s) old new r
+shared_at old new t r j h e f = rw (e, f) (grows_none refl, (j, refl, h))
+
+get_before : (xs ys : List Node) (k : ℕ) → k < length xs → slice_get (xs ++ ys) k ≡ slice_get xs k
+get_before [] ys k lt = absurd (omega (arith, lt))
+get_before (x ∷ xs) ys zero lt = refl
+get_before (x ∷ xs) ys (suc k) lt = get_before xs ys k (omega (arith, lt))
+
+first_added : (xs : List Node) (t : List ℕ) → HasNoText xs t → IsFirstText (xs ++ Text t ∷ []) t (length xs)
+first_added xs t none = (get_last xs (Text t), λ k lt e. none k (sym (get_before xs (Text t ∷ []) k lt) ∙ e))
+
+puts_first : (old new : List Node) (t : List ℕ) (r : Result Slot BuildFault) → HasNoText old t → AddsNode old new (Text t) r → Puts 1 (λ loose s. NamesText false loose t s) old new r
+puts_first old new t (Ok s) none h = (record { added = Text t ∷ []; few = omega arith; is = h.2 }, (length old, h.1, rw h.2 (first_added old t none)))
+puts_first old new t (Err TooManyNodes) none h = (grows_none h.1, omega (arith, h.0))
+puts_first old new t (Err OutOfMemory) none h = (grows_none h.1, tt)
+puts_first old new t (Err WrongShape) none h = absurd h
+puts_first old new t (Err TooDeep) none h = absurd h
 
 pub puts_shared : (old new : List Node) (t : List ℕ) (r : Result Slot BuildFault) → ((j : ℕ) → IsFirstText old t j → (r ≡ Ok (slots.Node j)) × (new ≡ old)) → (HasNoText old t → AddsNode old new (Text t) r)
-    → Puts 1 (λ loose s. text_at loose s ≡ Some t) old new r
+    → Puts 1 (λ loose s. NamesText false loose t s) old new r
 puts_shared old new t r shared added = elim (sought old t) [
-  | inl w ↦ let found = shared w.0 w.1 in shared_at old new t r w.0 w.1.0 found.0 found.1
-  | inr none ↦ puts_text old new t r (added none)
+  | inl w ↦ let found = shared w.0 w.1 in shared_at old new t r w.0 w.1 found.0 found.1
+  | inr none ↦ puts_first old new t r none (added none)
 ]
 
 -- ---- known classes

@@ -17,7 +17,8 @@ use Rattle.ser_values.specs.declared.fault.BuildFault.{BuildFault}
 use Rattle.ser_values.specs.declared.fault.BuildFault.TheVariants.{OutOfMemory, TooManyNodes, WrongShape, TooDeep}
 use Rattle.ser_values.specs.declared.node.Node.{Node}
 use Rattle.ser_values.specs.declared.node.Node.TheVariants.{Desc}
-use Rattle.java_shapes.specs.Objects.{node_at, text_at}
+use Rattle.ser_values.specs.Builder.{IsFirstText}
+use Rattle.java_shapes.specs.Objects.{node_at}
 
 -- At most so many loose nodes were added.
 pub record Grows (most : ℕ) (old new : List Node) : Type 0 where
@@ -50,11 +51,12 @@ no_codebase = items.Ref slots.Null ∷ []
 abbrev pub desc_with : ClassParts → List Slot → Slot → ClassDesc
 desc_with parts texts parent = record { name = parts.name; suid = parts.suid; flags = parts.flags; fields = map (λ p. field_with p.0 p.1) (zip parts.fields texts); note = no_codebase; parent = parent }
 
+-- The slot is null; or it names a text, the first node that is equal to it.
 abbrev pub NamesText : Bool → List Node → List ℕ → Slot → Type 0
 NamesText true nodes text s = s ≡ slots.Null
-NamesText false nodes text s = text_at nodes s ≡ Some text
+NamesText false nodes text s = (j : ℕ) × (s ≡ slots.Node j) × IsFirstText nodes text j
 
--- The slot names the type text of a reference field; for a primitive one it is null.
+-- The slot names the type text of a reference field, of which there is one node; for a primitive one it is null.
 abbrev pub NamesType : List Node → PartField → Slot → Type 0
 NamesType nodes f s = NamesText (is_primitive f.code) nodes f.type_text s
 

@@ -30,6 +30,7 @@ abbrev pub fault_text_of : List Node → Option (List ℕ) → Option Held → O
 fault_text_of nodes (Some name) (Some held) = Some (with_message name (message_of nodes held))
 fault_text_of nodes _ _ = None
 
--- The class's name, and, where the detailMessage is a text, a colon, a space and that text. None where the object has no part of class java.lang.Throwable.
+-- The class's name, and, where the detailMessage is a text, a colon, a space and that text. None where the object has no part of class java.lang.Throwable,
+-- or its own class is a proxy.
 abbrev pub fault_text_at : List Node → Slot → Option (List ℕ)
 fault_text_at nodes s = fault_text_of nodes (class_name_at nodes s) (held_at nodes (codes "java.lang.Throwable") s)

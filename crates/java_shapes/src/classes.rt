@@ -1,11 +1,11 @@
 //! Descriptions of Java's own classes among the loose nodes of a builder.
-ghost use Rattle.std.specs.Prelude.{◌≡◌, ◌+◌, length, IfOk, Some, map};
+ghost use Rattle.std.specs.Prelude.{◌≡◌, ◌+◌, false, length, IfOk, Some, map};
 ghost use Rattle.std.specs.List.{zip};
 ghost use Rattle.class_desc.specs.KnownClass.{parts_of};
 ghost use Rattle.ser_values.specs.declared.node.Node.TheVariants as nodes;
 ghost use Rattle.ser_values.specs.Builder.{number_of};
 ghost use Rattle.java_shapes.specs.Objects.{node_at, text_at};
-ghost use Rattle.java_shapes.specs.Put.{IsClassAt, NamesType, NameTypes, Puts, desc_with, field_with, no_codebase};
+ghost use Rattle.java_shapes.specs.Put.{IsClassAt, NamesText, NamesType, NameTypes, Puts, desc_with, field_with, no_codebase};
 
 use class_desc::{
     ClassDesc, FieldDesc, FieldList, Item, Items, KnownClass, PartField, Slot, SlotList,
@@ -99,7 +99,7 @@ fn put_desc(b: &mut Builder, desc: ClassDesc) -> Result<Slot, BuildFault>
 
 /// Puts a text, unless there is an equal one.
 fn put_shared(b: &mut Builder, text: Units) -> Result<Slot, BuildFault>
-    ensures { Puts 1 (λ nodes s. text_at nodes s ≡ Some text) b.old b.new result }
+    ensures { Puts 1 (λ nodes s. NamesText false nodes text s) b.old b.new result }
 {
     b.share_text(text)
 }

@@ -61,7 +61,7 @@ fn fault_text(alloc: Global, nodes: &[Node], slot: Slot) -> Result<Units, ShapeF
 }
 
 /// The text of a fault: the name of its class, and, where its `detailMessage` is a text, a colon, a space and that text.
-/// WrongShape comes exactly where the slot is no object that has a part of class `java.lang.Throwable`.
+/// WrongShape comes exactly where the slot is no object that has a part of class `java.lang.Throwable`, or where its own class is a proxy.
 pub fn as_fault_text(alloc: Global, graph: &Graph, slot: Slot) -> Result<Units, ShapeFault>
     ensures { Views result (fault_text_at graph.now.nodes slot) }
 {

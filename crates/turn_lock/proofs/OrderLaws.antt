@@ -20,6 +20,8 @@ rule-orders s t k = record {
   legal = k.legal;
   live = λ j v e some_part. let m = (k.each j v e).mine some_part in (m.numbered, m.begun, m.owned);
   joined = λ v e p has. let h = k.ended v e p has in (h.0, λ u at. ap (λ (y : View). y.parts) (same_at t.views p.0 u h.1.0 at h.1.1) ∙ h.1.2);
+  all_joined = k.spent_ones;
+  counted = k.counted;
   no_others = k.strangers;
 }
 

@@ -1,5 +1,5 @@
 -- What the rule of a lock says of all its passes together, and of what a pass's entries did.
-use Rattle.std.specs.Prelude.{◌≡◌, ℕ, ◌<◌, ◌≤◌, List, ◌++◌, [], length, Contains, Option}
+use Rattle.std.specs.Prelude.{◌≡◌, ℕ, suc, ◌<◌, ◌≤◌, List, ◌++◌, [], length, Contains, Option}
 use mathlib.Core.Option.{some}
 use lib.ListN.{get_elem?}
 use Rattle.atomic_table.specs.Table.{State}
@@ -16,16 +16,19 @@ use Rattle.turn_lock.specs.declared.view.View.{View}
 use Rattle.turn_lock.specs.Rule.{Events, StartsWith, events_by, Kept}
 
 -- The passes of a lock round a space, each at its number, have one history. It is legal and goes on from the space's; what each pass has seen
--- begins it; the further events of a pass's number are exactly its own, in order; the same is true of the list that a pass had which was
--- joined, and no live pass has its number; and no further event has another number.
+-- begins it; the further events of a pass's number are exactly its own, in order; the same is true of the list that a pass had when it was
+-- joined, and no live pass has its number; the root has such a list of each pass that has ended; the passes are the root and those that it
+-- made; and no further event has another number.
 pub record Ordered (s : SpaceHistory) (passes : List View) : Type 0 where
   pub tail : Events
   pub legal : IsLegal s.configuration (s.events ++ tail)
   pub live : (j : ℕ) (v : View) → get_elem? passes j ≡ some v → 0 < v.parts → (v.number ≡ j) × StartsWith (s.events ++ tail) v.seen × (events_by j tail ≡ v.own)
   pub joined : (v : View) → get_elem? passes 0 ≡ some v → (p : ℕ × Events) → Contains v.ended p → (events_by p.0 tail ≡ p.1) × ((u : View) → get_elem? passes p.0 ≡ some u → u.parts ≡ 0)
+  pub all_joined : (v : View) → get_elem? passes 0 ≡ some v → (j : ℕ) (u : View) → get_elem? passes j ≡ some u → u.parts ≡ 0 → (own : Events) × Contains v.ended (j, own)
+  pub counted : (v : View) → get_elem? passes 0 ≡ some v → length passes ≡ suc v.made
   pub no_others : (n : ℕ) → length passes ≤ n → events_by n tail ≡ []
 
--- The rule, which holds between any two steps, orders the passes.
+-- Where the rule of a lock holds, its passes are ordered. The table of words keeps the rule between any two steps.
 abbrev pub RuleOrders : Type 0
 RuleOrders = (s : SpaceHistory) (t : State (Option SpaceHistory) View) → Kept s t → Ordered s t.views
 

@@ -43,6 +43,8 @@ impl<'a, R: Wait> PortOver<'a, R, Vec<Asked>> {
     /// The port's entries.
     pub fn into_asked(self) -> AskedList
         ensures items { result ≡ self.entry.asked.items }
+
+        // The pass that the port was made with, the third of its fields, is as the port left it.
         ensures left { self.exit.1.1.0.now ≡ self.entry.pass.now }
     {
         let PortOver {

@@ -1,0 +1,310 @@
+//! Calls of an exported object: what is written, what the space is asked, what is invoked, and how the connection ends.
+ghost use Rattle.std.specs.Prelude.{◌≡◌, ◌≤◌, pos, length, IfOk};
+ghost use Rattle.mod_utf.specs.Utf.{utf};
+
+use call_dispatch::{
+    Book, ConnEnd, Kind, KindList, Outcome, OutcomeList, Recorded, RecordingWorker, Setup,
+    serve_connection,
+};
+use class_desc::{Item, Items, Slot};
+use method_hash::{Method, MethodList};
+use mod_utf::list::{ByteList, Kinds, MomentList, Units};
+use mod_utf::utf::encoded_len;
+use object_ids::{Uid, UidDraw};
+use ser_values::{Builder, Graph, Value};
+use space::{Ask, Asked, AskedEnd, AskedList, DirectPort, Space, SpaceConfig};
+use std::alloc::{AllocError, Global};
+use std::process::Abort;
+use std::test::Fail;
+use wire_io::mem::{MemClock, MemSink, MemSource};
+
+/// Stops where this does not hold, and says what it is.
+fn must(rt: &impl Abort, holds: bool, what: &str) {
+    assert!(rt; holds, "{what}");
+}
+
+/// What the space keeps to. Its one object has the number 16 and the kind 0.
+const CONFIG: SpaceConfig = SpaceConfig {
+    lease_ms: 600_000,
+    ack_ms: 300_000,
+    uid: Uid {
+        unique: 7,
+        time: 9,
+        count: 0,
+    },
+};
+
+/// The methods of the kind.
+const METHODS: &str = "echo(Ljava/lang/Object;)Ljava/lang/Object;
+add(J)J
+done()V";
+
+/// What the words of the table stand for: a Ping and its answer; a call's front up to the object, and the rest of its head for each
+/// method; a Return's front, its identifier without the count, an exception up to its message, and messages.
+const WORDS: &str = "opening 4A524D49 0002 4B 0000 00000000
+ack 4E 0009 3132372E302E302E31 000004D2
+ping 52
+pong 53
+call 50 ACED0005 77 22 0000000000000010 00000007 0000000000000009 0000
+echo FFFFFFFF 90BEF25F467880C4
+add FFFFFFFF DE3EC51A3025A10E
+done FFFFFFFF E29AC7B351872259
+return 51 ACED0005 77
+uid 00000002 0000000000000002
+exception 73 72 0018 6A6176612E726D692E52656D6F7465457863657074696F6E B88C9D4EDEE47A22 02 0001 4C 0006 64657461696C 74 0015 4C6A6176612F6C616E672F5468726F7761626C653B 70 78 72 0013 6A6176612E696F2E494F457863657074696F6E 6C8073646525F0AB 02 0000 70 78 72 0013 6A6176612E6C616E672E457863657074696F6E D0FD1F3E1A3B1CC4 02 0000 70 78 72 0013 6A6176612E6C616E672E5468726F7761626C65 D5C635273977B8CB 03 0001 4C 000D 64657461696C4D657373616765 74 0012 4C6A6176612F6C616E672F537472696E673B 70 78 70 74
+wrong 0027 6A6176612E726D692E536572766572457863657074696F6E3A2077726F6E67206F7574636F6D65
+absent 002B 6A6176612E726D692E556E6D61727368616C457863657074696F6E3A206E6F2073756368206D6574686F64";
+
+/// What a connection gets after its opening; how its invocations come out; what it is answered after the acknowledgement; what
+/// the space is asked; the methods that are invoked, by their places; and the end.
+const LINES: &str = "call echo 70 | null | return 0F 01 uid 8000 70 | begin finish | 0 | Ended
+call add 77 08 0000000000000005 | 6 | return 17 01 uid 8000 0000000000000006 | begin finish | 1 | Ended
+call done | void | return 0F 01 uid 8000 | begin finish | 2 | Ended
+call done | fault | return 0F 02 uid 8000 exception 0001 78 78 70 | begin abandon | 2 | Ended
+call echo 70 | 6 | return 0F 02 uid 8000 exception wrong 78 70 | begin abandon | 0 | Ended
+call echo 70 | new | return 0F 02 uid 8000 exception wrong 78 70 | begin abandon | 0 | Ended
+call FFFFFFFF 0000000000000001 70 | null | return 0F 02 uid 8000 exception absent 78 70 | begin abandon | | NoSuchMethod { operation: -1, hash: 1 }
+call 00000000 0000000000000001 70 | null | return 0F 02 uid 8000 exception absent 78 70 | begin abandon | | NoSuchMethod { operation: 0, hash: 1 }
+call done | memory | | begin abandon | 2 | OutOfMemory
+call echo | null | | begin abandon | | Truncated { at: 54 }
+call add 77 04 00000000 | 6 | | begin abandon | | Truncated { at: 60 }
+call add 70 | 6 | | begin abandon | | BadStream { kind: MissingBlock, at: 54 }
+call done call echo 70 ping | void null | return 0F 01 uid 8000 return 0F 01 uid 8001 70 pong | begin finish begin finish | 2 0 | Ended
+call done ping call done | fault void | return 0F 02 uid 8000 exception 0001 78 78 70 pong return 0F 01 uid 8001 | begin abandon begin finish | 2 2 | Ended
+call add 77 08 0000000000000005 call add 77 08 0000000000000005 call done | 6 7 | return 17 01 uid 8000 0000000000000006 return 17 01 uid 8001 0000000000000007 return 0F 01 uid 8002 | begin finish begin finish begin finish | 1 1 2 | Ended";
+
+/// What stands before the separator, and what after it.
+fn cut(text: &str, separator: char) -> (&str, &str) {
+    let (front, rest) = text.split_once(separator).unwrap_or((text, ""));
+    (front.trim(), rest.trim())
+}
+
+/// The value of a hex digit in capitals.
+fn digit_of(character: u8) -> Option<u8> {
+    match character {
+        b'0'..=b'9' => Some(character - b'0'),
+        b'A'..=b'F' => Some(character - b'A' + 10),
+        _ => None,
+    }
+}
+
+/// Appends the bytes that hex digits spell, two for each. Any other character counts for nothing.
+fn put_digits(bytes: &mut ByteList, digits: &str) -> Result<(), AllocError> {
+    let mut half = None;
+    for character in digits.as_bytes() {
+        match (half, digit_of(*character)) {
+            (None, low) => half = low,
+            (Some(high), Some(low)) => {
+                bytes.push((high << 4) | low)?;
+                half = None;
+            }
+            (Some(_), None) => {}
+        }
+    }
+    Ok(())
+}
+
+/// Appends the bytes of a word, or of hex digits.
+fn put_word(bytes: &mut ByteList, word: &str) -> Result<(), AllocError> {
+    put_digits(bytes, word)?;
+    for line in WORDS.split('\n') {
+        let (name, digits) = cut(line, ' ');
+        if name == word {
+            put_digits(bytes, digits)?;
+        }
+    }
+    Ok(())
+}
+
+/// The bytes of words, after those of one.
+fn bytes_of(alloc: Global, front: &str, words: &str) -> Result<ByteList, AllocError> {
+    let mut bytes = ByteList::new(alloc);
+    put_word(&mut bytes, front)?;
+    for word in words.split(' ') {
+        put_word(&mut bytes, word)?;
+    }
+    Ok(bytes)
+}
+
+/// The graph of null.
+fn null_graph(alloc: Global) -> Result<Graph, Fail> {
+    let mut items = Items::new(alloc);
+    items.push(Item::Ref(Slot::Null))?;
+    Ok(Builder::new(alloc).finish(items)?)
+}
+
+/// How an invocation comes out: a number where it is no word.
+fn outcome_of(alloc: Global, word: &str) -> Result<Outcome, Fail> {
+    match word {
+        "void" => Ok(Outcome::Void),
+        "null" => Ok(Outcome::Tree(null_graph(alloc)?)),
+        "new" => Ok(Outcome::NewRemote(0)),
+        "fault" => Ok(Outcome::Fault(Units::from_ascii(alloc, b"x")?)),
+        "memory" => Ok(Outcome::OutOfMemory),
+        _ => Ok(Outcome::Prim(Value::J(word.parse::<i64>()?))),
+    }
+}
+
+/// How invocations come out.
+fn outcomes_of(alloc: Global, words: &str) -> Result<OutcomeList, Fail> {
+    let mut outcomes = OutcomeList::new(alloc);
+    for word in words.split(' ') {
+        outcomes.push(outcome_of(alloc, word)?)?;
+    }
+    Ok(outcomes)
+}
+
+/// The kind of the object.
+fn kind(alloc: Global) -> Result<Kind, Fail> {
+    let mut methods = MethodList::new(alloc);
+    for line in METHODS.split('\n') {
+        methods.push(Method::parse(alloc, line.as_bytes())?)?;
+    }
+    let interface = Units::from_ascii(alloc, b"a.B")?;
+    Ok(Kind { interface, methods })
+}
+
+/// The book of the one kind.
+fn book(alloc: Global) -> Result<Book, Fail> {
+    let mut kinds = KindList::new(alloc);
+    let kind = kind(alloc)?;
+    if encoded_len(&kind.interface) > 65535 || kind.methods.len() != 3 {
+        return Err(Fail::from("kind"));
+    }
+    kinds.push(kind)?;
+    match Book::new(alloc, kinds) {
+        Ok(book) => Ok(book),
+        Err(_fault) => Err(Fail::from("book")),
+    }
+}
+
+/// What a connection is told beforehand.
+fn setup(alloc: Global) -> Result<Setup, Fail>
+    ensures hosts { IfOk result (λ s. (length (utf s.peer_host) ≤ 255) × (length (utf s.host) ≤ 255)) }
+    ensures draw { IfOk result (λ s. s.draw ≡ record { unique = pos 2; time = pos 2; drawn = 0 }) }
+{
+    let peer_host = Units::from_ascii(alloc, b"127.0.0.1")?;
+    let host = Units::from_ascii(alloc, b"127.0.0.1")?;
+    if encoded_len(&peer_host) > 255 || encoded_len(&host) > 255 {
+        return Err(Fail::from("host"));
+    }
+    Ok(Setup {
+        by: 1,
+        peer_host,
+        peer_port: 1234,
+        host,
+        port: 1099,
+        binding: false,
+        draw: UidDraw::new(2, 2),
+        mark: [0; 8],
+    })
+}
+
+/// The space of one object, which is pinned.
+fn space_of_one(alloc: Global) -> Result<Space, Fail> {
+    let mut space = Space::fresh(alloc, &CONFIG);
+    let pinned = true;
+    let _opened = space.turn(0, 0, Ask::Open { kind: 0, pinned })?;
+    Ok(space)
+}
+
+/// Serves a connection that sends these bytes, and answers what the space was asked and how the connection ended.
+fn serve(
+    alloc: Global,
+    input: ByteList,
+    sink: &mut MemSink,
+    worker: &mut RecordingWorker,
+    book: &Book,
+) -> Result<(AskedList, ConnEnd), Fail>
+    requires { worker.old.calls ≡ 0 }
+{
+    let mut setup = setup(alloc)?;
+    let mut space = space_of_one(alloc)?;
+    let mut source = MemSource::new(input, Kinds::new(alloc), Kinds::new(alloc));
+    let mut clock = MemClock::new(MomentList::new(alloc));
+    let mut port = DirectPort::new(alloc, &mut space, 1);
+    let end = serve_connection(
+        alloc,
+        &mut source,
+        sink,
+        &mut clock,
+        &mut port,
+        worker,
+        book,
+        &mut setup,
+    );
+    Ok((port.into_asked(), end))
+}
+
+/// What was asked, in a word.
+fn word_of(entry: &Asked) -> &'static str {
+    match (&entry.ask, &entry.end) {
+        (Ask::Begin { object: _ }, AskedEnd::Turned(_)) => "begin",
+        (Ask::Abandon { object: _ }, AskedEnd::Abandoned(_)) => "abandon",
+        (_, AskedEnd::Turned(_)) => "finish",
+        _ => "other",
+    }
+}
+
+/// Whether these words stand for the entries, one for each.
+fn are_entries(asked: &[Asked], words: &str) -> bool {
+    let mut left = words;
+    for entry in asked {
+        let (word, rest) = cut(left, ' ');
+        if word != word_of(entry) {
+            return false;
+        }
+        left = rest;
+    }
+    left.is_empty()
+}
+
+/// The place of the method that was invoked.
+fn method_of(call: &Recorded) -> Option<u32> {
+    match call {
+        Recorded::Invoked(call, _) => Some(call.method),
+        Recorded::Unreferenced(_) => None,
+    }
+}
+
+/// Whether these are the places of the methods that were invoked, one for each.
+fn are_invoked(calls: &[Recorded], places: &str) -> bool {
+    let mut left = places;
+    for call in calls {
+        let (place, rest) = cut(left, ' ');
+        if place.parse::<u32>().ok() != method_of(call) {
+            return false;
+        }
+        left = rest;
+    }
+    left.is_empty()
+}
+
+/// Serves what a line says, and checks the rest of it.
+fn check_line(rt: &impl Abort, alloc: Global, book: &Book, line: &str) -> Result<(), Fail> {
+    let (input, rest) = cut(line, '|');
+    let (outcomes, rest) = cut(rest, '|');
+    let (output, rest) = cut(rest, '|');
+    let (entries, rest) = cut(rest, '|');
+    let (places, end_text) = cut(rest, '|');
+    let mut sink = MemSink::new(alloc, Kinds::new(alloc));
+    let mut worker = RecordingWorker::new(alloc, outcomes_of(alloc, outcomes)?);
+    let input = bytes_of(alloc, "opening", input)?;
+    let (asked, end) = serve(alloc, input, &mut sink, &mut worker, book)?;
+    must(rt, are_entries(asked.as_slice(), entries), line);
+    must(rt, are_invoked(worker.recorded(), places), line);
+    must(rt, format!(in alloc; "{end:?}")?.as_str() == end_text, line);
+    let wanted = bytes_of(alloc, "ack", output)?;
+    must(rt, sink.held() == wanted.as_slice(), line);
+    Ok(())
+}
+
+#[test]
+fn calls_are_served(rt: HostRuntime) -> Result<(), Fail> {
+    let alloc = rt.alloc();
+    let book = book(alloc)?;
+    for line in LINES.split('\n') {
+        check_line(&rt, alloc, &book, line)?;
+    }
+    Ok(())
+}
