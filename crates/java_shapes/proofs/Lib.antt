@@ -9,3 +9,10 @@ pub mod FaultGraph
 pub mod RefNotes
 pub mod ProxyView
 pub mod LocalLaws
+pub mod Placing
+pub mod Flagged
+pub mod FlagNotes
+pub mod FlagViews
+pub mod NoteLaws
+pub mod Stays
+pub mod StaysMore

@@ -9,3 +9,5 @@ pub mod RefNotes
 pub mod Shapes
 pub mod Proxies
 pub mod LocalRefs
+pub mod Flags
+pub mod Laws

@@ -61,7 +61,7 @@ pub(crate) fn text_in<'a>(node: Option<&'a Node>) -> Option<&'a Units>
 }
 
 /// The description of a class, where it has this name.
-fn named<'a>(node: Option<&'a Node>, name: &str) -> Option<&'a ClassDesc>
+pub(crate) fn named<'a>(node: Option<&'a Node>, name: &str) -> Option<&'a ClassDesc>
     ensures { option_map (λ desc. desc.now) result ≡ named_in name.now (option_map (λ node. node.now) node.entry) }
 {
     match node {
@@ -77,7 +77,7 @@ fn named<'a>(node: Option<&'a Node>, name: &str) -> Option<&'a ClassDesc>
 }
 
 /// The superclass of a class, if there is a class.
-fn parent_of(node: Option<&Node>) -> Option<Slot>
+pub(crate) fn parent_of(node: Option<&Node>) -> Option<Slot>
     ensures { result ≡ parent_in (option_map (λ node. node.now) node.entry) }
 {
     match node {

@@ -10,6 +10,8 @@ mod graph_tests;
 #[cfg(test)]
 mod read_tests;
 #[cfg(test)]
+mod ref_tests;
+#[cfg(test)]
 mod script;
 #[cfg(test)]
 mod shape_tests;

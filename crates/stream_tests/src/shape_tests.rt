@@ -1,4 +1,4 @@
-//! Java's own objects: what views tell of streams, two of which Java 17 wrote, and the bytes of what is built.
+//! Java's own objects: what views tell of streams, three of which Java 17 wrote, and the bytes of what is built.
 use crate::text::{ascii, bytes_of, cut, decimal, is_text, must, number_of, slot_of};
 use class_desc::{Item, Items, Slot};
 use java_shapes::{
@@ -16,7 +16,7 @@ use wire_io::mem::MemSource;
 use wire_io::pull::Pull;
 
 /// Streams, and after each what views tell of its nodes. The first two are Java's: a proxy of a reference; two ObjIDs, a VMID,
-/// its Lease and a Lease with no VMID.
+/// its Lease and a Lease with no VMID. So is the last, a proxy of two interfaces that is no reference.
 const VIEWS: &str =
     "ACED0005737D00000001000E73616D706C652E436F756E746572787200176A6176612E6C616E672E7265666C6563742E50726F7879E127DA20CC1043
  CB0200014C0001687400254C6A6176612F6C616E672F7265666C6563742F496E766F636174696F6E48616E646C65723B78707372002D6A6176612E72
@@ -79,11 +79,16 @@ ACED0005 73 72 'a.Stub' 0000000000000002 02 0000 78 72 'java.rmi.server.RemoteOb
 ~
 ACED0005 73 72 'a.Stub' 0000000000000002 02 0000 78 72 'java.rmi.server.RemoteObject' D361B4910C61331E 03 0000 78 70
  77 33 'UnicastRef' '127.0.0.1' 0000044B 0000000000000011 00000007 0000000000000009 0000 01 00 78
-= ref #2 wrong";
+= ref #2 wrong
+~
+ACED0005 73 7D 00000002 'java.lang.Runnable' 'java.lang.Comparable' 78
+ 72 'java.lang.reflect.Proxy' E127DA20CC1043CB 02 0001 4C 'h' 74 'Ljava/lang/reflect/InvocationHandler;' 78 70
+ 73 72 'Streams$H' 99B88DDCE6753C86 02 0000 78 70
+= ref #3 wrong
+= ref #5 wrong";
 
 /// The graph of a stream.
-fn read(alloc: Global, notation: &str) -> Result<Graph, AllocError> {
-    let bytes = bytes_of(alloc, notation)?;
+pub fn read(alloc: Global, bytes: ByteList) -> Result<Graph, AllocError> {
     let mut source = MemSource::new(bytes, Kinds::new(alloc), Kinds::new(alloc));
     match read_to_end(alloc, &mut Pull::new(&mut source)) {
         Ok(graph) => Ok(graph),
@@ -180,7 +185,7 @@ fn views_tell_javas_objects(rt: HostRuntime) -> Result<(), Fail> {
     let alloc = rt.alloc();
     for block in VIEWS.split('~') {
         let (stream, lines) = cut(block, '=');
-        let graph = read(alloc, stream)?;
+        let graph = read(alloc, bytes_of(alloc, stream)?)?;
         for line in lines.split('=') {
             must(&rt, tells(alloc, &graph, line)?, line);
         }
@@ -208,12 +213,12 @@ const TEXTS: &str =
     "ACED0005 75 72 '[Ljava.lang.String;' ADD256E7E91D7B47 02 0000 70 78 70 00000002 74 'a' 74 'b'";
 
 /// Whether a graph is written as these bytes.
-fn is_written(alloc: Global, graph: &Graph, notation: &str) -> Result<bool, AllocError> {
+pub fn is_written(alloc: Global, graph: &Graph, notation: &str) -> Result<bool, AllocError> {
     Ok(write_stream(alloc, graph)?.as_slice() == bytes_of(alloc, notation)?.as_slice())
 }
 
 /// The graph of what a builder's slot reaches.
-fn graph_at(alloc: Global, builder: Builder, slot: Slot) -> Result<Graph, BuildFault> {
+pub fn graph_at(alloc: Global, builder: Builder, slot: Slot) -> Result<Graph, BuildFault> {
     let mut items = Items::new(alloc);
     items.push(Item::Ref(slot))?;
     builder.finish(items)

@@ -1,0 +1,107 @@
+//! References to remote objects: the bytes of what is built, and what is done with all references of a graph.
+use crate::shape_tests::{graph_at, is_written, read};
+use crate::text::{ascii, bytes_of, must};
+use java_shapes::{LiveRef, local_refs, put_live_ref, with_result_flag};
+use mod_utf::ByteList;
+use mod_utf::utf::encoded_len;
+use object_ids::{ObjId, ObjIds, Uid};
+use ser_values::{BuildFault, Builder, Graph};
+use ser_write::write_stream;
+use std::alloc::{AllocError, Global};
+use std::test::Fail;
+
+/// A reference to object 16 of the space 7/9/0 at 127.0.0.1 port 1099, with the interface `sample.Echo`.
+const ECHO: &str = "ACED0005 73 7D 00000002 'java.rmi.Remote' 'sample.Echo' 70 78
+ 72 'java.lang.reflect.Proxy' E127DA20CC1043CB 02 0001 4C 'h' 74 'Ljava/lang/reflect/InvocationHandler;' 70 78 70
+ 73 72 'java.rmi.server.RemoteObjectInvocationHandler' 0000000000000002 02 0000 70 78
+ 72 'java.rmi.server.RemoteObject' D361B4910C61331E 03 0000 70 78 70
+ 77 32 'UnicastRef' '127.0.0.1' 0000044B 0000000000000010 00000007 0000000000000009 0000 01 78";
+
+/// The same with `java.rmi.Remote` alone.
+const REMOTE: &str = "ACED0005 73 7D 00000001 'java.rmi.Remote' 70 78
+ 72 'java.lang.reflect.Proxy' E127DA20CC1043CB 02 0001 4C 'h' 74 'Ljava/lang/reflect/InvocationHandler;' 70 78 70
+ 73 72 'java.rmi.server.RemoteObjectInvocationHandler' 0000000000000002 02 0000 70 78
+ 72 'java.rmi.server.RemoteObject' D361B4910C61331E 03 0000 70 78 70
+ 77 32 'UnicastRef' '127.0.0.1' 0000044B 0000000000000010 00000007 0000000000000009 0000 01 78";
+
+/// The identifier of an object of the space 7/9/0.
+fn id_of(number: i64) -> ObjId {
+    let space = Uid {
+        unique: 7,
+        time: 9,
+        count: 0,
+    };
+    ObjId { number, space }
+}
+
+/// The reference of object 16, put with an interface.
+fn built(alloc: Global, interface: &str) -> Result<Graph, BuildFault> {
+    let host = ascii(alloc, "127.0.0.1")?;
+    if encoded_len(&host) > 65_535 {
+        return Err(BuildFault::WrongShape);
+    }
+    let reference = LiveRef {
+        host,
+        port: 1099,
+        id: id_of(16),
+        result: true,
+    };
+    let interface = ascii(alloc, interface)?;
+    let mut builder = Builder::new(alloc);
+    let slot = put_live_ref(alloc, &mut builder, &interface, &reference)?;
+    graph_at(alloc, builder, slot)
+}
+
+#[test]
+fn references_are_built(rt: HostRuntime) -> Result<(), Fail> {
+    let alloc = rt.alloc();
+    let echo = built(alloc, "sample.Echo")?;
+    must(&rt, is_written(alloc, &echo, ECHO)?, "a proxy");
+    let remote = built(alloc, "java.rmi.Remote")?;
+    must(&rt, is_written(alloc, &remote, REMOTE)?, "one interface");
+    Ok(())
+}
+
+/// An array of stubs of the objects 17, 16 and 17, of object 18 at another port, and of object 19 at another host; `^` stands
+/// for a flag.
+const STUBS: &str = "ACED0005 75 72 '[La.B;' 0000000000000001 02 0000 70 78 70 00000005
+ 73 72 'a.Stub' 0000000000000002 02 0000 70 78 72 'java.rmi.server.RemoteStub' 0000000000000003 02 0000 70 78
+ 72 'java.rmi.server.RemoteObject' D361B4910C61331E 03 0000 70 78 70
+ 77 32 'UnicastRef' '127.0.0.1' 0000044B 0000000000000011 00000007 0000000000000009 0000 ^ 78
+ 73 71 007E0002 77 34 'UnicastRef2' 00 '127.0.0.1' 0000044B 0000000000000010 00000007 0000000000000009 0000 ^ 78
+ 73 71 007E0002 77 32 'UnicastRef' '127.0.0.1' 0000044B 0000000000000011 00000007 0000000000000009 0000 ^ 78
+ 73 71 007E0002 77 32 'UnicastRef' '127.0.0.1' 0000044C 0000000000000012 00000007 0000000000000009 0000 ^ 78
+ 73 71 007E0002 77 32 'UnicastRef' '127.0.0.2' 0000044B 0000000000000013 00000007 0000000000000009 0000 ^ 78";
+
+/// The stubs, with this flag in each.
+fn stubs(alloc: Global, flag: u8) -> Result<ByteList, AllocError> {
+    let mut bytes = ByteList::new(alloc);
+    for (place, piece) in STUBS.split('^').enumerate() {
+        if place > 0 {
+            bytes.push(flag)?;
+        }
+        bytes.append(bytes_of(alloc, piece)?.as_slice())?;
+    }
+    Ok(bytes)
+}
+
+#[test]
+fn references_are_listed_and_flagged(rt: HostRuntime) -> Result<(), Fail> {
+    let alloc = rt.alloc();
+    let graph = read(alloc, stubs(alloc, 0)?)?;
+    let host = ascii(alloc, "127.0.0.1")?;
+    let ids = local_refs(alloc, &graph, &host, 1099)?;
+    let expected = ObjIds::from_slice(alloc, &[id_of(17), id_of(16)])?;
+    must(
+        &rt,
+        ids.as_slice() == expected.as_slice(),
+        "each local object once",
+    );
+    let flagged = with_result_flag(alloc, graph)?;
+    must(
+        &rt,
+        write_stream(alloc, &flagged)?.as_slice() == stubs(alloc, 1)?.as_slice(),
+        "each flag is set",
+    );
+    Ok(())
+}
