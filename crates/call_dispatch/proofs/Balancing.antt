@@ -1,5 +1,5 @@
 -- Which calls the entries of a call's turns begin and end.
-use Rattle.std.proofs.Common.{◌≡◌, ℕ, ◌+◌, Bool, true, false, ◌&&◌, List, [], ◌∷◌, ◌++◌, length, Ok, Err, if◌then◌else◌, refl, ap, sym, subst, ◌∙◌, arith, length-append}
+use Rattle.std.proofs.Common.{◌≡◌, ℕ, ◌+◌, Bool, true, false, ◌&&◌, List, [], ◌∷◌, ◌++◌, length, Result, Ok, Err, if◌then◌else◌, refl, ap, sym, subst, ◌∙◌, arith, length-append}
 use Rattle.std.specs.List.{flat_map, filter}
 use Rattle.std.proofs.lemmas.List.Elements.{filter-append}
 use Rattle.object_ids.specs.declared.ids.ObjId.{ObjId}
@@ -7,7 +7,7 @@ use Rattle.object_ids.specs.declared.ids.Uid.{Uid}
 use Rattle.object_ids.specs.Same.{same_id}
 use Rattle.object_ids.proofs.Exact.{same_id-self}
 use Rattle.history.specs.declared.asks.Ask.{Ask}
-use Rattle.history.specs.declared.asks.Ask.TheVariants.{Begin, Finish}
+use Rattle.history.specs.declared.asks.Ask.TheVariants.{Begin, Finish, Ack}
 use Rattle.history.specs.declared.replies.Reply.{Reply}
 use Rattle.history.specs.declared.replies.Reply.TheVariants.{Opened, Started, NoObject, Finished, NotRunning, Granted, Done, Bound, AlreadyBound, Unbound, NotBound, Found, Names}
 use Rattle.history.specs.declared.replies.Turn.{Turn}
@@ -158,3 +158,32 @@ finish_answered object made listed uid xs Unbound runs h = absurd h
 finish_answered object made listed uid xs NotBound runs h = absurd h
 finish_answered object made listed uid xs (Found o kind) runs h = absurd h
 finish_answered object made listed uid xs (Names names) runs h = absurd h
+
+-- An acknowledgement begins and ends no call.
+ack_refused : (uid : Uid) (moment : ℕ) (refused : Refused) (o : ObjId) → (calls_begun (flat_map entries (acts_of moment (Ack uid) (Err refused))) o ≡ 0) × (calls_ended (flat_map entries (acts_of moment (Ack uid) (Err refused))) o ≡ 0)
+ack_refused uid moment HistoryFull o = (refl, refl)
+ack_refused uid moment (Full kind) o = (refl, refl)
+ack_refused uid moment OutOfMemory o = (refl, refl)
+
+pub ack_even : (uid : Uid) (moment : ℕ) (answer : Result Turn Refused) (xs : List Asked) → Balanced xs → Balanced (xs ++ flat_map entries (acts_of moment (Ack uid) answer))
+ack_even uid moment (Ok turn) xs even =
+    let P : List Asked → Type 0 = λ ys. Balanced (xs ++ ys) in
+    subst P (sym (turn_entries moment (Ack uid) turn)) (even_on xs (entry_of moment (Ack uid) (Ok turn) ∷ []) even (λ o. refl) (λ o. refl))
+ack_even uid moment (Err refused) xs even =
+    even_on xs (flat_map entries (acts_of moment (Ack uid) (Err refused))) even (λ o. (ack_refused uid moment refused o).0) (λ o. (ack_refused uid moment refused o).1)
+
+-- An acknowledgement is answered Done.
+pub ack_answered : (uid : Uid) (xs : List Asked) (reply : Reply) → IsReplyTo (Shows xs) (Ack uid) reply → reply ≡ Done
+ack_answered uid xs Done h = refl
+ack_answered uid xs (Finished objects) h = absurd h
+ack_answered uid xs NotRunning h = absurd h
+ack_answered uid xs (Opened o) h = absurd h
+ack_answered uid xs (Started kind) h = absurd h
+ack_answered uid xs NoObject h = absurd h
+ack_answered uid xs (Granted duration) h = absurd h
+ack_answered uid xs Bound h = absurd h
+ack_answered uid xs AlreadyBound h = absurd h
+ack_answered uid xs Unbound h = absurd h
+ack_answered uid xs NotBound h = absurd h
+ack_answered uid xs (Found o kind) h = absurd h
+ack_answered uid xs (Names names) h = absurd h

@@ -32,11 +32,11 @@ counts source sink = record { source = source; sink = sink }
 abbrev pub IsBlameless : ConnEnd → Type 0
 IsBlameless end = (end ≢ ends.ReadFault) × (IsWriteFault end → ⊥)
 
-blameless : (a b k : ℕ) (end : ConnEnd) → a ≤ b → IsBlameless end → Blames (counts a k) (counts b k) end
+pub blameless : (a b k : ℕ) (end : ConnEnd) → a ≤ b → IsBlameless end → Blames (counts a k) (counts b k) end
 blameless a b k end le none =
     let same_sink : k ≤ k = omega arith in record { read_fault = (λ same. absurd (none.0 same)); write_fault = (λ w. absurd (none.1 w)); source = le; sink = same_sink }
 
-rose_after : (a b c : ℕ) → a ≤ b → Rose b c → Rose a c
+pub rose_after : (a b c : ℕ) → a ≤ b → Rose b c → Rose a c
 rose_after a b c le h = (omega (arith, h.0), omega (arith, h.1))
 
 -- Reading broke off.

@@ -37,5 +37,5 @@ breaks_at read old new (Stream (faults.Truncated p)) within h =
     (f.taken, f.takes.left, (f.here ∙ f.takes.at, omega (arith, f.here, f.takes.stop, within), rw (sym f.here) at f.is, left))
 breaks_at read old new (Stream faults.ReadFault) within h =
     let (f, rose) = h.is in
-    (f.taken, f.takes.left, rw f.takes.at at f.is)
-breaks_at read old new (Stream faults.OutOfMemory) within h = (h.is.taken, h.is.takes.left, h.is.least)
+    (f.taken, f.takes.left, (rw f.takes.at at f.is, omega (arith, within, f.takes.at, f.takes.stop)))
+breaks_at read old new (Stream faults.OutOfMemory) within h = (h.is.taken, h.is.takes.left, (h.is.least, omega (arith, within, h.is.takes.at, h.is.takes.stop)))

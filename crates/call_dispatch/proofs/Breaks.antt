@@ -7,7 +7,7 @@ use Rattle.ser_read.specs.declared.fault.Large.TheVariants.{Bytes, Nodes, Depth}
 use Rattle.ser_read.specs.Here.{NeedsAll}
 use Rattle.ser_read.specs.Wants.{WantFault, inside, missing_block, block_left, fault_at}
 use Rattle.call_dispatch.specs.declared.end.ConnEnd.{ConnEnd}
-use Rattle.call_dispatch.specs.declared.end.ConnEnd.TheVariants.{Ended, BadHeader, UnknownProtocol, BadMessage, BadStream, TooLarge, Truncated, NotBuilt, NoSuchObject, NoSuchMethod, SpaceFull, MessageLimit, ReadFault, WriteFault, OutOfMemory}
+use Rattle.call_dispatch.specs.declared.end.ConnEnd.TheVariants.{Ended, BadHeader, UnknownProtocol, BadMessage, BadStream, TooLarge, Truncated, NoSuchObject, NoSuchMethod, SpaceFull, MessageLimit, ReadFault, WriteFault, OutOfMemory}
 use Rattle.call_dispatch.specs.End.{IsSettled}
 use Rattle.call_dispatch.specs.Inside.{BreaksAt}
 
@@ -135,7 +135,6 @@ broken read at stop more rest Ended h settled = absurd h
 broken read at stop more rest (BadHeader p) h settled = absurd h
 broken read at stop more rest (UnknownProtocol byte) h settled = absurd h
 broken read at stop more rest (BadMessage byte p) h settled = absurd h
-broken read at stop more rest (NotBuilt byte p) h settled = absurd h
 broken read at stop more rest (NoSuchObject id) h settled = absurd h
 broken read at stop more rest (NoSuchMethod operation hash) h settled = absurd h
 broken read at stop more rest SpaceFull h settled = absurd h

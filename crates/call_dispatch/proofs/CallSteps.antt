@@ -72,7 +72,6 @@ in_call read at stop more left terms drawn w tail rest ends.Ended breaks h = abs
 in_call read at stop more left terms drawn w tail rest (ends.BadHeader p) breaks h = absurd breaks
 in_call read at stop more left terms drawn w tail rest (ends.UnknownProtocol byte) breaks h = absurd breaks
 in_call read at stop more left terms drawn w tail rest (ends.BadMessage byte p) breaks h = absurd breaks
-in_call read at stop more left terms drawn w tail rest (ends.NotBuilt byte p) breaks h = absurd breaks
 in_call read at stop more left terms drawn w tail rest (ends.NoSuchObject id) breaks h = absurd breaks
 in_call read at stop more left terms drawn w tail rest (ends.NoSuchMethod operation hash) breaks h = absurd breaks
 in_call read at stop more left terms drawn w tail rest ends.SpaceFull breaks h = absurd breaks

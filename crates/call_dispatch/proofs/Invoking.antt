@@ -5,7 +5,7 @@ use Rattle.std.proofs.lemmas.Grind.{flat_map-append}
 use Rattle.object_ids.specs.declared.ids.ObjId.{ObjId}
 use Rattle.object_ids.specs.declared.ids.Uid.{Uid}
 use Rattle.history.specs.declared.asks.Ask.{Ask}
-use Rattle.history.specs.declared.asks.Ask.TheVariants.{Begin}
+use Rattle.history.specs.declared.asks.Ask.TheVariants.{Begin, Ack}
 use Rattle.history.specs.declared.replies.Turn.{Turn}
 use Rattle.history.specs.declared.replies.Refused.{Refused}
 use Rattle.history.specs.declared.replies.Refused.TheVariants.{HistoryFull, Full, OutOfMemory}
@@ -25,7 +25,7 @@ use Rattle.wire_io.specs.Wire.{with_front}
 use Rattle.jrmp_frames.specs.declared.code.Code.TheVariants.{Call as Call50}
 use Rattle.jrmp_frames.specs.Frames.{code_byte}
 use Rattle.call_dispatch.specs.Acts.{Act, asks, lost, called, invokes, unreferenced, Call, States, calls, invocations, tells_of, entries, acts_of, abandoned}
-use Rattle.call_dispatch.specs.Rows.{Exchange, ping, served, IsExchange, taken_by, acts_by, draws_by, draws_in, IsChain, lost_at, failed, IsFailed, IsGivenUp, IsCut}
+use Rattle.call_dispatch.specs.Rows.{Exchange, ping, acknowledged, served, IsExchange, taken_by, acts_by, draws_by, draws_in, IsChain, lost_at, failed, IsFailed, IsGivenUp, IsCut}
 use Rattle.call_dispatch.specs.Dialogue.{Whole, nothing, greeted, opened, exchanges_in, IsWhole, taken_in, IsAnswered, IsCutIn, EndsInCall, Ends, Dialogue}
 use Rattle.call_dispatch.specs.Progress.{Talked}
 use Rattle.call_dispatch.proofs.OneReading.{chain_first, chain_rest}
@@ -88,6 +88,7 @@ leads_more kinds (m ∷ ms) ns xs ys (inr (call, others, is, mine, first)) then 
 -- An exchange leads to at most one.
 exchange_leads : (terms : Terms) (drawn : ℕ) (e : Exchange) → IsExchange terms drawn e → LeadTo terms.kinds (taken_by e ∷ []) (invocations_in (acts_by e))
 exchange_leads terms drawn ping is = inl refl
+exchange_leads terms drawn (acknowledged uid moment answer) is = inl (turn_none moment (Ack uid) answer)
 exchange_leads terms drawn (served bytes head uid s) (draw, fits, few, is) =
     once_leads terms.kinds head bytes (invocations_in (acts_by (served bytes head uid s))) (call_is_invoked_once terms.kinds head bytes uid s is)
 
@@ -191,7 +192,6 @@ tail_leads terms drawn w tail rest (ends.BadStream kind at) inside = call_leads 
 tail_leads terms drawn w tail rest (ends.TooLarge what at) inside = call_leads terms w tail rest (ends.TooLarge what at) inside
 tail_leads terms drawn w tail rest (ends.Truncated at) (inl (more, inside, left, place, is)) = took_leads terms.kinds tail more is
 tail_leads terms drawn w tail rest (ends.Truncated at) (inr inside) = call_leads terms w tail rest (ends.Truncated at) inside
-tail_leads terms drawn w tail rest (ends.NotBuilt byte at) (code, room, unbuilt, place, is) = took_leads terms.kinds tail (byte ∷ []) is
 tail_leads terms drawn w tail rest (ends.NoSuchObject id) (closed, is) = took_leads terms.kinds tail [] is
 tail_leads terms drawn w tail rest (ends.NoSuchMethod operation hash) (closed, is) = took_leads terms.kinds tail [] is
 tail_leads terms drawn w tail rest ends.SpaceFull (closed, is) = took_leads terms.kinds tail [] is

@@ -13,6 +13,7 @@ pub mod OpeningSteps
 pub mod MessageSteps
 pub mod CallSteps
 pub mod Blaming
+pub mod AckSteps
 pub mod Invoking
 pub mod HeadReads
 pub mod Breaks

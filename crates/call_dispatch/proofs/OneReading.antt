@@ -1,27 +1,36 @@
 -- An input and the answers of the outside have one settled dialogue: the next whole exchange is decided by them, and so is where it ends.
-use Rattle.std.proofs.Common.{◌≡◌, ℕ, ◌+◌, ◌^◌, ◌<◌, ◌≤◌, ◌⊎◌, inl, inr, List, [], ◌∷◌, ◌++◌, length, drop, Option, Some, None, cond, eqb, true, false, true≢false, ◌||◌, refl, ap, sym, subst, ◌∙◌, arith, append_assoc, length-append, eq-eqb}
+use Rattle.std.proofs.Common.{◌≡◌, ℕ, suc, ◌+◌, ◌^◌, ◌<◌, ◌≤◌, ◌⊎◌, inl, inr, List, [], ◌∷◌, ◌++◌, length, drop, Option, Some, None, Result, Ok, Err, cond, eqb, nat_lt, true, false, true≢false, ◌||◌, refl, ap, sym, subst, ◌∙◌, arith, append_assoc, append-nil, length-append, eq-eqb}
 use Rattle.std.proofs.lemmas.List.{append_cancel_right}
 use Rattle.std.proofs.lemmas.Grind.{flat_map-append}
 use Rattle.std.specs.List.{flat_map}
 use Rattle.wire_io.specs.Wire.{with_front}
+use Rattle.std.proofs.lemmas.Bool.Decides.{nat_tests}
 use Rattle.object_ids.specs.declared.ids.Uid.{Uid}
+use Rattle.object_ids.specs.Bytes.{bytes_of_uid, uid_from_bytes}
+use Rattle.object_ids.proofs.Spelling.{uid-spelled}
+use Rattle.history.specs.declared.asks.Ask.TheVariants.{Ack}
+use Rattle.history.specs.declared.replies.Turn.{Turn}
+use Rattle.history.specs.declared.replies.Refused.{Refused}
+use Rattle.history.specs.declared.replies.Refused.TheVariants as refusals
+use Rattle.space.specs.Entries.{end_of}
 use Rattle.jrmp_frames.specs.declared.head.CallHead.{CallHead}
 use Rattle.jrmp_frames.specs.declared.code.Code.TheVariants.{Call, Ping, DgcAck}
 use Rattle.jrmp_frames.specs.Frames.{code_byte, IsCode}
 use Rattle.call_dispatch.specs.declared.outcome.Invocation.{Invocation}
 use Rattle.call_dispatch.specs.declared.outcome.Outcome.{Outcome}
 use Rattle.call_dispatch.specs.declared.end.ConnEnd.{ConnEnd}
-use Rattle.call_dispatch.specs.declared.end.ConnEnd.TheVariants.{Ended, BadHeader, UnknownProtocol, BadMessage, BadStream, TooLarge, Truncated, NotBuilt, NoSuchObject, NoSuchMethod, SpaceFull, MessageLimit, ReadFault, WriteFault, OutOfMemory}
+use Rattle.call_dispatch.specs.declared.end.ConnEnd.TheVariants.{Ended, BadHeader, UnknownProtocol, BadMessage, BadStream, TooLarge, Truncated, NoSuchObject, NoSuchMethod, SpaceFull, MessageLimit, ReadFault, WriteFault, OutOfMemory}
 use Rattle.call_dispatch.specs.End.{IsSettled}
 use Rattle.call_dispatch.specs.Terms.{Terms}
-use Rattle.call_dispatch.specs.Acts.{Act, Call as WorkerCall, States}
+use Rattle.call_dispatch.specs.Acts.{Act, Call as WorkerCall, States, acts_of}
 use Rattle.call_dispatch.specs.Served.{Served as Way, served_acts, IsServed}
 use Rattle.call_dispatch.specs.Spot.{Spot, Course, took, followed_by}
-use Rattle.call_dispatch.specs.Rows.{Exchange, ping, served, taken_by, acts_by, draws_by, IsExchange, IsOpen, closed_by, GoOn, IsChain}
-use Rattle.call_dispatch.specs.Dialogue.{Opening, stream, single_op, most_messages, opening_taken, Whole, nothing, greeted, opened, taken_in, course_in, IsAtCode, IsDone, IsClosed, IsUnbuilt, EndsInCall, Ends, Dialogue}
-use Rattle.call_dispatch.specs.Tape.{Tick, ticks, tape}
+use Rattle.call_dispatch.specs.Rows.{Exchange, ping, acknowledged, served, FitsUid, IsNoted, taken_by, acts_by, draws_by, IsExchange, IsOpen, closed_by, GoOn, IsChain}
+use Rattle.call_dispatch.specs.Dialogue.{Opening, stream, single_op, most_messages, opening_taken, Whole, nothing, greeted, opened, taken_in, course_in, IsAtCode, IsDone, IsClosed, EndsInCall, Ends, Dialogue}
+use Rattle.call_dispatch.specs.Tape.{Tick, answered, ticks, tape}
 use Rattle.call_dispatch.specs.Progress.{Talks, Settles, Talked, Served}
 use Rattle.call_dispatch.proofs.Breaks.{same_behind}
+use Rattle.call_dispatch.proofs.Tapes.{turn_alone}
 use Rattle.call_dispatch.proofs.CallsOne.{InCall, in_call_one, in_call_not_served, exchange_one}
 use Rattle.call_dispatch.proofs.OpeningReading.{opens, over, reading, neq-eqb, opening_passed, Reads, nothing_reads, greeted_reads}
 
@@ -31,9 +40,40 @@ abbrev first_byte : List ℕ → ℕ
 first_byte [] = 0
 first_byte (b ∷ bytes) = b
 
--- A Call doesn't begin as a Ping does.
+-- A Call doesn't begin as a Ping does, nor as an acknowledgement, and these two neither.
 no_call : (xs ys : List ℕ) → code_byte Call ∷ xs ≡ code_byte Ping ∷ ys → ⊥
 no_call xs ys same = true≢false (ap (λ (l : List ℕ). eqb (first_byte l) 0x50) same)
+
+no_ack : (xs ys : List ℕ) → code_byte Call ∷ xs ≡ code_byte DgcAck ∷ ys → ⊥
+no_ack xs ys same = true≢false (ap (λ (l : List ℕ). eqb (first_byte l) 0x50) same)
+
+no_ping : (xs ys : List ℕ) → code_byte Ping ∷ xs ≡ code_byte DgcAck ∷ ys → ⊥
+no_ping xs ys same = true≢false (ap (λ (l : List ℕ). eqb (first_byte l) 0x52) same)
+
+-- The identifier of an acknowledgement, and what comes behind it.
+uid_same : (uid uid2 : Uid) (xs ys : List ℕ) → FitsUid uid → FitsUid uid2 → bytes_of_uid uid ++ xs ≡ bytes_of_uid uid2 ++ ys → (uid ≡ uid2) × (xs ≡ ys)
+uid_same uid uid2 xs ys fits fits2 same =
+    let uids : uid ≡ uid2 = sym (uid-spelled uid xs fits.unique fits.time fits.count) ∙ ap uid_from_bytes same ∙ uid-spelled uid2 ys fits2.unique fits2.time fits2.count in
+    (uids, same_behind (bytes_of_uid uid) (bytes_of_uid uid2) xs ys (ap bytes_of_uid uids) same)
+
+acknowledged_same : (u u2 : Uid) (m m2 : ℕ) (a a2 : Result Turn Refused) → u ≡ u2 → m ≡ m2 → a ≡ a2 → acknowledged u m a ≡ acknowledged u2 m2 a2
+acknowledged_same u u2 m m2 a a2 us ms answers = ap (λ x. acknowledged x m a) us ∙ ap (λ x. acknowledged u2 x a) ms ∙ ap (λ x. acknowledged u2 m2 x) answers
+
+-- what the outside hands in at an acknowledgement
+abbrev ack_ticks : ℕ → Result Turn Refused → List Tick
+ack_ticks moment answer = answered moment (end_of answer) ∷ []
+
+ack_tape : (uid : Uid) (moment : ℕ) (answer : Result Turn Refused) → IsNoted answer → tape (acts_of moment (Ack uid) answer) ≡ ack_ticks moment answer
+ack_tape uid moment (Ok turn) noted = turn_alone moment (Ack uid) turn
+ack_tape uid moment (Err refusals.HistoryFull) noted = refl
+ack_tape uid moment (Err (refusals.Full kind)) noted = absurd noted
+ack_tape uid moment (Err refusals.OutOfMemory) noted = absurd noted
+
+ack_one : (m m2 : ℕ) (a a2 : Result Turn Refused) (t t2 : List Tick) → ack_ticks m a ++ t ≡ ack_ticks m2 a2 ++ t2 → (m ≡ m2) × (a ≡ a2) × (t ≡ t2)
+ack_one m m2 (Ok turn) (Ok turn2) t t2 same = ((cc), (cc), (cc))
+ack_one m m2 (Ok turn) (Err refusal) t t2 same = absurd (cc)
+ack_one m m2 (Err refusal) (Ok turn) t t2 same = absurd (cc)
+ack_one m m2 (Err refusal) (Err refusal2) t t2 same = ((cc), (cc), (cc))
 
 served_same : (b b2 : List ℕ) (h h2 : CallHead) (u u2 : Uid) (s s2 : Way) → b ≡ b2 → h ≡ h2 → u ≡ u2 → s ≡ s2 → served b h u s ≡ served b2 h2 u2 s2
 served_same b b2 h h2 u u2 s s2 bs hs us ss = ap (λ x. served x h u s) bs ∙ ap (λ x. served b2 x u s) hs ∙ ap (λ x. served b2 h2 x s) us ∙ ap (λ x. served b2 h2 u2 x) ss
@@ -44,6 +84,16 @@ pub next_is_one : (terms : Terms) (drawn : ℕ) (e f : Exchange) (rest rest2 : L
     → taken_by e ++ rest ≡ taken_by f ++ rest2 → tape (acts_by e) ++ t ≡ tape (acts_by f) ++ t2
     → (e ≡ f) × (rest ≡ rest2) × (t ≡ t2)
 next_is_one terms drawn ping ping rest rest2 t t2 is is2 input ticking = (refl, ap (drop 1) input, ticking)
+next_is_one terms drawn ping (acknowledged uid moment answer) rest rest2 t t2 is is2 input ticking = absurd (no_ping rest (bytes_of_uid uid ++ rest2) input)
+next_is_one terms drawn (acknowledged uid moment answer) ping rest rest2 t t2 is is2 input ticking = absurd (no_ping rest2 (bytes_of_uid uid ++ rest) (sym input))
+next_is_one terms drawn (acknowledged uid moment answer) (acknowledged uid2 moment2 answer2) rest rest2 t t2 (fits, noted) (fits2, noted2) input ticking =
+    let one = uid_same uid uid2 rest rest2 fits fits2 (ap (drop 1) input) in
+    let handed : ack_ticks moment answer ++ t ≡ ack_ticks moment2 answer2 ++ t2 =
+    ap (λ (l : List Tick). l ++ t) (sym (ack_tape uid moment answer noted)) ∙ ticking ∙ ap (λ (l : List Tick). l ++ t2) (ack_tape uid2 moment2 answer2 noted2) in
+    let told = ack_one moment moment2 answer answer2 t t2 handed in
+    (acknowledged_same uid uid2 moment moment2 answer answer2 one.0 told.0 told.1, one.1, told.2)
+next_is_one terms drawn (acknowledged uid moment answer) (served bytes head uid2 s) rest rest2 t t2 is is2 input ticking = absurd (no_ack (bytes ++ rest2) (bytes_of_uid uid ++ rest) (sym input))
+next_is_one terms drawn (served bytes head uid2 s) (acknowledged uid moment answer) rest rest2 t t2 is is2 input ticking = absurd (no_ack (bytes ++ rest) (bytes_of_uid uid ++ rest2) input)
 next_is_one terms drawn ping (served bytes head uid s) rest rest2 t t2 is is2 input ticking = absurd (no_call (bytes ++ rest2) rest (sym input))
 next_is_one terms drawn (served bytes head uid s) ping rest rest2 t t2 is is2 input ticking = absurd (no_call (bytes ++ rest) rest2 input)
 next_is_one terms drawn (served bytes head uid s) (served bytes2 head2 uid2 s2) rest rest2 t t2 (draw, fits, few, is) (draw2, fits2, few2, is2) input ticking =
@@ -55,11 +105,16 @@ next_is_one terms drawn (served bytes head uid s) (served bytes2 head2 uid2 s2) 
 
 -- ---- what comes next
 
--- after an opening and some exchanges: a Ping or a Call, with the input behind its code; or an end, with what is left
+-- after an opening and some exchanges: a Ping, an acknowledgement or a Call, with the input behind its code; or an end, with what is left
 data Next : Type 0 where
   pinged : List ℕ → Next
+  acking : List ℕ → Next
   calling : List ℕ → Next
   stopped : ConnEnd → List ℕ → Next
+
+-- behind the code of an acknowledgement that stands at `at`
+abbrev ack_next : ℕ → List ℕ → Next
+ack_next at xs = cond (nat_lt (length xs) 14) (stopped (Truncated (at + 1 + length xs)) []) (acking xs)
 
 -- at a code's place at `at`, where n messages were served
 abbrev code_next : ℕ → ℕ → List ℕ → Next
@@ -67,7 +122,7 @@ code_next n at [] = stopped Ended []
 code_next n at (b ∷ xs) =
     cond (eqb b 0x50 || (eqb b 0x52 || eqb b 0x54))
     (cond (eqb n (2 ^ 28)) (stopped MessageLimit xs)
-    (cond (eqb b 0x50) (calling xs) (cond (eqb b 0x52) (pinged xs) (stopped (NotBuilt b at) xs))))
+    (cond (eqb b 0x50) (calling xs) (cond (eqb b 0x52) (pinged xs) (ack_next at xs))))
     (stopped (BadMessage b at) xs)
 
 -- where the connection wasn't closed
@@ -86,10 +141,16 @@ next opening es xs = unless_closed xs (open_next opening es (length (taken_in (o
 -- an exchange that comes next
 abbrev went : Exchange → List ℕ → Next
 went ping xs = pinged xs
+went (acknowledged uid moment answer) xs = acking (bytes_of_uid uid ++ xs)
 went (served bytes head uid s) xs = calling (bytes ++ xs)
 
 code_reads : (n at : ℕ) (e : Exchange) (rest : List ℕ) → n < 2 ^ 28 → code_next n at (taken_by e ++ rest) ≡ went e rest
 code_reads n at ping rest few = let no = neq-eqb n (2 ^ 28) (λ same. omega arith) in rw no refl
+code_reads n at (acknowledged uid moment answer) rest few =
+    let no = neq-eqb n (2 ^ 28) (λ same. omega arith) in
+    let long : length (bytes_of_uid uid ++ rest) ≡ 14 + length rest = length-append (bytes_of_uid uid) rest in
+    let enough : nat_lt (length (bytes_of_uid uid ++ rest)) 14 ≡ false = grind (arith, nat_tests, long) in
+    rw (no, enough) refl
 code_reads n at (served bytes head uid s) rest few = let no = neq-eqb n (2 ^ 28) (λ same. omega arith) in rw no refl
 
 open_reads : (opening : Opening) (es : List Exchange) (at : ℕ) (e : Exchange) (rest : List ℕ) → length es < most_messages opening → open_next opening es at (taken_by e ++ rest) ≡ went e rest
@@ -118,14 +179,12 @@ code_untold b none =
 no_code_next : (n at byte : ℕ) (xs : List ℕ) → ¬ IsCode byte → code_next n at (byte ∷ xs) ≡ stopped (BadMessage byte at) xs
 no_code_next n at byte xs none = let told = code_untold byte none in rw told refl
 
-unbuilt_next : (n at byte : ℕ) (xs : List ℕ) → n < 2 ^ 28 → IsUnbuilt byte → code_next n at (byte ∷ xs) ≡ stopped (NotBuilt byte at) xs
-unbuilt_next n at byte xs few unbuilt =
-    let told = code_told byte (DgcAck, unbuilt) in
-    let before = neq-eqb n (2 ^ 28) (λ same. omega arith) in
-    let is : byte ≡ 0x54 = unbuilt in
-    let no_call = neq-eqb byte 0x50 (λ same. omega (arith, is, same)) in
-    let no_ping = neq-eqb byte 0x52 (λ same. omega (arith, is, same)) in
-    rw (told, before, no_call, no_ping) refl
+-- The input ends in an acknowledgement.
+ack_cut : (n at : ℕ) (part : List ℕ) → n < 2 ^ 28 → length part < 14 → code_next n at (code_byte DgcAck ∷ part) ≡ stopped (Truncated (at + 1 + length part)) []
+ack_cut n at part few short =
+    let no = neq-eqb n (2 ^ 28) (λ same. omega arith) in
+    let less : nat_lt (length part) 14 ≡ true = grind (arith, nat_tests) in
+    rw (no, less) refl
 
 call_next : (n at : ℕ) (xs : List ℕ) → n < 2 ^ 28 → code_next n at (code_byte Call ∷ xs) ≡ calling xs
 call_next n at xs few = let no = neq-eqb n (2 ^ 28) (λ same. omega arith) in rw no refl
@@ -151,6 +210,9 @@ closed_next : (opening : Opening) (es : List Exchange) (end : ConnEnd) (xs : Lis
 closed_next opening es end xs closed = ap (unless_closed xs (open_next opening es (length (taken_in (opened opening es))) xs)) closed
 
 -- ---- ends
+
+after_code : (a b : ℕ) → a + suc b ≡ a + 1 + b
+after_code a b = omega arith
 
 -- After these exchanges came these bytes and this end, and nothing else was done.
 abbrev Stops : Opening → List Exchange → Course → List ℕ → ConnEnd → Type 0
@@ -188,11 +250,14 @@ opened_stops terms drawn opening es tail rest (BadMessage byte at) (code, none, 
     inl (byte ∷ [], is, at_code_next opening es (byte ∷ rest) code ∙ no_code_next (length es) here byte rest none ∙ ap (λ n. stopped (BadMessage byte n) rest) (sym place))
 opened_stops terms drawn opening es tail rest (BadStream kind at) inside settled = call_stops terms opening es tail rest (BadStream kind at) inside
 opened_stops terms drawn opening es tail rest (TooLarge what at) inside settled = call_stops terms opening es tail rest (TooLarge what at) inside
-opened_stops terms drawn opening es tail rest (Truncated at) (inl (more, inside, left, place, is)) settled = absurd inside
-opened_stops terms drawn opening es tail rest (Truncated at) (inr inside) settled = call_stops terms opening es tail rest (Truncated at) inside
-opened_stops terms drawn opening es tail rest (NotBuilt byte at) (code, room, unbuilt, place, is) settled =
+opened_stops terms drawn opening es tail rest (Truncated at) (inl (more, (code, room, (part, begun, short)), left, place, is)) settled =
     let here : ℕ = length (taken_in (opened opening es)) in
-    inl (byte ∷ [], is, at_code_next opening es (byte ∷ rest) code ∙ unbuilt_next (length es) here byte rest room unbuilt ∙ ap (λ n. stopped (NotBuilt byte n) rest) (sym place))
+    let input : more ++ rest ≡ code_byte DgcAck ∷ part = ap (λ (l : List ℕ). more ++ l) left ∙ append-nil more ∙ begun in
+    let long : length (taken_in (opened opening es) ++ more) ≡ here + 1 + length part =
+    length-append (taken_in (opened opening es)) more ∙ ap (λ (l : List ℕ). here + length l) begun ∙ after_code here (length part) in
+    let next_is : next opening es (more ++ rest) ≡ code_next (length es) here (more ++ rest) = at_code_next opening es (more ++ rest) code in
+    inl (more, is, next_is ∙ ap (code_next (length es) here) input ∙ ack_cut (length es) here part room short ∙ ap (λ n. stopped (Truncated n) []) (sym (place ∙ long)) ∙ ap (stopped (Truncated at)) (sym left))
+opened_stops terms drawn opening es tail rest (Truncated at) (inr inside) settled = call_stops terms opening es tail rest (Truncated at) inside
 opened_stops terms drawn opening es tail rest (NoSuchObject id) (closed, is) settled = inl ([], is, closed_next opening es (NoSuchObject id) rest closed)
 opened_stops terms drawn opening es tail rest (NoSuchMethod operation hash) (closed, is) settled = inl ([], is, closed_next opening es (NoSuchMethod operation hash) rest closed)
 opened_stops terms drawn opening es tail rest SpaceFull (closed, is) settled = inl ([], is, closed_next opening es SpaceFull rest closed)
@@ -233,6 +298,7 @@ ends_one terms opening es tail tail2 rest rest2 end end2 t t2 (inr (more, taken,
 
 stopped_went : (end : ConnEnd) (rest : List ℕ) (f : Exchange) (xs : List ℕ) → stopped end rest ≡ went f xs → ⊥
 stopped_went end rest ping xs same = cc
+stopped_went end rest (acknowledged uid moment answer) xs same = cc
 stopped_went end rest (served bytes head uid s) xs same = cc
 
 -- An end doesn't stand where an exchange goes on.
@@ -243,6 +309,8 @@ not_both terms opening es drawn tail rest end f xs t u (inl (more, is, stop)) se
     stopped_went end rest f xs (next_same opening es (more ++ rest) (taken_by f ++ xs) (stopped end rest) (went f xs) same_input stop (next_reads opening es f xs few goes))
 not_both terms opening es drawn tail rest end ping xs t u (inr (more, taken, calls, inside)) settled few goes legal input ticking =
     no_call (more ++ rest) xs (sym (call_input tail more rest taken) ∙ input)
+not_both terms opening es drawn tail rest end (acknowledged uid moment answer) xs t u (inr (more, taken, calls, inside)) settled few goes legal input ticking =
+    no_ack (more ++ rest) (bytes_of_uid uid ++ xs) (sym (call_input tail more rest taken) ∙ input)
 not_both terms opening es drawn tail rest end (served bytes head uid s) xs t u (inr (more, taken, calls, inside)) settled few goes (draw, fits, small, is) input ticking =
     in_call_not_served terms.kinds (length (taken_in (opened opening es))) tail rest end head bytes uid s xs t u inside settled fits small is input ticking
 

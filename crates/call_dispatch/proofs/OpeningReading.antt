@@ -4,7 +4,7 @@ use Rattle.std.proofs.lemmas.List.{drop_at, take_at, take-append-drop}
 use Rattle.std.proofs.lemmas.Bool.Decides.{eqb_tells, nat_tests}
 use Rattle.jrmp_frames.specs.Frames.{header_start, IsInHeader, BreaksHeader, IsEndpoint, IsInEndpoint, protocol_ack, protocol_not_supported}
 use Rattle.call_dispatch.specs.declared.end.ConnEnd.{ConnEnd}
-use Rattle.call_dispatch.specs.declared.end.ConnEnd.TheVariants.{Ended, BadHeader, UnknownProtocol, BadMessage, BadStream, TooLarge, Truncated, NotBuilt, NoSuchObject, NoSuchMethod, SpaceFull, MessageLimit, ReadFault, WriteFault, OutOfMemory}
+use Rattle.call_dispatch.specs.declared.end.ConnEnd.TheVariants.{Ended, BadHeader, UnknownProtocol, BadMessage, BadStream, TooLarge, Truncated, NoSuchObject, NoSuchMethod, SpaceFull, MessageLimit, ReadFault, WriteFault, OutOfMemory}
 use Rattle.call_dispatch.specs.End.{IsSettled}
 use Rattle.call_dispatch.specs.Terms.{Terms}
 use Rattle.call_dispatch.specs.Spot.{Course, took}
@@ -128,7 +128,6 @@ nothing_reads terms drawn tail rest (Truncated at) (inl (more, inside, left, pla
       refl,
       refl,
     )
-nothing_reads terms drawn tail rest (NotBuilt byte at) (code, room, unbuilt, place, is) settled = absurd code
 nothing_reads terms drawn tail rest (NoSuchObject id) (closed, is) settled = absurd closed
 nothing_reads terms drawn tail rest (NoSuchMethod operation hash) (closed, is) settled = absurd closed
 nothing_reads terms drawn tail rest SpaceFull (closed, is) settled = absurd closed
@@ -155,7 +154,6 @@ greeted_reads terms drawn tail rest (Truncated at) (inl (more, inside, left, pla
       refl,
       refl,
     )
-greeted_reads terms drawn tail rest (NotBuilt byte at) (code, room, unbuilt, place, is) settled = absurd code
 greeted_reads terms drawn tail rest (NoSuchObject id) (closed, is) settled = absurd closed
 greeted_reads terms drawn tail rest (NoSuchMethod operation hash) (closed, is) settled = absurd closed
 greeted_reads terms drawn tail rest SpaceFull (closed, is) settled = absurd closed

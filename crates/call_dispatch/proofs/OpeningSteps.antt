@@ -131,7 +131,6 @@ refusal_ends may moves terms old new held now side drawn byte (ends.BadMessage b
 refusal_ends may moves terms old new held now side drawn byte (ends.BadStream kind at) first gives refuses = absurd refuses
 refusal_ends may moves terms old new held now side drawn byte (ends.TooLarge what at) first gives refuses = absurd refuses
 refusal_ends may moves terms old new held now side drawn byte (ends.Truncated at) first gives refuses = absurd refuses
-refusal_ends may moves terms old new held now side drawn byte (ends.NotBuilt b at) first gives refuses = absurd refuses
 refusal_ends may moves terms old new held now side drawn byte (ends.NoSuchObject id) first gives refuses = absurd refuses
 refusal_ends may moves terms old new held now side drawn byte (ends.NoSuchMethod operation hash) first gives refuses = absurd refuses
 refusal_ends may moves terms old new held now side drawn byte ends.SpaceFull first gives refuses = absurd refuses

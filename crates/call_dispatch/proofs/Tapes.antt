@@ -26,7 +26,7 @@ pub turn_tape : (moment : ℕ) (ask : Ask) (turn : Turn) (later : List Act) → 
 turn_tape moment ask turn later =
     ap (λ (l : List Tick). answered moment (Turned turn) ∷ l) (flat_map-append ticks (tells_of turn.gone) later ∙ ap (λ (l : List Tick). l ++ tape later) (told_tape turn.gone))
 
-turn_alone : (moment : ℕ) (ask : Ask) (turn : Turn) → tape (acts_of moment ask (Ok turn)) ≡ answered moment (Turned turn) ∷ []
+pub turn_alone : (moment : ℕ) (ask : Ask) (turn : Turn) → tape (acts_of moment ask (Ok turn)) ≡ answered moment (Turned turn) ∷ []
 turn_alone moment ask turn = ap (λ (l : List Tick). answered moment (Turned turn) ∷ l) (told_tape turn.gone)
 
 abbrev pub conclusion_ticks : Conclusion → List Tick

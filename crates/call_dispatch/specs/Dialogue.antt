@@ -5,10 +5,10 @@ use Rattle.std.specs.List.{flat_map}
 use Rattle.wire_io.specs.Wire.{NothingLeft}
 use Rattle.jrmp_frames.specs.declared.header.Protocol.{Protocol}
 use Rattle.jrmp_frames.specs.declared.header.Protocol.TheVariants.{Stream, SingleOp}
-use Rattle.jrmp_frames.specs.declared.code.Code.TheVariants.{Call, DgcAck}
-use Rattle.jrmp_frames.specs.Frames.{header_start, header, IsNoProtocol, IsInHeader, BreaksHeader, IsEndpoint, IsInEndpoint, protocol_ack, protocol_not_supported, code_byte, IsCode}
+use Rattle.jrmp_frames.specs.declared.code.Code.TheVariants.{Call}
+use Rattle.jrmp_frames.specs.Frames.{header_start, header, IsNoProtocol, IsInHeader, BreaksHeader, IsEndpoint, IsInEndpoint, IsInAck, protocol_ack, protocol_not_supported, code_byte, IsCode}
 use Rattle.call_dispatch.specs.declared.end.ConnEnd.{ConnEnd}
-use Rattle.call_dispatch.specs.declared.end.ConnEnd.TheVariants.{Ended, BadHeader, UnknownProtocol, BadMessage, BadStream, TooLarge, Truncated, NotBuilt, NoSuchObject, NoSuchMethod, SpaceFull, MessageLimit, ReadFault, WriteFault, OutOfMemory}
+use Rattle.call_dispatch.specs.declared.end.ConnEnd.TheVariants.{Ended, BadHeader, UnknownProtocol, BadMessage, BadStream, TooLarge, Truncated, NoSuchObject, NoSuchMethod, SpaceFull, MessageLimit, ReadFault, WriteFault, OutOfMemory}
 use Rattle.history.specs.declared.asks.Ask.TheVariants.{Begin}
 use Rattle.history.specs.declared.replies.Reply.TheVariants.{Started}
 use Rattle.history.specs.declared.replies.Turn.{Turn}
@@ -115,11 +115,11 @@ abbrev pub IsClosed : Whole → ConnEnd → Type 0
 IsClosed (opened opening exchanges) end = closed_by exchanges ≡ Some end
 IsClosed _ end = ⊥
 
--- These bytes, after what stands whole, are a front of what is to come next in the opening, and not all of it.
+-- These bytes, after what stands whole, are a front of what is to come next in the opening, or of an acknowledgement, and not all of it.
 abbrev pub IsInside : Whole → List ℕ → Type 0
 IsInside nothing more = IsInHeader more
 IsInside greeted more = IsInEndpoint more
-IsInside (opened opening exchanges) more = ⊥
+IsInside (opened opening exchanges) more = IsAtCode (opened opening exchanges) × (length exchanges < 2 ^ 28) × IsInAck more
 
 -- This exchange may come next.
 abbrev pub IsNext : Terms → ℕ → Whole → Exchange → Type 0
@@ -152,10 +152,6 @@ IsExchanged terms drawn w c = (e : Exchange) × IsNext terms drawn w e × (c ≡
 -- This comes next, with its answer.
 abbrev pub IsAnswered : Terms → ℕ → Whole → Course → Type 0
 IsAnswered terms drawn w c = IsGreeting terms w c ⊎ (((byte : ℕ) × IsRefused w byte c) ⊎ IsExchanged terms drawn w c)
-
--- This byte is the code of a message that isn't served yet.
-abbrev pub IsUnbuilt : ℕ → Type 0
-IsUnbuilt byte = byte ≡ code_byte DgcAck
 
 -- ---- inside a Call
 
@@ -208,8 +204,6 @@ Ends terms drawn w tail rest (NoSuchMethod operation hash) = IsClosed w (NoSuchM
 Ends terms drawn w tail rest SpaceFull = IsClosed w SpaceFull × (tail ≡ took [])
 Ends terms drawn w tail rest (BadStream kind at) = EndsInCall terms w tail rest (BadStream kind at)
 Ends terms drawn w tail rest (TooLarge what at) = EndsInCall terms w tail rest (TooLarge what at)
-Ends terms drawn w tail rest (NotBuilt byte at) =
-    IsAtCode w × (count_of w < 2 ^ 28) × IsUnbuilt byte × (at ≡ length (taken_in w)) × (tail ≡ took (byte ∷ []))
 Ends terms drawn w tail rest MessageLimit =
     IsAtCode w × (count_of w ≡ 2 ^ 28) × ((byte : ℕ) × IsCode byte × (tail ≡ took (byte ∷ [])))
 Ends terms drawn w tail rest ReadFault =

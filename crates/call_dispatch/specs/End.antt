@@ -1,7 +1,7 @@
 -- The ends of connections.
 use Rattle.std.specs.Prelude.{ℕ}
 use Rattle.call_dispatch.specs.declared.end.ConnEnd.{ConnEnd}
-use Rattle.call_dispatch.specs.declared.end.ConnEnd.TheVariants.{Ended, BadHeader, UnknownProtocol, BadMessage, BadStream, TooLarge, Truncated, NotBuilt, NoSuchObject, NoSuchMethod, SpaceFull, MessageLimit, ReadFault, WriteFault, OutOfMemory}
+use Rattle.call_dispatch.specs.declared.end.ConnEnd.TheVariants.{Ended, BadHeader, UnknownProtocol, BadMessage, BadStream, TooLarge, Truncated, NoSuchObject, NoSuchMethod, SpaceFull, MessageLimit, ReadFault, WriteFault, OutOfMemory}
 
 -- the status of a process that ends so
 abbrev pub status_of : ConnEnd → ℕ
@@ -11,7 +11,6 @@ status_of (UnknownProtocol byte) = 2
 status_of (BadMessage byte at) = 2
 status_of (BadStream kind at) = 2
 status_of (Truncated at) = 2
-status_of (NotBuilt byte at) = 2
 status_of ReadFault = 3
 status_of (WriteFault sent) = 4
 status_of OutOfMemory = 5

@@ -1,7 +1,13 @@
 -- The table of exchanges: what each message takes, does, draws and writes, and how a row is cut.
-use Rattle.std.specs.Prelude.{◌≡◌, ℕ, ◌+◌, ◌^◌, ◌≤◌, List, [], ◌∷◌, ◌++◌, ◌⊎◌, length, Option, None}
+use Rattle.std.specs.Prelude.{◌≡◌, ℕ, ◌+◌, ◌^◌, ◌≤◌, List, [], ◌∷◌, ◌++◌, ◌⊎◌, length, Option, None, Result, Ok, Err, FitsSigned}
+use Rattle.std.specs.Int.{w16, w32, w64}
 use Rattle.std.specs.List.{flat_map}
 use Rattle.object_ids.specs.declared.ids.ObjId.{ObjId}
+use Rattle.history.specs.declared.asks.Ask.TheVariants.{Ack}
+use Rattle.history.specs.declared.replies.Reply.TheVariants.{Done}
+use Rattle.history.specs.declared.replies.Turn.{Turn}
+use Rattle.history.specs.declared.replies.Refused.{Refused}
+use Rattle.history.specs.declared.replies.Refused.TheVariants.{HistoryFull}
 use Rattle.space.specs.declared.asked.Asked.{Asked}
 use Rattle.space.specs.declared.asked.AskedEnd.{AskedEnd}
 use Rattle.space.specs.declared.asked.AskedEnd.TheVariants.{Abandoned}
@@ -10,11 +16,11 @@ use Rattle.object_ids.specs.declared.ids.Uid.{Uid}
 use Rattle.object_ids.specs.Draw.{uid_drawn}
 use Rattle.jrmp_frames.specs.declared.head.CallHead.{CallHead}
 use Rattle.jrmp_frames.specs.declared.code.Code.TheVariants.{Ping, Call}
-use Rattle.jrmp_frames.specs.Frames.{code_byte, ping_ack}
+use Rattle.jrmp_frames.specs.Frames.{code_byte, ping_ack, dgc_ack}
 use Rattle.call_dispatch.specs.declared.outcome.Outcome.TheVariants.{OutOfMemory}
 use Rattle.call_dispatch.specs.declared.end.ConnEnd.{ConnEnd}
 use Rattle.call_dispatch.specs.Terms.{Terms}
-use Rattle.call_dispatch.specs.Acts.{Act, asks, lost, called, invokes, unreferenced, entries}
+use Rattle.call_dispatch.specs.Acts.{Act, asks, lost, called, invokes, unreferenced, entries, acts_of}
 use Rattle.call_dispatch.specs.Served.{FitsHead, Served, served_acts, served_written, served_closes, IsServed}
 use Rattle.call_dispatch.specs.Spot.{Course}
 
@@ -27,13 +33,16 @@ pub record Row : Type 0 where
   pub written : List ℕ
   pub closes : Option ConnEnd
 
--- an exchange: one message of the client, and what is done at it. A Call has the bytes behind its code, its head, and the identifier of its Return.
+-- an exchange: one message of the client, and what is done at it. An acknowledgement has the identifier that it names, and its turn's moment and
+-- answer. A Call has the bytes behind its code, its head, and the identifier of its Return.
 pub data Exchange : Type 0 where
   ping : Exchange
+  acknowledged : Uid → ℕ → Result Turn Refused → Exchange
   served : List ℕ → CallHead → Uid → Served → Exchange
 
 abbrev pub row_of : Exchange → Row
 row_of ping = record { message = code_byte Ping ∷ []; acts = []; draws = 0; written = ping_ack; closes = None }
+row_of (acknowledged uid moment answer) = record { message = dgc_ack uid; acts = acts_of moment (Ack uid) answer; draws = 0; written = []; closes = None }
 row_of (served bytes head uid s) =
     record { message = code_byte Call ∷ bytes; acts = served_acts head uid s; draws = 1; written = served_written uid s; closes = served_closes head s }
 
@@ -41,9 +50,22 @@ row_of (served bytes head uid s) =
 abbrev pub most_bytes : ℕ
 most_bytes = 2 ^ 24
 
+-- The identifier's numbers are in range, so that its bytes tell them.
+pub record FitsUid (uid : Uid) : Type 0 where
+  pub unique : FitsSigned w32 uid.unique
+  pub time : FitsSigned w64 uid.time
+  pub count : FitsSigned w16 uid.count
+
+-- An acknowledgement was noted, or passed over where the history was full.
+abbrev pub IsNoted : Result Turn Refused → Type 0
+IsNoted (Ok turn) = turn.reply ≡ Done
+IsNoted (Err HistoryFull) = Unit {0}
+IsNoted (Err _) = ⊥
+
 -- Where so many identifiers were drawn, it may come so: what it holds of the outside's answers fits its message, which has not too many bytes.
 abbrev pub IsExchange : Terms → ℕ → Exchange → Type 0
 IsExchange terms drawn ping = Unit {0}
+IsExchange terms drawn (acknowledged uid moment answer) = FitsUid uid × IsNoted answer
 IsExchange terms drawn (served bytes head uid s) = (uid ≡ uid_drawn terms.unique terms.time drawn) × FitsHead head × (1 + length bytes ≤ most_bytes) × IsServed terms.kinds head bytes uid s
 
 abbrev pub taken_by : Exchange → List ℕ

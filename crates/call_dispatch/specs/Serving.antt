@@ -1,12 +1,13 @@
 -- How far a call has come, for the functions that serve it step by step.
-use Rattle.std.specs.Prelude.{◌≡◌, ◌≢◌, ℕ, ◌+◌, ◌^◌, ◌≤◌, ◌⊎◌, Bool, true, false, ◌&&◌, List, [], ◌∷◌, ◌++◌, length, slice_get, Option, None, Some, Result, Ok, Err, OnErr, if◌then◌else◌}
+use Rattle.std.specs.Prelude.{◌≡◌, ◌≢◌, ℕ, ◌+◌, ◌^◌, ◌<◌, ◌≤◌, ◌⊎◌, Bool, true, false, ◌&&◌, List, [], ◌∷◌, ◌++◌, length, slice_get, Option, None, Some, Result, Ok, Err, OnErr, if◌then◌else◌}
 use Rattle.class_desc.specs.declared.field.TypeCode.{TypeCode}
 use Rattle.method_hash.specs.declared.method.Method.{Method}
 use Rattle.object_ids.specs.declared.ids.ObjId.{ObjId}
 use Rattle.object_ids.specs.declared.ids.Uid.{Uid}
+use Rattle.object_ids.specs.Bytes.{bytes_of_uid}
 use Rattle.object_ids.specs.Draw.{uid_drawn}
 use Rattle.object_ids.specs.Same.{same_id}
-use Rattle.history.specs.declared.asks.Ask.TheVariants.{Begin}
+use Rattle.history.specs.declared.asks.Ask.TheVariants.{Begin, Ack}
 use Rattle.history.specs.declared.replies.Reply.TheVariants.{Started}
 use Rattle.history.specs.declared.replies.Turn.{Turn}
 use Rattle.history.specs.declared.replies.Refused.{Refused}
@@ -19,7 +20,10 @@ use Rattle.space.specs.Ports.{is_finished}
 use Rattle.ser_read.specs.Wants.{Stand, serve_to_close}
 use Rattle.jrmp_frames.specs.declared.head.CallHead.{CallHead}
 use Rattle.jrmp_frames.specs.declared.message.Body.{Body}
+use Rattle.ser_read.specs.declared.fault.StreamFault.{StreamFault}
 use Rattle.jrmp_frames.specs.declared.fault.FrameFault.{FrameFault}
+use Rattle.jrmp_frames.specs.declared.fault.FrameFault.TheVariants.{Stream}
+use Rattle.jrmp_frames.specs.Gives.{StopsIn}
 use Rattle.jrmp_frames.specs.Messages.{return_message, wants_of}
 use Rattle.jrmp_frames.specs.Calls.{ReadsHead, BreaksIn}
 use Rattle.call_dispatch.specs.declared.book.Kind.{Kind}
@@ -36,7 +40,7 @@ use Rattle.call_dispatch.specs.Acts.{Act, Call, States, Side, Led, acts_of, aban
 use Rattle.call_dispatch.specs.Book.{methods_of}
 use Rattle.call_dispatch.specs.Returns.{fault_return, normal_return, is_short, fits, full, fault_message, wrong_outcome}
 use Rattle.call_dispatch.specs.Served.{Conclusion, finished, denied, faulted, conclusion_acts, conclusion_written, IsConclusion, Running, running_acts, running_written, running_closes, IsRunning, Served, served_acts, served_written, served_closes, IsServed, IsMethodOf}
-use Rattle.call_dispatch.specs.Rows.{IsCut}
+use Rattle.call_dispatch.specs.Rows.{FitsUid, IsNoted, IsCut}
 use Rattle.call_dispatch.specs.Progress.{Writes, end_from}
 
 -- the identifier that is drawn next
@@ -154,3 +158,19 @@ pub record Sends (before after : Option (List ℕ)) (faults faults2 : ℕ) (sent
   pub rose : OnErr written (Rose faults faults2)
   pub kept : faults ≤ faults2
   pub is : result ≡ closing written answer.close
+
+-- ---- acknowledgements
+
+-- An identifier was noted, or passed over, or there was no memory for it. So many bytes were sent before, and none is sent.
+abbrev pub Notes : (Invocation → Outcome → Type 0) → (States → Call → States → Type 0) → Uid → Side → Side → ℕ → Result ℕ ConnEnd → Type 0
+Notes may moves uid before after sent (Ok sent2) = (sent2 ≡ sent) × ((moment : ℕ) × (answer : Result Turn Refused) × IsNoted answer × Led may moves before after (acts_of moment (Ack uid) answer))
+Notes may moves uid before after sent (Err end) = (end ≡ ends.OutOfMemory) × ((moment : ℕ) × Led may moves before after (acts_of moment (Ack uid) (Err refusals.OutOfMemory)))
+
+-- What an acknowledgement does whose code was just taken, where so many bytes were sent before: none is sent. The identifier is taken and noted, or passed over; or
+-- there is no memory for its turn; or the input stops in it, and nothing is done.
+abbrev pub Acknowledges : (Invocation → Outcome → Type 0) → (States → Call → States → Type 0) → Place → Place → Side → Side → ℕ → Result ℕ ConnEnd → Type 0
+Acknowledges may moves first now before after sent (Ok sent2) = (sent2 ≡ sent) × ((uid : Uid) × (moment : ℕ) × (answer : Result Turn Refused) × FitsUid uid × IsNoted answer
+    × Takes first now (bytes_of_uid uid) × Led may moves before after (acts_of moment (Ack uid) answer))
+Acknowledges may moves first now before after sent (Err end) =
+    ((end ≡ ends.OutOfMemory) × ((uid : Uid) × (moment : ℕ) × FitsUid uid × Takes first now (bytes_of_uid uid) × Led may moves before after (acts_of moment (Ack uid) (Err refusals.OutOfMemory))))
+    ⊎ ((fault : StreamFault) × (end ≡ end_from (Stream fault)) × StopsIn (λ part. length part < 14) first now fault × (after ≡ before))

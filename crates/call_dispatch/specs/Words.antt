@@ -3,7 +3,7 @@ use Rattle.std.specs.Prelude.{ℕ, ◌^◌, ◌-◌, codes, List, [], ◌++◌, 
 use Rattle.std.specs.Fmt.{decimal, digits, padded_integral, format_spec}
 use Rattle.ser_read.specs.Words.{words_of_kind, words_of_large}
 use Rattle.call_dispatch.specs.declared.end.ConnEnd.{ConnEnd}
-use Rattle.call_dispatch.specs.declared.end.ConnEnd.TheVariants.{Ended, BadHeader, UnknownProtocol, BadMessage, BadStream, TooLarge, Truncated, NotBuilt, NoSuchObject, NoSuchMethod, SpaceFull, MessageLimit, ReadFault, WriteFault, OutOfMemory}
+use Rattle.call_dispatch.specs.declared.end.ConnEnd.TheVariants.{Ended, BadHeader, UnknownProtocol, BadMessage, BadStream, TooLarge, Truncated, NoSuchObject, NoSuchMethod, SpaceFull, MessageLimit, ReadFault, WriteFault, OutOfMemory}
 
 -- a byte as two lower-case hexadecimal digits
 abbrev pub hexadecimal : ℕ → List ℕ
@@ -18,7 +18,6 @@ words_of (BadMessage byte at) = codes "bad message " ++ hexadecimal byte ++ code
 words_of (BadStream kind at) = codes "bad stream " ++ words_of_kind kind ++ codes " at " ++ decimal at
 words_of (TooLarge what at) = codes "too large " ++ words_of_large what ++ codes " at " ++ decimal at
 words_of (Truncated at) = codes "truncated at " ++ decimal at
-words_of (NotBuilt byte at) = codes "not built " ++ hexadecimal byte ++ codes " at " ++ decimal at
 words_of (NoSuchObject id) = codes "no such object"
 words_of (NoSuchMethod operation hash) = codes "no such method"
 words_of SpaceFull = codes "space full"

@@ -23,8 +23,6 @@ pub enum ConnEnd {
     TooLarge { what: Large, at: u64 },
     /// The input ended inside the opening or a message. The position is the input's length.
     Truncated { at: u64 },
-    /// The byte at this position is the code of a message that isn't served yet.
-    NotBuilt { byte: u8, at: u64 },
     /// A Call named an object that is not exported, and the client was told so.
     NoSuchObject { id: ObjId },
     /// A Call named a method that its object's kind doesn't have, and the client was told so.
@@ -55,7 +53,6 @@ impl ConnEnd {
             ConnEnd::BadMessage { byte: _, at: _ } => 2,
             ConnEnd::BadStream { kind: _, at: _ } => 2,
             ConnEnd::Truncated { at: _ } => 2,
-            ConnEnd::NotBuilt { byte: _, at: _ } => 2,
             ConnEnd::ReadFault => 3,
             ConnEnd::WriteFault { sent: _ } => 4,
             ConnEnd::OutOfMemory => 5,

@@ -5,7 +5,6 @@ mod answer;
 pub mod book;
 mod calls;
 mod connection;
-mod crew;
 pub mod end;
 pub mod laws;
 mod messages;
@@ -20,7 +19,6 @@ pub mod words;
 pub mod worker;
 
 pub use book::{Book, BookFault, Kind, KindList};
-pub use crew::Crew;
 pub use end::ConnEnd;
 pub use outcome::{Invocation, Outcome, OutcomeList};
 pub use recording::{Recorded, RecordingWorker};

@@ -3,10 +3,11 @@ ghost use Rattle.std.specs.Prelude.{◌≡◌, ◌<◌, ◌≤◌, ◌+◌, ◌^
 ghost use Rattle.space.specs.Balance.{Balanced};
 ghost use Rattle.jrmp_frames.specs.declared.header.Protocol.TheVariants.{Stream, SingleOp};
 ghost use Rattle.call_dispatch.specs.Faults.{counts_of, Blames, BlamesIn};
-ghost use Rattle.call_dispatch.specs.Spot.{spot_of, IsLent};
+ghost use Rattle.wire_io.specs.Pulled.{place};
+ghost use Rattle.call_dispatch.specs.Spot.{spot_of, side_of, IsLent};
 ghost use Rattle.call_dispatch.specs.Terms.{terms_of};
 ghost use Rattle.call_dispatch.specs.Progress.{GoesOn, Steps, ServesCall};
-ghost use Rattle.call_dispatch.specs.Serving.{Sends};
+ghost use Rattle.call_dispatch.specs.Serving.{Sends, Notes, Acknowledges};
 
 use crate::answer::write_answer;
 use crate::calls::answer_call;
@@ -14,8 +15,11 @@ use crate::connection::Connection;
 use crate::end::{ConnEnd, end_of};
 use crate::opening::Opened;
 use crate::returns::Answer;
+use crate::turns::take_turn;
 use crate::worker::Worker;
-use jrmp_frames::{Code, Protocol, read_code, read_head};
+use history::{Ask, Refused};
+use jrmp_frames::{Code, Protocol, read_code, read_head, read_uid};
+use object_ids::Uid;
 use space::Port;
 use std::alloc::Global;
 use wire_io::{Clock, Sink, Source};
@@ -150,7 +154,6 @@ fn serve_message<S: Source, K: Sink, C: Clock, P: Port, W: Worker>(
     ensures blames { BlamesIn (counts_of S.faults K.faults connection.old) (counts_of S.faults K.faults connection.new) result }
 {
     connection.pull.mark(MESSAGE_BYTES);
-    let at = connection.pull.at;
     let code = match read_code(&mut connection.pull) {
         Ok(Some(code)) => code,
         Ok(None) => return Err(ConnEnd::Ended),
@@ -162,7 +165,64 @@ fn serve_message<S: Source, K: Sink, C: Clock, P: Port, W: Worker>(
     match code {
         Code::Ping => write_answer(connection.sink, &[0x53], sent),
         Code::Call => serve_call(alloc, connection, sent),
-        Code::DgcAck => Err(ConnEnd::NotBuilt { byte: 0x54, at }),
+        Code::DgcAck => acknowledge(connection, sent),
+    }
+}
+
+/// Notes that the Return with an identifier arrived; it is passed over where the space's history is full. So many bytes were sent before.
+fn note<S: Source, K: Sink, C: Clock, P: Port, W: Worker>(
+    connection: &mut Connection<S, K, C, P, W>,
+    uid: Uid,
+    sent: u64,
+) -> Result<u64, ConnEnd>
+    requires ready { P.ready connection.old.port.now }
+    requires room { 0 < P.room_of connection.old.port.now }
+    requires balanced { Balanced (P.asked connection.old.port.now) }
+    ensures notes { Notes W.may W.moves uid
+        (side_of C.given P.asked W.calls W.seen W.state connection.old)
+        (side_of C.given P.asked W.calls W.seen W.state connection.new) sent result }
+    ensures pull { connection.new.pull ≡ connection.old.pull }
+    ensures sink { connection.new.sink ≡ connection.old.sink }
+    ensures setup { connection.new.setup ≡ connection.old.setup }
+    ensures lent { IsLent connection.old connection.new }
+    ensures balanced { Balanced (P.asked connection.new.port.now) }
+    ensures ready { P.ready connection.new.port.now }
+    ensures leads { P.leads connection.old.port.now connection.new.port.now }
+    ensures room { P.room_of connection.old.port.now ≤ P.room_of connection.new.port.now + 1 }
+    ensures calls { W.calls connection.new.worker.now ≡ W.calls connection.old.worker.now }
+{
+    match take_turn(connection, Ask::Ack { uid }) {
+        Ok(_turn) => Ok(sent),
+        Err(Refused::HistoryFull) => Ok(sent),
+        Err(Refused::Full(_kind)) => unreachable!(),
+        Err(Refused::OutOfMemory) => Err(ConnEnd::OutOfMemory),
+    }
+}
+
+/// Serves an acknowledgement, whose code was just taken, and so many bytes were sent before. It is not answered.
+fn acknowledge<S: Source, K: Sink, C: Clock, P: Port, W: Worker>(
+    connection: &mut Connection<S, K, C, P, W>,
+    sent: u64,
+) -> Result<u64, ConnEnd>
+    requires ready { P.ready connection.old.port.now }
+    requires room { 0 < P.room_of connection.old.port.now }
+    requires balanced { Balanced (P.asked connection.old.port.now) }
+    ensures acknowledges { Acknowledges W.may W.moves
+        (place S.left S.faults connection.old.pull) (place S.left S.faults connection.new.pull)
+        (side_of C.given P.asked W.calls W.seen W.state connection.old)
+        (side_of C.given P.asked W.calls W.seen W.state connection.new) sent result }
+    ensures sink { connection.new.sink ≡ connection.old.sink }
+    ensures setup { connection.new.setup ≡ connection.old.setup }
+    ensures lent { IsLent connection.old connection.new }
+    ensures balanced { Balanced (P.asked connection.new.port.now) }
+    ensures ready { P.ready connection.new.port.now }
+    ensures leads { P.leads connection.old.port.now connection.new.port.now }
+    ensures room { P.room_of connection.old.port.now ≤ P.room_of connection.new.port.now + 1 }
+    ensures calls { W.calls connection.new.worker.now ≡ W.calls connection.old.worker.now }
+{
+    match read_uid(&mut connection.pull) {
+        Ok(uid) => note(connection, uid, sent),
+        Err(fault) => Err(end_of(fault)),
     }
 }
 

@@ -22,14 +22,14 @@ use space::Port;
 use std::alloc::Global;
 use wire_io::{Clock, Pull, Sink, Source};
 
-/// Serves a connection: the bytes of `source` are taken from its first to its end, and answered in `sink`. Turns are made at
+/// Serves a connection from the first byte of `source` to the connection's end, and answers it in `sink`. Turns are made at
 /// `port` at the moments of `clock`, and calls are done by `worker`, of the kinds of objects in `book`.
 ///
 /// Its conditions are those under which calls can be served: both hosts take at most 255 bytes as modified UTF, the port is between two
 /// calls, has room for 2^30 of them and shows no call running, the worker was invoked fewer than 2^61 times, and fewer than 2^64 identifiers
 /// were drawn, from a moment below 2^61 on.
 ///
-/// No byte is taken but those of the dialogue, whose every answer is written before the next message is taken. Each Call is invoked at most
+/// No byte is taken but those of the dialogue. Each answer is written before the next message is taken, which no clause says. Each Call is invoked at most
 /// once, in its turn, with its own object and method and the graph that it spells, also where the connection ends in it.
 pub fn serve_connection<S: Source, K: Sink, C: Clock, P: Port, W: Worker>(
     alloc: Global,

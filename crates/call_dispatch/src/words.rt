@@ -18,7 +18,6 @@ impl fmt::Display for ConnEnd {
             ConnEnd::BadStream { kind, at } => write!(f, "bad stream {kind} at {at}"),
             ConnEnd::TooLarge { what, at } => write!(f, "too large {what} at {at}"),
             ConnEnd::Truncated { at } => write!(f, "truncated at {at}"),
-            ConnEnd::NotBuilt { byte, at } => write!(f, "not built {byte:02x} at {at}"),
             ConnEnd::NoSuchObject { id: _ } => write!(f, "no such object"),
             ConnEnd::NoSuchMethod {
                 operation: _,

@@ -123,18 +123,18 @@ and_true true false h = absurd cc
 and_true false true h = absurd cc
 and_true false false h = absurd cc
 
-small : (us : List ℕ) → all_small us ≡ true → TextFits us
+pub small : (us : List ℕ) → all_small us ≡ true → TextFits us
 small [] h = All-nil (λ u. u < 2 ^ 16)
 small (u ∷ us) h =
     let parts = and_true (nat_lt u 65536) (all_small us) h in
     let first : u < 65536 = ltb-true u 65536 parts.0 in
     All-cons (λ x. x < 2 ^ 16) u us (omega arith) (small us parts.1)
 
-all_of : {X : Type 0} (P : X → Type 0) (xs : List X) → AllByRecursion P xs → All P xs
+pub all_of : {X : Type 0} (P : X → Type 0) (xs : List X) → AllByRecursion P xs → All P xs
 all_of P [] h = All-nil P
 all_of P (x ∷ xs) h = All-cons P x xs h.0 (all_of P xs h.1)
 
-no_note : All ItemFits no_codebase
+pub no_note : All ItemFits no_codebase
 no_note = all_of ItemFits no_codebase (tt, tt)
 
 reference_fits : (s : Slot) → PartFits (reference s)
@@ -159,7 +159,7 @@ numbers_fit m =
       ),
     )
 
-named_fits : (f : FieldDesc) (ds : List FieldDesc) → all_small f.name ≡ true → All NameFits ds → All NameFits (f ∷ ds)
+pub named_fits : (f : FieldDesc) (ds : List FieldDesc) → all_small f.name ≡ true → All NameFits ds → All NameFits (f ∷ ds)
 named_fits f ds h more = All-cons NameFits f ds (small f.name h) more
 
 units_fit : (m : List ℕ) → TextFits m → All UnitsFitIn (fault_nodes m)

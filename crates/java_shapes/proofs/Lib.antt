@@ -16,3 +16,4 @@ pub mod FlagViews
 pub mod NoteLaws
 pub mod Stays
 pub mod StaysMore
+pub mod LeaseGraph

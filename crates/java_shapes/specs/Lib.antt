@@ -11,3 +11,4 @@ pub mod Proxies
 pub mod LocalRefs
 pub mod Flags
 pub mod Laws
+pub mod LeaseGraph

@@ -15,7 +15,7 @@ use ser_values::{Graph, Node, NodeList};
 use std::alloc::{AllocError, Global};
 
 /// Adds the description of a known class.
-fn add_class(
+pub(crate) fn add_class(
     alloc: Global,
     nodes: &mut NodeList,
     which: KnownClass,
@@ -28,7 +28,7 @@ fn add_class(
 }
 
 /// Adds a text.
-fn add_text(nodes: &mut NodeList, text: Units) -> Result<(), AllocError>
+pub(crate) fn add_text(nodes: &mut NodeList, text: Units) -> Result<(), AllocError>
     ensures { OnOk result (nodes.new ≡ nodes.old ++ loose.Text text ∷ []) }
 {
     nodes.push(Node::Text(text))

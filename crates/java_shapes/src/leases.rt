@@ -75,7 +75,7 @@ fn put_some_vmid(alloc: Global, b: &mut Builder, vmid: &Vmid) -> Result<Slot, Bu
 }
 
 /// The part of a lease.
-fn lease_parts(alloc: Global, value: &i64, client: Slot) -> Result<PartList, AllocError>
+pub(crate) fn lease_parts(alloc: Global, value: &i64, client: Slot) -> Result<PartList, AllocError>
     ensures { IfOk result (λ parts. parts ≡ one_part (values.J value.now ∷ values.Ref client ∷ [])) }
 {
     one_part(alloc, &[Value::J(*value), Value::Ref(client)])

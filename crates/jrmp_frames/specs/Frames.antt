@@ -2,6 +2,8 @@
 use Rattle.std.specs.Prelude.{◌≡◌, ◌≢◌, ℕ, ◌+◌, ◌*◌, ◌<◌, List, [], ◌∷◌, ◌++◌, length, take, slice_index, ℤ}
 use Rattle.std.specs.Int.{w16, w32, to_be_bytes, cast_unsigned}
 use Rattle.mod_utf.specs.Utf.{utf}
+use Rattle.object_ids.specs.declared.ids.Uid.{Uid}
+use Rattle.object_ids.specs.Bytes.{bytes_of_uid}
 use Rattle.jrmp_frames.specs.declared.header.Protocol.{Protocol}
 use Rattle.jrmp_frames.specs.declared.header.Protocol.TheVariants.{Stream, SingleOp}
 use Rattle.jrmp_frames.specs.declared.code.Code.{Code}
@@ -65,3 +67,11 @@ IsCode byte = (code : Code) × (byte ≡ code_byte code)
 -- the answer to a Ping
 abbrev pub ping_ack : List ℕ
 ping_ack = 0x53 ∷ []
+
+-- the acknowledgement of a Return: its code and the Return's identifier
+abbrev pub dgc_ack : Uid → List ℕ
+dgc_ack uid = code_byte DgcAck ∷ bytes_of_uid uid
+
+-- These bytes begin an acknowledgement: its code, and fewer bytes than an identifier has.
+abbrev pub IsInAck : List ℕ → Type 0
+IsInAck bytes = (part : List ℕ) × (bytes ≡ code_byte DgcAck ∷ part) × (length part < 14)

@@ -18,4 +18,4 @@ pub use fault::FrameFault;
 pub use head::{CallHead, read_head};
 pub use header::{Protocol, read_header};
 pub use message::{Body, call_bytes, return_bytes};
-pub use uid::read_uid;
+pub use uid::{dgc_ack_bytes, read_uid};

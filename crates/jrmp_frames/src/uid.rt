@@ -1,10 +1,11 @@
 //! Identifiers on the wire.
 ghost use Rattle.std.specs.Prelude.{◌≡◌};
 ghost use Rattle.wire_io.specs.Pulled.{place};
+ghost use Rattle.jrmp_frames.specs.Frames.{dgc_ack};
 ghost use Rattle.jrmp_frames.specs.Gives.{GivesUid};
 
 use crate::fault::FrameFault;
-use object_ids::{Uid, uid_of};
+use object_ids::{Uid, uid_bytes, uid_of};
 use wire_io::pull::Pull;
 use wire_io::source::Source;
 
@@ -19,4 +20,13 @@ pub fn read_uid<S: Source>(pull: &mut Pull<'_, S>) -> Result<Uid, FrameFault>
         bytes[i] = byte;
     }
     Ok(uid_of(bytes))
+}
+
+/// The acknowledgement of a Return (Java RMI Specification, 10.2): the code `54` and the Return's identifier. It takes no memory.
+pub fn dgc_ack_bytes(uid: Uid) -> [u8; 15]
+    ensures { result ≡ dgc_ack uid }
+{
+    let mut bytes = [0x54; 15];
+    bytes[1..].copy_from_slice(&uid_bytes(uid));
+    bytes
 }

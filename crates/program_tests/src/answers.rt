@@ -27,7 +27,7 @@ type Row = (
     u8,
 );
 
-const ROWS: [Row; 18] = [
+const ROWS: [Row; 20] = [
     (13, b"R", true, b"S", 0, "ended\n", 0),
     (13, b"RRR", true, b"SSS", 0, "ended\n", 0),
     (13, b"", true, b"", 0, "ended\n", 0),
@@ -35,13 +35,31 @@ const ROWS: [Row; 18] = [
     (0, b"POST", false, b"", 3, "bad header at 0\n", 2),
     (3, b"i", false, b"", 0, "bad header at 3\n", 2),
     (13, b"P", true, b"", 0, "truncated at 14\n", 2),
-    (13, b"RT\x00", true, b"S", 1, "not built 54 at 14\n", 2),
+    (13, b"RT\x00", true, b"S", 0, "truncated at 16\n", 2),
+    (
+        13,
+        b"T\x00\x00\x00\x05\x00\x00\x00\x00\x00\x00\x00\x06\x80\x00R",
+        true,
+        b"S",
+        0,
+        "ended\n",
+        0,
+    ),
     (13, b"RR\xFFR", true, b"SS", 1, "bad message ff at 15\n", 2),
     (13, b"\x00", true, b"", 0, "bad message 00 at 13\n", 2),
     (6, b"LRR", false, b"S", 1, "ended\n", 0),
     (6, b"LR", false, b"S", 0, "ended\n", 0),
     (6, b"L", false, b"", 0, "ended\n", 0),
-    (6, b"LT\x00", false, b"", 1, "not built 54 at 7\n", 2),
+    (6, b"LT\x00", false, b"", 0, "truncated at 9\n", 2),
+    (
+        6,
+        b"LT\x00\x00\x00\x05\x00\x00\x00\x00\x00\x00\x00\x06\x80\x00R",
+        false,
+        b"",
+        1,
+        "ended\n",
+        0,
+    ),
     (6, b"LP", false, b"", 0, "truncated at 8\n", 2),
     (6, b"L\x01R", false, b"", 1, "bad message 01 at 7\n", 2),
     (6, b"MR", false, b"O", 1, "unknown protocol 4d\n", 2),

@@ -2,7 +2,7 @@
 use Rattle.std.proofs.Common.{ℕ, List, refl, sym, subst, ◌⊎◌, inl, inr}
 use Rattle.wire_io.specs.Wire.{Wires}
 use Rattle.call_dispatch.specs.declared.end.ConnEnd.{ConnEnd}
-use Rattle.call_dispatch.specs.declared.end.ConnEnd.TheVariants.{Ended, BadHeader, UnknownProtocol, BadMessage, BadStream, TooLarge, Truncated, NotBuilt, NoSuchObject, NoSuchMethod, SpaceFull, MessageLimit, ReadFault, WriteFault, OutOfMemory}
+use Rattle.call_dispatch.specs.declared.end.ConnEnd.TheVariants.{Ended, BadHeader, UnknownProtocol, BadMessage, BadStream, TooLarge, Truncated, NoSuchObject, NoSuchMethod, SpaceFull, MessageLimit, ReadFault, WriteFault, OutOfMemory}
 use Rattle.call_dispatch.specs.End.{status_of, IsSettled}
 use Rattle.rmi_cli.specs.Answer.{ServesExactly, AnswersExactly, IsOutside}
 use Rattle.rmi_cli.specs.Told.{Told, TellsExactly, Tells}
@@ -19,7 +19,6 @@ settled_or_outside (Truncated at) = inl tt
 settled_or_outside (NoSuchObject id) = inl tt
 settled_or_outside (NoSuchMethod operation hash) = inl tt
 settled_or_outside SpaceFull = inl tt
-settled_or_outside (NotBuilt byte at) = inl tt
 settled_or_outside MessageLimit = inl tt
 settled_or_outside ReadFault = inr (inl refl)
 settled_or_outside (WriteFault sent) = inr (inr (inl refl))

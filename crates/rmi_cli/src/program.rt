@@ -28,7 +28,7 @@ use wire_io::source::Source;
 /// |---|---|
 /// | 0 | the command ended well |
 /// | 1 | exactly where the words are no command line; nothing is read or written then |
-/// | 2 | the input is not what the command reads, or is not built yet |
+/// | 2 | the input is not what the command reads |
 /// | 3, 4 | only where reading the input, or writing the output, failed |
 /// | 5 | for want of memory |
 /// | 6 | at a limit |

@@ -4,6 +4,7 @@ use Rattle.call_dispatch.specs.Dialogue.{opened}
 use Rattle.call_dispatch.specs.declared.end.ConnEnd.TheVariants as ends
 use Rattle.call_dispatch.proofs.Steps.{talks_took}
 use Rattle.call_dispatch.proofs.MessageSteps.{code_ends, ping_steps, most_on}
+use Rattle.call_dispatch.proofs.AckSteps.{ack_steps, ack_most, most_of_ack, ack_blames}
 use Rattle.call_dispatch.proofs.Blaming.{blames_from}
 use Rattle.call_dispatch.proofs.messages.serve_message.Goals as goal
 
@@ -35,8 +36,20 @@ returns-in-Ping-clause-steps g c start opening exchanges count code stands =
 pub returns-in-DgcAck-clause-steps : goal.returns-in-DgcAck-clause-steps
 returns-in-DgcAck-clause-steps g c start opening exchanges count code stands =
     let gives = rw c.in-DgcAck.is at (rw c.in-Ok-Some.field-0-is at c.in-Ok-Some.ensures.gives) in
-    talks_took _ _ _ start _ _ _ _ (opened opening exchanges) _ (ends.NotBuilt _ _) stands (ap g.S.Source.left (sym c.mark.ensures.source) ∙ gives.left) refl refl refl
-    (code, omega (arith, count, c.requires.served, c.if-served-eq-MESSAGES.false), refl, c.mark.ensures.at ∙ stands.position, refl)
+    let moved = rw (← c.mark.ensures.source, ← c.mark.ensures.at) at stands in
+    rw (c.acknowledge.ensures.sink, c.acknowledge.ensures.setup) (ack_steps _ _ _ start _ _ _ _ _ _ _ _ opening exchanges c.acknowledge.result moved code
+    (omega (arith, count, c.requires.served, c.if-served-eq-MESSAGES.false)) (omega (arith, c.mark.ensures.at, c.mark.ensures.stop, c.requires.at)) gives c.acknowledge.ensures.acknowledges)
+
+pub returns-in-DgcAck-clause-most : goal.returns-in-DgcAck-clause-most
+returns-in-DgcAck-clause-most g c =
+    let gives = rw c.in-DgcAck.is at (rw c.in-Ok-Some.field-0-is at c.in-Ok-Some.ensures.gives) in
+    most_of_ack c.acknowledge.result _ _ _ _ (omega (arith, gives.at, c.mark.ensures.at)) (ack_most _ _ _ _ _ _ _ c.acknowledge.result c.acknowledge.ensures.acknowledges)
+
+pub returns-in-DgcAck-clause-blames : goal.returns-in-DgcAck-clause-blames
+returns-in-DgcAck-clause-blames g c =
+    let gives = rw c.in-DgcAck.is at (rw c.in-Ok-Some.field-0-is at c.in-Ok-Some.ensures.gives) in
+    let faults = rw c.mark.ensures.source at gives.faults in
+    rw c.acknowledge.ensures.sink (blames_from _ _ _ _ c.acknowledge.result faults (ack_blames _ _ _ _ _ _ _ _ c.acknowledge.result c.acknowledge.ensures.acknowledges))
 
 pub returns-in-Call-clause-steps : goal.returns-in-Call-clause-steps
 returns-in-Call-clause-steps g c start opening exchanges count code stands =
