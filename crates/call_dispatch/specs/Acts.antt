@@ -95,7 +95,7 @@ pub record Side : Type 0 where
   pub seen : Option (List Call)
   pub state : Option States
 
--- These acts lead from what was shown to what is shown.
+-- These acts lead from what was shown to what is shown. Nothing shows in which order entries and calls came among each other.
 pub record Led (may : Invocation → Outcome → Type 0) (moves : States → Call → States → Type 0) (before after : Side) (acts : List Act) : Type 0 where
   pub asked : after.asked ≡ before.asked ++ flat_map entries acts
   pub given : Gave before.given after.given (flat_map moments acts)

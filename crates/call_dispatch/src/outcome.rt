@@ -27,11 +27,11 @@ pub enum Outcome {
     Void,
     /// A number, a character or a truth value.
     Prim(Value),
-    /// A reference, as a graph whose one item it is.
+    /// A reference, as a graph whose one item it is. The graph is to hold no reference to a remote object: none is awaited yet.
     Tree(Graph),
-    /// A new object of this kind.
+    /// A new object of this kind. It fits no method yet.
     NewRemote(u32),
-    /// An object that is exported, and its kind.
+    /// An object that is exported, and its kind. It fits no method yet.
     OldRemote(ObjId, u32),
     /// An exception with this text.
     Fault(Units),

@@ -1,5 +1,6 @@
 //! A worker that keeps its calls.
-ghost use Rattle.std.specs.Prelude.{◌≡◌, [], drop, map, true, None, Some, if◌then◌else◌};
+ghost use Rattle.std.specs.Prelude.{◌≡◌, ◌⊎◌, ◌+◌, ◌<◌, ◌^◌, [], ◌∷◌, drop, map, true, false, None, Some, if◌then◌else◌};
+ghost use Rattle.call_dispatch.specs.Acts.{invokes, Tells};
 ghost use Rattle.call_dispatch.specs.Recording.{call_of, head_or};
 
 use crate::outcome::{Invocation, Outcome, OutcomeList};
@@ -17,8 +18,8 @@ pub enum Recorded {
     Unreferenced(ObjId),
 }
 
-/// A worker that gives outcomes one after the other, `Void` past their end, and keeps its calls. Where there is no memory to keep one, an
-/// invocation comes out as `OutOfMemory`, and from then on the worker tells nothing.
+/// A worker that gives outcomes one after the other, `Void` past their end, and keeps its calls ([`RecordingWorker::answer`]). Where there is no
+/// memory to keep one, an invocation comes out as `OutOfMemory`, and from then on the worker tells nothing.
 #[derive(Drop)]
 pub struct RecordingWorker {
     alloc: Global,
@@ -63,6 +64,29 @@ impl RecordingWorker {
         }
     }
 
+    /// What an invocation answers: the next outcome, `Void` past their end, and both are kept; or `OutOfMemory` where there is no memory to
+    /// keep them. In either case the outcome is used up.
+    pub fn answer(&mut self, call: Invocation) -> Outcome
+        requires few { self.old.calls < 2 ^ 62 }
+        ensures next { (result ≡ head_or Outcome.Void self.old.outcomes.items) ⊎ ((result ≡ Outcome.OutOfMemory) × (self.new.whole ≡ false)) }
+        ensures rest { self.new.outcomes.items ≡ drop 1 self.old.outcomes.items }
+        ensures calls { self.new.calls ≡ self.old.calls + 1 }
+        ensures kept { Tells (if self.old.whole then Some (map call_of self.old.recorded.items) else None) (invokes call result ∷ [])
+            (if self.new.whole then Some (map call_of self.new.recorded.items) else None) }
+    {
+        self.calls += 1;
+        let outcome = self.next_outcome();
+        let Ok(copy) = outcome.try_copy(self.alloc) else {
+            self.whole = false;
+            return Outcome::OutOfMemory;
+        };
+        if self.recorded.push(Recorded::Invoked(call, copy)).is_err() {
+            self.whole = false;
+            return Outcome::OutOfMemory;
+        }
+        outcome
+    }
+
     /// The calls that were kept, in their order.
     pub fn recorded(&self) -> &[Recorded]
         ensures { result.now ≡ self.now.recorded.items }
@@ -83,17 +107,7 @@ impl Worker for RecordingWorker {
     ghost moves = { λ before call after. Unit {0} };
 
     fn invoke(&mut self, call: Invocation) -> Outcome {
-        self.calls += 1;
-        let outcome = self.next_outcome();
-        let Ok(copy) = outcome.try_copy(self.alloc) else {
-            self.whole = false;
-            return Outcome::OutOfMemory;
-        };
-        if self.recorded.push(Recorded::Invoked(call, copy)).is_err() {
-            self.whole = false;
-            return Outcome::OutOfMemory;
-        }
-        outcome
+        self.answer(call)
     }
 
     fn unreferenced(&mut self, object: ObjId) {

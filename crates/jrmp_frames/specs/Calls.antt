@@ -25,7 +25,7 @@ head_at end bs = lifted (magic_at end (0xAC ∷ 0xED ∷ 0x00 ∷ 0x05 ∷ []) b
 abbrev pub ReadsHead : Place → Place → CallHead → Stand → Type 0
 ReadsHead old new head stand = Reads (inside short) old new head_at (λ rest. (head_bytes head, stand, rest))
 
--- The reader stands behind 34 bytes of block data, and nothing else was read of its stream.
+-- The reader stands behind 34 bytes of block data, and it has no other item of its stream.
 abbrev pub HasHead : ReaderState → Type 0
 HasHead reader = (reader.refused ≡ None) × (bytes : List ℕ) × (length bytes ≡ 34) × (reader.stand.items ≡ items.Bytes bytes ∷ [])
 
