@@ -1,7 +1,6 @@
 //! One turn of a connection at a time.
 ghost use Rattle.std.specs.Prelude.{◌≡◌, ◌<◌, ◌≤◌, ◌+◌, ℕ, List, Option};
 ghost use Rattle.object_ids.specs.declared.ids.ObjId.{ObjId};
-ghost use Rattle.space.specs.Built.{IsBuilt};
 ghost use Rattle.space.specs.Ports.{Shows, IsAnswerTo};
 ghost use Rattle.space.specs.declared.asked.Asked.{Asked};
 ghost use Rattle.call_dispatch.specs.Acts.{Side, Led, tells_of, TakesTurn, GivesUp};
@@ -34,7 +33,6 @@ pub fn take_turn<S: Source, K: Sink, C: Clock, P: Port, W: Worker>(
 ) -> Result<Turn, Refused>
     requires ready { P.ready connection.old.port.now }
     requires room { 0 < P.room_of connection.old.port.now }
-    requires built { IsBuilt ask }
     ensures led { TakesTurn W.may W.moves
         (side_of C.given P.asked W.calls W.seen W.state connection.old)
         (side_of C.given P.asked W.calls W.seen W.state connection.new) ask result }

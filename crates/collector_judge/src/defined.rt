@@ -3,13 +3,16 @@ use crate::histories::CONNECTIONS;
 use history::plain::awaiting::awaiting;
 use history::plain::leases::{calls_of, clients, clients_with_time_left, holds};
 use history::plain::limits::units;
+use history::plain::names::{names, stands_for};
 use history::plain::places::now;
 use history::plain::running::running;
 use history::plain::table::{lease_calls, places, table};
 use history::plain::turns::withdrawals;
-use history::{Call, CallKind, Event, Exported, Place, SpaceConfig};
+use history::{Call, CallKind, Event, Exported, Name, Place, SpaceConfig};
 use journal::ObjectRow;
-use journal::outline::{put_events_line, put_lease_line, put_object_line, put_withdrawal_line};
+use journal::outline::{
+    put_events_line, put_lease_line, put_name_line, put_object_line, put_withdrawal_line,
+};
 use mod_utf::list::{ByteList, Same};
 use object_ids::{ObjId, Vmid};
 use std::alloc::{AllocError, Global};
@@ -27,6 +30,7 @@ pub(crate) fn defined_outline(
     put_events_line(&mut text, events.len() as u64, used, now(places))?;
     put_objects(alloc, config, places, &mut text)?;
     put_leases(alloc, config, places, &mut text)?;
+    put_names(alloc, config, places, &mut text)?;
     put_withdrawals(alloc, config, places, &mut text)?;
     Ok(text)
 }
@@ -58,7 +62,7 @@ fn row_of(
         running: runs(places, x.id),
         awaiting: waits(alloc, config.ack_ms, places, x.id)?,
         held: holders(alloc, config.lease_ms, places, x.id)?,
-        names: 0,
+        names: names_of(alloc, places, x.id)?,
     })
 }
 
@@ -92,6 +96,20 @@ fn holders(alloc: Global, lease: u64, places: &[Place], object: ObjId) -> Result
     Ok(count)
 }
 
+/// How many names stand for an object.
+fn names_of(alloc: Global, places: &[Place], object: ObjId) -> Result<u64, AllocError> {
+    let mut count: u64 = 0;
+    let all = names(alloc, places)?;
+    for name in all.as_slice() {
+        if let Some(stood) = stands_for(places, name.as_slice()) {
+            if stood.is_same(&object) {
+                count = count.saturating_add(1);
+            }
+        }
+    }
+    Ok(count)
+}
+
 fn put_leases(
     alloc: Global,
     config: &SpaceConfig,
@@ -115,6 +133,22 @@ fn last_dirty(client: &Vmid, calls: &[Call]) -> u64 {
         }
     }
     0
+}
+
+fn put_names(
+    alloc: Global,
+    config: &SpaceConfig,
+    places: &[Place],
+    text: &mut ByteList,
+) -> Result<(), AllocError> {
+    let all = names(alloc, places)?;
+    for units in all.as_slice() {
+        let stood = stands_for(places, units.as_slice());
+        if let (Some(object), Ok(name)) = (stood, Name::new(units.copy(alloc)?)) {
+            put_name_line(text, *config, &name, object)?;
+        }
+    }
+    Ok(())
 }
 
 fn put_withdrawals(

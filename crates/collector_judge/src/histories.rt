@@ -1,11 +1,10 @@
 //! Random histories: short ones of few objects, clients, connections and returns, with leases of a few milliseconds, so that calls meet. Each begins
 //! with the opening of a pinned object, a call of it, and a return of two new objects.
 ghost use Rattle.std.specs.Prelude.{◌≤◌, ◌<◌, ◌^◌, IfOk};
-ghost use Rattle.space.specs.Built.{IsBuilt};
 
 use crate::draws::Draws;
-use history::{Ask, Event, EventList, SpaceConfig};
-use mod_utf::list::{ByteList, Kinds};
+use history::{Ask, Event, EventList, Name, SpaceConfig};
+use mod_utf::list::{ByteList, Kinds, Units};
 use object_ids::{ObjId, ObjIds, Uid, Vmid};
 use std::alloc::{AllocError, Global};
 
@@ -139,11 +138,9 @@ fn end_after(config: &SpaceConfig, moment: u64, ask: &Ask, before: u64) -> u64 {
     }
 }
 
-/// A random ask that is served.
-fn ask(alloc: Global, space: Uid, draws: &mut Draws) -> Result<Ask, AllocError>
-    ensures { IfOk result (λ ask. IsBuilt ask) }
-{
-    match draws.below(16) {
+/// A random ask: one in four speaks of names.
+fn ask(alloc: Global, space: Uid, draws: &mut Draws) -> Result<Ask, AllocError> {
+    match draws.below(21) {
         0 => Ok(Ask::Open {
             kind: draws.below(3) as u32,
             pinned: draws.below(4) == 0,
@@ -160,7 +157,38 @@ fn ask(alloc: Global, space: Uid, draws: &mut Draws) -> Result<Ask, AllocError>
         14 => Ok(Ask::Ack {
             uid: numbered(draws.below(3) as i32),
         }),
-        _ => Ok(Ask::Tick),
+        15 => Ok(Ask::Tick),
+        _ => of_names(alloc, space, draws),
+    }
+}
+
+/// A random ask that speaks of names.
+fn of_names(alloc: Global, space: Uid, draws: &mut Draws) -> Result<Ask, AllocError> {
+    let name = name(alloc, draws)?;
+    match draws.below(8) {
+        0..=1 => Ok(Ask::Bind {
+            name,
+            object: object(space, draws),
+        }),
+        2..=3 => Ok(Ask::Rebind {
+            name,
+            object: object(space, draws),
+        }),
+        4 => Ok(Ask::Unbind { name }),
+        5..=6 => Ok(Ask::Lookup {
+            name,
+            uid: numbered(draws.below(3) as i32),
+        }),
+        _ => Ok(Ask::List),
+    }
+}
+
+/// A name: one of three.
+fn name(alloc: Global, draws: &mut Draws) -> Result<Name, AllocError> {
+    let unit = 0x61 + draws.below(3) as u16;
+    match Name::new(Units::from_slice(alloc, &[unit])?) {
+        Ok(name) => Ok(name),
+        Err(_long) => Err(AllocError),
     }
 }
 
@@ -188,9 +216,7 @@ fn objects(alloc: Global, space: Uid, draws: &mut Draws) -> Result<ObjIds, Alloc
     Ok(ids)
 }
 
-fn finish(alloc: Global, space: Uid, draws: &mut Draws) -> Result<Ask, AllocError>
-    ensures { IfOk result (λ ask. IsBuilt ask) }
-{
+fn finish(alloc: Global, space: Uid, draws: &mut Draws) -> Result<Ask, AllocError> {
     let mut made = Kinds::new(alloc);
     for _ in 0..draws.below(3) {
         made.push(1)?;
@@ -227,9 +253,7 @@ fn number(draws: &mut Draws) -> i64 {
     }
 }
 
-fn dirty(alloc: Global, space: Uid, draws: &mut Draws) -> Result<Ask, AllocError>
-    ensures { IfOk result (λ ask. IsBuilt ask) }
-{
+fn dirty(alloc: Global, space: Uid, draws: &mut Draws) -> Result<Ask, AllocError> {
     Ok(Ask::Dirty {
         client: client(alloc, draws)?,
         number: number(draws),
@@ -238,9 +262,7 @@ fn dirty(alloc: Global, space: Uid, draws: &mut Draws) -> Result<Ask, AllocError
     })
 }
 
-fn clean(alloc: Global, space: Uid, draws: &mut Draws) -> Result<Ask, AllocError>
-    ensures { IfOk result (λ ask. IsBuilt ask) }
-{
+fn clean(alloc: Global, space: Uid, draws: &mut Draws) -> Result<Ask, AllocError> {
     Ok(Ask::Clean {
         client: client(alloc, draws)?,
         number: number(draws),

@@ -1,6 +1,5 @@
 //! Judging a space by the definitions.
 ghost use Rattle.std.specs.Prelude.{◌≤◌, ◌<◌, ◌^◌, IfOk, IsTrue};
-ghost use Rattle.space.specs.Built.{IsBuilt};
 
 use crate::defined::defined_outline;
 use history::limits::END_OF_TIME;
@@ -21,20 +20,11 @@ pub(crate) enum Verdict {
     Outline,
 }
 
-/// Whether a space serves an event.
-fn is_served(event: &Event) -> bool
-    ensures moment { IsTrue result → event.now.moment < 2 ^ 62 }
-    ensures ask { IsTrue result → IsBuilt event.now.ask }
+/// Whether a space may be asked an event: it is not too late.
+fn is_early(event: &Event) -> bool
+    ensures { IsTrue result → event.now.moment < 2 ^ 62 }
 {
-    let served = match &event.ask {
-        Ask::Bind { name: _, object: _ } => false,
-        Ask::Rebind { name: _, object: _ } => false,
-        Ask::Unbind { name: _ } => false,
-        Ask::Lookup { name: _, uid: _ } => false,
-        Ask::List => false,
-        _ => true,
-    };
-    served && event.moment < END_OF_TIME
+    event.moment < END_OF_TIME
 }
 
 /// Whether a space answers an event so. Every second abandon of a running call is made by `abandon`, which answers nothing.
@@ -44,7 +34,7 @@ fn is_answered(
     event: &Event,
     answer: &Result<Turn, Refused>,
 ) -> Result<bool, AllocError> {
-    if !is_served(event) {
+    if !is_early(event) {
         return Ok(false);
     }
     if let Ask::Abandon { object } = &event.ask {

@@ -2,7 +2,8 @@
 use history::{Refused, Reply, Turn};
 use journal::Word;
 use journal::outline::put_line;
-use mod_utf::list::ByteList;
+use journal::put::put_units;
+use mod_utf::list::{ByteList, NameList};
 use object_ids::{FullKind, ObjIds, Uid};
 use std::alloc::AllocError;
 
@@ -73,9 +74,47 @@ fn put_reply(text: &mut ByteList, space: Uid, reply: &Reply) -> Result<(), Alloc
         Reply::Granted(duration) => {
             put_line(text, &[Word::Text(b"> granted"), Word::Number(*duration)])
         }
-        Reply::NoObject => text.append(b"> no object\n"),
-        Reply::NotRunning => text.append(b"> not running\n"),
-        Reply::Done => text.append(b"> done\n"),
-        _ => text.append(b"> another reply\n"),
+        Reply::Found(object, kind) => {
+            let object = Word::Object {
+                space,
+                object: *object,
+            };
+            let kind = Word::Number(u64::from(*kind));
+            put_line(
+                text,
+                &[Word::Text(b"> found"), object, Word::Text(b"kind"), kind],
+            )
+        }
+        Reply::Names(names) => {
+            text.append(b"> ")?;
+            put_names(text, names)?;
+            text.push(b'\n')
+        }
+        _ => put_line(text, &[Word::Text(b">"), Word::Text(said(reply))]),
     }
+}
+
+/// The words of a reply without more.
+fn said(reply: &Reply) -> &'static [u8] {
+    match reply {
+        Reply::NoObject => b"no object",
+        Reply::NotRunning => b"not running",
+        Reply::Bound => b"bound",
+        Reply::AlreadyBound => b"already bound",
+        Reply::Unbound => b"unbound",
+        Reply::NotBound => b"not bound",
+        // no other reply is without more
+        _ => b"done",
+    }
+}
+
+/// Appends the words of a list of names.
+pub(crate) fn put_names(text: &mut ByteList, names: &NameList) -> Result<(), AllocError> {
+    text.append(b"names")?;
+    for units in names.iter() {
+        text.append(b" \"")?;
+        put_units(text, units.as_slice())?;
+        text.push(b'"')?;
+    }
+    Ok(())
 }

@@ -17,6 +17,8 @@ mod limits;
 #[cfg(test)]
 mod name_rows;
 #[cfg(test)]
+mod named;
+#[cfg(test)]
 mod ports;
 #[cfg(test)]
 mod scripts;

@@ -1,6 +1,6 @@
 //! Spaces at their limits. `N*K` stands for K numbers N.
 use crate::scripts::{config_of, must, must_be};
-use crate::transcripts::{put_lines_of, served_event, transcript};
+use crate::transcripts::{put_lines_of, spelled_event, transcript};
 use history::{Refused, Reply, Turn};
 use mod_utf::list::{ByteList, Same};
 use object_ids::Uid;
@@ -69,7 +69,7 @@ fn is_granted_each_time(
     line: &str,
     times: u32,
 ) -> Result<bool, Fail> {
-    let event = served_event(alloc, uid, line)?;
+    let event = spelled_event(alloc, uid, line)?;
     for _ in 0..times {
         let answer = space.turn(event.by, event.moment, event.ask.copy(alloc)?);
         if !is_granted(&answer) {

@@ -1,7 +1,8 @@
 //! The names of a registry.
+use crate::answers::put_names;
 use crate::scripts::{must, must_be};
 use history::{Ask, Name};
-use journal::put::{put_object, put_units};
+use journal::put::put_object;
 use journal::read_event;
 use mod_utf::list::{ByteList, Units};
 use object_ids::{FullKind, ObjId, Uid};
@@ -80,7 +81,7 @@ fn put_answer(
         Ask::Rebind { name, object } => put_stood(names.rebind(name, object), text),
         Ask::Unbind { name } => put_found(names.unbind(&name).ok(), text),
         Ask::Lookup { name, uid: _ } => put_found(names.lookup(&name).ok(), text),
-        _ => put_names(alloc, names, text),
+        _ => put_names(text, &names.list(alloc)?),
     }
 }
 
@@ -121,17 +122,6 @@ fn put_found(found: Option<ObjId>, text: &mut ByteList) -> Result<(), AllocError
         }
         None => text.append(b"not bound"),
     }
-}
-
-fn put_names(alloc: Global, names: &Names, text: &mut ByteList) -> Result<(), AllocError> {
-    text.append(b"names")?;
-    let list = names.list(alloc)?;
-    for units in list.iter() {
-        text.append(b" \"")?;
-        put_units(text, units.as_slice())?;
-        text.push(b'"')?;
-    }
-    Ok(())
 }
 
 /// The name of so many units, of which the last is this one.

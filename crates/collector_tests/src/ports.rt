@@ -4,7 +4,7 @@ ghost use Rattle.history.specs.declared.asks.Ask.TheVariants.{Open};
 
 use crate::answers::{put_refusal, put_turn};
 use crate::scripts::{config_of, must, must_be};
-use crate::transcripts::served_event;
+use crate::transcripts::spelled_event;
 use journal::Word;
 use journal::outline::put_line;
 use mod_utf::list::{ByteList, Same};
@@ -44,7 +44,7 @@ fn entries(alloc: Global, space: &mut Space) -> Result<AskedList, Fail> {
         _ => return Err("not started".into()),
     }
     let _again = port.turn(6, Ask::Begin { object: FIRST })?;
-    let many = served_event(alloc, SPACE, "2 7 finish 16 1*65536 16 1/0/1")?;
+    let many = spelled_event(alloc, SPACE, "2 7 finish 16 1*65536 16 1/0/1")?;
     let _refused = port.turn(many.moment, many.ask);
     Ok(port.into_asked().copy(alloc)?)
 }

@@ -1,6 +1,5 @@
 //! Scripts of lines, and how they are read.
 ghost use Rattle.std.specs.Prelude.{◌≤◌, ◌^◌, IsTrue, IfSome};
-ghost use Rattle.space.specs.Built.{IsBuilt};
 
 use history::limits::MAX_DURATION;
 use history::{Ask, SpaceConfig};
@@ -36,19 +35,5 @@ pub(crate) fn config_of(line: &str) -> Option<SpaceConfig>
         Some(config)
     } else {
         None
-    }
-}
-
-/// Whether a space serves an ask.
-pub(crate) fn is_served(ask: &Ask) -> bool
-    ensures { IsTrue result → IsBuilt ask.now }
-{
-    match ask {
-        Ask::Bind { name: _, object: _ } => false,
-        Ask::Rebind { name: _, object: _ } => false,
-        Ask::Unbind { name: _ } => false,
-        Ask::Lookup { name: _, uid: _ } => false,
-        Ask::List => false,
-        _ => true,
     }
 }

@@ -1,10 +1,9 @@
 //! Transcripts of spaces: a journal's lines, each with what a space answers. Lines that begin with a digit are events, and those that begin
 //! with `!` are abandons that take no memory; a line `?` asks for the outline. All else is written by the space.
 ghost use Rattle.std.specs.Prelude.{◌<◌, ◌^◌, IfOk};
-ghost use Rattle.space.specs.Built.{IsBuilt};
 
 use crate::answers::put_answer;
-use crate::scripts::{config_of, is_served, put_script_line};
+use crate::scripts::{config_of, put_script_line};
 use history::limits::END_OF_TIME;
 use history::{Ask, Event, Refused, Turn};
 use journal::read_event;
@@ -88,19 +87,18 @@ fn turned(
     uid: Uid,
     line: &str,
 ) -> Result<Result<Turn, Refused>, Fail> {
-    let event = served_event(alloc, uid, line)?;
+    let event = spelled_event(alloc, uid, line)?;
     Ok(space.turn(event.by, event.moment, event.ask))
 }
 
 /// The event that a line spells. In a line, `N*K` stands for K numbers N, joined by commas.
-pub(crate) fn served_event(alloc: Global, uid: Uid, line: &str) -> Result<Event, Fail>
+pub(crate) fn spelled_event(alloc: Global, uid: Uid, line: &str) -> Result<Event, Fail>
     ensures moment { IfOk result (λ event. event.moment < 2 ^ 62) }
-    ensures served { IfOk result (λ event. IsBuilt event.ask) }
 {
     let line = in_full(alloc, line)?;
     match read_event(alloc, uid, line.as_slice())? {
-        Some(event) if event.moment < END_OF_TIME && is_served(&event.ask) => Ok(event),
-        _ => Err("no event that is served".into()),
+        Some(event) if event.moment < END_OF_TIME => Ok(event),
+        _ => Err("no event".into()),
     }
 }
 
@@ -134,7 +132,7 @@ fn put_numbers(text: &mut ByteList, number: &str, times: u32) -> Result<(), Allo
 /// Ends the call of which a line, after a `!`, spells the abandon.
 fn abandon(alloc: Global, space: &mut Space, uid: Uid, line: &str) -> Result<(), Fail> {
     let line = line.strip_prefix("! ").ok_or("no abandon")?;
-    let event = served_event(alloc, uid, line)?;
+    let event = spelled_event(alloc, uid, line)?;
     match event.ask {
         Ask::Abandon { object } if space.running(event.by, object) > 0 => {
             space.abandon(event.by, event.moment, object);

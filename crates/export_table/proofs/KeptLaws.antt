@@ -15,11 +15,13 @@ use Rattle.history.specs.declared.places.Returned.{Returned}
 use Rattle.history.specs.Awaiting.{is_ack_of, is_awaited as awaited_in}
 use Rattle.history.specs.LeaseCalls.{lease_calls}
 use Rattle.history.specs.Leases.{is_held}
-use Rattle.history.specs.Names.{is_named}
+use Rattle.history.specs.Names.{is_name_of, is_named, names, names_of}
 use Rattle.history.specs.Places.{now, next, id_at, exported_from}
 use Rattle.history.specs.Running.{begins_any, ends_any, running, running_calls, is_running}
 use Rattle.history.specs.Table.{is_pinned, is_kept, is_effective, exports, place_of, places}
 use Rattle.history.proofs.AwaitingLaws.{is_awaited-members}
+use Rattle.history.proofs.ListLemmas.{list_any-length}
+use Rattle.history.proofs.NameCounts.{names-still}
 use Rattle.history.proofs.NumberLaws.{length-exported_from}
 use Rattle.history.proofs.Partitions.{one_if}
 use Rattle.history.proofs.RunningLaws.{running_calls-push, is_running-calls}
@@ -28,8 +30,8 @@ use Rattle.export_table.specs.declared.waits.Wait.{Wait}
 use Rattle.export_table.specs.Rows.{new_row}
 use Rattle.export_table.specs.Stands.{rows_of, reference_of, end_of, AreWaits, kinds_exported, is_exported_pinned, added_rows, OthersLeaveWaits, OthersLeaveRows, ExportsAreAdded, ExportsAreCounted, RowsAreKept}
 use Rattle.export_table.specs.Waits.{is_awaited}
-use Rattle.export_table.proofs.StandLaws.{row_with, row-same}
-use Rattle.export_table.proofs.ThereLaws.{new-runs-none}
+use Rattle.export_table.proofs.StandLaws.{names_for, row_with, row-same}
+use Rattle.export_table.proofs.ThereLaws.{new-runs-none, new-unnamed}
 use Rattle.export_table.proofs.WaitLaws.{waiting_refs, refs-await}
 use Rattle.export_table.proofs.WaitSteps.{listed_all, waits-push}
 
@@ -46,9 +48,9 @@ others-leave-waits config events e waits silent acks s =
 
 pub others-leave-rows : OthersLeaveRows
 unfolding one_if
-others-leave-rows config events e objects begins ends =
+others-leave-rows config events e objects begins ends still =
     let H : List Place → Type 0 = λ h. rows_of (places config events) objects ≡ rows_of h objects in
-    subst H (sym (places-push config events e)) (row-same (running_calls (places config events)) (running_calls (place_of config (places config events) e ∷ places config events)) step objects)
+    subst H (sym (places-push config events e)) (row-same (running_calls (places config events)) (running_calls (place_of config (places config events) e ∷ places config events)) (names_for (places config events)) (names_for (place_of config (places config events) e ∷ places config events)) step (names-still config events e still) objects)
   where
     step : (o : ObjId) → running_calls (place_of config (places config events) e ∷ places config events) o ≡ running_calls (places config events) o
     step o =
@@ -88,23 +90,26 @@ exports-are config h e = go e.ask
     go ListNames = refl
     go Tick = refl
 
--- Objects of which no call runs have the rows with which they are added.
-pub added-rows : (space : Uid) (k place : ℕ) (count : ObjId → ℕ) (pinned : Bool) (kinds : List ℕ) → AllByRecursion (λ (x : Exported). count x.id ≡ 0) (exported_from space k place pinned kinds) →
-    map (row_with count) (exported_from space k place pinned kinds) ≡ added_rows space k pinned kinds
-added-rows space k place count pinned [] none = refl
-added-rows space k place count pinned (kind ∷ kinds) none =
-    ap (λ (n : ℕ). record { id = id_at space k; kind = kind; pinned = pinned; running = n; pins = 0 } ∷ map (row_with count) (exported_from space (k + 1) place pinned kinds)) none.0
-    ∙ ap (λ l. new_row (id_at space k) kind pinned ∷ l) (added-rows space (k + 1) place count pinned kinds none.1)
+-- Objects of which no call runs, and for which no name stands, have the rows with which they are added.
+pub added-rows : (space : Uid) (k place : ℕ) (count pins : ObjId → ℕ) (pinned : Bool) (kinds : List ℕ) → AllByRecursion (λ (x : Exported). count x.id ≡ 0) (exported_from space k place pinned kinds) →
+    AllByRecursion (λ (x : Exported). pins x.id ≡ 0) (exported_from space k place pinned kinds) →
+    map (row_with count pins) (exported_from space k place pinned kinds) ≡ added_rows space k pinned kinds
+added-rows space k place count pins pinned [] none free = refl
+added-rows space k place count pins pinned (kind ∷ kinds) none free =
+    ap (λ (n : ℕ). record { id = id_at space k; kind = kind; pinned = pinned; running = n; pins = pins (id_at space k) } ∷ map (row_with count pins) (exported_from space (k + 1) place pinned kinds)) none.0
+    ∙ ap (λ (n : ℕ). record { id = id_at space k; kind = kind; pinned = pinned; running = 0; pins = n } ∷ map (row_with count pins) (exported_from space (k + 1) place pinned kinds)) free.0
+    ∙ ap (λ l. new_row (id_at space k) kind pinned ∷ l) (added-rows space (k + 1) place count pins pinned kinds none.1 free.1)
 
 pub exports-are-added : ExportsAreAdded
 exports-are-added config events e =
     let kinds : List ℕ = kinds_exported (is_effective config (places config events) e.by e.ask) e.ask in
     let P : List Exported → Type 0 = λ l. AllByRecursion (λ (x : Exported). running_calls (place_of config (places config events) e ∷ places config events) x.id ≡ 0) l in
+    let N : List Exported → Type 0 = λ l. AllByRecursion (λ (x : Exported). names_for (place_of config (places config events) e ∷ places config events) x.id ≡ 0) l in
     let H : List Place → Type 0 = λ h. rows_of h (place_of config (places config events) e).exported_here ≡ added_rows config.uid (next (places config events)) (is_exported_pinned e.ask) kinds in
     subst H (sym (places-push config events e)) (
     ap (rows_of (place_of config (places config events) e ∷ places config events)) (exports-are config (places config events) e)
-    ∙ added-rows config.uid (next (places config events)) (length (places config events)) (running_calls (place_of config (places config events) e ∷ places config events)) (is_exported_pinned e.ask) kinds
-    (subst P (exports-are config (places config events) e) (new-runs-none config events e)))
+    ∙ added-rows config.uid (next (places config events)) (length (places config events)) (running_calls (place_of config (places config events) e ∷ places config events)) (names_for (place_of config (places config events) e ∷ places config events)) (is_exported_pinned e.ask) kinds
+    (subst P (exports-are config (places config events) e) (new-runs-none config events e)) (subst N (exports-are config (places config events) e) (new-unnamed config events e)))
 
 next-push : (p : Place) (h : List Place) → next (p ∷ h) ≡ next h + length p.exported_here
 unfolding next
@@ -135,11 +140,16 @@ awaited-is ack t h o waits s =
     sym (refs-awaited t o waits)
     ∙ sym (is_awaited-members ack t h o (waiting_refs reference_of end_of t waits) (refs-await reference_of end_of ack t t h waits (omega arith) s))
 
+-- Some name stands for an object where more than none do.
+pub named-counted : (h : List Place) (o : ObjId) → nat_lt 0 (length (names_of h o)) ≡ is_named h o
+unfolding is_named names_of
+named-counted h o = sym (list_any-length (is_name_of h o) (names h))
+
 pub rows-are-kept : RowsAreKept
 unfolding is_kept is_pinned
-rows-are-kept config events waits x pins named s =
+rows-are-kept config events waits x s =
     let h : List Place = places config events in
     let held : Bool = is_held config.lease_ms (now h) (lease_calls h) x.id in
-    ap (λ v. (x.pinned || v || nat_lt 0 (running_calls h x.id)) || is_awaited (now h) x.id waits || held) named
+    ap (λ v. (x.pinned || v || nat_lt 0 (running_calls h x.id)) || is_awaited (now h) x.id waits || held) (named-counted h x.id)
     ∙ ap (λ v. (x.pinned || is_named h x.id || v) || is_awaited (now h) x.id waits || held) (sym (is_running-calls h x.id))
     ∙ ap (λ v. (x.pinned || is_named h x.id || is_running h x.id) || v || held) (awaited-is config.ack_ms (now h) h x.id waits s)

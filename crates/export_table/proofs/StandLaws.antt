@@ -1,31 +1,35 @@
 -- An export table stands for a history: what waits in it, and what its rows count.
-use Rattle.std.proofs.Common.{◌≡◌, ℕ, suc, ◌+◌, ◌-◌, ◌≤◌, List, [], ◌∷◌, ◌++◌, length, refl, ap, sym, subst, ◌∙◌, cond, map, max, arith, Some, append-nil}
-use Rattle.std.specs.Prelude.{Bool, true, false, not, ◌&&◌, ◌||◌, filter, find, flat_map, nat_lt, if◌then◌else◌, option_map, option_to_list, unwrap_or}
+use Rattle.std.proofs.Common.{◌≡◌, ℕ, suc, ◌+◌, ◌-◌, ◌<◌, ◌≤◌, List, [], ◌∷◌, ◌++◌, length, refl, ap, sym, subst, ◌∙◌, cond, map, max, arith, Option, Some, None, append-nil}
+use Rattle.std.specs.Prelude.{Bool, true, false, not, ◌&&◌, ◌||◌, filter, find, flat_map, nat_lt, if◌then◌else◌, is_none, is_some, option_and_then, option_map, option_to_list, unwrap_or}
 use Rattle.std.specs.List.{list_any}
+use Rattle.std.proofs.lemmas.Bool.{and_parts, ltb-true}
 use Rattle.object_ids.specs.declared.ids.Uid.{Uid}
 use Rattle.object_ids.specs.declared.ids.ObjId.{ObjId}
-use Rattle.object_ids.specs.Same.{same_id, same_uid}
+use Rattle.object_ids.specs.Same.{same_id, same_uid, same_bytes}
 use Rattle.object_ids.proofs.Exact.{same_id-equal, same_id-self}
 use Rattle.history.specs.declared.asks.SpaceConfig.{SpaceConfig}
 use Rattle.history.specs.declared.asks.Event.{Event}
 use Rattle.history.specs.declared.asks.Ask.{Ask}
-use Rattle.history.specs.declared.asks.Ask.TheVariants.{Finish, Abandon, Ack, Lookup}
+use Rattle.history.specs.declared.asks.Ask.TheVariants.{Begin, Finish, Abandon, Ack, Bind, Rebind, Unbind, Lookup}
 use Rattle.history.specs.declared.places.Place.{Place}
 use Rattle.history.specs.declared.places.Exported.{Exported}
 use Rattle.history.specs.declared.places.Returned.{Returned}
 use Rattle.history.specs.Awaiting.{same_returned, returned, return_uid, is_ack_of, awaiting, awaiting_of, until_of}
+use Rattle.history.specs.Names.{name_in, object_bound, is_name_change, is_name_of, names, names_of, stands_for}
 use Rattle.history.specs.Places.{has, now}
 use Rattle.history.specs.Running.{is_begin_of, is_end_of, running_calls}
-use Rattle.history.specs.Table.{is_effective, place_of, places}
-use Rattle.history.proofs.ListLemmas.{list_any-map}
+use Rattle.history.specs.Table.{is_effective, table, place_of, places}
+use Rattle.history.proofs.ListLemmas.{list_any-length, list_any-map, and_false, Somewhere-test, test-Somewhere}
+use Rattle.history.proofs.NameLaws.{bytes-equality, names-member}
+use Rattle.history.proofs.NameCounts.{is_object, names_less, names_more, names-counted, names-still}
 use Rattle.history.proofs.Partitions.{one_if}
 use Rattle.history.proofs.RunningLaws.{running_calls-push}
 use Rattle.history.proofs.TableLaws.{ask-place_of, places-push}
 use Rattle.dgc_server.proofs.Distinct.{turned}
 use Rattle.export_table.specs.declared.rows.Export.{Export}
 use Rattle.export_table.specs.declared.waits.Wait.{Wait}
-use Rattle.export_table.specs.Rows.{is_of, is_exported, kind_of, running_of, changed, begun, ended}
-use Rattle.export_table.specs.Stands.{row_of, rows_of, waits_once, references, reference_of, end_of, WaitsStand, AreWaits, NoneAwaits, WaitingAwaits, WaitingStands, ReturnLists, AckEnds, RowsCount, BeginCounts, EndsCallOf, EndCounts}
+use Rattle.export_table.specs.Rows.{is_of, is_exported, kind_of, running_of, pins_of, changed, begun, ended, pinned_once, unpinned_once, unpinned}
+use Rattle.export_table.specs.Stands.{row_of, rows_of, waits_once, references, reference_of, end_of, WaitsStand, AreWaits, NoneAwaits, WaitingAwaits, WaitingStands, ReturnLists, AckEnds, RowsCount, BeginCounts, EndsCallOf, EndCounts, BindPins, RebindPins, UnbindUnpins}
 use Rattle.export_table.specs.Waits.{waiting, is_waiting, listed as listed_wait, listed_each}
 use Rattle.export_table.proofs.WaitLaws.{until-none, waits-await, waiting_refs, refs-any, refs-await, refs-waiting-once, count-awaiting, count-awaiting_of}
 use Rattle.export_table.proofs.WaitSteps.{until_in-find, waits-later, going, going-until, but, listed, listed-once, listed_all, waits-push, waits-push-ack}
@@ -100,9 +104,35 @@ waits-going m ack h ws w = record {
 
 -- ---- the rows
 
--- An exported object with this many running calls.
-abbrev pub row_with : (ObjId → ℕ) → Exported → Export
-row_with count x = record { id = x.id; kind = x.kind; pinned = x.pinned; running = count x.id; pins = 0 }
+-- An exported object with this many running calls and pins.
+abbrev pub row_with : (ObjId → ℕ) → (ObjId → ℕ) → Exported → Export
+row_with count pins x = record { id = x.id; kind = x.kind; pinned = x.pinned; running = count x.id; pins = pins x.id }
+
+-- How many names stand for an object.
+abbrev pub names_for : List Place → ObjId → ℕ
+names_for h o = length (names_of h o)
+
+-- They are some of the names.
+names-few : (h : List Place) (o : ObjId) → names_for h o ≤ length (names h)
+unfolding names_of
+names-few h o = go (names h)
+  where
+    go : (ns : List (List ℕ)) → length (filter (is_name_of h o) ns) ≤ length ns
+    go [] = omega arith
+    go (n ∷ ns) = kept (is_name_of h o n) (go ns)
+      where
+        kept : (b : Bool) → length (filter (is_name_of h o) ns) ≤ length ns → length (cond b (n ∷ filter (is_name_of h o) ns) (filter (is_name_of h o) ns)) ≤ length (n ∷ ns)
+        kept true r = omega (arith, r)
+        kept false r = omega (arith, r)
+
+-- There is one where a name stands for the object.
+pub named-pins : (config : SpaceConfig) (events : List Event) (n : List ℕ) (o : ObjId) → stands_for (places config events) n ≡ Some o → 0 < names_for (places config events) o
+unfolding names_of
+named-pins config events n o s =
+    ltb-true 0 (names_for (places config events) o) (sym (list_any-length (is_name_of (places config events) o) (names (places config events)))
+    ∙ test-Somewhere (λ k. same_bytes n k ≡ true) (is_name_of (places config events) o)
+    (λ k e. ap (λ z. is_name_of (places config events) o z) (sym (bytes-equality.equal n k e)) ∙ ap (is_object o) s ∙ same_id-self o)
+    (names (places config events)) (Somewhere-test (same_bytes n) (names (places config events)) (names-member config events n ∙ ap is_some s)))
 
 -- An object is exported by the rows exactly where it is in the table.
 pub exported-has : (h : List Place) (objects : List Exported) (o : ObjId) → is_exported (rows_of h objects) o ≡ has objects o
@@ -136,6 +166,25 @@ running-few h (x ∷ objects) o = go (same_id x.id o) refl (running-few h object
     go true e rest = let same = ap (running_calls h) (same_id-equal x.id o e) in omega (arith, same)
     go false e rest = rest
 
+-- How many pins an object has that is exported, and any.
+pub pins-there : (h : List Place) (objects : List Exported) (o : ObjId) → has objects o ≡ true → pins_of (rows_of h objects) o ≡ names_for h o
+pins-there h [] o t = absurd (cc)
+pins-there h (x ∷ objects) o t = go (same_id x.id o) refl t (pins-there h objects o)
+  where
+    go : (b : Bool) → same_id x.id o ≡ b → (b || has objects o) ≡ true → (has objects o ≡ true → pins_of (rows_of h objects) o ≡ names_for h o) →
+        unwrap_or (option_map (λ (y : Export). y.pins) (cond b (Some (row_of h x)) (find (is_of o) (rows_of h objects)))) 0 ≡ names_for h o
+    go true e t rest = ap (names_for h) (same_id-equal x.id o e)
+    go false e t rest = rest t
+
+pub pins-few : (h : List Place) (objects : List Exported) (o : ObjId) → pins_of (rows_of h objects) o ≤ length (names h)
+pins-few h [] o = omega arith
+pins-few h (x ∷ objects) o = go (same_id x.id o) (pins-few h objects o)
+  where
+    go : (b : Bool) → pins_of (rows_of h objects) o ≤ length (names h) →
+        unwrap_or (option_map (λ (y : Export). y.pins) (cond b (Some (row_of h x)) (find (is_of o) (rows_of h objects)))) 0 ≤ length (names h)
+    go true rest = names-few h x.id
+    go false rest = rest
+
 pub count-push : (config : SpaceConfig) (events : List Event) (e : Event) (o : ObjId) →
     running_calls (place_of config (places config events) e ∷ places config events) o + one_if (is_effective config (places config events) e.by e.ask && is_end_of o e.ask)
     ≡ running_calls (places config events) o + one_if (is_effective config (places config events) e.by e.ask && is_begin_of o e.ask)
@@ -145,25 +194,48 @@ count-push config events e o = running_calls-push config events e o
 pub id-turned : (a b : ObjId) → same_id a b ≡ same_id b a
 id-turned a b = turned (record { equal = same_id-equal; self = same_id-self }) a b
 
--- The rows, where the counts of running calls are the old and the new ones.
-pub row-same : (old new : ObjId → ℕ) → ((o : ObjId) → new o ≡ old o) → (objects : List Exported) → map (row_with old) objects ≡ map (row_with new) objects
-row-same old new same [] = refl
-row-same old new same (x ∷ objects) = rw (same x.id, row-same old new same objects) refl
+-- The rows, where the counts of running calls and of pins are the old and the new ones.
+pub row-same : (old new pold pnew : ObjId → ℕ) → ((o : ObjId) → new o ≡ old o) → ((o : ObjId) → pnew o ≡ pold o) → (objects : List Exported) → map (row_with old pold) objects ≡ map (row_with new pnew) objects
+row-same old new pold pnew same still [] = refl
+row-same old new pold pnew same still (x ∷ objects) = rw (same x.id, still x.id, row-same old new pold pnew same still objects) refl
 
-pub row-changed : (old new : ObjId → ℕ) (f : Export → Export) (o : ObjId) → ((x : Exported) → (if same_id x.id o then f (row_with old x) else row_with old x) ≡ row_with new x) → (objects : List Exported) →
-    changed f o (map (row_with old) objects) ≡ map (row_with new) objects
-row-changed old new f o same [] = refl
-row-changed old new f o same (x ∷ objects) = rw (same x, row-changed old new f o same objects) refl
+pub row-changed : (old new pold pnew : ObjId → ℕ) (f : Export → Export) (o : ObjId) → ((x : Exported) → (if same_id x.id o then f (row_with old pold x) else row_with old pold x) ≡ row_with new pnew x) → (objects : List Exported) →
+    changed f o (map (row_with old pold) objects) ≡ map (row_with new pnew) objects
+row-changed old new pold pnew f o same [] = refl
+row-changed old new pold pnew f o same (x ∷ objects) = rw (same x, row-changed old new pold pnew f o same objects) refl
 
-pub begun-row : (old new : ObjId → ℕ) (o : ObjId) (x : Exported) (b : Bool) → new x.id ≡ old x.id + one_if b → (if b then begun (row_with old x) else row_with old x) ≡ row_with new x
+pub begun-row : (old new pold pnew : ObjId → ℕ) (x : Exported) (b : Bool) → new x.id ≡ old x.id + one_if b → pnew x.id ≡ pold x.id → (if b then begun (row_with old pold x) else row_with old pold x) ≡ row_with new pnew x
 unfolding one_if
-begun-row old new o x true e = rw e refl
-begun-row old new o x false e = (let same : new x.id ≡ old x.id = omega (arith, e) in rw same refl)
+begun-row old new pold pnew x true e s = rw (e, s) refl
+begun-row old new pold pnew x false e s = (let same : new x.id ≡ old x.id = omega (arith, e) in rw (same, s) refl)
 
-pub ended-row : (old new : ObjId → ℕ) (o : ObjId) (x : Exported) (b : Bool) → new x.id + one_if b ≡ old x.id → (if b then ended (row_with old x) else row_with old x) ≡ row_with new x
+pub ended-row : (old new pold pnew : ObjId → ℕ) (x : Exported) (b : Bool) → new x.id + one_if b ≡ old x.id → pnew x.id ≡ pold x.id → (if b then ended (row_with old pold x) else row_with old pold x) ≡ row_with new pnew x
 unfolding one_if
-ended-row old new o x true e = (let same : old x.id - 1 ≡ new x.id = omega (arith, e) in rw same refl)
-ended-row old new o x false e = (let same : old x.id ≡ new x.id = omega (arith, e) in rw same refl)
+ended-row old new pold pnew x true e s = (let same : old x.id - 1 ≡ new x.id = omega (arith, e) in rw (same, s) refl)
+ended-row old new pold pnew x false e s = (let same : old x.id ≡ new x.id = omega (arith, e) in rw (same, s) refl)
+
+pub pinned-row : (old new pold pnew : ObjId → ℕ) (x : Exported) (b : Bool) → new x.id ≡ old x.id → pnew x.id ≡ pold x.id + one_if b → (if b then pinned_once (row_with old pold x) else row_with old pold x) ≡ row_with new pnew x
+unfolding one_if
+pinned-row old new pold pnew x true s e = rw (e, s) refl
+pinned-row old new pold pnew x false s e = (let same : pnew x.id ≡ pold x.id = omega (arith, e) in rw (same, s) refl)
+
+pub unpinned-row : (old new pold pnew : ObjId → ℕ) (x : Exported) (b : Bool) → new x.id ≡ old x.id → pnew x.id + one_if b ≡ pold x.id → (if b then unpinned_once (row_with old pold x) else row_with old pold x) ≡ row_with new pnew x
+unfolding one_if
+unpinned-row old new pold pnew x true s e = (let same : pold x.id - 1 ≡ pnew x.id = omega (arith, e) in rw (same, s) refl)
+unpinned-row old new pold pnew x false s e = (let same : pold x.id ≡ pnew x.id = omega (arith, e) in rw (same, s) refl)
+
+-- The rows without a pin of this object, if there is one.
+pub rows-unpinned : (old new pold pnew : ObjId → ℕ) (stood : Option ObjId) → ((o : ObjId) → new o ≡ old o) → ((o : ObjId) → pnew o + one_if (is_object o stood) ≡ pold o) → (objects : List Exported) →
+    unpinned stood (map (row_with old pold) objects) ≡ map (row_with new pnew) objects
+unfolding one_if
+rows-unpinned old new pold pnew None same less objects = row-same old new pold pnew same (λ o. let step = less o in omega (arith, step)) objects
+rows-unpinned old new pold pnew (Some q) same less objects =
+    row-changed old new pold pnew unpinned_once q (λ x. unpinned-row old new pold pnew x (same_id x.id q) (same x.id) (let step = less x.id in let turn = ap one_if (id-turned q x.id) in omega (arith, step, turn))) objects
+
+pub rows-pinned : (old new pold pnew : ObjId → ℕ) (o : ObjId) → ((y : ObjId) → new y ≡ old y) → ((y : ObjId) → pnew y ≡ pold y + one_if (same_id o y)) → (objects : List Exported) →
+    changed pinned_once o (map (row_with old pold) objects) ≡ map (row_with new pnew) objects
+rows-pinned old new pold pnew o same more objects =
+    row-changed old new pold pnew pinned_once o (λ x. pinned-row old new pold pnew x (same_id x.id o) (same x.id) (let step = more x.id in let turn = ap one_if (id-turned o x.id) in omega (arith, step, turn))) objects
 
 none-of : one_if false ≡ 0
 unfolding one_if
@@ -217,12 +289,19 @@ ack-ends config events e uid waits a s =
 pub rows-count : RowsCount
 rows-count h objects o t = running-there h objects o t
 
+-- An ask that changes no name leaves the pins.
+asked-no-name : (config : SpaceConfig) (events : List Event) (e : Event) (a : Ask) → e.ask ≡ a → is_name_change a ≡ false → (o : ObjId) →
+    names_for (place_of config (places config events) e ∷ places config events) o ≡ names_for (places config events) o
+asked-no-name config events e a s n = names-still config events e (ap is_name_change s ∙ n)
+
 pub begin-counts : BeginCounts
 begin-counts config events e o objects asked eff =
     let old : ObjId → ℕ = running_calls (places config events) in
     let new : ObjId → ℕ = running_calls (place_of config (places config events) e ∷ places config events) in
+    let pold : ObjId → ℕ = names_for (places config events) in
+    let pnew : ObjId → ℕ = names_for (place_of config (places config events) e ∷ places config events) in
     let H : List Place → Type 0 = λ h. changed begun o (rows_of (places config events) objects) ≡ rows_of h objects in
-    subst H (sym (places-push config events e)) (row-changed old new begun o (λ x. begun-row old new o x (same_id x.id o) (step x.id)) objects)
+    subst H (sym (places-push config events e)) (row-changed old new pold pnew begun o (λ x. begun-row old new pold pnew x (same_id x.id o) (step x.id) (asked-no-name config events e (Begin o) asked refl x.id)) objects)
   where
     step : (x : ObjId) → running_calls (place_of config (places config events) e ∷ places config events) x ≡ running_calls (places config events) x + one_if (same_id x o)
     step x =
@@ -237,9 +316,16 @@ pub end-counts : EndCounts
 end-counts config events e o objects asked eff =
     let old : ObjId → ℕ = running_calls (places config events) in
     let new : ObjId → ℕ = running_calls (place_of config (places config events) e ∷ places config events) in
+    let pold : ObjId → ℕ = names_for (places config events) in
+    let pnew : ObjId → ℕ = names_for (place_of config (places config events) e ∷ places config events) in
     let H : List Place → Type 0 = λ h. changed ended o (rows_of (places config events) objects) ≡ rows_of h objects in
-    subst H (sym (places-push config events e)) (row-changed old new ended o (λ x. ended-row old new o x (same_id x.id o) (step x.id)) objects)
+    subst H (sym (places-push config events e)) (row-changed old new pold pnew ended o (λ x. ended-row old new pold pnew x (same_id x.id o) (step x.id) (names-still config events e (no-name e.ask asked) x.id)) objects)
   where
+    no-name : (a : Ask) → EndsCallOf o a → is_name_change a ≡ false
+    no-name (Finish object made listed uid) h = refl
+    no-name (Abandon object) h = refl
+    no-name _ h = absurd h
+
     is-end : (a : Ask) (x : ObjId) → EndsCallOf o a → is_end_of x a ≡ same_id o x
     is-end (Finish object made listed uid) x h = ap (λ y. same_id y x) h
     is-end (Abandon object) x h = ap (λ y. same_id y x) h
@@ -259,3 +345,81 @@ end-counts config events e o objects asked eff =
         ap (λ v. one_if (v && is_begin_of x e.ask)) eff ∙ ap one_if (no-begin e.ask x asked) in
         let zero_if = none-of in
         omega (arith, push, ends, begins, zero_if)
+
+-- ---- THE LAWS of pins
+
+-- An ask on names leaves the running calls.
+names-no-call : (config : SpaceConfig) (events : List Event) (e : Event) → is_name_change e.ask ≡ true → (o : ObjId) →
+    running_calls (place_of config (places config events) e ∷ places config events) o ≡ running_calls (places config events) o
+names-no-call config events e change o =
+    let push = count-push config events e o in
+    let ends : one_if (is_effective config (places config events) e.by e.ask && is_end_of o e.ask) ≡ one_if false = ap (λ v. one_if (is_effective config (places config events) e.by e.ask && v)) (no-end e.ask change) ∙ ap one_if (and_false (is_effective config (places config events) e.by e.ask)) in
+    let begins : one_if (is_effective config (places config events) e.by e.ask && is_begin_of o e.ask) ≡ one_if false = ap (λ v. one_if (is_effective config (places config events) e.by e.ask && v)) (no-begin e.ask change) ∙ ap one_if (and_false (is_effective config (places config events) e.by e.ask)) in
+    let zero_if = none-of in
+    omega (arith, push, ends, begins, zero_if)
+  where
+    no-end : (a : Ask) → is_name_change a ≡ true → is_end_of o a ≡ false
+    no-end (Bind n x) h = refl
+    no-end (Rebind n x) h = refl
+    no-end (Unbind n) h = refl
+    no-end _ h = absurd (cc)
+
+    no-begin : (a : Ask) → is_name_change a ≡ true → is_begin_of o a ≡ false
+    no-begin (Bind n x) h = refl
+    no-begin (Rebind n x) h = refl
+    no-begin (Unbind n) h = refl
+    no-begin _ h = absurd (cc)
+
+-- How many names stand for an object after an effective ask.
+names-step : (config : SpaceConfig) (events : List Event) (e : Event) (a : Ask) → e.ask ≡ a → is_effective config (places config events) e.by e.ask ≡ true → (o : ObjId) →
+    names_for (place_of config (places config events) e ∷ places config events) o + one_if (is_name_change a && is_object o (option_and_then (stands_for (places config events)) (name_in a)))
+    ≡ names_for (places config events) o + one_if (is_object o (object_bound a))
+names-step config events e a asked eff o =
+    let step = names-counted config events e o in
+    let less : one_if (names_less (is_effective config (places config events) e.by e.ask) (option_and_then (stands_for (places config events)) (name_in e.ask)) e.ask o) ≡ one_if (is_name_change a && is_object o (option_and_then (stands_for (places config events)) (name_in a))) =
+    ap (λ v. one_if (names_less v (option_and_then (stands_for (places config events)) (name_in e.ask)) e.ask o)) eff ∙ ap (λ b. one_if (names_less true (option_and_then (stands_for (places config events)) (name_in b)) b o)) asked in
+    let more : one_if (names_more (is_effective config (places config events) e.by e.ask) e.ask o) ≡ one_if (is_object o (object_bound a)) =
+    ap (λ v. one_if (names_more v e.ask o)) eff ∙ ap (λ b. one_if (names_more true b o)) asked in
+    omega (arith, step, less, more)
+
+-- What a name that is bound stood for: nothing.
+pub bind-stood : (config : SpaceConfig) (h : List Place) (by : ℕ) (n : List ℕ) (o : ObjId) → is_effective config h by (Bind n o) ≡ true → stands_for h n ≡ None
+unfolding is_effective
+bind-stood config h by n o eff = go (stands_for h n) (and_parts (has (table config h) o) (is_none (stands_for h n)) eff).1
+  where
+    go : (s : Option ObjId) → is_none s ≡ true → s ≡ None
+    go None i = refl
+    go (Some x) i = absurd (cc)
+
+pub bind-pins : BindPins
+bind-pins config events e n o objects asked eff =
+    let H : List Place → Type 0 = λ h. changed pinned_once o (rows_of (places config events) objects) ≡ rows_of h objects in
+    subst H (sym (places-push config events e)) (rows-pinned (running_calls (places config events)) (running_calls (place_of config (places config events) e ∷ places config events)) (names_for (places config events)) (names_for (place_of config (places config events) e ∷ places config events)) o
+    (names-no-call config events e (ap is_name_change asked)) step objects)
+  where
+    step : (y : ObjId) → names_for (place_of config (places config events) e ∷ places config events) y ≡ names_for (places config events) y + one_if (same_id o y)
+    step y =
+        let all = names-step config events e (Bind n o) asked eff y in
+        let none : one_if (is_object y (stands_for (places config events) n)) ≡ one_if false =
+        ap (λ s. one_if (is_object y s)) (bind-stood config (places config events) e.by n o (ap (is_effective config (places config events) e.by) (sym asked) ∙ eff)) in
+        let zero_if = none-of in
+        omega (arith, all, none, zero_if)
+
+pub rebind-pins : RebindPins
+rebind-pins config events e n o objects asked eff =
+    let H : List Place → Type 0 = λ h. unpinned (stands_for (places config events) n) (changed pinned_once o (rows_of (places config events) objects)) ≡ rows_of h objects in
+    let more : ObjId → ℕ = λ y. names_for (places config events) y + one_if (same_id o y) in
+    let calls : ObjId → ℕ = running_calls (places config events) in
+    subst H (sym (places-push config events e)) (
+    ap (unpinned (stands_for (places config events) n)) (rows-pinned calls calls (names_for (places config events)) more o (λ y. refl) (λ y. refl) objects)
+    ∙ rows-unpinned calls (running_calls (place_of config (places config events) e ∷ places config events)) more (names_for (place_of config (places config events) e ∷ places config events)) (stands_for (places config events) n)
+    (names-no-call config events e (ap is_name_change asked)) (λ y. names-step config events e (Rebind n o) asked eff y) objects)
+
+pub unbind-unpins : UnbindUnpins
+unbind-unpins config events e n objects asked eff =
+    let H : List Place → Type 0 = λ h. unpinned (stands_for (places config events) n) (rows_of (places config events) objects) ≡ rows_of h objects in
+    subst H (sym (places-push config events e)) (rows-unpinned (running_calls (places config events)) (running_calls (place_of config (places config events) e ∷ places config events)) (names_for (places config events)) (names_for (place_of config (places config events) e ∷ places config events)) (stands_for (places config events) n)
+    (names-no-call config events e (ap is_name_change asked)) step objects)
+  where
+    step : (y : ObjId) → names_for (place_of config (places config events) e ∷ places config events) y + one_if (is_object y (stands_for (places config events) n)) ≡ names_for (places config events) y
+    step y = let all = names-step config events e (Unbind n) asked eff y in let zero_if = none-of in omega (arith, all, zero_if)

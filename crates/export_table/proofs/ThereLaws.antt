@@ -1,6 +1,6 @@
--- Objects of the table of a history: running calls are of them, and what an event exports was nowhere before.
-use Rattle.std.proofs.Common.{true≢false, ◌≡◌, ℕ, ◌+◌, ◌<◌, inl, inr, List, [], ◌∷◌, ◌++◌, length, refl, ap, sym, subst, ◌∙◌, cond, arith}
-use Rattle.std.specs.Prelude.{Bool, true, false, ◌&&◌, ◌||◌, filter}
+-- Objects of the table of a history: running calls and names are of them, and what an event exports was nowhere before.
+use Rattle.std.proofs.Common.{true≢false, ◌≡◌, ℕ, ◌+◌, ◌<◌, inl, inr, List, [], ◌∷◌, ◌++◌, length, refl, ap, sym, subst, ◌∙◌, cond, arith, Option, Some, None}
+use Rattle.std.specs.Prelude.{Bool, true, false, ◌&&◌, ◌||◌, filter, is_none, option_and_then}
 use Rattle.std.specs.List.{AllByRecursion}
 use Rattle.std.proofs.str.Laws.{order}
 use Rattle.std.proofs.lemmas.Bool.{lt-ltb, and_parts, or_cases}
@@ -11,18 +11,19 @@ use Rattle.object_ids.proofs.Exact.{same_id-equal}
 use Rattle.history.specs.declared.asks.SpaceConfig.{SpaceConfig}
 use Rattle.history.specs.declared.asks.Event.{Event}
 use Rattle.history.specs.declared.asks.Ask.{Ask}
-use Rattle.history.specs.declared.asks.Ask.TheVariants.{Begin}
+use Rattle.history.specs.declared.asks.Ask.TheVariants.{Begin, Bind, Rebind}
 use Rattle.history.specs.declared.places.Place.{Place}
 use Rattle.history.specs.declared.places.Exported.{Exported}
 use Rattle.history.specs.Awaiting.{is_awaited}
 use Rattle.history.specs.LeaseCalls.{lease_calls}
 use Rattle.history.specs.Leases.{is_held}
-use Rattle.history.specs.Names.{is_named}
+use Rattle.history.specs.Names.{is_named, is_name_of, name_in, names, names_of, stands_for}
 use Rattle.history.specs.Places.{has, now, added, id_at}
 use Rattle.history.specs.Running.{begins_any, ends_any, running_calls}
 use Rattle.history.specs.Table.{is_pinned, is_kept, is_effective, table, place_of, places}
 use Rattle.history.proofs.ListLemmas.{every-weaker}
-use Rattle.history.proofs.NamedLaws.{by-events, stays, in-front}
+use Rattle.history.proofs.NameCounts.{is_object, names_less, names_more, names-counted}
+use Rattle.history.proofs.NamedLaws.{by-events, stays, in-front, named-exported}
 use Rattle.history.proofs.NumberLaws.{NumberedFrom, adds-numbered, added-numbered, has-smaller, has-self, table-exported}
 use Rattle.history.proofs.Partitions.{one_if}
 use Rattle.history.proofs.RunningLaws.{running_calls-difference, running_calls-push, is_running-calls}
@@ -134,3 +135,59 @@ new-runs-none config events e =
             running_calls (place_of config (places config events) e ∷ places config events) o ≡ 0
         go true begins s = absurd (true≢false (sym (begun-there config (places config events) e o begins) ∙ away))
         go false begins s = let none = not-there-runs-none config events o away in omega (arith, s, none)
+
+-- ---- no name stands for a new object
+
+-- An object to which a name is bound is in the table before.
+pinned-there : (config : SpaceConfig) (h : List Place) (e : Event) (o : ObjId) → names_more (is_effective config h e.by e.ask) e.ask o ≡ true → has (table config h) o ≡ true
+unfolding is_effective
+pinned-there config h e o b = go e.ask b
+  where
+    never : (v : Bool) → (v && false) ≡ true → has (table config h) o ≡ true
+    never true t = absurd (cc)
+    never false t = absurd (cc)
+
+    go : (a : Ask) → names_more (is_effective config h e.by a) a o ≡ true → has (table config h) o ≡ true
+    go (Bind n x) t =
+        let two = and_parts (has (table config h) x && is_none (stands_for h n)) (same_id x o) t in
+        ap (has (table config h)) (sym (same_id-equal x o two.1)) ∙ (and_parts (has (table config h) x) (is_none (stands_for h n)) two.0).0
+    go (Rebind n x) t = let two = and_parts (has (table config h) x) (same_id x o) t in ap (has (table config h)) (sym (same_id-equal x o two.1)) ∙ two.0
+    go a t = never (is_effective config h e.by a) t
+
+-- No name stands for an object that is not in the table.
+pub not-there-unnamed : (config : SpaceConfig) (events : List Event) (o : ObjId) → has (table config (places config events)) o ≡ false → length (names_of (places config events) o) ≡ 0
+unfolding names_of
+not-there-unnamed config events o away = go (names (places config events))
+  where
+    none : (s : Option ObjId) (n : List ℕ) → stands_for (places config events) n ≡ s → is_object o s ≡ false
+    none None n e = refl
+    none (Some x) n e = apart (same_id x o) refl
+      where
+        apart : (b : Bool) → same_id x o ≡ b → b ≡ false
+        apart false t = refl
+        apart true t = absurd (let there = ap (has (table config (places config events))) (sym (same_id-equal x o t)) ∙ named-exported config events n x e in cc)
+
+    go : (ns : List (List ℕ)) → length (filter (is_name_of (places config events) o) ns) ≡ 0
+    go [] = refl
+    go (n ∷ ns) = rw (none (stands_for (places config events) n) n refl) (go ns)
+
+pub new-unnamed : (config : SpaceConfig) (events : List Event) (e : Event) →
+    AllByRecursion (λ (x : Exported). length (names_of (place_of config (places config events) e ∷ places config events) x.id) ≡ 0) (place_of config (places config events) e).exported_here
+unfolding one_if
+new-unnamed config events e =
+    every-weaker (λ (x : Exported). has (place_of config (places config events) e).exported_here x.id ≡ true) _ (λ x there. one x.id there)
+    (place_of config (places config events) e).exported_here (has-self (place_of config (places config events) e).exported_here)
+  where
+    one : (o : ObjId) → has (place_of config (places config events) e).exported_here o ≡ true → length (names_of (place_of config (places config events) e ∷ places config events) o) ≡ 0
+    one o there = go (names_more (is_effective config (places config events) e.by e.ask) e.ask o) refl (names-counted config events e o)
+      where
+        away : has (table config (places config events)) o ≡ false
+        away = not-exported-nowhere config events o (new-not-old config events e o there)
+
+        go : (b : Bool) → names_more (is_effective config (places config events) e.by e.ask) e.ask o ≡ b →
+            length (names_of (place_of config (places config events) e ∷ places config events) o)
+            + one_if (names_less (is_effective config (places config events) e.by e.ask) (option_and_then (stands_for (places config events)) (name_in e.ask)) e.ask o)
+            ≡ length (names_of (places config events) o) + one_if b →
+            length (names_of (place_of config (places config events) e ∷ places config events) o) ≡ 0
+        go true more s = absurd (true≢false (sym (pinned-there config (places config events) e o more) ∙ away))
+        go false more s = let none = not-there-unnamed config events o away in omega (arith, s, none)

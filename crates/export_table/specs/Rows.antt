@@ -1,5 +1,5 @@
 -- Exported objects, by rising number.
-use Rattle.std.specs.Prelude.{◌≡◌, ◌⊎◌, ℕ, pos, ◌+◌, ◌-◌, ◌<◌, Bool, true, not, ◌&&◌, ◌||◌, IsTrue, List, [], ◌∷◌, map, length, filter, find, nat_lt, int_lt, get_or, slice_set, Option, Some, option_map, unwrap_or, if◌then◌else◌}
+use Rattle.std.specs.Prelude.{◌≡◌, ◌⊎◌, ℕ, pos, ◌+◌, ◌-◌, ◌<◌, Bool, true, not, ◌&&◌, ◌||◌, IsTrue, List, [], ◌∷◌, map, length, filter, find, nat_lt, int_lt, get_or, slice_set, Option, Some, None, option_map, unwrap_or, if◌then◌else◌}
 use Rattle.std.specs.List.{list_any, list_all}
 use Rattle.object_ids.specs.declared.ids.Uid.{Uid}
 use Rattle.object_ids.specs.declared.ids.ObjId.{ObjId}
@@ -63,6 +63,11 @@ pinned_once x = record x { pins = x.pins + 1 }
 abbrev pub unpinned_once : Export → Export
 unpinned_once x = record x { pins = x.pins - 1 }
 
+-- The rows with a pin taken off this object, if there is one.
+abbrev pub unpinned : Option ObjId → List Export → List Export
+unpinned None rows = rows
+unpinned (Some o) rows = changed unpinned_once o rows
+
 -- ---- what is kept
 
 -- It was added pinned, a pin of it stands, or a call of it runs.
@@ -88,7 +93,7 @@ without_all os x = record x { objects = filter (λ y. not (list_any (λ o. same_
 -- ---- what a list shows
 
 abbrev pub row_at : ℕ → List Wait → Export → ExportRow
-row_at t waits x = record { id = x.id; kind = x.kind; pinned = x.pinned; running = x.running; awaiting = length (awaiting_of t x.id waits) }
+row_at t waits x = record { id = x.id; kind = x.kind; pinned = x.pinned; running = x.running; awaiting = length (awaiting_of t x.id waits); pins = x.pins }
 
 -- ---- the order of the rows
 

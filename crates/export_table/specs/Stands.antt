@@ -1,10 +1,10 @@
 -- The history that an export table stands for: its waits are the returned references of the history that await their acknowledgement, and its
--- rows have objects of the history, each with how many calls of it run.
-use Rattle.std.specs.Prelude.{◌≡◌, ◌≤◌, ℕ, ◌+◌, max, Bool, true, false, nat_lt, List, [], ◌∷◌, ◌++◌, length, map, if◌then◌else◌, Some}
+-- rows have objects of the history, each with how many calls of it run and how many names stand for it.
+use Rattle.std.specs.Prelude.{◌≡◌, ◌≤◌, ℕ, ◌+◌, max, Bool, true, false, List, [], ◌∷◌, ◌++◌, length, map, if◌then◌else◌, Some}
 use Rattle.object_ids.specs.declared.ids.ObjId.{ObjId}
 use Rattle.object_ids.specs.declared.ids.Uid.{Uid}
 use Rattle.history.specs.declared.asks.Ask.{Ask}
-use Rattle.history.specs.declared.asks.Ask.TheVariants.{Open, Begin, Finish, Abandon, Ack}
+use Rattle.history.specs.declared.asks.Ask.TheVariants.{Open, Begin, Finish, Abandon, Ack, Bind, Rebind, Unbind}
 use Rattle.history.specs.declared.asks.Event.{Event}
 use Rattle.history.specs.declared.asks.SpaceConfig.{SpaceConfig}
 use Rattle.history.specs.declared.places.Exported.{Exported}
@@ -12,14 +12,14 @@ use Rattle.history.specs.declared.places.Place.{Place}
 use Rattle.history.specs.declared.places.Returned.{Returned}
 use Rattle.history.specs.Awaiting.{same_returned, returned, return_uid, is_ack_of, awaits, awaiting, awaiting_of as awaiting_to, until_of}
 use Rattle.history.specs.LeaseCalls.{lease_calls}
-use Rattle.history.specs.Names.{is_named}
+use Rattle.history.specs.Names.{is_name_change, names_of, stands_for}
 use Rattle.history.specs.Places.{has, now, next, id_at}
 use Rattle.history.specs.Running.{begins_any, ends_any, running_calls}
 use Rattle.history.specs.Table.{is_effective, is_kept, place_of, places}
 use Rattle.history.specs.Lists.{AllOnce}
 use Rattle.export_table.specs.declared.rows.Export.{Export}
 use Rattle.export_table.specs.declared.waits.Wait.{Wait}
-use Rattle.export_table.specs.Rows.{running_of, new_row, changed, begun, ended, is_row_kept, held_by}
+use Rattle.export_table.specs.Rows.{running_of, new_row, changed, begun, ended, pinned_once, unpinned, is_row_kept, held_by}
 use Rattle.export_table.specs.Waits.{waiting, is_waiting, awaiting_of, listed_each, acknowledged}
 
 -- ---- waits
@@ -59,9 +59,9 @@ AreWaits ack moment h waits = WaitsStand reference_of end_of ack moment h waits
 
 -- ---- rows
 
--- An exported object as an export table has it, with how many calls of it run. No names stand for it.
+-- An exported object as an export table has it, with how many calls of it run, and a pin for each name that stands for it.
 abbrev pub row_of : List Place → Exported → Export
-row_of h x = record { id = x.id; kind = x.kind; pinned = x.pinned; running = running_calls h x.id; pins = 0 }
+row_of h x = record { id = x.id; kind = x.kind; pinned = x.pinned; running = running_calls h x.id; pins = length (names_of h x.id) }
 
 abbrev pub rows_of : List Place → List Exported → List Export
 rows_of h objects = map (row_of h) objects
@@ -124,10 +124,26 @@ abbrev pub EndCounts : Type 0
 EndCounts = (config : SpaceConfig) (events : List Event) (e : Event) (o : ObjId) (objects : List Exported) → EndsCallOf o e.ask → is_effective config (places config events) e.by e.ask ≡ true →
     changed ended o (rows_of (places config events) objects) ≡ rows_of (places config (events ++ e ∷ [])) objects
 
--- An event that begins no call and ends none leaves the rows.
+-- An event that begins no call, ends none and changes no name leaves the rows.
 abbrev pub OthersLeaveRows : Type 0
 OthersLeaveRows = (config : SpaceConfig) (events : List Event) (e : Event) (objects : List Exported) → ((o : ObjId) → begins_any o (place_of config (places config events) e) ≡ false) → ((o : ObjId) → ends_any o (place_of config (places config events) e) ≡ false) →
+    is_name_change e.ask ≡ false →
     rows_of (places config events) objects ≡ rows_of (places config (events ++ e ∷ [])) objects
+
+-- A name that is bound pins its object once more.
+abbrev pub BindPins : Type 0
+BindPins = (config : SpaceConfig) (events : List Event) (e : Event) (n : List ℕ) (o : ObjId) (objects : List Exported) → e.ask ≡ Bind n o → is_effective config (places config events) e.by e.ask ≡ true →
+    changed pinned_once o (rows_of (places config events) objects) ≡ rows_of (places config (events ++ e ∷ [])) objects
+
+-- One that is bound, whatever it stood for, also takes a pin off the object for which it stood.
+abbrev pub RebindPins : Type 0
+RebindPins = (config : SpaceConfig) (events : List Event) (e : Event) (n : List ℕ) (o : ObjId) (objects : List Exported) → e.ask ≡ Rebind n o → is_effective config (places config events) e.by e.ask ≡ true →
+    unpinned (stands_for (places config events) n) (changed pinned_once o (rows_of (places config events) objects)) ≡ rows_of (places config (events ++ e ∷ [])) objects
+
+-- One that is unbound takes a pin off the object for which it stood.
+abbrev pub UnbindUnpins : Type 0
+UnbindUnpins = (config : SpaceConfig) (events : List Event) (e : Event) (n : List ℕ) (objects : List Exported) → e.ask ≡ Unbind n → is_effective config (places config events) e.by e.ask ≡ true →
+    unpinned (stands_for (places config events) n) (rows_of (places config events) objects) ≡ rows_of (places config (events ++ e ∷ [])) objects
 
 -- ---- laws of what is added
 
@@ -146,8 +162,8 @@ abbrev pub added_rows : Uid → ℕ → Bool → List ℕ → List Export
 added_rows space k pinned [] = []
 added_rows space k pinned (kind ∷ kinds) = new_row (id_at space k) kind pinned ∷ added_rows space (k + 1) pinned kinds
 
--- The objects that an event exports have the rows with which they are added: they are numbered on from all that were added before, and no call of
--- them runs.
+-- The objects that an event exports have the rows with which they are added: they are numbered on from all that were added before, no call of
+-- them runs, and no name stands for them.
 abbrev pub ExportsAreAdded : Type 0
 ExportsAreAdded = (config : SpaceConfig) (events : List Event) (e : Event) →
     rows_of (places config (events ++ e ∷ [])) (place_of config (places config events) e).exported_here
@@ -160,9 +176,9 @@ ExportsAreCounted = (config : SpaceConfig) (events : List Event) (e : Event) →
 
 -- ---- the law of what is kept
 
--- A row is kept exactly where the history keeps its object, where a pin of it stands exactly if a name does.
+-- A row is kept exactly where the history keeps its object.
 abbrev pub RowsAreKept : Type 0
-RowsAreKept = (config : SpaceConfig) (events : List Event) (waits : List Wait) (x : Exported) (pins : ℕ) → nat_lt 0 pins ≡ is_named (places config events) x.id →
+RowsAreKept = (config : SpaceConfig) (events : List Event) (waits : List Wait) (x : Exported) →
     AreWaits config.ack_ms (now (places config events)) (places config events) waits →
-    is_row_kept (now (places config events)) (held_by config.lease_ms (now (places config events)) (lease_calls (places config events))) waits (record (row_of (places config events) x) { pins = pins })
+    is_row_kept (now (places config events)) (held_by config.lease_ms (now (places config events)) (lease_calls (places config events))) waits (row_of (places config events) x)
     ≡ is_kept config (places config events) x

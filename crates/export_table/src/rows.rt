@@ -38,6 +38,8 @@ pub struct ExportRow {
     pub running: u32,
     /// How many references to it await their acknowledgement.
     pub awaiting: u32,
+    /// How many pins stand, besides the one that it was added with.
+    pub pins: u32,
 }
 
 /// A list of exported objects.
@@ -193,6 +195,7 @@ pub fn list(alloc: Global, rows: &[Export], waits: &[Wait], now: u64) -> Result<
             pinned: row.pinned,
             running: row.running,
             awaiting: count_of(waits, &row.id, now) as u32,
+            pins: row.pins,
         })?;
     }
     Ok(list)

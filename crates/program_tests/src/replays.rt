@@ -367,7 +367,65 @@ space 600000 300000 7 9
 =
 events 4 units 5 now 5
 object 16 kind 2 pinned running 0 awaiting 0 held 0 names 0
-object 17 kind 1 free running 0 awaiting 1 held 0 names 0";
+object 17 kind 1 free running 0 awaiting 1 held 0 names 0
+
+space 600000 300000 7 9
+0 0 open 1 pinned
+0 0 open 2 pinned
+0 1 bind \"a\" 16
+0 2 bind \"b\" 17
+0 3 rebind \"a\" 17
+0 4 unbind \"b\"
+=
+events 6 units 6 now 4
+object 16 kind 1 pinned running 0 awaiting 0 held 0 names 0
+object 17 kind 2 pinned running 0 awaiting 0 held 0 names 1
+name \"a\" 17
+
+space 20 30 -1 -5
+0 0 open 1 pinned
+4294967295 110 bind \"\\ud800\" 16
+4294967295 161 bind \"\" 16
+3 370 rebind \"\\ud800\" 16
+=
+events 4 units 4 now 370
+object 16 kind 1 pinned running 0 awaiting 0 held 0 names 2
+name \"\\ud800\" 16
+name \"\" 16
+
+space 2 1 7 9
+2 3 dirty aa@3/4/7 2 1 18
+4294967295 5 lookup \"\\u0000\" 1/0/0
+=
+events 2 units 3 now 5
+
+space 600000 300000 7 9
+0 0 open 1 pinned
+1 0 begin 16
+1 0 finish 16 2 - 1/0/0
+1 1 bind \"a\" 17
+1 2 ack 1/0/0
+2 3 lookup \"a\" 2/0/0
+1 4 unbind \"a\"
+1 4 list
+=
+events 8 units 9 now 4
+object 16 kind 1 pinned running 0 awaiting 0 held 0 names 0
+object 17 kind 2 free running 0 awaiting 1 held 0 names 0
+
+space 600000 300000 7 9
+0 0 open 1 pinned
+1 0 begin 16
+1 0 finish 16 2 - 1/0/0
+1 1 bind \"a\" 17
+1 2 ack 1/0/0
+2 3 lookup \"a\" 2/0/0
+1 4 unbind \"a\"
+2 5 ack 2/0/0
+=
+events 8 units 9 now 5
+object 16 kind 1 pinned running 0 awaiting 0 held 0 names 0
+withdrawn 17 place 7";
 
 /// Replays a journal, whole and in pieces of 7 bytes.
 fn check_replay(
@@ -424,8 +482,8 @@ const BAD_LINES: [(&str, &str); 12] = [
         "bad line 2\n",
     ),
     ("space 1 1 7 9\n0 00 tick\n", "bad line 2\n"),
-    ("space 1 1 7 9\n0 0 begin 16\n0 0 list\n", "bad line 3\n"),
-    ("space 1 1 7 9\n0 0 lookup \"a\" 1/0/0\n", "bad line 2\n"),
+    ("space 1 1 7 9\n0 0 list\n0 0 list 16\n", "bad line 3\n"),
+    ("space 1 1 7 9\n0 0 lookup a 1/0/0\n", "bad line 2\n"),
 ];
 
 #[test]

@@ -38,21 +38,21 @@ same_stop config h rest number (Err OutOfMemory) b known_a known_b of_a of_b = a
 same_stop config h rest number a (Err OutOfMemory) known_a known_b of_a of_b = absurd known_b
 same_stop config h rest number (Ok u) (Ok v) known_a known_b of_a of_b = refl
 same_stop config h rest number (Ok u) (Err (BadLine m)) known_a known_b of_a of_b = absurd (of_b.0 of_a)
-same_stop config h rest number (Ok u) (Err RefusedTurn) known_a known_b of_a (e, (line, more, spells, served, is), cause) = absurd (no_lines line more (sym of_a ∙ is))
+same_stop config h rest number (Ok u) (Err RefusedTurn) known_a known_b of_a (e, (line, more, spells, is), cause) = absurd (no_lines line more (sym of_a ∙ is))
 same_stop config h rest number (Err (BadLine n)) (Ok v) known_a known_b of_a of_b = absurd (of_a.0 of_b)
 same_stop config h rest number (Err (BadLine n)) (Err (BadLine m)) known_a known_b of_a of_b = let same : n ≡ m = of_a.2 ∙ sym of_b.2 in cc
 same_stop config h rest number (Err (BadLine n)) (Err RefusedTurn) known_a known_b of_a (e, begins, cause) = absurd (of_a.1 e begins)
-same_stop config h rest number (Err RefusedTurn) (Ok v) known_a known_b (e, (line, more, spells, served, is), cause) of_b = absurd (no_lines line more (sym of_b ∙ is))
+same_stop config h rest number (Err RefusedTurn) (Ok v) known_a known_b (e, (line, more, spells, is), cause) of_b = absurd (no_lines line more (sym of_b ∙ is))
 same_stop config h rest number (Err RefusedTurn) (Err (BadLine m)) known_a known_b (e, begins, cause) of_b = absurd (of_b.1 e begins)
 same_stop config h rest number (Err RefusedTurn) (Err RefusedTurn) known_a known_b of_a of_b = refl
 
 -- Where the first line spells an event that is taken, lines don't stop.
 no_stop : (config : SpaceConfig) (h : List Event) (rest : List ℕ) (number : ℕ) (stop : Result (Unit {0}) ReplayFault) (y : Event) → IsKnown stop
     → BeginsWith config rest y → IsTaken config h y → Stops config h rest number stop → ⊥
-no_stop config h rest number (Ok u) y known (line, more, spells, served, is) taken stops = no_lines line more (sym stops ∙ is)
+no_stop config h rest number (Ok u) y known (line, more, spells, is) taken stops = no_lines line more (sym stops ∙ is)
 no_stop config h rest number (Err (BadLine n)) y known begins taken stops = stops.1 y begins
 no_stop config h rest number (Err OutOfMemory) y known begins taken stops = known
-no_stop config h rest number (Err RefusedTurn) y known (line, more, spells, served, is) taken (e, (line2, more2, spells2, served2, is2), (cause, why)) =
+no_stop config h rest number (Err RefusedTurn) y known (line, more, spells, is) taken (e, (line2, more2, spells2, is2), (cause, why)) =
     let same = line_injective 10 line2 line more2 more (event_lacks config.uid e line2 spells2) (event_lacks config.uid y line spells) (sym is2 ∙ is) in
     let event : e ≡ y = event_once config.uid e y line2 spells2 (subst (SpellsEvent config.uid y) (sym same.0) spells) in
     let both : None ≡ Some cause = sym taken ∙ ap (refusal limits config (places config h)) (sym event) ∙ why in
@@ -76,18 +76,18 @@ walk config h [] [] bytes r s number a b known_a known_b of_x taken_x stops_a of
     (refl, same_stop config (h ++ []) s (number + 0) a b known_a known_b (subst P (sym of_x ∙ of_y) stops_a) stops_b)
 walk config h [] (y ∷ ys) bytes r s number a b known_a known_b of_x taken_x stops_a (line, others, one, more, is) taken_y stops_b =
     let P : List Event → Type 0 = λ g. IsTaken config g y in
-    absurd (no_stop config (h ++ []) r (number + 0) a y known_a (line, others, one, taken_y.0, sym of_x ∙ is) (subst P (sym (append-nil h)) taken_y.1) stops_a)
+    absurd (no_stop config (h ++ []) r (number + 0) a y known_a (line, others, one, sym of_x ∙ is) (subst P (sym (append-nil h)) taken_y.0) stops_a)
 walk config h (x ∷ xs) [] bytes r s number a b known_a known_b (line, others, one, more, is) taken_x stops_a of_y taken_y stops_b =
     let P : List Event → Type 0 = λ g. IsTaken config g x in
-    absurd (no_stop config (h ++ []) s (number + 0) b x known_b (line, others, one, taken_x.0, sym of_y ∙ is) (subst P (sym (append-nil h)) taken_x.1) stops_b)
+    absurd (no_stop config (h ++ []) s (number + 0) b x known_b (line, others, one, sym of_y ∙ is) (subst P (sym (append-nil h)) taken_x.0) stops_b)
 walk config h (x ∷ xs) (y ∷ ys) bytes r s number a b known_a known_b (line, others, one, more, is) taken_x stops_a (line2, others2, one2, more2, is2) taken_y stops_b =
     let same = line_injective 10 line line2 others others2 (event_lacks config.uid x line one) (event_lacks config.uid y line2 one2) (sym is ∙ is2) in
     let head : x ≡ y = event_once config.uid x y line one (subst (SpellsEvent config.uid y) (sym same.0) one2) in
     let F : List ℕ → Type 0 = λ t. SpellsFront config.uid ys t s in
     let T : Event → Type 0 = λ e. AllTaken config (h ++ e ∷ []) ys in
     let S : Event → Type 0 = λ e. Stops config ((h ++ e ∷ []) ++ ys) s (number + 1 + length ys) b in
-    let tail = walk config (h ++ x ∷ []) xs ys others r s (number + 1) a b known_a known_b more taken_x.2 (shifted config h x xs r number a stops_a)
-    (subst F (sym same.1) more2) (subst T (sym head) taken_y.2) (subst S (sym head) (shifted config h y ys s number b stops_b)) in
+    let tail = walk config (h ++ x ∷ []) xs ys others r s (number + 1) a b known_a known_b more taken_x.1 (shifted config h x xs r number a stops_a)
+    (subst F (sym same.1) more2) (subst T (sym head) taken_y.1) (subst S (sym head) (shifted config h y ys s number b stops_b)) in
     (ap (λ e. e ∷ xs) head ∙ ap (λ es. y ∷ es) tail.0, tail.1)
 
 -- ---- answers

@@ -14,13 +14,12 @@ use Rattle.history.specs.Table.{places}
 use Rattle.journal.specs.Parts.{Lacks}
 use Rattle.journal.specs.Grammar.{SpellsConfig, SpellsEvent, SpellsFront}
 use Rattle.journal.proofs.Laws.{event_once, event_lacks, config_lacks}
-use Rattle.space.specs.Built.{IsBuilt}
 use Rattle.space.specs.Lists.{TakesFront}
 use Rattle.space.proofs.ListLaws.{taken-after}
 use Rattle.rmi_cli.specs.declared.outlines.ReplayFault.{ReplayFault}
 use Rattle.rmi_cli.specs.declared.outlines.ReplayFault.TheVariants.{BadLine, Refused as RefusedTurn, OutOfMemory}
 use Rattle.history.specs.Outline.{outline}
-use Rattle.rmi_cli.specs.Replay.{IsServed, IsTaken, TakesLines, BeginsWith, BeginsBadly, Opens, Stops, Goes, AllTaken, IsJournalUpTo, Outlines, Replays}
+use Rattle.rmi_cli.specs.Replay.{IsTaken, TakesLines, BeginsWith, BeginsBadly, Opens, Stops, Goes, AllTaken, IsJournalUpTo, Outlines, Replays}
 use Rattle.rmi_cli.specs.Batches.{TakesLine, SpellsLines, HasRead, AreTaken, Halt, Halts, fault_of, TakesTo}
 
 -- ---- lines and their ends
@@ -57,15 +56,15 @@ none_read config lines = record { front = []; lines_are = refl; spelled = refl }
 
 spells_more : (config : SpaceConfig) (events : List Event) (e : Event) (front last : List ℕ) → SpellsLines config events front → TakesLine config last e [] → SpellsLines config (events ++ e ∷ []) (front ++ last)
 spells_more config [] e front last s t = let P : List ℕ → Type 0 = λ f. TakesLine config (f ++ last) e [] in ([], subst P (sym s) t, refl)
-spells_more config (x ∷ events) e front last (rest, (line, spells, served, is), more) t =
-    (rest ++ last, (line, spells, served, ap (λ f. f ++ last) is ∙ append_assoc line (10 ∷ rest) last), spells_more config events e rest last more t)
+spells_more config (x ∷ events) e front last (rest, (line, spells, is), more) t =
+    (rest ++ last, (line, spells, ap (λ f. f ++ last) is ∙ append_assoc line (10 ∷ rest) last), spells_more config events e rest last more t)
 
 -- One more line is read.
 one_read : (config : SpaceConfig) (lines rest more : List ℕ) (events : List Event) (e : Event) → HasRead config lines events rest → TakesLine config rest e more → HasRead config lines (events ++ e ∷ []) more
-one_read config lines rest more events e t (line, spells, served, is) = record {
+one_read config lines rest more events e t (line, spells, is) = record {
   front = t.front ++ (line ++ 10 ∷ []);
   lines_are = t.lines_are ∙ ap (λ r. t.front ++ r) (is ∙ sym (append_assoc line (10 ∷ []) more)) ∙ sym (append_assoc t.front (line ++ 10 ∷ []) more);
-  spelled = spells_more config events e t.front (line ++ 10 ∷ []) t.spelled (line, spells, served, refl);
+  spelled = spells_more config events e t.front (line ++ 10 ∷ []) t.spelled (line, spells, refl);
 }
 
 pub read_next : (config : SpaceConfig) (lines rest more : List ℕ) (events events2 : List Event) (e : Event) → events2 ≡ events ++ e ∷ [] → HasRead config lines events rest → TakesLine config rest e more
@@ -74,7 +73,7 @@ read_next config lines rest more events events2 e after t took = let P : List Ev
 
 -- The lines after the first are shorter.
 pub line_shorter : (config : SpaceConfig) (lines more : List ℕ) (e : Event) → TakesLine config lines e more → length more + 1 ≤ length lines
-line_shorter config lines more e (line, spells, served, is) = omega (arith, ap length is, length-append line (10 ∷ more))
+line_shorter config lines more e (line, spells, is) = omega (arith, ap length is, length-append line (10 ∷ more))
 
 moment_of : (uid : Uid) (e : Event) (line : List ℕ) → SpellsEvent uid e line → e.moment < 2 ^ 62
 moment_of uid e line ([], words, is) = absurd words
@@ -84,11 +83,7 @@ moment_of uid e line (a ∷ b ∷ more, words, is) = words.1.0.0
 -- The events that lines spell are none too late.
 pub spelled_moments : (config : SpaceConfig) (events : List Event) (lines : List ℕ) → SpellsLines config events lines → AllByRecursion (λ e. e.moment < 2 ^ 62) events
 spelled_moments config [] lines s = tt
-spelled_moments config (e ∷ events) lines (rest, (line, spells, served, is), more) = (moment_of config.uid e line spells, spelled_moments config events rest more)
-
-pub spelled_served : (config : SpaceConfig) (events : List Event) (lines : List ℕ) → SpellsLines config events lines → AllByRecursion (λ e. IsBuilt e.ask) events
-spelled_served config [] lines s = tt
-spelled_served config (e ∷ events) lines (rest, (line, spells, served, is), more) = (served, spelled_served config events rest more)
+spelled_moments config (e ∷ events) lines (rest, (line, spells, is), more) = (moment_of config.uid e line spells, spelled_moments config events rest more)
 
 -- Lines that spell two lists of events, the one after the other.
 record InTwo (config : SpaceConfig) (front more : List Event) (lines : List ℕ) : Type 0 where
@@ -100,12 +95,12 @@ record InTwo (config : SpaceConfig) (front more : List Event) (lines : List ℕ)
 
 in_two : (config : SpaceConfig) (front more : List Event) (lines : List ℕ) → SpellsLines config (front ++ more) lines → InTwo config front more lines
 in_two config [] more lines s = record { first = []; second = lines; lines_are = refl; of_front = refl; of_more = s }
-in_two config (e ∷ front) more lines (rest, (line, spells, served, is), others) =
+in_two config (e ∷ front) more lines (rest, (line, spells, is), others) =
     let s = in_two config front more rest others in record {
       first = line ++ 10 ∷ s.first;
       second = s.second;
       lines_are = is ∙ ap (λ r. line ++ 10 ∷ r) s.lines_are ∙ sym (append_assoc line (10 ∷ s.first) s.second);
-      of_front = (s.first, (line, spells, served, refl), s.of_front);
+      of_front = (s.first, (line, spells, refl), s.of_front);
       of_more = s.of_more;
     }
 
@@ -170,17 +165,17 @@ after_taken config h (e ∷ events) h2 (is, more) = after_taken config (h ++ e �
 
 takes_lines : (config : SpaceConfig) (h events : List Event) (front : List ℕ) (h2 : List Event) → SpellsLines config events front → AreTaken config h events h2 → TakesLines config h events front
 takes_lines config h [] front h2 s t = s
-takes_lines config h (e ∷ events) front h2 (rest, (line, spells, served, is), more) (taken, others) =
-    (line, rest, spells, served, taken, takes_lines config (h ++ e ∷ []) events rest h2 more others, is)
+takes_lines config h (e ∷ events) front h2 (rest, (line, spells, is), more) (taken, others) =
+    (line, rest, spells, taken, takes_lines config (h ++ e ∷ []) events rest h2 more others, is)
 
 takes_both : (config : SpaceConfig) (h a b : List Event) (x y : List ℕ) → TakesLines config h a x → TakesLines config (h ++ a) b y → TakesLines config h (a ++ b) (x ++ y)
 takes_both config h [] b x y s t =
     let P : List ℕ → Type 0 = λ r. TakesLines config h b (r ++ y) in
     let Q : List Event → Type 0 = λ g. TakesLines config g b y in
     subst P (sym s) (subst Q (append-nil h) t)
-takes_both config h (e ∷ a) b x y (line, rest, spells, served, taken, others, is) t =
+takes_both config h (e ∷ a) b x y (line, rest, spells, taken, others, is) t =
     let Q : List Event → Type 0 = λ g. TakesLines config g b y in
-    (line, rest ++ y, spells, served, taken, takes_both config (h ++ e ∷ []) a b rest y others (subst Q (sym (append_assoc h (e ∷ []) a)) t), ap (λ r. r ++ y) is ∙ append_assoc line (10 ∷ rest) y)
+    (line, rest ++ y, spells, taken, takes_both config (h ++ e ∷ []) a b rest y others (subst Q (sym (append_assoc h (e ∷ []) a)) t), ap (λ r. r ++ y) is ∙ append_assoc line (10 ∷ rest) y)
 
 -- The lines that were read are taken.
 pub takes_to : (config : SpaceConfig) (h events h2 : List Event) (lines rest : List ℕ) (number next : ℕ) → HasRead config lines events rest → AreTaken config h events h2 → next ≡ number + length events
@@ -215,7 +210,7 @@ stops_there config h events lines rest number RefusedTurn s (e, more, is, cause)
     let P : List Event → Type 0 = λ es. SpellsLines config es lines in (e, begins (subst P is s), cause)
   where
     begins : SpellsLines config (e ∷ more) lines → BeginsWith config (lines ++ rest) e
-    begins (others, (line, spells, served, here), after) = (line, others ++ rest, spells, served, ap (λ r. r ++ rest) here ∙ append_assoc line (10 ∷ others) rest)
+    begins (others, (line, spells, here), after) = (line, others ++ rest, spells, ap (λ r. r ++ rest) here ∙ append_assoc line (10 ∷ others) rest)
 stops_there config h events lines rest number OutOfMemory s halt = tt
 
 pub halts_there : (config : SpaceConfig) (h events h2 : List Event) (lines rest : List ℕ) (number : ℕ) (fault : ReplayFault) → HasRead config lines events rest → Halts config h events fault h2
@@ -261,35 +256,18 @@ stops_here config h lines number stop stops = record {
   stops = subst (λ n. Stops config h lines n stop) (omega arith) stops;
 }
 
-pub not_true : IsTrue false → ⊥
-not_true t = cc
-
 -- ---- the first of some lines
 
 -- No line is ended there.
 pub no_end : (config : SpaceConfig) (lines : List ℕ) → Lacks 10 lines → (e : Event) → BeginsWith config lines e → ⊥
-no_end config lines lacks e (line, rest, spelled, served, is) = no_line lines line rest lacks is
-
--- The first line spells no event that is served.
-no_served : (config : SpaceConfig) (lines line rest : List ℕ) → Lacks 10 line → lines ≡ line ++ 10 ∷ rest
-    → ((e : Event) → SpellsEvent config.uid e line → IsServed e.ask → ⊥) → (e : Event) → BeginsWith config lines e → ⊥
-no_served config lines line rest lacks is none e (line2, rest2, spelled, served, is2) =
-    let same = same_line line line2 rest rest2 lacks (event_lacks config.uid e line2 spelled) (sym is ∙ is2) in
-    none e (subst (SpellsEvent config.uid e) (sym same.line) spelled) served
+no_end config lines lacks e (line, rest, spelled, is) = no_line lines line rest lacks is
 
 -- The first line spells no event.
 pub no_event : (config : SpaceConfig) (uid : Uid) (lines line rest : List ℕ) → uid ≡ config.uid → Lacks 10 line → lines ≡ line ++ 10 ∷ rest
     → ((e : Event) → SpellsEvent uid e line → ⊥) → (e : Event) → BeginsWith config lines e → ⊥
-no_event config uid lines line rest here lacks is none =
-    no_served config lines line rest lacks is (λ e spelled served. none e (subst (λ u. SpellsEvent u e line) (sym here) spelled))
-
--- The first line spells an event that isn't served, and no other.
-pub unserved : (config : SpaceConfig) (uid : Uid) (lines line rest : List ℕ) (first : Event) → uid ≡ config.uid → Lacks 10 line
-    → lines ≡ line ++ 10 ∷ rest → SpellsEvent uid first line → (IsServed first.ask → ⊥) → (e : Event) → BeginsWith config lines e → ⊥
-unserved config uid lines line rest first here lacks is spells none =
-    no_served config lines line rest lacks is (λ e spelled served.
-    let same = event_once uid e first line (subst (λ u. SpellsEvent u e line) (sym here) spelled) spells in
-    none (subst (λ x. IsServed x.ask) same served))
+no_event config uid lines line rest here lacks is none e (line2, rest2, spelled, is2) =
+    let same = same_line line line2 rest rest2 lacks (event_lacks config.uid e line2 spelled) (sym is ∙ is2) in
+    none e (subst (λ u. SpellsEvent u e line) (sym here) (subst (SpellsEvent config.uid e) (sym same.line) spelled))
 
 -- The input's first line spells no configuration.
 pub no_config : (input line rest : List ℕ) → Lacks 10 line → input ≡ line ++ 10 ∷ rest
@@ -306,12 +284,12 @@ no_first_line input lacks config lines (line, spelled, is) = no_line input line 
 -- Lines that are taken spell events in front of a rest, and these are all taken.
 to_front : (config : SpaceConfig) (h events : List Event) (front rest lines : List ℕ) → TakesLines config h events front → lines ≡ front ++ rest → SpellsFront config.uid events lines rest
 to_front config h [] front rest lines t is = is ∙ ap (λ f. f ++ rest) t
-to_front config h (e ∷ events) front rest lines (line, more, spells, served, taken, others, front_is) is =
+to_front config h (e ∷ events) front rest lines (line, more, spells, taken, others, front_is) is =
     (line, more ++ rest, spells, to_front config (h ++ e ∷ []) events more rest (more ++ rest) others refl, is ∙ ap (λ f. f ++ rest) front_is ∙ append_assoc line (10 ∷ more) rest)
 
 to_taken : (config : SpaceConfig) (h events : List Event) (front : List ℕ) → TakesLines config h events front → AllTaken config h events
 to_taken config h [] front t = tt
-to_taken config h (e ∷ events) front (line, more, spells, served, taken, others, front_is) = (served, taken, to_taken config (h ++ e ∷ []) events more others)
+to_taken config h (e ∷ events) front (line, more, spells, taken, others, front_is) = (taken, to_taken config (h ++ e ∷ []) events more others)
 
 -- All lines were taken.
 pub outlined : (input : List ℕ) (config : SpaceConfig) (lines output : List ℕ) (h2 : List Event) → Opens input config lines → Goes config [] lines 2 (Ok tt) h2 → output ≡ outline config h2

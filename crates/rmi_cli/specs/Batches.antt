@@ -11,20 +11,20 @@ use Rattle.rmi_cli.specs.declared.outlines.ReplayFault.{ReplayFault}
 use Rattle.rmi_cli.specs.declared.outlines.ReplayFault.TheVariants.{BadLine, Refused as RefusedTurn, OutOfMemory}
 use Rattle.rmi_cli.specs.declared.outlines.LineFault.{LineFault}
 use Rattle.rmi_cli.specs.declared.outlines.LineFault.TheVariants.{Bad, OutOfMemory as NoRoom}
-use Rattle.rmi_cli.specs.Replay.{IsServed, IsTaken, TakesLines, BeginsWith}
+use Rattle.rmi_cli.specs.Replay.{IsTaken, TakesLines, BeginsWith}
 
 -- ---- reading
 
--- The first of these lines spells this event, which is served; `more` are the lines after it.
+-- The first of these lines spells this event; `more` are the lines after it.
 abbrev pub TakesLine : SpaceConfig → List ℕ → Event → List ℕ → Type 0
-TakesLine config lines e more = (line : List ℕ) × SpellsEvent config.uid e line × IsServed e.ask × (lines ≡ line ++ 10 ∷ more)
+TakesLine config lines e more = (line : List ℕ) × SpellsEvent config.uid e line × (lines ≡ line ++ 10 ∷ more)
 
--- The first of these lines spells no event that is served; want of memory says nothing of it.
+-- The first of these lines spells no event; want of memory says nothing of it.
 abbrev pub WasBad : SpaceConfig → List ℕ → LineFault → Type 0
 WasBad config lines Bad = (e : Event) → BeginsWith config lines e → ⊥
 WasBad config lines NoRoom = Unit {0}
 
--- These lines spell these events, one each, which are served.
+-- These lines spell these events, one each.
 abbrev pub SpellsLines : SpaceConfig → List Event → List ℕ → Type 0
 SpellsLines config [] lines = lines ≡ []
 SpellsLines config (e ∷ events) lines = (rest : List ℕ) × TakesLine config lines e rest × SpellsLines config events rest

@@ -2,38 +2,32 @@
 use Rattle.std.specs.Prelude.{◌≡◌, ◌≢◌, ℕ, ◌+◌, ◌⊎◌, List, [], ◌∷◌, ◌++◌, length, None, Some, Result, Ok, Err}
 use Rattle.history.specs.declared.asks.SpaceConfig.{SpaceConfig}
 use Rattle.history.specs.declared.asks.Event.{Event}
-use Rattle.history.specs.declared.asks.Ask.{Ask}
 use Rattle.history.specs.declared.replies.Refused.{Refused}
 use Rattle.history.specs.Limits.{limits, refusal}
 use Rattle.history.specs.Table.{places}
 use Rattle.history.specs.Outline.{outline}
 use Rattle.journal.specs.Grammar.{SpellsConfig, SpellsEvent, SpellsFront, JournalText}
-use Rattle.space.specs.Built.{IsBuilt}
 use Rattle.rmi_cli.specs.declared.outlines.ReplayFault.{ReplayFault}
 use Rattle.rmi_cli.specs.declared.outlines.ReplayFault.TheVariants.{BadLine, Refused as RefusedTurn, OutOfMemory}
 
 -- ---- lines
 
--- The kinds of lines that are served so far are those that the space serves: all but those that speak of names.
-abbrev pub IsServed : Ask → Type 0
-IsServed ask = IsBuilt ask
-
 -- After the history h the event is taken: there is no cause to refuse it.
 abbrev pub IsTaken : SpaceConfig → List Event → Event → Type 0
 IsTaken config h e = refusal limits config (places config h) e ≡ None
 
--- These lines spell events that are served and are taken, one after another, after the history h.
+-- These lines spell events that are taken, one after another, after the history h.
 abbrev pub TakesLines : SpaceConfig → List Event → List Event → List ℕ → Type 0
 TakesLines config h [] lines = lines ≡ []
 TakesLines config h (e ∷ events) lines =
-    (line : List ℕ) × (rest : List ℕ) × SpellsEvent config.uid e line × IsServed e.ask × IsTaken config h e
+    (line : List ℕ) × (rest : List ℕ) × SpellsEvent config.uid e line × IsTaken config h e
     × TakesLines config (h ++ e ∷ []) events rest × (lines ≡ line ++ 10 ∷ rest)
 
--- The first of these lines spells this event, which is served.
+-- The first of these lines spells this event.
 abbrev pub BeginsWith : SpaceConfig → List ℕ → Event → Type 0
-BeginsWith config lines e = (line : List ℕ) × (rest : List ℕ) × SpellsEvent config.uid e line × IsServed e.ask × (lines ≡ line ++ 10 ∷ rest)
+BeginsWith config lines e = (line : List ℕ) × (rest : List ℕ) × SpellsEvent config.uid e line × (lines ≡ line ++ 10 ∷ rest)
 
--- There are lines, and the first of them spells no event that is served.
+-- There are lines, and the first of them spells no event.
 abbrev pub BeginsBadly : SpaceConfig → List ℕ → Type 0
 BeginsBadly config lines = (lines ≢ []) × ((e : Event) → BeginsWith config lines e → ⊥)
 
@@ -60,19 +54,19 @@ pub record Goes (config : SpaceConfig) (h : List Event) (lines : List ℕ) (numb
 abbrev pub Opens : List ℕ → SpaceConfig → List ℕ → Type 0
 Opens input config lines = (line : List ℕ) × SpellsConfig config line × (input ≡ line ++ 10 ∷ lines)
 
--- After the history h these events are all served and taken, one after another.
+-- After the history h these events are all taken, one after another.
 abbrev pub AllTaken : SpaceConfig → List Event → List Event → Type 0
 AllTaken config h [] = Unit {0}
-AllTaken config h (e ∷ events) = IsServed e.ask × IsTaken config h e × AllTaken config (h ++ e ∷ []) events
+AllTaken config h (e ∷ events) = IsTaken config h e × AllTaken config (h ++ e ∷ []) events
 
--- The input is a journal up to this rest: of this configuration and of these events, which are all served and taken.
+-- The input is a journal up to this rest: of this configuration and of these events, which are all taken.
 pub record IsJournalUpTo (input : List ℕ) (config : SpaceConfig) (events : List Event) (rest : List ℕ) : Type 0 where
   pub lines : List ℕ
   pub opens : Opens input config lines
   pub spelled : SpellsFront config.uid events lines rest
   pub taken : AllTaken config [] events
 
--- The input is a journal whose events are all served and taken, and the output is the outline of their history.
+-- The input is a journal whose events are all taken, and the output is the outline of their history.
 abbrev pub Outlines : List ℕ → List ℕ → Type 0
 Outlines input output =
     (config : SpaceConfig) × (events : List Event) × JournalText input config events × AllTaken config [] events × (output ≡ outline config events)

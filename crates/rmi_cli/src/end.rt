@@ -15,7 +15,7 @@ pub enum RunEnd {
     Answered(ConnEnd),
     /// All was done. No line tells it.
     Done,
-    /// The line of this number, from 1, is none of a journal, or of a kind that isn't served yet.
+    /// The line of this number, from 1, is none of a journal.
     BadLine { line: u64 },
     /// A turn of the journal was refused at a limit of the space.
     Refused,

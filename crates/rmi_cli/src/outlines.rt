@@ -1,11 +1,10 @@
 //! `replay`: the outline of the history that a journal spells.
-ghost use Rattle.std.specs.Prelude.{◌≡◌, ◌≢◌, ◌<◌, ◌≤◌, ◌+◌, ◌^◌, [], ◌↔◌, true, false, IsTrue, IfOk, IfErr, OnOk, Err, length};
+ghost use Rattle.std.specs.Prelude.{◌≡◌, ◌≢◌, ◌<◌, ◌≤◌, ◌+◌, ◌^◌, [], true, false, IfOk, IfErr, OnOk, Err, length};
 ghost use Rattle.std.specs.List.{AllByRecursion};
-ghost use Rattle.space.specs.Built.{IsBuilt};
-ghost use Rattle.rmi_cli.specs.Replay.{IsServed, BeginsBadly, Goes, Replays};
+ghost use Rattle.rmi_cli.specs.Replay.{BeginsBadly, Goes, Replays};
 ghost use Rattle.rmi_cli.specs.Batches.{TakesLine, WasBad, HasRead, AreTaken, Halts, TakesTo, fault_of};
 
-use history::{Ask, Event, Refused, SpaceConfig};
+use history::{Event, Refused, SpaceConfig};
 use journal::lines::{read_event, read_first_line, split_line};
 use mod_utf::list::ByteList;
 use space::{Space, outline};
@@ -17,7 +16,7 @@ const BATCH: usize = 4096;
 /// Why a journal has no outline.
 #[derive(Clone, Copy, Debug, PartialEq, Eq)]
 pub enum ReplayFault {
-    /// The line of this number, from 1, is none of a journal, or of a kind that isn't served yet.
+    /// The line of this number, from 1, is none of a journal.
     BadLine { line: u64 },
     /// A turn was refused at a limit.
     Refused,
@@ -165,7 +164,7 @@ fn read_batch<'a>(
 /// Why a line gives no event.
 #[derive(Clone, Copy, Debug, PartialEq, Eq)]
 enum LineFault {
-    /// It is none of a journal, or of a kind that isn't served yet.
+    /// It is none of a journal.
     Bad,
     /// There was no memory.
     OutOfMemory,
@@ -183,54 +182,16 @@ fn read_line<'a>(
     let Some((line, more)) = split_line(lines) else {
         return Err(LineFault::Bad);
     };
-    let event = match read_event(alloc, config.uid, line) {
-        Ok(Some(event)) => event,
-        Ok(None) => return Err(LineFault::Bad),
-        Err(_refused) => return Err(LineFault::OutOfMemory),
-    };
-    if is_served(&event.ask) {
-        Ok((event, more))
-    } else {
-        Err(LineFault::Bad)
-    }
-}
-
-/// Whether lines of this ask's kind are served so far.
-fn is_served(ask: &Ask) -> bool
-    ensures { IsTrue result ↔ IsServed ask.now }
-{
-    match ask {
-        Ask::Open { kind: _, pinned: _ } => true,
-        Ask::Begin { object: _ } => true,
-        Ask::Finish {
-            object: _,
-            made: _,
-            listed: _,
-            uid: _,
-        } => true,
-        Ask::Abandon { object: _ } => true,
-        Ask::Dirty {
-            client: _,
-            number: _,
-            asked: _,
-            objects: _,
-        } => true,
-        Ask::Clean {
-            client: _,
-            number: _,
-            objects: _,
-            strong: _,
-        } => true,
-        Ask::Ack { uid: _ } => true,
-        Ask::Tick => true,
-        _ => false,
+    match read_event(alloc, config.uid, line) {
+        Ok(Some(event)) => Ok((event, more)),
+        Ok(None) => Err(LineFault::Bad),
+        Err(_refused) => Err(LineFault::OutOfMemory),
     }
 }
 
 /// Makes the turns of events, up to the first that is refused.
 fn make_turns(space: &mut Space, events: Vec<Event>) -> Result<(), ReplayFault>
-    requires moments { AllByRecursion (λ e. e.moment < 2 ^ 62) events.items }
-    requires built { AllByRecursion (λ e. IsBuilt e.ask) events.items }
+    requires { AllByRecursion (λ e. e.moment < 2 ^ 62) events.items }
     ensures ok { OnOk result (AreTaken space.old.configuration space.old.events events.items space.new.events) }
     ensures err { IfErr result (λ fault. Halts space.old.configuration space.old.events events.items fault space.new.events) }
     ensures config { space.new.configuration ≡ space.old.configuration }

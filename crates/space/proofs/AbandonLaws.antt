@@ -36,7 +36,7 @@ use Rattle.export_table.specs.Stands.{rows_of}
 pub is-running : (config : SpaceConfig) (events : List Event) (by : ℕ) (o : ObjId) (s : SpaceHistory) → record { configuration = config; events = events } ≡ s → 0 < running (places s.configuration s.events) by o → 0 < running (places config events) by o
 is-running config events by o s v r = let P : SpaceHistory → Type 0 = λ h. 0 < running (places h.configuration h.events) by o in subst P (sym v) r
 
-runs-effective : (config : SpaceConfig) (events : List Event) (by : ℕ) (o : ObjId) → 0 < running (places config events) by o → is_effective config (places config events) by (Abandon o) ≡ true
+pub runs-effective : (config : SpaceConfig) (events : List Event) (by : ℕ) (o : ObjId) → 0 < running (places config events) by o → is_effective config (places config events) by (Abandon o) ≡ true
 unfolding is_effective
 runs-effective config events by o r = lt-ltb 0 (running (places config events) by o) r
 
@@ -44,8 +44,7 @@ pub end-asked : (config : SpaceConfig) (events : List Event) (by m : ℕ) (o : O
     Keeps config events leases exports runs withdrawn told opened used moment → 0 < running (places config events) by o → IsAsked config events (event_of by m (Abandon o)) leases exports runs withdrawn told opened used moment true
 end-asked config events by m o leases exports runs withdrawn told opened used moment k r = record {
   keeps = k;
-  built = tt;
-  tested = sym (effective-is config events by (Abandon o) exports.rows runs tt k.stands.rows_are k.stands.runs_stand ∙ runs-effective config events by o r);
+  tested = sym (effective-is config events by (Abandon o) exports.rows runs k.stands.rows_are k.stands.runs_stand ∙ runs-effective config events by o r);
 }
 
 -- The row of the object has a running call.
@@ -66,7 +65,7 @@ none-left {X} test (x ∷ xs) h = go (test x) h (none-left test xs)
 pub runs-fewer : (config : SpaceConfig) (events : List Event) (by : ℕ) (o : ObjId) (leases : LeaseTable) (exports : ExportTable) (runs : List Run) (withdrawn : List Withdrawal) (told opened used moment : ℕ) →
     Keeps config events leases exports runs withdrawn told opened used moment → 0 < running (places config events) by o → length (without_first (is_run by o) runs) + 1 ≡ length runs
 runs-fewer config events by o leases exports runs withdrawn told opened used moment k r =
-    none-left (is_run by o) runs (effective-is config events by (Abandon o) exports.rows runs tt k.stands.rows_are k.stands.runs_stand ∙ runs-effective config events by o r)
+    none-left (is_run by o) runs (effective-is config events by (Abandon o) exports.rows runs k.stands.rows_are k.stands.runs_stand ∙ runs-effective config events by o r)
 
 -- The unit that was reserved for the end, and the object stays.
 end-unrefused : (used running exported : ℕ) (o : ObjId) → used + running ≤ MAX_UNITS → exported ≤ MAX_EXPORTS → room_refusal used running exported true (Abandon o) ≡ None
@@ -123,7 +122,7 @@ end-room config events events' by m o leases leases' x y runs runs' withdrawn wi
     let calls = ap length ru in
     let fewer = runs-fewer config events by o leases x runs withdrawn told opened used moment k run in
     let ends = r.ends in let goes = r.withdrawals in let objects = r.objects in
-    room-next config events events' (event_of by m (Abandon o)) leases leases' x y runs runs' withdrawn withdrawn' told opened used moment told' opened' used' moment' (length x.rows) scratch events_room' withdrawn_room' scratch_room' true (sym (runs-effective config events by o run)) k tt l ev
+    room-next config events events' (event_of by m (Abandon o)) leases leases' x y runs runs' withdrawn withdrawn' told opened used moment told' opened' used' moment' (length x.rows) scratch events_room' withdrawn_room' scratch_room' true (sym (runs-effective config events by o run)) k l ev
     (omega arith) (omega (arith, longer, calls, fewer, ends, er)) (omega (arith, goes, wr)) (omega (arith, objects, sr)) none
 
 -- WHAT IT IS ANSWERED, of the space that contracts see.

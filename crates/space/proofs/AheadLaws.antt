@@ -18,7 +18,6 @@ use Rattle.export_table.specs.Table.{ExportTable}
 use Rattle.space.specs.declared.runs.Run.{Run}
 use Rattle.space.specs.Acts.{opens}
 use Rattle.space.specs.Ahead.{HasRoom}
-use Rattle.space.specs.Built.{IsBuilt}
 use Rattle.space.specs.Kept.{Keeps}
 use Rattle.space.proofs.Quiet.{adds-length}
 use Rattle.export_table.specs.Stands.{row_of}
@@ -81,15 +80,15 @@ at-most-one false = omega arith
 
 -- THE ROOM after an event, by what there was of it before.
 pub room-next : (config : SpaceConfig) (events events' : List Event) (e : Event) (leases leases' : LeaseTable) (x y : ExportTable) (runs runs' : List Run) (withdrawn withdrawn' : List Withdrawal) (told opened used moment told' opened' used' moment' objects : ℕ) (scratch : List ObjId) (events_room withdrawn_room scratch_room : ℕ) (effective : Bool) → effective ≡ is_effective config (places config events) e.by e.ask →
-    Keeps config events leases x runs withdrawn told opened used moment → IsBuilt e.ask → Keeps config events' leases' y runs' withdrawn' told' opened' used' moment' → events' ≡ events ++ e ∷ [] →
+    Keeps config events leases x runs withdrawn told opened used moment → Keeps config events' leases' y runs' withdrawn' told' opened' used' moment' → events' ≡ events ++ e ∷ [] →
     length x.rows + opens effective e.ask ≤ objects → length events' + length runs' ≤ events_room → length withdrawn + objects ≤ withdrawn_room → objects ≤ scratch_room → scratch ≡ [] →
     HasRoom events' events_room runs' withdrawn' withdrawn_room y scratch scratch_room
-room-next config events events' e leases leases' x y runs runs' withdrawn withdrawn' told opened used moment told' opened' used' moment' objects scratch events_room withdrawn_room scratch_room effective f k b l ev few er wr sr s =
+room-next config events events' e leases leases' x y runs runs' withdrawn withdrawn' told opened used moment told' opened' used' moment' objects scratch events_room withdrawn_room scratch_room effective f k l ev few er wr sr s =
     let P : List Event → Type 0 = λ es. Keeps config es leases' y runs' withdrawn' told' opened' used' moment' in
     let next = subst P ev l in
     let all = objects-next config events e leases leases' x y runs runs' withdrawn withdrawn' told opened used moment told' opened' used' moment' k next in
     let goes = withdrawals-next config events e leases leases' x y runs runs' withdrawn withdrawn' told opened used moment told' opened' used' moment' k next in
-    let adds = adds-length config (places config events) e b ∙ ap (λ v. opens v e.ask) (sym f) in
+    let adds = adds-length config (places config events) e ∙ ap (λ v. opens v e.ask) (sym f) in
     record {
       ends = er;
       withdrawals = omega (arith, all, adds, few, wr);
@@ -99,16 +98,16 @@ room-next config events events' e leases leases' x y runs runs' withdrawn withdr
 
 -- One more call runs after an event, at most.
 pub room-turned : (config : SpaceConfig) (events events' : List Event) (e : Event) (leases leases' : LeaseTable) (x y : ExportTable) (runs runs' : List Run) (withdrawn withdrawn' : List Withdrawal) (told opened used moment told' opened' used' moment' objects : ℕ) (scratch : List ObjId) (events_room withdrawn_room scratch_room : ℕ) (effective : Bool) → effective ≡ is_effective config (places config events) e.by e.ask →
-    Keeps config events leases x runs withdrawn told opened used moment → IsBuilt e.ask → Keeps config events' leases' y runs' withdrawn' told' opened' used' moment' → events' ≡ events ++ e ∷ [] →
+    Keeps config events leases x runs withdrawn told opened used moment → Keeps config events' leases' y runs' withdrawn' told' opened' used' moment' → events' ≡ events ++ e ∷ [] →
     length x.rows + opens effective e.ask ≤ objects → length events + length runs + 2 ≤ events_room → length withdrawn + objects ≤ withdrawn_room → objects ≤ scratch_room → scratch ≡ [] →
     HasRoom events' events_room runs' withdrawn' withdrawn_room y scratch scratch_room
-room-turned config events events' e leases leases' x y runs runs' withdrawn withdrawn' told opened used moment told' opened' used' moment' objects scratch events_room withdrawn_room scratch_room effective f k b l ev few er wr sr s =
+room-turned config events events' e leases leases' x y runs runs' withdrawn withdrawn' told opened used moment told' opened' used' moment' objects scratch events_room withdrawn_room scratch_room effective f k l ev few er wr sr s =
     let P : List Event → Type 0 = λ es. Keeps config es leases' y runs' withdrawn' told' opened' used' moment' in
     let calls = runs-next config events e leases leases' x y runs runs' withdrawn withdrawn' told opened used moment told' opened' used' moment' k (subst P ev l) in
     let one = at-most-one (starts (place_of config (places config events) e)) in
     let longer : length events' ≡ length events + 1 = ap length ev ∙ length-append events (e ∷ []) in
     let within : length events' + length runs' ≤ events_room = omega (arith, calls, one, longer, er) in
-    room-next config events events' e leases leases' x y runs runs' withdrawn withdrawn' told opened used moment told' opened' used' moment' objects scratch events_room withdrawn_room scratch_room effective f k b l ev few within wr sr s
+    room-next config events events' e leases leases' x y runs runs' withdrawn withdrawn' told opened used moment told' opened' used' moment' objects scratch events_room withdrawn_room scratch_room effective f k l ev few within wr sr s
 
 -- What was made of room does not matter to what is refused.
 pub room-grown : (events events' : List Event) (runs runs' : List Run) (withdrawn withdrawn' : List Withdrawal) (x y : ExportTable) (scratch scratch' : List ObjId) (events_room withdrawn_room scratch_room events_room' withdrawn_room' scratch_room' : ℕ) →

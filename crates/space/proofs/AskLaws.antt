@@ -1,6 +1,6 @@
 -- What a turn requires of its parts, by what is kept.
 use Rattle.std.proofs.Common.{◌≡◌, ℕ, ◌+◌, ◌<◌, ◌≤◌, ◌^◌, suc, List, [], ◌∷◌, ◌++◌, length, refl, ap, sym, subst, ◌∙◌, cond, map, max, arith, Option, Some, None, length-append}
-use Rattle.std.specs.Prelude.{Bool, true, false, not, ◌&&◌, ◌==◌, filter, nat_lt, if◌then◌else◌}
+use Rattle.std.specs.Prelude.{Bool, true, false, not, ◌&&◌, ◌==◌, filter, nat_lt, is_none, option_and_then, option_map, unwrap_or, if◌then◌else◌}
 use Rattle.std.proofs.lemmas.Bool.{and_parts, ltb-true, ltb-false}
 use Rattle.object_ids.specs.declared.ids.Uid.{Uid}
 use Rattle.object_ids.specs.declared.ids.ObjId.{ObjId}
@@ -14,6 +14,8 @@ use Rattle.history.specs.declared.limits.TheConstants.{MAX_EXPORTS, MAX_AWAITING
 use Rattle.history.specs.declared.places.Withdrawal.{Withdrawal}
 use Rattle.history.specs.declared.replies.Refused.{Refused}
 use Rattle.history.specs.declared.replies.Refused.TheVariants.{HistoryFull, Full}
+use Rattle.history.specs.declared.places.Place.{Place}
+use Rattle.history.specs.Names.{name_in, object_bound, stands_for}
 use Rattle.history.specs.Places.{now, id_at, next}
 use Rattle.history.specs.Limits.{units_of, is_begin, is_end}
 use Rattle.history.specs.Running.{running, running_calls}
@@ -21,18 +23,23 @@ use Rattle.history.specs.Table.{is_effective, table, places}
 use Rattle.dgc_server.specs.Stands.{LeaseTable}
 use Rattle.export_table.specs.declared.rows.Export.{Export}
 use Rattle.export_table.specs.declared.waits.Wait.{Wait}
-use Rattle.export_table.specs.Rows.{is_exported, is_row_kept as row_kept, running_of, new_row, changed, begun, ended, withdrawn as rows_withdrawn}
+use Rattle.export_table.specs.Rows.{is_of, row_of, is_exported, is_row_kept as row_kept, running_of, pins_of, new_row, changed, begun, ended, pinned_once, unpinned_once, unpinned, withdrawn as rows_withdrawn}
 use Rattle.export_table.specs.Table.{ExportTable}
 use Rattle.space.specs.declared.runs.Run.{Run}
 use Rattle.space.specs.Acts.{effective_by, opens, new_rows, new_ids, returned_by, awaiting_with, acted, room_refusal, await_refusal}
-use Rattle.space.specs.Built.{IsBuilt}
 use Rattle.space.specs.Kept.{Keeps}
 use Rattle.space.specs.Runs.{is_run, is_run_on, object_of}
 use Rattle.export_table.specs.Stands.{WaitsStand, reference_of, end_of}
-use Rattle.space.proofs.AwaitLaws.{new-length, return-few}
+use Rattle.space.proofs.AwaitLaws.{new-length, return-few, lookup-few}
 use Rattle.export_table.proofs.ThereLaws.{running-there}
 use Rattle.space.proofs.TurnLaws.{IsAsked, is-effective, keeps-room}
-use Rattle.export_table.proofs.StandLaws.{running-there as rows-running, running-few}
+use Rattle.export_table.proofs.StandLaws.{exported-has, named-pins, pins-few, pins-there, running-there as rows-running, running-few}
+use Rattle.rmi_registry.specs.declared.binding.Binding.{Binding}
+use Rattle.rmi_registry.specs.Named.{object_of as standing_object}
+use Rattle.rmi_registry.specs.Stands.{AreBindings}
+use Rattle.export_table.proofs.RowLaws.{exported-changed, row-changed}
+use Rattle.history.proofs.NamedLaws.{named-exported}
+use Rattle.space.proofs.Acting.{stood_for}
 
 -- What is kept once there is room.
 pub keeps-roomy : (config : SpaceConfig) (events events' : List Event) (leases leases' : LeaseTable) (x y : ExportTable) (runs runs' : List Run) (withdrawn withdrawn' : List Withdrawal) (told opened used moment : ℕ) →
@@ -44,13 +51,13 @@ keeps-roomy config events events' leases leases' x y runs runs' withdrawn withdr
     let W : List Withdrawal → Type 0 = λ ws. Keeps config events leases y runs ws told opened used moment in
     subst E (sym ev) (subst L (sym le) (subst R (sym ru) (subst W (sym wi) (keeps-room config events leases x y runs withdrawn told opened used moment y.room r k))))
 
-pub asked : (config : SpaceConfig) (events : List Event) (e : Event) (leases : LeaseTable) (x y : ExportTable) (runs seen : List Run) (withdrawn : List Withdrawal) (told opened used moment : ℕ) (effective : Bool) →
-    Keeps config events leases x runs withdrawn told opened used moment → IsBuilt e.ask → effective ≡ effective_by x.rows seen e.by e.ask → seen ≡ runs → y ≡ record x { room = y.room } →
+pub asked : (config : SpaceConfig) (events : List Event) (e : Event) (leases : LeaseTable) (x y : ExportTable) (runs seen : List Run) (withdrawn : List Withdrawal) (told opened used moment : ℕ) (stood : Option ObjId) (effective : Bool) →
+    Keeps config events leases x runs withdrawn told opened used moment → stood ≡ stood_for (places config events) e.ask → effective ≡ effective_by x.rows seen stood e.by e.ask → seen ≡ runs → y ≡ record x { room = y.room } →
     IsAsked config events e leases y runs withdrawn told opened used moment effective
-asked config events e leases x y runs seen withdrawn told opened used moment effective k b f s r = record {
+asked config events e leases x y runs seen withdrawn told opened used moment stood effective k st f s r = record {
   keeps = keeps-room config events leases x y runs withdrawn told opened used moment y.room r k;
-  built = b;
-  tested = f ∙ ap (λ rs. effective_by x.rows rs e.by e.ask) s ∙ ap (λ l. effective_by l runs e.by e.ask) (sym (ap (λ (t : ExportTable). t.rows) r));
+  tested = f ∙ ap (λ o. effective_by x.rows seen o e.by e.ask) st ∙ ap (λ rs. effective_by x.rows rs (stood_for (places config events) e.ask) e.by e.ask) s
+      ∙ ap (λ l. effective_by l runs (stood_for (places config events) e.ask) e.by e.ask) (sym (ap (λ (t : ExportTable). t.rows) r));
 }
 
 -- The room, by what was counted.
@@ -125,8 +132,8 @@ finish-counted config events e leases exports runs withdrawn told opened used mo
     (finish-effective config events e.by o made listed u (ap (is_effective config (places config events) e.by) (sym s) ∙ sym (is-effective config events e leases exports runs withdrawn told opened used moment effective q) ∙ t))
 
 pub finish-few : (config : SpaceConfig) (events : List Event) (e : Event) (leases : LeaseTable) (exports : ExportTable) (runs : List Run) (withdrawn : List Withdrawal) (told opened used moment time : ℕ) (effective : Bool) →
-    IsAsked config events e leases exports runs withdrawn told opened used moment effective → time ≡ max e.moment moment → await_refusal time exports.rows exports.waits effective e.ask ≡ None →
-    (os : List ObjId) → os ≡ returned_by exports.space exports.added exports.rows effective e.ask →
+    IsAsked config events e leases exports runs withdrawn told opened used moment effective → time ≡ max e.moment moment → await_refusal time exports.rows exports.waits (stood_for (places config events) e.ask) effective e.ask ≡ None →
+    (os : List ObjId) → os ≡ returned_by exports.space exports.added exports.rows (stood_for (places config events) e.ask) effective e.ask →
     (o : ObjId) (made : List ℕ) (listed : List ObjId) (u : Uid) → effective ≡ true → e.ask ≡ Finish o made listed u → awaiting_with time u os exports.waits ≤ MAX_AWAITING
 finish-few config events e leases exports runs withdrawn told opened used moment time effective q at fit os same o made listed u t s =
     let N : ℕ → Type 0 = λ n. WaitsStand reference_of end_of config.ack_ms n (places config events) exports.waits in
@@ -134,14 +141,78 @@ finish-few config events e leases exports runs withdrawn told opened used moment
     let time_is : time ≡ max e.moment (now (places config events)) = at ∙ ap (max e.moment) k.stands.moment_is in
     let few = return-few config events e exports.rows exports.waits o made listed u
     (record { asked = s; effective = sym (is-effective config events e leases exports runs withdrawn told opened used moment effective q) ∙ t; rows_are = k.stands.rows_are; waits_stand = subst N k.stands.moment_is k.stands.waits_stand })
-    (ap (λ n. await_refusal n exports.rows exports.waits true (Finish o made listed u)) (sym time_is) ∙ ap (λ v. await_refusal time exports.rows exports.waits v (Finish o made listed u)) (sym t)
-    ∙ ap (await_refusal time exports.rows exports.waits effective) (sym s) ∙ fit) in
+    (ap (λ n. await_refusal n exports.rows exports.waits (stood_for (places config events) e.ask) true (Finish o made listed u)) (sym time_is) ∙ ap (λ v. await_refusal time exports.rows exports.waits (stood_for (places config events) e.ask) v (Finish o made listed u)) (sym t)
+    ∙ ap (await_refusal time exports.rows exports.waits (stood_for (places config events) e.ask) effective) (sym s) ∙ fit) in
     let is : awaiting_with time u os exports.waits ≡ awaiting_with (max e.moment (now (places config events))) u (new_ids config.uid (next (places config events)) made ++ filter (is_exported exports.rows) listed) exports.waits =
-    ap (λ l. awaiting_with time u l exports.waits) (same ∙ ap (λ v. returned_by exports.space exports.added exports.rows v e.ask) t ∙ ap (returned_by exports.space exports.added exports.rows true) s
+    ap (λ l. awaiting_with time u l exports.waits) (same ∙ ap (λ v. returned_by exports.space exports.added exports.rows (stood_for (places config events) e.ask) v e.ask) t ∙ ap (returned_by exports.space exports.added exports.rows (stood_for (places config events) e.ask) true) s
     ∙ ap (λ y. new_ids y exports.added made ++ filter (is_exported exports.rows) listed) k.stands.space_is
     ∙ ap (λ n. new_ids config.uid n made ++ filter (is_exported exports.rows) listed) (k.stands.added_is ∙ k.stands.opened_is))
     ∙ ap (λ n. awaiting_with n u (new_ids config.uid (next (places config events)) made ++ filter (is_exported exports.rows) listed) exports.waits) time_is in
     omega (arith, few, is)
+
+-- The same of a lookup.
+pub lookup-fits : (config : SpaceConfig) (events : List Event) (e : Event) (leases : LeaseTable) (exports : ExportTable) (runs : List Run) (withdrawn : List Withdrawal) (told opened used moment time : ℕ) (effective : Bool) →
+    IsAsked config events e leases exports runs withdrawn told opened used moment effective → await_refusal time exports.rows exports.waits (stood_for (places config events) e.ask) effective e.ask ≡ None →
+    (os : List ObjId) → os ≡ returned_by exports.space exports.added exports.rows (stood_for (places config events) e.ask) effective e.ask →
+    (n : List ℕ) (u : Uid) → e.ask ≡ Lookup n u → awaiting_with time u os exports.waits ≤ MAX_AWAITING
+lookup-fits config events e leases exports runs withdrawn told opened used moment time effective q fit os same n u s =
+    let P : List ObjId → Type 0 = λ l. awaiting_with time u l exports.waits ≤ MAX_AWAITING in
+    subst P (sym (same ∙ ap (returned_by exports.space exports.added exports.rows (stood_for (places config events) e.ask) effective) s))
+    (lookup-few time u (stood_for (places config events) e.ask) exports.waits q.keeps.stands.waits_stand.once
+    (ap (await_refusal time exports.rows exports.waits (stood_for (places config events) e.ask) effective) (sym s) ∙ fit))
+
+-- ---- names
+
+-- What the bindings have for the name in an ask is what the name stands for.
+pub stood-is : (h : List Place) (bindings : List Binding) (a : Ask) → AreBindings h bindings → option_and_then (standing_object bindings) (name_in a) ≡ stood_for h a
+stood-is h bindings a s = go (name_in a)
+  where
+    go : (n : Option (List ℕ)) → option_and_then (standing_object bindings) n ≡ option_and_then (stands_for h) n
+    go None = refl
+    go (Some n) = s.objects n
+
+-- An object for which a name stands is exported, and has a pin.
+pub stood-pinned : (config : SpaceConfig) (events : List Event) (leases : LeaseTable) (exports : ExportTable) (runs : List Run) (withdrawn : List Withdrawal) (told opened used moment : ℕ) → Keeps config events leases exports runs withdrawn told opened used moment →
+    (a : Ask) (o : ObjId) → stood_for (places config events) a ≡ Some o → (is_exported exports.rows o ≡ true) × 0 < pins_of exports.rows o
+stood-pinned config events leases exports runs withdrawn told opened used moment k a o s = go (name_in a) s
+  where
+    go : (n : Option (List ℕ)) → option_and_then (stands_for (places config events)) n ≡ Some o → (is_exported exports.rows o ≡ true) × 0 < pins_of exports.rows o
+    go None e = absurd (cc)
+    go (Some n) e =
+        let there = named-exported config events n o e in
+        let some = named-pins config events n o e in
+        let pins = ap (λ l. pins_of l o) k.stands.rows_are ∙ pins-there (places config events) (table config (places config events)) o there in
+        (ap (λ l. is_exported l o) k.stands.rows_are ∙ exported-has (places config events) (table config (places config events)) o ∙ there, omega (arith, some, pins))
+
+-- Another pin leaves it so.
+pub still-pinned : (rows : List Export) (o p : ObjId) → (is_exported rows p ≡ true) × 0 < pins_of rows p → (is_exported (changed pinned_once o rows) p ≡ true) × 0 < pins_of (changed pinned_once o rows) p
+still-pinned rows o p (there, some) = (exported-changed pinned_once o p (λ x. refl) rows ∙ there, more (row_of rows p) (row-changed pinned_once o p (λ x. refl) rows) some)
+  where
+    pinned : (b : Bool) (x : Export) → 0 < x.pins → 0 < (if b then pinned_once x else x).pins
+    pinned true x h = omega arith
+    pinned false x h = h
+
+    more : (r : Option Export) → row_of (changed pinned_once o rows) p ≡ option_map (λ x. if is_of o x then pinned_once x else x) r → 0 < unwrap_or (option_map (λ (x : Export). x.pins) r) 0 →
+        0 < unwrap_or (option_map (λ (x : Export). x.pins) (row_of (changed pinned_once o rows) p)) 0
+    more None e h = absurd (omega (arith, h))
+    more (Some x) e h =
+        let R : Option Export → Type 0 = λ q. 0 < unwrap_or (option_map (λ (y : Export). y.pins) q) 0 in
+        subst R (sym e) (pinned (is_of o x) x h)
+
+-- No object has more pins than there are names.
+pub few-pins : (config : SpaceConfig) (events : List Event) (leases : LeaseTable) (exports : ExportTable) (runs : List Run) (withdrawn : List Withdrawal) (told opened used moment : ℕ) → Keeps config events leases exports runs withdrawn told opened used moment →
+    (o : ObjId) → pins_of exports.rows o < 2 ^ 31
+few-pins config events leases exports runs withdrawn told opened used moment k o =
+    let rows = ap (λ l. pins_of l o) k.stands.rows_are in
+    let few = pins-few (places config events) (table config (places config events)) o in
+    let names_few = k.stands.within.names in
+    omega (arith, rows, few, names_few)
+
+-- An object to which a name is bound is exported.
+pub bound-exported : (rows : List Export) (runs : List Run) (stood : Option ObjId) (by : ℕ) (a : Ask) (o : ObjId) → effective_by rows runs stood by a ≡ true → object_bound a ≡ Some o → is_exported rows o ≡ true
+bound-exported rows runs stood by (Bind n x) o e b = ap (λ s. is_exported rows (unwrap_or s x)) (sym b) ∙ (and_parts (is_exported rows x) (is_none stood) e).0
+bound-exported rows runs stood by (Rebind n x) o e b = ap (λ s. is_exported rows (unwrap_or s x)) (sym b) ∙ e
+bound-exported rows runs stood by _ o e b = absurd (cc)
 
 -- ---- what room leaves
 
@@ -173,13 +244,15 @@ room-exports used running exported effective a h =
     unfull false false h = refl
 
 -- What is returned has no more entries than the event has units.
-pub returned-few : (space : Uid) (k : ℕ) (rows : List Export) (effective : Bool) (a : Ask) → length (returned_by space k rows effective a) ≤ units_of a
-returned-few space k rows true (Finish o made listed u) =
+pub returned-few : (space : Uid) (k : ℕ) (rows : List Export) (stood : Option ObjId) (effective : Bool) (a : Ask) → length (returned_by space k rows stood effective a) ≤ units_of a
+returned-few space k rows stood true (Finish o made listed u) =
     let both = length-append (new_ids space k made) (filter (is_exported rows) listed) in let new = new-length space k made in let live = shorter (is_exported rows) listed in omega (arith, both, new, live)
-returned-few space k rows false (Finish o made listed u) = omega arith
-returned-few space k rows effective (Dirty y z v w) = omega arith
-returned-few space k rows effective (Clean y z v w) = omega arith
-returned-few space k rows effective _ = omega arith
+returned-few space k rows stood false (Finish o made listed u) = omega arith
+returned-few space k rows None effective (Lookup n u) = omega arith
+returned-few space k rows (Some o) effective (Lookup n u) = omega arith
+returned-few space k rows stood effective (Dirty y z v w) = omega arith
+returned-few space k rows stood effective (Clean y z v w) = omega arith
+returned-few space k rows stood effective _ = omega arith
 
 -- ---- rows
 
@@ -191,27 +264,37 @@ new_rows-length : (space : Uid) (k : ℕ) (kinds : List ℕ) → length (new_row
 new_rows-length space k [] = refl
 new_rows-length space k (kind ∷ kinds) = ap suc (new_rows-length space (k + 1) kinds)
 
-pub acted-few : (effective : Bool) (at : ℕ) (a : Ask) (x y : ExportTable) → IsBuilt a → y ≡ record (acted effective at a x) { room = y.room } → length y.rows ≤ length x.rows + opens effective a
-acted-few effective at a x y b e = (let rows : length y.rows ≡ length (acted effective at a x).rows = ap (λ (t : ExportTable). length t.rows) e in let few = go effective a b in omega (arith, rows, few))
+unpinned-length : (stood : Option ObjId) (rows : List Export) → length (unpinned stood rows) ≡ length rows
+unpinned-length None rows = refl
+unpinned-length (Some o) rows = changed-length unpinned_once o rows
+
+pub acted-few : (stood : Option ObjId) (effective : Bool) (at : ℕ) (a : Ask) (x y : ExportTable) → y ≡ record (acted stood effective at a x) { room = y.room } → length y.rows ≤ length x.rows + opens effective a
+acted-few stood effective at a x y e = (let rows : length y.rows ≡ length (acted stood effective at a x).rows = ap (λ (t : ExportTable). length t.rows) e in let few = go effective a in omega (arith, rows, few))
   where
-    go : (effective : Bool) (a : Ask) → IsBuilt a → length (acted effective at a x).rows ≤ length x.rows + opens effective a
-    go effective (Open kind pinned) b = let both = length-append x.rows (new_row (id_at x.space x.added) kind pinned ∷ []) in omega (arith, both)
-    go true (Begin o) b = let same = changed-length begun o x.rows in omega (arith, same)
-    go false (Begin o) b = omega arith
-    go true (Finish o made listed u) b =
+    rebound : (o : ObjId) → length (unpinned stood (changed pinned_once o x.rows)) ≡ length x.rows
+    rebound o = unpinned-length stood (changed pinned_once o x.rows) ∙ changed-length pinned_once o x.rows
+
+    go : (effective : Bool) (a : Ask) → length (acted stood effective at a x).rows ≤ length x.rows + opens effective a
+    go effective (Open kind pinned) = let both = length-append x.rows (new_row (id_at x.space x.added) kind pinned ∷ []) in omega (arith, both)
+    go true (Begin o) = let same = changed-length begun o x.rows in omega (arith, same)
+    go false (Begin o) = omega arith
+    go true (Finish o made listed u) =
         let same = changed-length ended o x.rows in let both = length-append (changed ended o x.rows) (new_rows x.space x.added made) in let new = new_rows-length x.space x.added made in omega (arith, same, both, new)
-    go false (Finish o made listed u) b = omega arith
-    go true (Abandon o) b = let same = changed-length ended o x.rows in omega (arith, same)
-    go false (Abandon o) b = omega arith
-    go effective (Ack u) b = omega arith
-    go effective (Dirty y z v w) b = omega arith
-    go effective (Clean y z v w) b = omega arith
-    go effective Tick b = omega arith
-    go effective (Bind y z) b = absurd b
-    go effective (Rebind y z) b = absurd b
-    go effective (Unbind y) b = absurd b
-    go effective (Lookup y z) b = absurd b
-    go effective ListNames b = absurd b
+    go false (Finish o made listed u) = omega arith
+    go true (Abandon o) = let same = changed-length ended o x.rows in omega (arith, same)
+    go false (Abandon o) = omega arith
+    go true (Bind n o) = let same = rebound o in omega (arith, same)
+    go false (Bind n o) = omega arith
+    go true (Rebind n o) = let same = rebound o in omega (arith, same)
+    go false (Rebind n o) = omega arith
+    go true (Unbind n) = let same = unpinned-length stood x.rows in omega (arith, same)
+    go false (Unbind n) = omega arith
+    go effective (Ack u) = omega arith
+    go effective (Dirty y z v w) = omega arith
+    go effective (Clean y z v w) = omega arith
+    go effective (Lookup n u) = omega arith
+    go effective Tick = omega arith
+    go effective ListNames = omega arith
 
 -- No more objects go than there are.
 pub gone-few : (n : ℕ) (held : ObjId → Bool) (waits : List Wait) (rows : List Export) → length (rows_withdrawn n held waits rows) ≤ length rows

@@ -1,5 +1,5 @@
 -- When the references that an event returns pass the limit of those that await.
-use Rattle.std.proofs.Common.{◌≡◌, ℕ, ◌+◌, ◌≤◌, List, [], ◌∷◌, ◌++◌, length, refl, ap, sym, subst, ◌∙◌, max, arith, suc, Some, None}
+use Rattle.std.proofs.Common.{◌≡◌, ℕ, ◌+◌, ◌≤◌, List, [], ◌∷◌, ◌++◌, length, refl, ap, sym, subst, ◌∙◌, max, arith, suc, Option, Some, None}
 use Rattle.std.specs.Prelude.{Bool, true, false, filter, flat_map, option_to_list, nat_lt, if◌then◌else◌}
 use Rattle.std.specs.List.{list_any}
 use Rattle.std.proofs.lemmas.Bool.{le-ltb, ltb-false}
@@ -25,15 +25,14 @@ use Rattle.export_table.specs.declared.rows.Export.{Export}
 use Rattle.export_table.specs.declared.waits.Wait.{Wait}
 use Rattle.export_table.specs.Rows.{is_exported}
 use Rattle.space.specs.Acts.{new_ids, returned_by, awaiting_with, awaiting_after, return_refusal, await_refusal}
-use Rattle.space.specs.Built.{IsBuilt}
 use Rattle.space.specs.Kept.{IsWithin}
-use Rattle.export_table.specs.Stands.{WaitsStand, reference_of, end_of, references, rows_of}
-use Rattle.space.proofs.Acting.{new-ids, live-same, returned-is, returned-finish}
+use Rattle.export_table.specs.Stands.{WaitsStand, waits_once, reference_of, end_of, references, rows_of}
+use Rattle.space.proofs.Acting.{new-ids, live-same, returned-is, returned-with, stood_for}
 use Rattle.space.proofs.Named.{any-ids}
 use Rattle.export_table.proofs.ThereLaws.{new-not-old, not-exported-nowhere}
 use Rattle.space.proofs.NextLaws.{not-there-awaits}
 use Rattle.space.proofs.ObjectLaws.{awaits-earlier, filter-there}
-use Rattle.space.proofs.Quiet.{opened_by, adds-built}
+use Rattle.space.proofs.Quiet.{opened_by, adds-are}
 use Rattle.space.proofs.ReferenceLaws.{awaiting-counted-with}
 use Rattle.space.proofs.Room.{awaiting-few}
 use Rattle.space.proofs.RowLaws.{apart-once}
@@ -60,14 +59,11 @@ new-absent : (config : SpaceConfig) (events : List Event) (e : Event) (rows : Li
     (o : ObjId) → list_any (same_id o) (new_ids config.uid (next (places config events)) made) ≡ true → has (table config (places config events)) o ≡ false
 new-absent config events e rows waits x made listed u r o h =
     not-exported-nowhere config events o (new-not-old config events e o (
-    ap (λ l. has l o) (adds-built config (places config events) e (subst B (sym r.asked) tt)
+    ap (λ l. has l o) (adds-are config (places config events) e
     ∙ ap (λ v. opened v e.ask) r.effective ∙ ap (opened true) r.asked)
     ∙ sym (any-ids (exported_from config.uid (next (places config events)) (length (places config events)) false made) o)
     ∙ ap (list_any (same_id o)) (new-ids config.uid (next (places config events)) (length (places config events)) false made) ∙ h))
   where
-    B : Ask → Type 0
-    B a = IsBuilt a
-
     opened : Bool → Ask → List Exported
     opened v a = opened_by config (next (places config events)) (length (places config events)) v a
 
@@ -98,38 +94,62 @@ event-counted config events e rows waits x made listed u r =
     ∙ count-awaiting-with config.ack_ms (max e.moment (now (places config events))) (places config events) (waiting_refs reference_of end_of (max e.moment (now (places config events))) waits) (returned (place_of config (places config events) e))
     (refs-await reference_of end_of config.ack_ms (now (places config events)) (max e.moment (now (places config events))) (places config events) waits (omega arith) r.waits_stand)
     ∙ ap (λ l. length (distinct same_returned (waiting_refs reference_of end_of (max e.moment (now (places config events))) waits ++ l)))
-    (returned-finish config (places config events) e rows x made listed u r.asked r.rows_are
-    ∙ ap (λ v. references u (returned_by config.uid (next (places config events)) rows v e.ask)) r.effective
-    ∙ ap (λ a. references u (returned_by config.uid (next (places config events)) rows true a)) r.asked)
+    (returned-with config (places config events) e rows u (ap return_uid r.asked) r.rows_are
+    ∙ ap (λ v. references u (returned_by config.uid (next (places config events)) rows (stood_for (places config events) e.ask) v e.ask)) r.effective
+    ∙ ap (λ a. references u (returned_by config.uid (next (places config events)) rows (stood_for (places config events) e.ask) true a)) r.asked)
     ∙ return-counted config events e rows waits x made listed u r
 
+-- A lookup, after events.
+pub record IsLookup (config : SpaceConfig) (events : List Event) (e : Event) (rows : List Export) (waits : List Wait) (n : List ℕ) (u : Uid) : Type 0 where
+  pub asked : e.ask ≡ Lookup n u
+  pub rows_are : rows ≡ rows_of (places config events) (table config (places config events))
+  pub waits_stand : WaitsStand reference_of end_of config.ack_ms (now (places config events)) (places config events) waits
+
+-- How many await once an object is returned, or none is.
+pub lookup-counted : (t : ℕ) (u : Uid) (stood : Option ObjId) (waits : List Wait) → waits_once reference_of waits →
+    awaiting_with t u (option_to_list stood) waits ≡ awaiting_after t u 0 (option_to_list stood) waits
+lookup-counted t u stood waits once = awaiting-counted-with t u [] (option_to_list stood) waits once tt (λ o h. absurd (cc)) (λ o h. absurd (cc))
+
+-- The same as the history counts them.
+looked-counted : (config : SpaceConfig) (events : List Event) (e : Event) (rows : List Export) (waits : List Wait) (n : List ℕ) (u : Uid) → IsLookup config events e rows waits n u →
+    awaiting_with_event config (places config events) e ≡ awaiting_after (max e.moment (now (places config events))) u 0 (option_to_list (stood_for (places config events) e.ask)) waits
+unfolding awaiting_with_event
+looked-counted config events e rows waits n u r =
+    ap (λ m. length (distinct same_returned (awaiting config.ack_ms m (places config events) ++ returned (place_of config (places config events) e)))) (moment-place_of config (places config events) e)
+    ∙ count-awaiting-with config.ack_ms (max e.moment (now (places config events))) (places config events) (waiting_refs reference_of end_of (max e.moment (now (places config events))) waits) (returned (place_of config (places config events) e))
+    (refs-await reference_of end_of config.ack_ms (now (places config events)) (max e.moment (now (places config events))) (places config events) waits (omega arith) r.waits_stand)
+    ∙ ap (λ l. length (distinct same_returned (waiting_refs reference_of end_of (max e.moment (now (places config events))) waits ++ l)))
+    (returned-with config (places config events) e rows u (ap return_uid r.asked) r.rows_are
+    ∙ ap (λ a. references u (returned_by config.uid (next (places config events)) rows (stood_for (places config events) e.ask) (is_effective config (places config events) e.by e.ask) a)) r.asked)
+    ∙ lookup-counted (max e.moment (now (places config events))) u (stood_for (places config events) e.ask) waits r.waits_stand.once
+
 -- THE REFUSAL for want of room among those that await.
-pub await-is : (config : SpaceConfig) (events : List Event) (e : Event) (rows : List Export) (waits : List Wait) → IsBuilt e.ask → IsWithin config (places config events) →
+pub await-is : (config : SpaceConfig) (events : List Event) (e : Event) (rows : List Export) (waits : List Wait) → IsWithin config (places config events) →
     rows ≡ rows_of (places config events) (table config (places config events)) → WaitsStand reference_of end_of config.ack_ms (now (places config events)) (places config events) waits →
     (if nat_lt MAX_AWAITING (awaiting_with_event config (places config events) e) then Some (Full Awaiting) else None)
-    ≡ await_refusal (max e.moment (now (places config events))) rows waits (is_effective config (places config events) e.by e.ask) e.ask
-await-is config events e rows waits b w rs s = go e.ask refl (is_effective config (places config events) e.by e.ask) refl
+    ≡ await_refusal (max e.moment (now (places config events))) rows waits (stood_for (places config events) e.ask) (is_effective config (places config events) e.by e.ask) e.ask
+await-is config events e rows waits w rs s = go e.ask refl (is_effective config (places config events) e.by e.ask) refl
   where
-    B : Ask → Type 0
-    B a = IsBuilt a
-
     few : returned (place_of config (places config events) e) ≡ [] → (if nat_lt MAX_AWAITING (awaiting_with_event config (places config events) e) then Some (Full Awaiting) else None) ≡ None
     few n = ap (λ v. if v then Some (Full Awaiting) else None) (le-ltb MAX_AWAITING (awaiting_with_event config (places config events) e) (awaiting-few config (places config events) e n w))
 
     silent : return_uid e.ask ≡ None → returned (place_of config (places config events) e) ≡ []
     silent n =
-        returned-is config (places config events) e rows b rs
-        ∙ ap (λ u. flat_map (λ v. references v (returned_by config.uid (next (places config events)) rows (is_effective config (places config events) e.by e.ask) e.ask)) (option_to_list u)) n
+        returned-is config (places config events) e rows rs
+        ∙ ap (λ u. flat_map (λ v. references v (returned_by config.uid (next (places config events)) rows (stood_for (places config events) e.ask) (is_effective config (places config events) e.by e.ask) e.ask)) (option_to_list u)) n
 
     go : (a : Ask) → e.ask ≡ a → (v : Bool) → is_effective config (places config events) e.by e.ask ≡ v →
-        (if nat_lt MAX_AWAITING (awaiting_with_event config (places config events) e) then Some (Full Awaiting) else None) ≡ await_refusal (max e.moment (now (places config events))) rows waits v a
+        (if nat_lt MAX_AWAITING (awaiting_with_event config (places config events) e) then Some (Full Awaiting) else None) ≡ await_refusal (max e.moment (now (places config events))) rows waits (stood_for (places config events) e.ask) v a
     go (Finish x made listed u) i true f =
         ap (λ n. if nat_lt MAX_AWAITING n then Some (Full Awaiting) else None)
         (event-counted config events e rows waits x made listed u (record { asked = i; effective = f; rows_are = rs; waits_stand = s }))
     go (Finish x made listed u) i false f =
-        few (returned-finish config (places config events) e rows x made listed u i rs
-        ∙ ap (λ v. references u (returned_by config.uid (next (places config events)) rows v e.ask)) f
-        ∙ ap (λ a. references u (returned_by config.uid (next (places config events)) rows false a)) i)
+        few (returned-with config (places config events) e rows u (ap return_uid i) rs
+        ∙ ap (λ v. references u (returned_by config.uid (next (places config events)) rows (stood_for (places config events) e.ask) v e.ask)) f
+        ∙ ap (λ a. references u (returned_by config.uid (next (places config events)) rows (stood_for (places config events) e.ask) false a)) i)
+    go (Lookup n u) i v f =
+        ap (λ m. if nat_lt MAX_AWAITING m then Some (Full Awaiting) else None)
+        (looked-counted config events e rows waits n u (record { asked = i; rows_are = rs; waits_stand = s }))
     go (Open kind pinned) i v f = few (silent (ap return_uid i))
     go (Begin x) i v f = few (silent (ap return_uid i))
     go (Abandon x) i v f = few (silent (ap return_uid i))
@@ -137,11 +157,10 @@ await-is config events e rows waits b w rs s = go e.ask refl (is_effective confi
     go (Clean x y z k) i v f = few (silent (ap return_uid i))
     go (Ack u) i v f = few (silent (ap return_uid i))
     go Tick i v f = few (silent (ap return_uid i))
-    go (Bind x y) i v f = absurd (subst B i b)
-    go (Rebind x y) i v f = absurd (subst B i b)
-    go (Unbind x) i v f = absurd (subst B i b)
-    go (Lookup x y) i v f = absurd (subst B i b)
-    go ListNames i v f = absurd (subst B i b)
+    go (Bind x y) i v f = few (silent (ap return_uid i))
+    go (Rebind x y) i v f = few (silent (ap return_uid i))
+    go (Unbind x) i v f = few (silent (ap return_uid i))
+    go ListNames i v f = few (silent (ap return_uid i))
 
 -- Where it is not refused, there is room for its references.
 pub return-few : (config : SpaceConfig) (events : List Event) (e : Event) (rows : List Export) (waits : List Wait) (x : ObjId) (made : List ℕ) (listed : List ObjId) (u : Uid) → IsReturn config events e rows waits x made listed u →
@@ -151,6 +170,17 @@ return-few config events e rows waits x made listed u r n =
     let same = return-counted config events e rows waits x made listed u r in
     let few = ltb-false MAX_AWAITING (awaiting_after (max e.moment (now (places config events))) u (length made) (filter (is_exported rows) listed) waits)
     (unfull (nat_lt MAX_AWAITING (awaiting_after (max e.moment (now (places config events))) u (length made) (filter (is_exported rows) listed) waits)) n) in
+    omega (arith, same, few)
+  where
+    unfull : (b : Bool) → (if b then Some (Full Awaiting) else None) ≡ None → b ≡ false
+    unfull true h = absurd (cc)
+    unfull false h = refl
+
+pub lookup-few : (t : ℕ) (u : Uid) (stood : Option ObjId) (waits : List Wait) → waits_once reference_of waits → return_refusal t u 0 (option_to_list stood) waits ≡ None →
+    awaiting_with t u (option_to_list stood) waits ≤ MAX_AWAITING
+lookup-few t u stood waits once n =
+    let same = lookup-counted t u stood waits once in
+    let few = ltb-false MAX_AWAITING (awaiting_after t u 0 (option_to_list stood) waits) (unfull (nat_lt MAX_AWAITING (awaiting_after t u 0 (option_to_list stood) waits)) n) in
     omega (arith, same, few)
   where
     unfull : (b : Bool) → (if b then Some (Full Awaiting) else None) ≡ None → b ≡ false

@@ -15,32 +15,37 @@ use Rattle.export_table.specs.Rows.{is_exported, is_row_kept as row_kept, held_b
 use Rattle.export_table.specs.Table.{ExportTable}
 use Rattle.export_table.specs.Waits.{waiting}
 use Rattle.space.specs.declared.runs.Run.{Run}
-use Rattle.space.specs.Acts.{ForEachLogBy, effective_by, acted, room_refusal, await_refusal, lease_refusal}
+use Rattle.space.specs.Acts.{ForEachLogBy, effective_by, acted, room_refusal, await_refusal, told_refusal}
+use Rattle.rmi_registry.specs.declared.binding.Binding.{Binding}
+use Rattle.rmi_registry.specs.Stands.{AreBindings}
 use Rattle.space.specs.Ahead.{HasRoom}
-use Rattle.space.specs.Built.{IsBuilt}
+use Rattle.space.proofs.Acting.{stood_for}
+use Rattle.history.specs.Names.{names}
 use Rattle.space.specs.Kept.{Keeps}
 use Rattle.space.proofs.Keeping.{told_calls, going_now}
 use Rattle.space.proofs.TurnLaws.{HasActed, HasWithdrawn, goes-now}
 use Rattle.space.proofs.AskLaws.{asked, room-as, gone-few}
 
 -- What is known once an ask has acted.
-pub has-acted : (config : SpaceConfig) (events : List Event) (e : Event) (leases leases1 : LeaseTable) (x y : ExportTable) (runs seen : List Run) (withdrawn : List Withdrawal) (told opened used moment time running count : ℕ) (effective : Bool) (room : Option Refused) →
-    Keeps config events leases x runs withdrawn told opened used moment → IsBuilt e.ask → e.moment < 2 ^ 62 → effective ≡ effective_by x.rows seen e.by e.ask → seen ≡ runs → y ≡ record x { room = y.room } →
-    room ≡ room_refusal used running count effective e.ask → running ≡ length runs → count ≡ length x.rows → room ≡ None → time ≡ max e.moment moment → await_refusal time y.rows y.waits effective e.ask ≡ None →
-    ForEachLogBy time leases (λ lease calls. lease_refusal lease time calls (call_with (is_exported y.rows) time e.ask) ≡ None) →
+pub has-acted : (config : SpaceConfig) (events : List Event) (e : Event) (leases leases1 : LeaseTable) (x y : ExportTable) (runs seen : List Run) (withdrawn : List Withdrawal) (told opened used moment time running count : ℕ) (stood looked : Option ObjId) (effective : Bool) (room : Option Refused) (names_count : ℕ) →
+    Keeps config events leases x runs withdrawn told opened used moment → stood ≡ stood_for (places config events) e.ask → stood ≡ looked → names_count ≡ length (names (places config events)) → e.moment < 2 ^ 62 → effective ≡ effective_by x.rows seen stood e.by e.ask → seen ≡ runs → y ≡ record x { room = y.room } →
+    room ≡ room_refusal used running count effective e.ask → running ≡ length runs → count ≡ length x.rows → room ≡ None → time ≡ max e.moment moment → await_refusal time y.rows y.waits stood effective e.ask ≡ None →
+    ForEachLogBy time leases (λ lease calls. told_refusal lease time calls (call_with (is_exported y.rows) time e.ask) names_count looked effective e.ask ≡ None) →
     ForEachLogBy time leases (λ lease calls. StandsFor lease leases1 time (call_with (is_exported y.rows) time e.ask ++ calls)) →
-    HasActed config events e leases leases1 y (acted effective time e.ask y) runs withdrawn told opened used moment effective
-has-acted config events e leases leases1 x y runs seen withdrawn told opened used moment time running count effective room k b early f s r re n m none t fit refusal ok =
-    let R : ℕ → Type 0 = λ i. ForEachLogBy i leases (λ lease calls. lease_refusal lease i calls (call_with (is_exported y.rows) i e.ask) ≡ None) in
+    HasActed config events e leases leases1 y (acted stood effective time e.ask y) runs withdrawn told opened used moment effective
+has-acted config events e leases leases1 x y runs seen withdrawn told opened used moment time running count stood looked effective room names_count k st lk nc early f s r re n m none t fit refusal ok =
+    let R : ℕ → Type 0 = λ i. ForEachLogBy i leases (λ lease calls. told_refusal lease i calls (call_with (is_exported y.rows) i e.ask) names_count looked effective e.ask ≡ None) in
+    let C : ℕ → Type 0 = λ i. ForEachLogBy (max e.moment moment) leases (λ lease calls. told_refusal lease (max e.moment moment) calls (call_with (is_exported y.rows) (max e.moment moment) e.ask) i looked effective e.ask ≡ None) in
+    let D : Option ObjId → Type 0 = λ i. ForEachLogBy (max e.moment moment) leases (λ lease calls. told_refusal lease (max e.moment moment) calls (call_with (is_exported y.rows) (max e.moment moment) e.ask) (length (names (places config events))) i effective e.ask ≡ None) in
     let O : ℕ → Type 0 = λ i. ForEachLogBy i leases (λ lease calls. StandsFor lease leases1 i (call_with (is_exported y.rows) i e.ask ++ calls)) in
     record {
-      asked = asked config events e leases x y runs seen withdrawn told opened used moment effective k b f s r;
+      asked = asked config events e leases x y runs seen withdrawn told opened used moment stood effective k st f s r;
       early = early;
       room = room-as used running count effective e.ask runs x y room None re n m r none;
-      fit = ap (λ i. await_refusal i y.rows y.waits effective e.ask) (sym t) ∙ fit;
-      unrefused = subst R t refusal;
+      fit = ap (λ i. await_refusal i y.rows y.waits (stood_for (places config events) e.ask) effective e.ask) (sym t) ∙ ap (λ o. await_refusal time y.rows y.waits o effective e.ask) (sym st) ∙ fit;
+      unrefused = subst D (sym lk ∙ st) (subst C nc (subst R t refusal));
       told_leases = subst O t ok;
-      act = ap (λ i. acted effective i e.ask y) t;
+      act = ap (λ i. acted stood effective i e.ask y) t ∙ ap (λ o. acted o effective (max e.moment moment) e.ask y) st;
     }
 
 -- What the withdrawal answered, of a table but for its room.
@@ -72,10 +77,11 @@ goes-few config events e leases leases1 leases2 exports t x3 runs withdrawn told
     omega (arith, rest, seam, few)
 
 -- What is kept of events, once they are there and there is as much room.
-pub appended : (config : SpaceConfig) (events events' : List Event) (leases : LeaseTable) (exports : ExportTable) (runs : List Run) (withdrawn : List Withdrawal) (told opened used moment : ℕ) (scratch : List ObjId) (room room' withdrawn_room scratch_room : ℕ) →
-    Keeps config events leases exports runs withdrawn told opened used moment × HasRoom events room runs withdrawn withdrawn_room exports scratch scratch_room → events' ≡ events → room ≤ room' →
-    Keeps config events' leases exports runs withdrawn told opened used moment × HasRoom events' room' runs withdrawn withdrawn_room exports scratch scratch_room
-appended config events events' leases exports runs withdrawn told opened used moment scratch room room' withdrawn_room scratch_room (k, r) e le =
+pub appended : (config : SpaceConfig) (events events' : List Event) (leases : LeaseTable) (exports : ExportTable) (runs : List Run) (withdrawn : List Withdrawal) (told opened used moment : ℕ) (scratch : List ObjId) (room room' withdrawn_room scratch_room : ℕ) (bindings : List Binding) →
+    Keeps config events leases exports runs withdrawn told opened used moment × HasRoom events room runs withdrawn withdrawn_room exports scratch scratch_room × AreBindings (places config events) bindings → events' ≡ events → room ≤ room' →
+    Keeps config events' leases exports runs withdrawn told opened used moment × HasRoom events' room' runs withdrawn withdrawn_room exports scratch scratch_room × AreBindings (places config events') bindings
+appended config events events' leases exports runs withdrawn told opened used moment scratch room room' withdrawn_room scratch_room bindings (k, r, b) e le =
     let P : List Event → Type 0 = λ es. Keeps config es leases exports runs withdrawn told opened used moment in
+    let N : List Event → Type 0 = λ es. AreBindings (places config es) bindings in
     let ends = r.ends in let same = ap length e in
-    (subst P (sym e) k, record { ends = omega (arith, ends, same, le); withdrawals = r.withdrawals; objects = r.objects; empty = r.empty })
+    (subst P (sym e) k, record { ends = omega (arith, ends, same, le); withdrawals = r.withdrawals; objects = r.objects; empty = r.empty }, subst N (sym e) b)

@@ -10,11 +10,15 @@ use Rattle.history.specs.Leases.{clients, clients_with_time_left, pairs_with}
 use Rattle.history.specs.Limits.{reserved}
 use Rattle.history.specs.Names.{names}
 use Rattle.history.specs.Places.{now, next}
+use Rattle.history.specs.Table.{places}
 use Rattle.history.proofs.StepLaws.{IsLegal-none}
 use Rattle.history.proofs.GoneLaws.{withdrawals-none, pending-none}
 use Rattle.history.proofs.TableLaws.{places-none, table-none, units-none}
 use Rattle.dgc_server.specs.Stands.{LeaseTable, StandsFor}
 use Rattle.export_table.specs.Table.{ExportTable, no_room}
+use Rattle.rmi_registry.specs.declared.binding.Binding.{Binding}
+use Rattle.rmi_registry.specs.Stands.{AreBindings}
+use Rattle.rmi_registry.proofs.StandLaws.{none-bound}
 use Rattle.space.specs.declared.runs.Run.{Run}
 use Rattle.space.specs.Kept.{HasDurations, IsWithin, Stands, Keeps}
 use Rattle.space.specs.Runs.{caller_of, object_of}
@@ -63,6 +67,12 @@ keeps-nothing config leases exports events runs withdrawn d s x r v w =
       early = omega arith;
       few_events = omega arith;
       few_opened = omega arith;
-      built = tt;
       legal = IsLegal-none config;
     }))))
+
+pub no-bindings : (config : SpaceConfig) (bindings : List Binding) (events : List Event) → bindings ≡ [] → events ≡ [] → AreBindings (places config events) bindings
+no-bindings config bindings events b e =
+    let P : List Event → Type 0 = λ es. AreBindings (places config es) bindings in
+    let H : List Place → Type 0 = λ h. AreBindings h bindings in
+    let B : List Binding → Type 0 = λ bs. AreBindings [] bs in
+    subst P (sym e) (subst H (sym (places-none config)) (subst B (sym b) none-bound))

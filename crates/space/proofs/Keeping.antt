@@ -1,6 +1,6 @@
 -- What is kept after one more event, and what a turn answers.
 use Rattle.std.proofs.Common.{◌≡◌, ℕ, suc, ◌+◌, ◌<◌, ◌≤◌, ◌^◌, inl, inr, List, [], ◌∷◌, ◌++◌, length, refl, ap, sym, subst, ◌∙◌, cond, map, arith, max, drop, Some, None, Ok, Err, length-append}
-use Rattle.std.specs.Prelude.{Bool, true, false, not, ◌||◌, reverse, filter, find, nat_lt, if◌then◌else◌, Option, is_some, option_map, unwrap_or}
+use Rattle.std.specs.Prelude.{Bool, true, false, not, ◌&&◌, ◌||◌, reverse, filter, find, nat_lt, if◌then◌else◌, Option, is_none, is_some, option_map, unwrap_or}
 use Rattle.std.specs.List.{list_any, AllByRecursion}
 use Rattle.std.proofs.lemmas.List.{reverse-append, map-append, drop-append-le, drop_all}
 use Rattle.object_ids.specs.declared.ids.ObjId.{ObjId}
@@ -15,13 +15,14 @@ use Rattle.history.specs.declared.places.Exported.{Exported}
 use Rattle.history.specs.declared.places.Withdrawal.{Withdrawal}
 use Rattle.history.specs.declared.replies.Refused.{Refused}
 use Rattle.history.specs.declared.replies.Reply.{Reply}
-use Rattle.history.specs.declared.replies.Reply.TheVariants.{Started, NoObject, Finished, NotRunning}
+use Rattle.history.specs.declared.replies.Reply.TheVariants.{Started, NoObject, Finished, NotRunning, Bound, AlreadyBound, Found}
 use Rattle.history.specs.declared.replies.Turn.{Turn}
 use Rattle.history.specs.LeaseCalls.{call_with, lease_calls}
 use Rattle.history.specs.Leases.{is_held}
 use Rattle.history.specs.Limits.{units_of, limits, refusal}
 use Rattle.history.specs.Places.{has, now, exported_from, next}
-use Rattle.history.specs.Replies.{reply, gone, ids, is_abandon}
+use Rattle.history.specs.Names.{names, stands_for}
+use Rattle.history.specs.Replies.{reply, reply_found, gone, ids, is_abandon}
 use Rattle.history.specs.Steps.{turn_of, answer_with, history_with, Step}
 use Rattle.history.specs.Table.{is_effective, exports, is_kept, table, place_of, places, withdrawn, withdrawals}
 use Rattle.history.proofs.GoneLaws.{pending, pending-push, withdrawals-push}
@@ -34,21 +35,20 @@ use Rattle.export_table.specs.Rows.{is_row_kept as row_kept, held_by, without_al
 use Rattle.export_table.specs.Table.{ExportTable}
 use Rattle.export_table.specs.Waits.{waiting}
 use Rattle.space.specs.declared.runs.Run.{Run}
-use Rattle.space.specs.Acts.{opens, new_ids, reply_at, started_reply, withdrawal_at, told_after, room_refusal, await_refusal, lease_refusal, first_of_two, Agrees}
-use Rattle.space.specs.Built.{IsBuilt}
-use Rattle.space.specs.Kept.{live_calls, AllBuilt, Stands, Keeps}
+use Rattle.space.specs.Acts.{opens, new_ids, reply_at, started_reply, found_reply, withdrawal_at, told_after, room_refusal, await_refusal, lease_refusal, name_refusal, first_of_two, Agrees}
+use Rattle.space.specs.Kept.{live_calls, Stands, Keeps}
 use Rattle.space.specs.Runs.{RunsStand, caller_of, object_of}
 use Rattle.export_table.specs.Stands.{WaitsStand, reference_of, end_of, row_of, rows_of}
-use Rattle.space.proofs.Acting.{new-ids}
+use Rattle.space.proofs.Acting.{new-ids, stood_for}
 use Rattle.space.proofs.AwaitLaws.{await-is}
 use Rattle.space.proofs.LimitLaws.{within-next}
 use Rattle.space.proofs.LiveLaws.{gone_of}
 use Rattle.space.proofs.NextLaws.{live-next, kept-next, gone-next, withdrawn-ids}
-use Rattle.space.proofs.Quiet.{IsQuiet, quiet-place, quiet, adds-length, not-named}
-use Rattle.space.proofs.Room.{refusal-is}
-use Rattle.export_table.proofs.KeptLaws.{refs-awaited}
+use Rattle.space.proofs.Quiet.{adds-length}
+use Rattle.space.proofs.Room.{refusal-is, names-refused}
+use Rattle.export_table.proofs.KeptLaws.{named-counted, refs-awaited}
 use Rattle.export_table.proofs.WaitLaws.{refs-await, waiting_refs}
-use Rattle.export_table.proofs.StandLaws.{waits-going, kind-is, exported-has}
+use Rattle.export_table.proofs.StandLaws.{names_for, waits-going, kind-is, exported-has}
 use Rattle.history.specs.Awaiting.{awaits}
 use Rattle.history.specs.Running.{running, running_calls}
 use Rattle.export_table.proofs.WaitLaws.{numbered-place}
@@ -99,20 +99,19 @@ abbrev pub told_calls : SpaceConfig → List Event → Event → List Call
 told_calls config events e = call_with (has (table config (places config events))) (max e.moment (now (places config events))) e.ask ++ live_calls (table config (places config events)) (lease_calls (places config events))
 
 -- What the table keeps of its rows is what is kept.
-rows-kept : (config : SpaceConfig) (events : List Event) (e : Event) (leases : LeaseTable) (exports : ExportTable) (runs : List Run) → AllBuilt (reverse events) → IsBuilt e.ask → IsActed config events e leases exports runs →
+rows-kept : (config : SpaceConfig) (events : List Event) (e : Event) (leases : LeaseTable) (exports : ExportTable) (runs : List Run) → IsActed config events e leases exports runs →
     AllByRecursion (λ x. row_kept (max e.moment (now (places config events))) (held_by config.lease_ms (max e.moment (now (places config events))) (told_calls config events e)) exports.waits (row_of (place_of config (places config events) e ∷ places config events) x)
     ≡ is_kept config (place_of config (places config events) e ∷ places config events) x)
     (table config (places config events) ++ (place_of config (places config events) e).exported_here)
-rows-kept config events e leases exports runs all b a =
+rows-kept config events e leases exports runs a =
     let time : now (place_of config (places config events) e ∷ places config events) ≡ max e.moment (now (places config events)) = now-push config (places config events) e in
-    let q : AllByRecursion IsQuiet (place_of config (places config events) e ∷ places config events) = (quiet-place config (places config events) e b, quiet config events all) in
     every-weaker _ _ (λ x k. sym (
     k
     ∙ ap (λ v. (x.pinned || v || nat_lt 0 (running_calls (place_of config (places config events) e ∷ places config events) x.id))
     || list_any (λ r. same_id r.object x.id) (waiting_refs reference_of end_of (max e.moment (now (places config events))) exports.waits)
     || is_held config.lease_ms (max e.moment (now (places config events))) (told_calls config events e) x.id)
-    (not-named (place_of config (places config events) e ∷ places config events) x.id q)
-    ∙ ap (λ v. (x.pinned || false || nat_lt 0 (running_calls (place_of config (places config events) e ∷ places config events) x.id)) || v
+    (sym (named-counted (place_of config (places config events) e ∷ places config events) x.id))
+    ∙ ap (λ v. (x.pinned || nat_lt 0 (names_for (place_of config (places config events) e ∷ places config events) x.id) || nat_lt 0 (running_calls (place_of config (places config events) e ∷ places config events) x.id)) || v
     || is_held config.lease_ms (max e.moment (now (places config events))) (told_calls config events e) x.id)
     (refs-awaited (max e.moment (now (places config events))) x.id exports.waits)))
     (table config (places config events) ++ (place_of config (places config events) e).exported_here)
@@ -125,12 +124,12 @@ abbrev pub going_now : SpaceConfig → List Event → Event → ExportTable → 
 going_now config events e exports =
     rows_withdrawn (max e.moment (now (places config events))) (held_by config.lease_ms (max e.moment (now (places config events))) (told_calls config events e)) exports.waits exports.rows
 
-pub going-is : (config : SpaceConfig) (events : List Event) (e : Event) (leases : LeaseTable) (exports : ExportTable) (runs : List Run) → AllBuilt (reverse events) → IsBuilt e.ask → IsActed config events e leases exports runs →
+pub going-is : (config : SpaceConfig) (events : List Event) (e : Event) (leases : LeaseTable) (exports : ExportTable) (runs : List Run) → IsActed config events e leases exports runs →
     going_now config events e exports ≡ gone_of (table config (places config events) ++ (place_of config (places config events) e).exported_here) (is_kept config (place_of config (places config events) e ∷ places config events))
-going-is config events e leases exports runs all b a =
+going-is config events e leases exports runs a =
     ap (rows_withdrawn (max e.moment (now (places config events))) (held_by config.lease_ms (max e.moment (now (places config events))) (told_calls config events e)) exports.waits) a.rows_are
     ∙ gone-rows (place_of config (places config events) e ∷ places config events) (row_kept (max e.moment (now (places config events))) (held_by config.lease_ms (max e.moment (now (places config events))) (told_calls config events e)) exports.waits)
-    (is_kept config (place_of config (places config events) e ∷ places config events)) (table config (places config events) ++ (place_of config (places config events) e).exported_here) (rows-kept config events e leases exports runs all b a)
+    (is_kept config (place_of config (places config events) e ∷ places config events)) (table config (places config events) ++ (place_of config (places config events) e).exported_here) (rows-kept config events e leases exports runs a)
 
 -- ---- after the withdrawal
 
@@ -199,13 +198,13 @@ unfolding next
 next-push p h = refl
 
 stands-push : (config : SpaceConfig) (events : List Event) (e : Event) (leases leases1 leases2 : LeaseTable) (exports t : ExportTable) (runs runs1 : List Run) (withdrawn : List Withdrawal) (told opened used moment : ℕ) (effective : Bool) → effective ≡ is_effective config (places config events) e.by e.ask →
-    Keeps config events leases exports runs withdrawn told opened used moment → IsBuilt e.ask → refusal limits config (places config events) e ≡ None →
+    Keeps config events leases exports runs withdrawn told opened used moment → refusal limits config (places config events) e ≡ None →
     IsActed config events e leases1 t runs1 → t.space ≡ config.uid → t.ack ≡ config.ack_ms → t.added ≡ opened + opens effective e.ask →
     StandsFor config.lease_ms leases2 (max e.moment (now (places config events))) (map (without_all (going_now config events e t)) (told_calls config events e)) →
     Stands config (place_of config (places config events) e ∷ places config events) leases2 (left config events e t) runs1 (withdrawn_then config events e t withdrawn)
     (told_after told (length (withdrawn_then config events e t withdrawn)) e.ask) (opened + opens effective e.ask) (used + units_of e.ask) (max e.moment (now (places config events)))
-stands-push config events e leases leases1 leases2 exports t runs runs1 withdrawn told opened used moment effective f k b r a sp ac ad dropped =
-    let goes : going_now config events e t ≡ gone_of (table config (places config events) ++ (place_of config (places config events) e).exported_here) (is_kept config (place_of config (places config events) e ∷ places config events)) = going-is config events e leases1 t runs1 k.built b a in
+stands-push config events e leases leases1 leases2 exports t runs runs1 withdrawn told opened used moment effective f k r a sp ac ad dropped =
+    let goes : going_now config events e t ≡ gone_of (table config (places config events) ++ (place_of config (places config events) e).exported_here) (is_kept config (place_of config (places config events) e ∷ places config events)) = going-is config events e leases1 t runs1 a in
     let L : List ObjId → Type 0 = λ os. StandsFor config.lease_ms leases2 (max e.moment (now (places config events))) (map (without_all os) (told_calls config events e)) in
     let C : List Call → Type 0 = λ cs. StandsFor config.lease_ms leases2 (max e.moment (now (places config events))) cs in
     let more_units = units-push (place_of config (places config events) e) (places config events) in
@@ -218,12 +217,12 @@ stands-push config events e leases leases1 leases2 exports t runs runs1 withdraw
       added_is = ad;
       opened_is = (
           ap (λ n. n + opens effective e.ask) k.stands.opened_is
-          ∙ ap (λ n. next (places config events) + n) (ap (λ v. opens v e.ask) f ∙ sym (adds-length config (places config events) e b))
+          ∙ ap (λ n. next (places config events) + n) (ap (λ v. opens v e.ask) f ∙ sym (adds-length config (places config events) e))
           ∙ sym (next-push (place_of config (places config events) e) (places config events)));
       rows_are = (
           ap (filter (row_kept (max e.moment (now (places config events))) (held_by config.lease_ms (max e.moment (now (places config events))) (told_calls config events e)) t.waits)) a.rows_are
           ∙ filter-rows (place_of config (places config events) e ∷ places config events) (row_kept (max e.moment (now (places config events))) (held_by config.lease_ms (max e.moment (now (places config events))) (told_calls config events e)) t.waits)
-          (is_kept config (place_of config (places config events) e ∷ places config events)) (table config (places config events) ++ (place_of config (places config events) e).exported_here) (rows-kept config events e leases1 t runs1 k.built b a)
+          (is_kept config (place_of config (places config events) e ∷ places config events)) (table config (places config events) ++ (place_of config (places config events) e).exported_here) (rows-kept config events e leases1 t runs1 a)
           ∙ ap (rows_of (place_of config (places config events) e ∷ places config events)) (sym (table-place config (places config events) e (places-numbered config events))));
       waits_stand = waits-going (max e.moment (now (places config events))) config.ack_ms (place_of config (places config events) e ∷ places config events) t.waits a.waits_stand;
       runs_stand = a.runs_stand;
@@ -253,23 +252,21 @@ step-agrees config events e refused (inl r) = step-refused config events e refus
 step-agrees config events e refused (inr m) = inr (ap (λ x. Err x) m, refl)
 
 pub keeps-push : (config : SpaceConfig) (events : List Event) (e : Event) (leases leases1 leases2 : LeaseTable) (exports t : ExportTable) (runs runs1 : List Run) (withdrawn : List Withdrawal) (told opened used moment : ℕ) (effective : Bool) → effective ≡ is_effective config (places config events) e.by e.ask →
-    Keeps config events leases exports runs withdrawn told opened used moment → IsBuilt e.ask → e.moment < 2 ^ 62 → refusal limits config (places config events) e ≡ None →
+    Keeps config events leases exports runs withdrawn told opened used moment → e.moment < 2 ^ 62 → refusal limits config (places config events) e ≡ None →
     IsActed config events e leases1 t runs1 → t.space ≡ config.uid → t.ack ≡ config.ack_ms → t.added ≡ opened + opens effective e.ask →
     StandsFor config.lease_ms leases2 (max e.moment (now (places config events))) (map (without_all (going_now config events e t)) (told_calls config events e)) →
     Keeps config (events ++ e ∷ []) leases2 (left config events e t) runs1 (withdrawn_then config events e t withdrawn)
     (told_after told (length (withdrawn_then config events e t withdrawn)) e.ask) (opened + opens effective e.ask) (used + units_of e.ask) (max e.moment (now (places config events)))
-keeps-push config events e leases leases1 leases2 exports t runs runs1 withdrawn told opened used moment effective f k b early r a sp ac ad dropped =
+keeps-push config events e leases leases1 leases2 exports t runs runs1 withdrawn told opened used moment effective f k early r a sp ac ad dropped =
     let S : List Place → Type 0 = λ g. Stands config g leases2 (left config events e t) runs1 (withdrawn_then config events e t withdrawn)
     (told_after told (length (withdrawn_then config events e t withdrawn)) e.ask) (opened + opens effective e.ask) (used + units_of e.ask) (max e.moment (now (places config events))) in
-    let B : List Event → Type 0 = λ es. AllBuilt es in
     let longer : length (events ++ e ∷ []) ≡ length events + 1 = length-append events (e ∷ []) in
     record {
       durations = k.durations;
-      stands = subst S (sym (places-push config events e)) (stands-push config events e leases leases1 leases2 exports t runs runs1 withdrawn told opened used moment effective f k b r a sp ac ad dropped);
+      stands = subst S (sym (places-push config events e)) (stands-push config events e leases leases1 leases2 exports t runs runs1 withdrawn told opened used moment effective f k r a sp ac ad dropped);
       early = (let before = k.early in let time = k.stands.moment_is in omega (arith, before, time, early));
       few_events = (let before = k.few_events in let some = some-units e.ask in omega (arith, before, some, longer));
       few_opened = (let before = k.few_opened in let few = opened-few effective e.ask in omega (arith, before, few));
-      built = subst B (sym (reverse-append events (e ∷ []))) (b, k.built);
       legal = IsLegal-step config events (events ++ e ∷ []) e (Ok (turn_of config events e)) k.legal (step-taken config events e (turn_of config events e) r refl);
     }
 
@@ -296,21 +293,24 @@ rows-length h (x ∷ xs) = ap suc (rows-length h xs)
 
 -- The refusal, by what is kept: for want of room, for the references that are returned, and then as the lease table says after the calls
 -- that it stands for.
-pub refusal-kept : (config : SpaceConfig) (events : List Event) (e : Event) (leases : LeaseTable) (exports : ExportTable) (runs : List Run) (withdrawn : List Withdrawal) (told opened used moment : ℕ) → Keeps config events leases exports runs withdrawn told opened used moment → IsBuilt e.ask →
+pub refusal-kept : (config : SpaceConfig) (events : List Event) (e : Event) (leases : LeaseTable) (exports : ExportTable) (runs : List Run) (withdrawn : List Withdrawal) (told opened used moment : ℕ) → Keeps config events leases exports runs withdrawn told opened used moment →
     refusal limits config (places config events) e
     ≡ first_of_two (room_refusal used (length runs) (length exports.rows) (is_effective config (places config events) e.by e.ask) e.ask)
-    (first_of_two (await_refusal (max e.moment (now (places config events))) exports.rows exports.waits (is_effective config (places config events) e.by e.ask) e.ask)
-    (lease_refusal config.lease_ms (max e.moment (now (places config events))) (live_calls (table config (places config events)) (lease_calls (places config events))) (call_with (has (table config (places config events))) (max e.moment (now (places config events))) e.ask)))
-refusal-kept config events e leases exports runs withdrawn told opened used moment k b =
+    (first_of_two (await_refusal (max e.moment (now (places config events))) exports.rows exports.waits (stood_for (places config events) e.ask) (is_effective config (places config events) e.by e.ask) e.ask)
+    (first_of_two (lease_refusal config.lease_ms (max e.moment (now (places config events))) (live_calls (table config (places config events)) (lease_calls (places config events))) (call_with (has (table config (places config events))) (max e.moment (now (places config events))) e.ask))
+    (name_refusal (length (names (places config events))) (stood_for (places config events) e.ask) (is_effective config (places config events) e.by e.ask) e.ask)))
+refusal-kept config events e leases exports runs withdrawn told opened used moment k =
     let N : ℕ → Type 0 = λ n. WaitsStand reference_of end_of config.ack_ms n (places config events) exports.waits in
-    refusal-is config (places config events) e (await_refusal (max e.moment (now (places config events))) exports.rows exports.waits (is_effective config (places config events) e.by e.ask) e.ask)
-    (quiet config events k.built) b k.stands.within (await-is config events e exports.rows exports.waits b k.stands.within k.stands.rows_are (subst N k.stands.moment_is k.stands.waits_stand))
+    refusal-is config (places config events) e (await_refusal (max e.moment (now (places config events))) exports.rows exports.waits (stood_for (places config events) e.ask) (is_effective config (places config events) e.by e.ask) e.ask)
+    (name_refusal (length (names (places config events))) (stood_for (places config events) e.ask) (is_effective config (places config events) e.by e.ask) e.ask)
+    k.stands.within (await-is config events e exports.rows exports.waits k.stands.within k.stands.rows_are (subst N k.stands.moment_is k.stands.waits_stand)) (names-refused config events e k.stands.within.names)
     ∙ three _ _ _ _ _ _ (sym k.stands.used_is) (sym k.stands.runs_stand.all) (sym (rows-length (places config events) (table config (places config events))) ∙ sym (ap length k.stands.rows_are))
   where
     later : Option Refused
     later =
-        first_of_two (await_refusal (max e.moment (now (places config events))) exports.rows exports.waits (is_effective config (places config events) e.by e.ask) e.ask)
-        (lease_refusal config.lease_ms (max e.moment (now (places config events))) (live_calls (table config (places config events)) (lease_calls (places config events))) (call_with (has (table config (places config events))) (max e.moment (now (places config events))) e.ask))
+        first_of_two (await_refusal (max e.moment (now (places config events))) exports.rows exports.waits (stood_for (places config events) e.ask) (is_effective config (places config events) e.by e.ask) e.ask)
+        (first_of_two (lease_refusal config.lease_ms (max e.moment (now (places config events))) (live_calls (table config (places config events)) (lease_calls (places config events))) (call_with (has (table config (places config events))) (max e.moment (now (places config events))) e.ask))
+        (name_refusal (length (names (places config events))) (stood_for (places config events) e.ask) (is_effective config (places config events) e.by e.ask) e.ask))
 
     three : (u v r s n m : ℕ) → u ≡ v → r ≡ s → n ≡ m →
         first_of_two (room_refusal u r n (is_effective config (places config events) e.by e.ask) e.ask) later
@@ -334,41 +334,45 @@ found-some (x ∷ objects) o = go (same_id x.id o) (found-some objects o)
     go true e = refl
     go false e = e
 
-reply-is : (config : SpaceConfig) (h : List Place) (e : Event) (opened : ℕ) (rows : List Export) (effective : Bool) → IsBuilt e.ask → opened ≡ next h → rows ≡ rows_of h (table config h) → effective ≡ is_effective config h e.by e.ask →
-    reply config h e ≡ reply_at config opened rows effective e.ask
+reply-is : (config : SpaceConfig) (h : List Place) (e : Event) (opened : ℕ) (rows : List Export) (effective : Bool) → opened ≡ next h → rows ≡ rows_of h (table config h) → effective ≡ is_effective config h e.by e.ask →
+    reply config h e ≡ reply_at config opened rows (names h) (stood_for h e.ask) effective e.ask
 unfolding reply place_of is_effective exports
-reply-is config h e opened rows effective b k rs f = go e.ask b (is_effective config h e.by e.ask) refl ∙ ap (λ n. reply_at config n (rows_of h (table config h)) (is_effective config h e.by e.ask) e.ask) (sym k)
-    ∙ ap (λ l. reply_at config opened l (is_effective config h e.by e.ask) e.ask) (sym rs) ∙ ap (λ v. reply_at config opened rows v e.ask) (sym f)
+reply-is config h e opened rows effective k rs f = go e.ask ∙ ap (λ n. reply_at config n (rows_of h (table config h)) (names h) (stood_for h e.ask) (is_effective config h e.by e.ask) e.ask) (sym k)
+    ∙ ap (λ l. reply_at config opened l (names h) (stood_for h e.ask) (is_effective config h e.by e.ask) e.ask) (sym rs) ∙ ap (λ v. reply_at config opened rows (names h) (stood_for h e.ask) v e.ask) (sym f)
   where
     finished : (v : Bool) (made : List ℕ) → (if v then Finished (ids (if v then exported_from config.uid (next h) (length h) false made else [])) else NotRunning) ≡ (if v then Finished (new_ids config.uid (next h) made) else NotRunning)
     finished true made = ap (λ l. Finished l) (new-ids config.uid (next h) (length h) false made)
     finished false made = refl
 
-    go : (a : Ask) → IsBuilt a → (v : Bool) → is_effective config h e.by a ≡ v → reply config h (record e { ask = a }) ≡ reply_at config (next h) (rows_of h (table config h)) (is_effective config h e.by a) a
-    go (Open kind pinned) b v s = refl
-    go (Begin o) b v s =
+    found : (s : Option ObjId) → reply_found (table config h) s ≡ found_reply (rows_of h (table config h)) s
+    found None = refl
+    found (Some o) = ap (λ k. Found o (unwrap_or k 0)) (sym (kind-is h (table config h) o))
+
+    go : (a : Ask) → reply config h (record e { ask = a }) ≡ reply_at config (next h) (rows_of h (table config h)) (names h) (stood_for h a) (is_effective config h e.by a) a
+    go (Open kind pinned) = refl
+    go (Begin o) =
         reply-found (option_map (λ (x : Exported). x.kind) (find (λ x. same_id x.id o) (table config h))) (has (table config h) o) (found-some (table config h) o)
         ∙ ap started_reply (sym (kind-is h (table config h) o))
-    go (Abandon o) b v s = refl
-    go (Dirty x y z w) b v s = refl
-    go (Clean x y z w) b v s = refl
-    go (Ack u) b v s = refl
-    go Tick b v s = refl
-    go (Finish x y z w) b v s = finished (nat_lt 0 (running h e.by x)) y
-    go (Bind x y) b v s = absurd b
-    go (Rebind x y) b v s = absurd b
-    go (Unbind x) b v s = absurd b
-    go (Lookup x y) b v s = absurd b
-    go ListNames b v s = absurd b
+    go (Abandon o) = refl
+    go (Dirty x y z w) = refl
+    go (Clean x y z w) = refl
+    go (Ack u) = refl
+    go Tick = refl
+    go (Finish x y z w) = finished (nat_lt 0 (running h e.by x)) y
+    go (Bind n o) = ap (λ b. if has (table config h) o && is_none (stands_for h n) then Bound else if b then AlreadyBound else NoObject) (sym (exported-has h (table config h) o))
+    go (Rebind n o) = refl
+    go (Unbind n) = refl
+    go (Lookup n u) = found (stands_for h n)
+    go ListNames = refl
 
 -- The turn of an event.
-pub turn-is : (config : SpaceConfig) (events : List Event) (e : Event) (leases leases1 : LeaseTable) (exports t : ExportTable) (runs runs1 : List Run) (withdrawn : List Withdrawal) (told opened used moment : ℕ) (effective : Bool) → Keeps config events leases exports runs withdrawn told opened used moment → IsBuilt e.ask →
+pub turn-is : (config : SpaceConfig) (events : List Event) (e : Event) (leases leases1 : LeaseTable) (exports t : ExportTable) (runs runs1 : List Run) (withdrawn : List Withdrawal) (told opened used moment : ℕ) (effective : Bool) → Keeps config events leases exports runs withdrawn told opened used moment →
     effective ≡ is_effective config (places config events) e.by e.ask → IsActed config events e leases1 t runs1 →
-    turn_of config events e ≡ record { place = length events; reply = reply_at config opened exports.rows effective e.ask; gone = map (λ (w : Withdrawal). w.object) (drop told withdrawn) ++ going_now config events e t }
-turn-is config events e leases leases1 exports t runs runs1 withdrawn told opened used moment effective k b f a =
-    two _ _ _ _ (reply-is config (places config events) e opened exports.rows effective b k.stands.opened_is k.stands.rows_are f)
+    turn_of config events e ≡ record { place = length events; reply = reply_at config opened exports.rows (names (places config events)) (stood_for (places config events) e.ask) effective e.ask; gone = map (λ (w : Withdrawal). w.object) (drop told withdrawn) ++ going_now config events e t }
+turn-is config events e leases leases1 exports t runs runs1 withdrawn told opened used moment effective k f a =
+    two _ _ _ _ (reply-is config (places config events) e opened exports.rows effective k.stands.opened_is k.stands.rows_are f)
     (gone-next config events e ∙ ap (λ l. l ++ gone_of (table config (places config events) ++ (place_of config (places config events) e).exported_here) (is_kept config (place_of config (places config events) e ∷ places config events))) (sym k.stands.told_are)
-    ∙ ap (λ l. map (λ (w : Withdrawal). w.object) (drop told withdrawn) ++ l) (sym (going-is config events e leases1 t runs1 k.built b a)))
+    ∙ ap (λ l. map (λ (w : Withdrawal). w.object) (drop told withdrawn) ++ l) (sym (going-is config events e leases1 t runs1 a)))
   where
     two : (r s : Reply) (g g' : List ObjId) → r ≡ s → g ≡ g' → ◌≡◌ {A = Turn} (record { place = length events; reply = r; gone = g }) (record { place = length events; reply = s; gone = g' })
     two r s g g' p q = cc

@@ -5,6 +5,7 @@ pub mod AnswerLaws
 pub mod AskLaws
 pub mod AwaitLaws
 pub mod BalanceLaws
+pub mod Bindings
 pub mod Clients
 pub mod CollectLaws
 pub mod EndLaws

@@ -12,11 +12,12 @@ use Rattle.history.specs.declared.places.Exported.{Exported}
 use Rattle.history.specs.declared.places.Withdrawal.{Withdrawal}
 use Rattle.history.specs.declared.replies.Refused.{Refused}
 use Rattle.history.specs.declared.replies.Refused.TheVariants.{OutOfMemory}
-use Rattle.history.specs.declared.replies.Reply.TheVariants.{Started, NoObject, Finished, NotRunning, Done, Names}
+use Rattle.history.specs.declared.replies.Reply.TheVariants.{Started, NoObject, Finished, NotRunning, Done, Bound, AlreadyBound, Unbound, NotBound, Names}
 use Rattle.history.specs.declared.replies.Turn.{Turn}
 use Rattle.history.specs.Limits.{units_of, limits, refusal}
-use Rattle.history.specs.Places.{exported_from, kind_of, next}
-use Rattle.history.specs.Replies.{ids, reply, gone}
+use Rattle.history.specs.Places.{exported_from, has, kind_of, next}
+use Rattle.history.specs.Names.{names, stands_for}
+use Rattle.history.specs.Replies.{ids, reply, reply_found, gone}
 use Rattle.history.specs.Steps.{turn_of, answer_with, history_with, Step}
 use Rattle.history.specs.Table.{is_effective, exports, is_kept, table, place_of, places, withdrawn}
 use Rattle.history.proofs.GoneLaws.{pending, gone-push}
@@ -24,7 +25,7 @@ use Rattle.history.proofs.TableLaws.{places-numbered, withdrawn-place}
 use Rattle.dgc_server.specs.Stands.{LeaseTable}
 use Rattle.export_table.specs.Table.{ExportTable}
 use Rattle.space.specs.declared.runs.Run.{Run}
-use Rattle.space.specs.Built.{IsBuilt, SpaceHistory}
+use Rattle.space.specs.Built.{SpaceHistory}
 use Rattle.space.specs.Kept.{Keeps}
 use Rattle.space.specs.Noted.{FitsIn}
 use Rattle.space.proofs.AheadLaws.{some-or-not}
@@ -55,8 +56,8 @@ refused-turn config h h2 e refused (inr s) = (let same : refused ≡ OutOfMemory
 -- ---- the lengths of what a turn tells
 
 gone-few : (config : SpaceConfig) (events : List Event) (e : Event) (leases : LeaseTable) (exports : ExportTable) (runs : List Run) (withdrawn_before : List Withdrawal) (told opened used moment : ℕ) →
-    Keeps config events leases exports runs withdrawn_before told opened used moment → IsBuilt e.ask → length (gone config (places config events) e) ≤ length (map (λ (w : Withdrawal). w.object) (drop told withdrawn_before)) + (length exports.rows + units_of e.ask)
-gone-few config events e leases exports runs withdrawn_before told opened used moment k b =
+    Keeps config events leases exports runs withdrawn_before told opened used moment → length (gone config (places config events) e) ≤ length (map (λ (w : Withdrawal). w.object) (drop told withdrawn_before)) + (length exports.rows + units_of e.ask)
+gone-few config events e leases exports runs withdrawn_before told opened used moment k =
     let all : List Exported = table config (places config events) ++ (place_of config (places config events) e).exported_here in
     let kept : Exported → Bool = is_kept config (place_of config (places config events) e ∷ places config events) in
     let rows : length exports.rows ≡ length (table config (places config events)) = ap length k.stands.rows_are ∙ length-map (table config (places config events)) (row_of (places config events)) in
@@ -66,14 +67,14 @@ gone-few config events e leases exports runs withdrawn_before told opened used m
     let told_all = ap length (gone-push config (places config events) e (places-numbered config events)) ∙ length-append (pending config (places config events)) (ids (withdrawn config (place_of config (places config events) e ∷ places config events))) in
     let both = some-or-not kept all in
     let sum = length-append (table config (places config events)) (place_of config (places config events) e).exported_here in
-    let adds = adds-length config (places config events) e b in
+    let adds = adds-length config (places config events) e in
     let few = opened-few (is_effective config (places config events) e.by e.ask) e.ask in
     omega (arith, rows, told_before, goes, told_all, both, sum, adds, few)
 
--- A reply has no more identifiers than the event has units, and no names.
-reply-ids : (config : SpaceConfig) (h : List Place) (e : Event) (os : List ObjId) → IsBuilt e.ask → reply config h e ≡ Finished os → length os ≤ units_of e.ask
+-- A reply has no more identifiers than the event has units.
+reply-ids : (config : SpaceConfig) (h : List Place) (e : Event) (os : List ObjId) → reply config h e ≡ Finished os → length os ≤ units_of e.ask
 unfolding reply place_of exports
-reply-ids config h e os b s = go e.ask b s
+reply-ids config h e os s = go e.ask s
   where
     begun : (v : Bool) (kind n : ℕ) → (if v then Started kind else NoObject) ≡ Finished os → length os ≤ n
     begun true kind n t = absurd (cc)
@@ -94,24 +95,42 @@ reply-ids config h e os b s = go e.ask b s
     finished true made n t = let few = made-few made (cc) in omega (arith, few)
     finished false made n t = absurd (cc)
 
-    go : (a : Ask) → IsBuilt a → reply config h (record e { ask = a }) ≡ Finished os → length os ≤ units_of a
-    go (Open kind pinned) b s = absurd (cc)
-    go (Begin o) b s = begun (is_effective config h e.by (Begin o)) (kind_of (table config h) o) 1 s
-    go (Abandon o) b s = ended (is_effective config h e.by (Abandon o)) 1 s
-    go (Dirty x y z w) b s = absurd (cc)
-    go (Clean x y z w) b s = absurd (cc)
-    go (Ack u) b s = absurd (cc)
-    go Tick b s = absurd (cc)
-    go (Finish x y z w) b s = finished (is_effective config h e.by (Finish x y z w)) y (length z) s
-    go (Bind x y) b s = absurd b
-    go (Rebind x y) b s = absurd b
-    go (Unbind x) b s = absurd b
-    go (Lookup x y) b s = absurd b
-    go ListNames b s = absurd b
+    bound : (v w : Bool) (n : ℕ) → (if v then Bound else if w then AlreadyBound else NoObject) ≡ Finished os → length os ≤ n
+    bound true w n t = absurd (cc)
+    bound false true n t = absurd (cc)
+    bound false false n t = absurd (cc)
 
-reply-names : (config : SpaceConfig) (h : List Place) (e : Event) (ns : List (List ℕ)) → IsBuilt e.ask → reply config h e ≡ Names ns → ⊥
+    rebound : (v : Bool) (n : ℕ) → (if v then Bound else NoObject) ≡ Finished os → length os ≤ n
+    rebound true n t = absurd (cc)
+    rebound false n t = absurd (cc)
+
+    unbound : (v : Bool) (n : ℕ) → (if v then Unbound else NotBound) ≡ Finished os → length os ≤ n
+    unbound true n t = absurd (cc)
+    unbound false n t = absurd (cc)
+
+    found : (s : Option ObjId) (n : ℕ) → reply_found (table config h) s ≡ Finished os → length os ≤ n
+    found None n t = absurd (cc)
+    found (Some o) n t = absurd (cc)
+
+    go : (a : Ask) → reply config h (record e { ask = a }) ≡ Finished os → length os ≤ units_of a
+    go (Open kind pinned) s = absurd (cc)
+    go (Begin o) s = begun (is_effective config h e.by (Begin o)) (kind_of (table config h) o) 1 s
+    go (Abandon o) s = ended (is_effective config h e.by (Abandon o)) 1 s
+    go (Dirty x y z w) s = absurd (cc)
+    go (Clean x y z w) s = absurd (cc)
+    go (Ack u) s = absurd (cc)
+    go Tick s = absurd (cc)
+    go (Finish x y z w) s = finished (is_effective config h e.by (Finish x y z w)) y (length z) s
+    go (Bind n o) s = bound (is_effective config h e.by (Bind n o)) (has (table config h) o) 1 s
+    go (Rebind n o) s = rebound (is_effective config h e.by (Rebind n o)) 1 s
+    go (Unbind n) s = unbound (is_effective config h e.by (Unbind n)) 1 s
+    go (Lookup n u) s = found (stands_for h n) 1 s
+    go ListNames s = absurd (cc)
+
+-- It has names only where they are asked for, and then those of the history.
+reply-names : (config : SpaceConfig) (h : List Place) (e : Event) (ns : List (List ℕ)) → reply config h e ≡ Names ns → (e.ask ≡ ListNames) × (names h ≡ ns)
 unfolding reply place_of exports
-reply-names config h e ns b s = go e.ask b s
+reply-names config h e ns s = go e.ask refl s
   where
     begun : (v : Bool) (kind : ℕ) → (if v then Started kind else NoObject) ≡ Names ns → ⊥
     begun true kind t = cc
@@ -125,53 +144,70 @@ reply-names config h e ns b s = go e.ask b s
     finished true os t = cc
     finished false os t = cc
 
-    go : (a : Ask) → IsBuilt a → reply config h (record e { ask = a }) ≡ Names ns → ⊥
-    go (Open kind pinned) b s = cc
-    go (Begin o) b s = begun (is_effective config h e.by (Begin o)) (kind_of (table config h) o) s
-    go (Abandon o) b s = ended (is_effective config h e.by (Abandon o)) s
-    go (Dirty x y z w) b s = cc
-    go (Clean x y z w) b s = cc
-    go (Ack u) b s = cc
-    go Tick b s = cc
-    go (Finish x y z w) b s = finished (is_effective config h e.by (Finish x y z w)) _ s
-    go (Bind x y) b s = absurd b
-    go (Rebind x y) b s = absurd b
-    go (Unbind x) b s = absurd b
-    go (Lookup x y) b s = absurd b
-    go ListNames b s = absurd b
+    bound : (v w : Bool) → (if v then Bound else if w then AlreadyBound else NoObject) ≡ Names ns → ⊥
+    bound true w t = cc
+    bound false true t = cc
+    bound false false t = cc
+
+    rebound : (v : Bool) → (if v then Bound else NoObject) ≡ Names ns → ⊥
+    rebound true t = cc
+    rebound false t = cc
+
+    unbound : (v : Bool) → (if v then Unbound else NotBound) ≡ Names ns → ⊥
+    unbound true t = cc
+    unbound false t = cc
+
+    found : (s : Option ObjId) → reply_found (table config h) s ≡ Names ns → ⊥
+    found None t = cc
+    found (Some o) t = cc
+
+    go : (a : Ask) → e.ask ≡ a → reply config h (record e { ask = a }) ≡ Names ns → (e.ask ≡ ListNames) × (names h ≡ ns)
+    go (Open kind pinned) i s = absurd (cc)
+    go (Begin o) i s = absurd (begun (is_effective config h e.by (Begin o)) (kind_of (table config h) o) s)
+    go (Abandon o) i s = absurd (ended (is_effective config h e.by (Abandon o)) s)
+    go (Dirty x y z w) i s = absurd (cc)
+    go (Clean x y z w) i s = absurd (cc)
+    go (Ack u) i s = absurd (cc)
+    go Tick i s = absurd (cc)
+    go (Finish x y z w) i s = absurd (finished (is_effective config h e.by (Finish x y z w)) _ s)
+    go (Bind n o) i s = absurd (bound (is_effective config h e.by (Bind n o)) (has (table config h) o) s)
+    go (Rebind n o) i s = absurd (rebound (is_effective config h e.by (Rebind n o)) s)
+    go (Unbind n) i s = absurd (unbound (is_effective config h e.by (Unbind n)) s)
+    go (Lookup n u) i s = absurd (found (stands_for h n) s)
+    go ListNames i s = (i, let same : names h ≡ ns = cc in same)
 
 -- WHAT IS KNOWN of a turn for its copy, of the space that contracts see.
-pub record IsSmall (turn : Turn) (ids_room gone_room : ℕ) : Type 0 where
+pub record IsSmall (asked : Ask) (bound : List (List ℕ)) (turn : Turn) (ids_room gone_room : ℕ) : Type 0 where
   pub ids : (os : List ObjId) → turn.reply ≡ Finished os → length os ≤ ids_room
   pub gone : length turn.gone ≤ gone_room
-  pub names : (ns : List (List ℕ)) → turn.reply ≡ Names ns → ⊥
+  pub names : (ns : List (List ℕ)) → turn.reply ≡ Names ns → (asked ≡ ListNames) × (bound ≡ ns)
 
 pub turn-small : (config : SpaceConfig) (events h2 : List Event) (e : Event) (leases : LeaseTable) (exports : ExportTable) (runs : List Run) (withdrawn_before : List Withdrawal) (told opened used moment : ℕ) (s : SpaceHistory) (turn : Turn) →
-    Keeps config events leases exports runs withdrawn_before told opened used moment → IsBuilt e.ask → record { configuration = config; events = events } ≡ s → Step s.configuration s.events e (Ok turn) h2 →
-    IsSmall turn (units_of e.ask) (length (map (λ (w : Withdrawal). w.object) (drop told withdrawn_before)) + (length exports.rows + units_of e.ask))
-turn-small config events h2 e leases exports runs withdrawn_before told opened used moment s turn k b v t =
+    Keeps config events leases exports runs withdrawn_before told opened used moment → record { configuration = config; events = events } ≡ s → Step s.configuration s.events e (Ok turn) h2 →
+    IsSmall e.ask (names (places config events)) turn (units_of e.ask) (length (map (λ (w : Withdrawal). w.object) (drop told withdrawn_before)) + (length exports.rows + units_of e.ask))
+turn-small config events h2 e leases exports runs withdrawn_before told opened used moment s turn k v t =
     let P : SpaceHistory → Type 0 = λ h. Step h.configuration h.events e (Ok turn) h2 in
     let is : turn ≡ turn_of config events e = (taken-turn config events h2 e turn (subst P (sym v) t)).0 in
-    let R : Turn → Type 0 = λ x. IsSmall x (units_of e.ask) (length (map (λ (w : Withdrawal). w.object) (drop told withdrawn_before)) + (length exports.rows + units_of e.ask)) in
+    let R : Turn → Type 0 = λ x. IsSmall e.ask (names (places config events)) x (units_of e.ask) (length (map (λ (w : Withdrawal). w.object) (drop told withdrawn_before)) + (length exports.rows + units_of e.ask)) in
     subst R (sym is) (record {
-      ids = λ os p. reply-ids config (places config events) e os b p;
-      gone = gone-few config events e leases exports runs withdrawn_before told opened used moment k b;
-      names = λ ns p. reply-names config (places config events) e ns b p;
+      ids = λ os p. reply-ids config (places config events) e os p;
+      gone = gone-few config events e leases exports runs withdrawn_before told opened used moment k;
+      names = λ ns p. reply-names config (places config events) e ns p;
     })
 
 -- The same as there is room for a copy.
-pub fits-turn : (config : SpaceConfig) (events h2 : List Event) (e : Event) (leases : LeaseTable) (exports : ExportTable) (runs : List Run) (withdrawn_before : List Withdrawal) (told opened used moment : ℕ) (s : SpaceHistory) (answer : Result Turn Refused) (ids_room gone_room : ℕ) (names : List (List ℕ)) →
-    Keeps config events leases exports runs withdrawn_before told opened used moment → IsBuilt e.ask → record { configuration = config; events = events } ≡ s → Step s.configuration s.events e answer h2 →
-    units_of e.ask ≤ ids_room → length (map (λ (w : Withdrawal). w.object) (drop told withdrawn_before)) + (length exports.rows + units_of e.ask) ≤ gone_room → FitsIn answer ids_room gone_room names
-fits-turn config events h2 e leases exports runs withdrawn_before told opened used moment s (Ok turn) ids_room gone_room names k b v t i g =
-    let small = turn-small config events h2 e leases exports runs withdrawn_before told opened used moment s turn k b v t in
+pub fits-turn : (config : SpaceConfig) (events h2 : List Event) (e : Event) (leases : LeaseTable) (exports : ExportTable) (runs : List Run) (withdrawn_before : List Withdrawal) (told opened used moment : ℕ) (s : SpaceHistory) (answer : Result Turn Refused) (ids_room gone_room : ℕ) (listed : List (List ℕ)) →
+    Keeps config events leases exports runs withdrawn_before told opened used moment → record { configuration = config; events = events } ≡ s → Step s.configuration s.events e answer h2 →
+    (e.ask ≡ ListNames → listed ≡ names (places config events)) → units_of e.ask ≤ ids_room → length (map (λ (w : Withdrawal). w.object) (drop told withdrawn_before)) + (length exports.rows + units_of e.ask) ≤ gone_room → FitsIn answer ids_room gone_room listed
+fits-turn config events h2 e leases exports runs withdrawn_before told opened used moment s (Ok turn) ids_room gone_room listed k v t l i g =
+    let small = turn-small config events h2 e leases exports runs withdrawn_before told opened used moment s turn k v t in
     let gone_few = small.gone in
     record {
       ids_fit = λ os p. (let few = small.ids os p in omega (arith, few, i));
       gone_fit = omega (arith, gone_few, g);
-      names_are = λ ns p. absurd (small.names ns p);
+      names_are = λ ns p. (let two = small.names ns p in l two.0 ∙ two.1);
     }
-fits-turn config events h2 e leases exports runs withdrawn_before told opened used moment s (Err refused) ids_room gone_room names k b v t i g = tt
+fits-turn config events h2 e leases exports runs withdrawn_before told opened used moment s (Err refused) ids_room gone_room listed k v t l i g = tt
 
 -- What follows of a value follows of it where there is one.
 pub if-ok : {T E : Type 0} (r : Result T E) (P Q : T → Type 0) → IfOk r P → ((x : T) → P x → Q x) → IfOk r Q

@@ -1,4 +1,4 @@
--- What the served asks leave out: names.
+-- What an ask exports.
 use Rattle.std.proofs.Common.{◌≡◌, ℕ, ◌+◌, suc, List, [], ◌∷◌, ◌++◌, length, refl, ap, ◌∙◌, None}
 use Rattle.std.specs.Prelude.{Bool, true, false, not, ◌&&◌, filter, reverse, is_none, option_to_list, if◌then◌else◌}
 use Rattle.std.specs.List.{AllByRecursion}
@@ -13,33 +13,7 @@ use Rattle.history.specs.declared.places.Exported.{Exported}
 use Rattle.history.specs.Places.{exported_from, next}
 use Rattle.history.specs.Names.{name_bound, names, names_of, is_named, name_begun, unbinds}
 use Rattle.history.specs.Table.{is_effective, exports, place_of, places_back, places}
-use Rattle.space.specs.Built.{IsBuilt}
-use Rattle.space.specs.Kept.{AllBuilt}
 use Rattle.space.specs.Acts.{opens}
-
--- ---- one place
-
-pub record IsQuiet (p : Place) : Type 0 where
-  pub binds : name_bound p.event.ask ≡ None
-
-pub quiet-place : (config : SpaceConfig) (h : List Place) (e : Event) → IsBuilt e.ask → IsQuiet (place_of config h e)
-unfolding place_of
-quiet-place config h e b = go e.ask b
-  where
-    go : (a : Ask) → IsBuilt a → IsQuiet (place_of config h (record e { ask = a }))
-    go (Bind x y) b = absurd b
-    go (Rebind x y) b = absurd b
-    go (Open kind pinned) b = record { binds = refl }
-    go (Dirty x y z w) b = record { binds = refl }
-    go (Clean x y z w) b = record { binds = refl }
-    go Tick b = record { binds = refl }
-    go (Begin x) b = record { binds = refl }
-    go (Finish x y z w) b = record { binds = refl }
-    go (Abandon x) b = record { binds = refl }
-    go (Ack u) b = record { binds = refl }
-    go (Unbind x) b = absurd b
-    go (Lookup x y) b = absurd b
-    go ListNames b = absurd b
 
 -- The objects that an ask exports at a place, the first of them as the space's k-th.
 abbrev pub opened_by : SpaceConfig → ℕ → ℕ → Bool → Ask → List Exported
@@ -61,52 +35,25 @@ none-either : {X : Type 0} (b : Bool) → ◌≡◌ {A = List X} (if b then [] e
 none-either true = refl
 none-either false = refl
 
-pub adds-built : (config : SpaceConfig) (h : List Place) (e : Event) → IsBuilt e.ask → (place_of config h e).exported_here ≡ opened_by config (next h) (length h) (is_effective config h e.by e.ask) e.ask
+pub adds-are : (config : SpaceConfig) (h : List Place) (e : Event) → (place_of config h e).exported_here ≡ opened_by config (next h) (length h) (is_effective config h e.by e.ask) e.ask
 unfolding place_of is_effective exports
-adds-built config h e b = go e.ask b
+adds-are config h e = go e.ask
   where
-    go : (a : Ask) → IsBuilt a → (place_of config h (record e { ask = a })).exported_here ≡ opened_by config (next h) (length h) (is_effective config h e.by a) a
-    go (Open kind pinned) b = refl
-    go (Dirty x y z w) b = refl
-    go (Clean x y z w) b = refl
-    go Tick b = refl
-    go (Begin x) b = none-either _
-    go (Finish x y z w) b = refl
-    go (Abandon x) b = none-either _
-    go (Ack u) b = refl
-    go (Bind x y) b = absurd b
-    go (Rebind x y) b = absurd b
-    go (Unbind x) b = absurd b
-    go (Lookup x y) b = absurd b
-    go ListNames b = absurd b
+    go : (a : Ask) → (place_of config h (record e { ask = a })).exported_here ≡ opened_by config (next h) (length h) (is_effective config h e.by a) a
+    go (Open kind pinned) = refl
+    go (Dirty x y z w) = refl
+    go (Clean x y z w) = refl
+    go Tick = refl
+    go (Begin x) = none-either _
+    go (Finish x y z w) = refl
+    go (Abandon x) = none-either _
+    go (Ack u) = refl
+    go (Bind x y) = none-either _
+    go (Rebind x y) = none-either _
+    go (Unbind x) = none-either _
+    go (Lookup x y) = none-either _
+    go ListNames = refl
 
 -- How many they are.
-pub adds-length : (config : SpaceConfig) (h : List Place) (e : Event) → IsBuilt e.ask → length (place_of config h e).exported_here ≡ opens (is_effective config h e.by e.ask) e.ask
-adds-length config h e b = ap length (adds-built config h e b) ∙ opened-length config (next h) (length h) (is_effective config h e.by e.ask) e.ask
-
--- ---- all places
-
-quiet_back : (config : SpaceConfig) (es : List Event) → AllBuilt es → AllByRecursion IsQuiet (places_back config es)
-unfolding places_back
-quiet_back config [] b = tt
-quiet_back config (e ∷ es) b = (quiet-place config (places_back config es) e b.0, quiet_back config es b.1)
-
-pub quiet : (config : SpaceConfig) (events : List Event) → AllBuilt (reverse events) → AllByRecursion IsQuiet (places config events)
-unfolding places
-quiet config events b = quiet_back config (reverse events) b
-
-none-begun : (p : Place) → IsQuiet p → name_begun p ≡ []
-none-begun p q = ap (λ b. if p.effective && is_none p.name_stood_for then option_to_list b else []) q.binds ∙ none-either (p.effective && is_none p.name_stood_for)
-
-pub no-names : (h : List Place) → AllByRecursion IsQuiet h → names h ≡ []
-unfolding names
-no-names [] q = refl
-no-names (p ∷ h) q = ap (λ l. filter (λ n. not (unbinds p n)) l ++ name_begun p) (no-names h q.1) ∙ none-begun p q.0
-
-pub no-names_of : (h : List Place) (o : ObjId) → AllByRecursion IsQuiet h → names_of h o ≡ []
-unfolding names_of
-no-names_of h o q = rw (no-names h q) refl
-
-pub not-named : (h : List Place) (o : ObjId) → AllByRecursion IsQuiet h → is_named h o ≡ false
-unfolding is_named
-not-named h o q = rw (no-names h q) refl
+pub adds-length : (config : SpaceConfig) (h : List Place) (e : Event) → length (place_of config h e).exported_here ≡ opens (is_effective config h e.by e.ask) e.ask
+adds-length config h e = ap length (adds-are config h e) ∙ opened-length config (next h) (length h) (is_effective config h e.by e.ask) e.ask

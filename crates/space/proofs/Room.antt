@@ -1,14 +1,17 @@
 -- When an event is refused, by what is kept.
-use Rattle.std.proofs.Common.{◌≡◌, ℕ, ◌+◌, ◌≤◌, List, [], ◌++◌, length, refl, ap, ◌∙◌, arith, max, Option, Some, None, append-nil}
-use Rattle.std.specs.Prelude.{filter, Bool, true, false, ◌&&◌, nat_lt, if◌then◌else◌}
-use Rattle.std.specs.List.{AllByRecursion}
-use Rattle.std.proofs.lemmas.Bool.{le-ltb}
+use Rattle.std.proofs.Common.{◌≡◌, ℕ, ◌+◌, ◌≤◌, inl, inr, List, [], ◌∷◌, ◌++◌, length, refl, ap, sym, subst, ◌∙◌, arith, max, Option, Some, None, append-nil, length-append}
+use Rattle.std.specs.Prelude.{filter, Bool, true, false, ◌&&◌, ◌||◌, nat_lt, nat_le, is_none, is_some, option_to_list, if◌then◌else◌}
+use Rattle.std.specs.List.{list_any}
+use Rattle.std.proofs.str.Laws.{order}
+use Rattle.std.proofs.lemmas.Bool.{le-ltb, lt-ltb, le-leb, lt-leb}
+use Rattle.std.proofs.lemmas.List.Folds.{list_any-append}
 use Rattle.object_ids.specs.declared.ids.FullKind.TheVariants.{Exports, Awaiting, Clients, Pairs, Names}
+use Rattle.object_ids.specs.declared.ids.ObjId.{ObjId}
 use Rattle.object_ids.specs.Same.{same_client, same_bytes}
 use Rattle.history.specs.declared.asks.SpaceConfig.{SpaceConfig}
 use Rattle.history.specs.declared.asks.Event.{Event}
 use Rattle.history.specs.declared.asks.Ask.{Ask}
-use Rattle.history.specs.declared.asks.Ask.TheVariants.{Dirty, Clean}
+use Rattle.history.specs.declared.asks.Ask.TheVariants.{Dirty, Clean, Bind, Rebind}
 use Rattle.history.specs.declared.limits.TheConstants.{MAX_EXPORTS, MAX_AWAITING, MAX_CLIENTS, MAX_PAIRS, MAX_NAMES, MAX_UNITS}
 use Rattle.history.specs.declared.places.Place.{Place}
 use Rattle.history.specs.declared.replies.Refused.{Refused}
@@ -17,20 +20,22 @@ use Rattle.history.specs.Awaiting.{same_returned, returned, awaiting}
 use Rattle.history.specs.LeaseCalls.{lease_calls}
 use Rattle.history.specs.Leases.{clients_with_time_left, same_pair, pairs_with}
 use Rattle.history.specs.Limits.{units_of, units, reserved, is_begin, is_end, limits, exports_with_event, awaiting_with_event, lease_call, clients_with_event, pairs_with_event, names_with_event, is_full, refusal}
-use Rattle.history.specs.Lists.{distinct}
+use Rattle.history.specs.Lists.{distinct, AllOnce}
+use Rattle.history.specs.Names.{name_bound, names, stands_for}
 use Rattle.history.specs.Places.{has, now}
 use Rattle.history.specs.Replies.{ids}
-use Rattle.history.specs.Table.{is_effective, table, place_of}
+use Rattle.history.specs.Table.{is_effective, table, place_of, places}
 use Rattle.history.proofs.AwaitingLaws.{returned-equality, awaiting-member}
-use Rattle.history.proofs.ListLemmas.{AllOnce-distinct, list_any-distinct}
+use Rattle.history.proofs.ListLemmas.{AllOnce-distinct, AllOnce-push, length-members, list_any-distinct, or_false}
+use Rattle.history.proofs.NameLaws.{bytes-equality, names-member, names-once}
 use Rattle.history.proofs.TableLaws.{moment-place_of}
 use Rattle.dgc_server.specs.Counts.{dirty_call, clean_call}
-use Rattle.space.specs.Acts.{opens, room_refusal, lease_refusal, first_of_two}
-use Rattle.space.specs.Built.{IsBuilt}
+use Rattle.space.specs.Acts.{opens, room_refusal, lease_refusal, name_refusal, first_of_two}
 use Rattle.space.specs.Kept.{live_calls, IsWithin}
 use Rattle.space.proofs.Clients.{fewer-left}
 use Rattle.space.proofs.LimitLaws.{awaiting-later, pairs-later, pairs-told, clients-told}
-use Rattle.space.proofs.Quiet.{IsQuiet, quiet-place, adds-length, no-names}
+use Rattle.space.proofs.Acting.{stood_for}
+use Rattle.space.proofs.Quiet.{adds-length}
 use Rattle.export_table.proofs.WaitLaws.{count-awaiting}
 
 -- ---- the history, and the exported objects
@@ -41,9 +46,9 @@ pub full-is : (limit : ℕ) (config : SpaceConfig) (h : List Place) (e : Event) 
 unfolding is_full place_of
 full-is limit config h e = refl
 
-pub exports-is : (config : SpaceConfig) (h : List Place) (e : Event) → IsBuilt e.ask → exports_with_event config h e ≡ length (table config h) + opens (is_effective config h e.by e.ask) e.ask
+pub exports-is : (config : SpaceConfig) (h : List Place) (e : Event) → exports_with_event config h e ≡ length (table config h) + opens (is_effective config h e.by e.ask) e.ask
 unfolding exports_with_event
-exports-is config h e b = ap (λ n. length (table config h) + n) (adds-length config h e b)
+exports-is config h e = ap (λ n. length (table config h) + n) (adds-length config h e)
 
 -- ---- what stays empty
 
@@ -63,16 +68,76 @@ awaiting-few config h e b w =
     let few = w.awaits in
     omega (arith, none, whole, once, later, few)
 
-names-is : (config : SpaceConfig) (h : List Place) (e : Event) → AllByRecursion IsQuiet h → IsBuilt e.ask → names_with_event config h e ≡ 0
-unfolding names_with_event place_of
-names-is config h e q b = rw (no-names h q, (quiet-place config h e b).binds) (go (place_of config h e).effective)
-  where
-    nothing : List (List ℕ)
-    nothing = []
+-- ---- names
 
-    go : (v : Bool) → length (distinct same_bytes (nothing ++ (if v then nothing else nothing))) ≡ 0
-    go true = refl
-    go false = refl
+-- How many names one more name adds, which is there or is new.
+abbrev added_by : Bool → ℕ
+added_by b = if b then 0 else 1
+
+-- One more name in a list where none stands twice.
+one-more : (ns : List (List ℕ)) (n : List ℕ) → AllOnce same_bytes ns → length (distinct same_bytes (ns ++ n ∷ [])) ≡ length ns + added_by (list_any (same_bytes n) ns)
+one-more ns n once = go (list_any (same_bytes n) ns) refl
+  where
+    respects : (k : List ℕ) (x y : List ℕ) → same_bytes x y ≡ true → same_bytes k x ≡ same_bytes k y
+    respects k x y s = ap (same_bytes k) (bytes-equality.equal x y s)
+
+    members : (k : List ℕ) → list_any (same_bytes k) (distinct same_bytes (ns ++ n ∷ [])) ≡ (list_any (same_bytes k) ns || (same_bytes k n || false))
+    members k = list_any-distinct same_bytes (same_bytes k) (respects k) (ns ++ n ∷ []) ∙ list_any-append (same_bytes k) ns (n ∷ [])
+
+    go : (b : Bool) → list_any (same_bytes n) ns ≡ b → length (distinct same_bytes (ns ++ n ∷ [])) ≡ length ns + added_by b
+    go true t = let same = length-members same_bytes bytes-equality (distinct same_bytes (ns ++ n ∷ [])) ns (AllOnce-distinct same_bytes bytes-equality (ns ++ n ∷ [])) once (λ k. members k ∙ there k (same_bytes k n) refl) in omega (arith, same)
+      where
+        there : (k : List ℕ) (c : Bool) → same_bytes k n ≡ c → (list_any (same_bytes k) ns || (c || false)) ≡ list_any (same_bytes k) ns
+        there k true s = let P : List ℕ → Type 0 = λ z. list_any (same_bytes z) ns ≡ true in let in_it : list_any (same_bytes k) ns ≡ true = subst P (sym (bytes-equality.equal k n s)) t in rw in_it refl
+        there k false s = or_false (list_any (same_bytes k) ns)
+    go false t =
+        let same = length-members same_bytes bytes-equality (distinct same_bytes (ns ++ n ∷ [])) (ns ++ n ∷ []) (AllOnce-distinct same_bytes bytes-equality (ns ++ n ∷ [])) (AllOnce-push same_bytes bytes-equality ns n once t)
+        (λ k. list_any-distinct same_bytes (same_bytes k) (respects k) (ns ++ n ∷ [])) in
+        let long = length-append ns (n ∷ []) in omega (arith, same, long)
+
+pub names-refused : (config : SpaceConfig) (events : List Event) (e : Event) → length (names (places config events)) ≤ MAX_NAMES →
+    (if nat_lt MAX_NAMES (names_with_event config (places config events) e) then Some (Full Names) else None)
+    ≡ name_refusal (length (names (places config events))) (stood_for (places config events) e.ask) (is_effective config (places config events) e.by e.ask) e.ask
+unfolding names_with_event place_of
+names-refused config events e few = go (is_effective config (places config events) e.by e.ask) e.ask
+  where
+    ns : List (List ℕ)
+    ns = names (places config events)
+
+    full : Bool → Option Refused
+    full b = if b then Some (Full Names) else None
+
+    unchanged : (b : Bool) (rest : List (List ℕ)) → rest ≡ [] → b ≡ false → full (nat_lt MAX_NAMES (length (distinct same_bytes (ns ++ rest)))) ≡ full b
+    unchanged b rest e f =
+        let whole = ap (λ l. length (distinct same_bytes (ns ++ l))) e ∙ ap (λ l. length (distinct same_bytes l)) (none-more ns) in
+        let same = length-members same_bytes bytes-equality (distinct same_bytes ns) ns (AllOnce-distinct same_bytes bytes-equality ns) (names-once config events)
+        (λ k. list_any-distinct same_bytes (same_bytes k) (λ x y s. ap (same_bytes k) (bytes-equality.equal x y s)) ns) in
+        ap full (le-ltb MAX_NAMES (length (distinct same_bytes (ns ++ rest))) (omega (arith, few, whole, same)) ∙ sym f)
+
+    bound : (n : List ℕ) (s : Option ObjId) → stands_for (places config events) n ≡ s → full (nat_lt MAX_NAMES (length (distinct same_bytes (ns ++ n ∷ [])))) ≡ full (is_none s && nat_le MAX_NAMES (length ns))
+    bound n (Some o) s =
+        let more = one-more ns n (names-once config events) in
+        let there : added_by (list_any (same_bytes n) ns) ≡ 0 = ap added_by (names-member config events n ∙ ap is_some s) in
+        ap full (le-ltb MAX_NAMES (length (distinct same_bytes (ns ++ n ∷ []))) (omega (arith, few, more, there)))
+    bound n None s =
+        let more = one-more ns n (names-once config events) in
+        let there : added_by (list_any (same_bytes n) ns) ≡ 1 = ap added_by (names-member config events n ∙ ap is_some s) in
+        ap full (ap (nat_lt MAX_NAMES) (more ∙ ap (λ k. length ns + k) there) ∙ passes MAX_NAMES (length ns))
+      where
+        passes : (m k : ℕ) → nat_lt m (k + 1) ≡ nat_le m k
+        passes m k = elim (order k m) [
+          | inl less ↦ le-ltb m (k + 1) (omega (arith, less)) ∙ sym (lt-leb m k less)
+          | inr more ↦ lt-ltb m (k + 1) (omega (arith, more)) ∙ sym (le-leb m k (omega (arith, more)))
+        ]
+
+    go : (v : Bool) (a : Ask) → full (nat_lt MAX_NAMES (length (distinct same_bytes (ns ++ (if v then option_to_list (name_bound a) else [])))))
+        ≡ name_refusal (length ns) (stood_for (places config events) a) v a
+    go true (Bind n o) = bound n (stands_for (places config events) n) refl
+    go true (Rebind n o) = bound n (stands_for (places config events) n) refl
+    go true _ = unchanged false [] refl refl
+    go false (Bind n o) = unchanged false [] refl refl
+    go false (Rebind n o) = unchanged false [] refl refl
+    go false _ = unchanged false [] refl refl
 
 -- ---- the lease call, whatever is asked
 
@@ -124,31 +189,35 @@ call-is config h e w = go e.ask
 
 -- ---- the first cause
 
-chain : (a b c d e f : Bool) (await more : Option Refused) → (if c then Some (Full Awaiting) else None) ≡ await → f ≡ false → (if d then Some (Full Clients) else if e then Some (Full Pairs) else None) ≡ more →
+chain : (a b c d e f : Bool) (await more named : Option Refused) → (if c then Some (Full Awaiting) else None) ≡ await → (if f then Some (Full Names) else None) ≡ named → (if d then Some (Full Clients) else if e then Some (Full Pairs) else None) ≡ more →
     (if a then Some HistoryFull else if b then Some (Full Exports) else if c then Some (Full Awaiting) else if d then Some (Full Clients) else if e then Some (Full Pairs) else if f then Some (Full Names) else None)
-    ≡ first_of_two (if a then Some HistoryFull else if b then Some (Full Exports) else None) (first_of_two await more)
-chain true b c d e f await more g h m = refl
-chain false true c d e f await more g h m = refl
-chain false false true d e f await more g h m = ap (λ o. first_of_two o more) g
-chain false false false d e true await more g h m = absurd (cc)
-chain false false false true e false await more g h m = m ∙ ap (λ o. first_of_two o more) g
-chain false false false false true false await more g h m = m ∙ ap (λ o. first_of_two o more) g
-chain false false false false false false await more g h m = m ∙ ap (λ o. first_of_two o more) g
+    ≡ first_of_two (if a then Some HistoryFull else if b then Some (Full Exports) else None) (first_of_two await (first_of_two more named))
+chain true b c d e f await more named g h m = refl
+chain false true c d e f await more named g h m = refl
+chain false false true d e f await more named g h m = ap (λ o. first_of_two o (first_of_two more named)) g
+chain false false false true e f await more named g h m = ap (λ o. first_of_two o named) m ∙ ap (λ o. first_of_two o (first_of_two more named)) g
+chain false false false false true f await more named g h m = ap (λ o. first_of_two o named) m ∙ ap (λ o. first_of_two o (first_of_two more named)) g
+chain false false false false false f await more named g h m = h ∙ ap (λ o. first_of_two o named) m ∙ ap (λ o. first_of_two o (first_of_two more named)) g
 
--- THE REFUSAL of an event is that for want of room, then that of the references that it returns, and then that of its lease call.
-pub refusal-is : (config : SpaceConfig) (h : List Place) (e : Event) (await : Option Refused) → AllByRecursion IsQuiet h → IsBuilt e.ask → IsWithin config h →
+-- THE REFUSAL of an event is that for want of room, then that of the references that it returns, then that of its lease call, and then that
+-- of the name that it binds.
+pub refusal-is : (config : SpaceConfig) (h : List Place) (e : Event) (await named : Option Refused) → IsWithin config h →
     (if nat_lt MAX_AWAITING (awaiting_with_event config h e) then Some (Full Awaiting) else None) ≡ await →
+    (if nat_lt MAX_NAMES (names_with_event config h e) then Some (Full Names) else None) ≡ named →
     refusal limits config h e
     ≡ first_of_two (room_refusal (units h) (reserved h) (length (table config h)) (is_effective config h e.by e.ask) e.ask)
-    (first_of_two await (lease_refusal config.lease_ms (max e.moment (now h)) (live_calls (table config h) (lease_calls h)) (lease_call config h e)))
+    (first_of_two await (first_of_two (lease_refusal config.lease_ms (max e.moment (now h)) (live_calls (table config h) (lease_calls h)) (lease_call config h e)) named))
 unfolding refusal
-refusal-is config h e await q b w g =
+refusal-is config h e await named w g k =
     chain (is_full MAX_UNITS config h e) (nat_lt MAX_EXPORTS (exports_with_event config h e)) (nat_lt MAX_AWAITING (awaiting_with_event config h e)) (nat_lt MAX_CLIENTS (clients_with_event config h e)) (nat_lt MAX_PAIRS (pairs_with_event config h e)) (nat_lt MAX_NAMES (names_with_event config h e))
-    await (lease_refusal config.lease_ms (max e.moment (now h)) (live_calls (table config h) (lease_calls h)) (lease_call config h e))
-    g (ap (nat_lt MAX_NAMES) (names-is config h e q b)) (call-is config h e w)
-    ∙ two _ _ _ _ (full-is MAX_UNITS config h e) (exports-is config h e b)
+    await (lease_refusal config.lease_ms (max e.moment (now h)) (live_calls (table config h) (lease_calls h)) (lease_call config h e)) named
+    g k (call-is config h e w)
+    ∙ two _ _ _ _ (full-is MAX_UNITS config h e) (exports-is config h e)
   where
+    later : Option Refused
+    later = first_of_two await (first_of_two (lease_refusal config.lease_ms (max e.moment (now h)) (live_calls (table config h) (lease_calls h)) (lease_call config h e)) named)
+
     two : (a b : Bool) (n m : ℕ) → a ≡ b → n ≡ m →
-        first_of_two (if a then Some HistoryFull else if nat_lt MAX_EXPORTS n then Some (Full Exports) else None) (first_of_two await (lease_refusal config.lease_ms (max e.moment (now h)) (live_calls (table config h) (lease_calls h)) (lease_call config h e)))
-        ≡ first_of_two (if b then Some HistoryFull else if nat_lt MAX_EXPORTS m then Some (Full Exports) else None) (first_of_two await (lease_refusal config.lease_ms (max e.moment (now h)) (live_calls (table config h) (lease_calls h)) (lease_call config h e)))
+        first_of_two (if a then Some HistoryFull else if nat_lt MAX_EXPORTS n then Some (Full Exports) else None) later
+        ≡ first_of_two (if b then Some HistoryFull else if nat_lt MAX_EXPORTS m then Some (Full Exports) else None) later
     two a b n m p r = rw (p, r) refl

@@ -33,7 +33,6 @@ use Rattle.space.specs.Kept.{HasDurations, live_calls, Keeps}
 use Rattle.space.specs.Summary.{counts_text}
 use Rattle.export_table.specs.Stands.{reference_of, end_of, row_of}
 use Rattle.space.proofs.LiveLaws.{left-live}
-use Rattle.space.proofs.Quiet.{quiet, no-names}
 use Rattle.space.proofs.RowLaws.{pairs-counted-live}
 use Rattle.export_table.proofs.StandLaws.{awaiting-counted}
 use Rattle.history.proofs.NamedLaws.{by-events}
@@ -69,13 +68,14 @@ summary-is config events = refl
 
 -- THE COUNTS of what is kept.
 counts-are : (config : SpaceConfig) (events : List Event) (leases : LeaseTable) (exports : ExportTable) (runs : List Run) (withdrawn : List Withdrawal) (told opened used moment : ℕ) → Keeps config events leases exports runs withdrawn told opened used moment →
-    (clients pairs_left : ℕ) → clients ≡ length (lease_rows config.lease_ms moment (live_calls (table config (places config events)) (lease_calls (places config events)))) →
+    (clients pairs_left bound : ℕ) → clients ≡ length (lease_rows config.lease_ms moment (live_calls (table config (places config events)) (lease_calls (places config events)))) →
     pairs_left ≡ length (pairs config.lease_ms moment (live_calls (table config (places config events)) (lease_calls (places config events)))) →
-    ◌≡◌ {A = Counts} (record { objects = length exports.rows; clients = clients; pairs = pairs_left; awaiting = length (waiting moment exports.waits); names = 0; withdrawn = length withdrawn })
+    bound ≡ length (names (places config events)) →
+    ◌≡◌ {A = Counts} (record { objects = length exports.rows; clients = clients; pairs = pairs_left; awaiting = length (waiting moment exports.waits); names = bound; withdrawn = length withdrawn })
     (counted config (places config events))
-counts-are config events leases exports runs withdrawn told opened used moment k clients pairs_left c p =
+counts-are config events leases exports runs withdrawn told opened used moment k clients pairs_left bound c p n =
     let h = places config events in let live = live_calls (table config (places config events)) (lease_calls (places config events)) in
-    six (length exports.rows) clients pairs_left (length (waiting moment exports.waits)) 0 (length withdrawn)
+    six (length exports.rows) clients pairs_left (length (waiting moment exports.waits)) bound (length withdrawn)
     (length (table config h)) (length (clients_with_time_left config.lease_ms (now h) (lease_calls h))) (length (pairs_with config.lease_ms (now h) (lease_calls h) (ids (table config h))))
     (length (awaiting config.ack_ms (now h) h)) (length (names h)) (length (withdrawals config h))
     (ap length k.stands.rows_are ∙ length-map (row_of h) (table config h))
@@ -83,7 +83,7 @@ counts-are config events leases exports runs withdrawn told opened used moment k
     ∙ ap (λ t. length (clients_with_time_left config.lease_ms t (lease_calls h))) k.stands.moment_is)
     (p ∙ sym (pairs-counted-live config events moment) ∙ ap (λ t. length (pairs_with config.lease_ms t (lease_calls h) (ids (table config h)))) k.stands.moment_is)
     (sym (awaiting-counted reference_of end_of config.ack_ms moment moment h exports.waits (omega arith) k.stands.waits_stand) ∙ ap (λ t. length (awaiting config.ack_ms t h)) k.stands.moment_is)
-    (sym (ap length (no-names h (quiet config events k.built))))
+    n
     (ap length k.stands.withdrawn_are)
 
 events-are : (config : SpaceConfig) (events : List Event) (used moment : ℕ) → used ≡ units (places config events) → moment ≡ now (places config events) → events_text (length events) used moment ≡ events_line (places config events)
@@ -100,7 +100,7 @@ pub summarized : (config : SpaceConfig) (events : List Event) (leases : LeaseTab
     record { configuration = config; events = events } ≡ s → Keeps config events leases exports runs withdrawn told opened used moment →
     ((lease m : ℕ) (calls : List Call) → StandsFor lease leases m calls → rows ≡ lease_rows lease (max moment m) calls) →
     ((lease m : ℕ) (calls : List Call) → StandsFor lease leases m calls → counts.pairs ≡ length (pairs lease (max moment m) calls)) →
-    counts.objects ≡ length exports.rows → counts.clients ≡ length rows → counts.awaiting ≡ length (waiting moment exports.waits) → counts.names ≡ 0 → counts.withdrawn ≡ length withdrawn →
+    counts.objects ≡ length exports.rows → counts.clients ≡ length rows → counts.awaiting ≡ length (waiting moment exports.waits) → counts.names ≡ length (names (places config events)) → counts.withdrawn ≡ length withdrawn →
     start ≡ [] → first ≡ start ++ events_text (length events) used moment → second ≡ first ++ counts_text counts →
     second ≡ summary s.configuration s.events
 summarized config events leases exports runs withdrawn told opened used moment rows counts start first second s v k of_rows of_pairs o c a n w empty one two =
@@ -109,8 +109,8 @@ summarized config events leases exports runs withdrawn told opened used moment r
     let P : SpaceHistory → Type 0 = λ x. second ≡ summary x.configuration x.events in
     let clients = c ∙ ap length (of_rows config.lease_ms moment live k.stands.leases_stand ∙ ap (λ (t : ℕ). lease_rows config.lease_ms t live) same) in
     let pairs_left = of_pairs config.lease_ms moment live k.stands.leases_stand ∙ ap (λ (t : ℕ). length (pairs config.lease_ms t live)) same in
-    let all = six counts.objects counts.clients counts.pairs counts.awaiting counts.names counts.withdrawn (length exports.rows) counts.clients counts.pairs (length (waiting moment exports.waits)) 0 (length withdrawn) o refl refl a n w
-    ∙ counts-are config events leases exports runs withdrawn told opened used moment k counts.clients counts.pairs clients pairs_left in
+    let all = six counts.objects counts.clients counts.pairs counts.awaiting counts.names counts.withdrawn (length exports.rows) counts.clients counts.pairs (length (waiting moment exports.waits)) counts.names (length withdrawn) o refl refl a refl w
+    ∙ counts-are config events leases exports runs withdrawn told opened used moment k counts.clients counts.pairs counts.names clients pairs_left n in
     subst P v (
     two ∙ ap (λ (x : Counts). first ++ counts_text x) all
     ∙ ap (λ (t : List ℕ). t ++ counts_text (counted config (places config events)))

@@ -11,6 +11,7 @@ use Rattle.history.specs.declared.replies.Turn.{Turn}
 use Rattle.object_ids.specs.declared.ids.ObjId.{ObjId}
 use Rattle.history.specs.LeaseCalls.{call_with, lease_calls}
 use Rattle.history.specs.Limits.{units_of, limits, refusal}
+use Rattle.history.specs.Names.{names}
 use Rattle.history.specs.Places.{has, now}
 use Rattle.history.specs.Steps.{Step}
 use Rattle.history.specs.Table.{is_effective, table, place_of, places}
@@ -19,8 +20,8 @@ use Rattle.export_table.specs.Rows.{is_row_kept as row_kept, held_by, without_al
 use Rattle.export_table.specs.Table.{ExportTable, Room}
 use Rattle.export_table.specs.Waits.{waiting}
 use Rattle.space.specs.declared.runs.Run.{Run}
-use Rattle.space.specs.Acts.{ForEachLogBy, effective_by, acted, acted_runs, opens, reply_at, withdrawal_at, told_after, room_refusal, await_refusal, lease_refusal, first_of_two, Agrees}
-use Rattle.space.specs.Built.{IsBuilt, SpaceHistory}
+use Rattle.space.specs.Acts.{ForEachLogBy, effective_by, acted, acted_runs, opens, reply_at, withdrawal_at, told_after, room_refusal, await_refusal, told_refusal, first_of_two, Agrees}
+use Rattle.space.specs.Built.{SpaceHistory}
 use Rattle.space.specs.Kept.{live_calls, Keeps}
 use Rattle.std.specs.Prelude.{false, filter}
 use Rattle.std.proofs.Math.Seq.{drop-append_seam}
@@ -31,7 +32,7 @@ use Rattle.export_table.specs.declared.rows.Export.{Export}
 use Rattle.export_table.specs.declared.waits.Wait.{Wait}
 use Rattle.space.specs.Runs.{RunsStand, caller_of, object_of}
 use Rattle.export_table.specs.Stands.{WaitsStand, reference_of, end_of}
-use Rattle.space.proofs.Acting.{rows-act, waits-act, runs-act, effective-is}
+use Rattle.space.proofs.Acting.{rows-act, waits-act, runs-act, effective-is, stood_for}
 use Rattle.space.proofs.Keeping.{IsActed, told_calls, going_now, left, withdrawn_then, keeps-push, call-alike, rows-has, refusal-kept, turn-is, step-refused, step-taken, step-agrees}
 
 pub none-else : (o : Option Refused) → ((r : Refused) → o ≡ Some r → ⊥) → o ≡ None
@@ -41,30 +42,31 @@ none-else (Some r) n = absurd (n r refl)
 -- WHAT IS KNOWN of a turn before it acts: what is kept, and what its tests answered.
 pub record IsAsked (config : SpaceConfig) (events : List Event) (e : Event) (leases : LeaseTable) (exports : ExportTable) (runs : List Run) (withdrawn : List Withdrawal) (told opened used moment : ℕ) (effective : Bool) : Type 0 where
   pub keeps : Keeps config events leases exports runs withdrawn told opened used moment
-  pub built : IsBuilt e.ask
-  pub tested : effective ≡ effective_by exports.rows runs e.by e.ask
+  pub tested : effective ≡ effective_by exports.rows runs (stood_for (places config events) e.ask) e.by e.ask
 
 pub is-effective : (config : SpaceConfig) (events : List Event) (e : Event) (leases : LeaseTable) (exports : ExportTable) (runs : List Run) (withdrawn : List Withdrawal) (told opened used moment : ℕ) (effective : Bool) →
     IsAsked config events e leases exports runs withdrawn told opened used moment effective → effective ≡ is_effective config (places config events) e.by e.ask
 is-effective config events e leases exports runs withdrawn told opened used moment effective q =
-    q.tested ∙ effective-is config events e.by e.ask exports.rows runs q.built q.keeps.stands.rows_are q.keeps.stands.runs_stand
+    q.tested ∙ effective-is config events e.by e.ask exports.rows runs q.keeps.stands.rows_are q.keeps.stands.runs_stand
 
 -- The refusal, by the tests.
 refused-as : (config : SpaceConfig) (events : List Event) (e : Event) (leases : LeaseTable) (exports : ExportTable) (runs : List Run) (withdrawn : List Withdrawal) (told opened used moment : ℕ) (effective : Bool) →
     IsAsked config events e leases exports runs withdrawn told opened used moment effective →
     refusal limits config (places config events) e
     ≡ first_of_two (room_refusal used (length runs) (length exports.rows) effective e.ask)
-    (first_of_two (await_refusal (max e.moment moment) exports.rows exports.waits effective e.ask)
-    (lease_refusal config.lease_ms (max e.moment moment) (live_calls (table config (places config events)) (lease_calls (places config events))) (call_with (is_exported exports.rows) (max e.moment moment) e.ask)))
+    (first_of_two (await_refusal (max e.moment moment) exports.rows exports.waits (stood_for (places config events) e.ask) effective e.ask)
+    (told_refusal config.lease_ms (max e.moment moment) (live_calls (table config (places config events)) (lease_calls (places config events))) (call_with (is_exported exports.rows) (max e.moment moment) e.ask) (length (names (places config events))) (stood_for (places config events) e.ask) effective e.ask))
 refused-as config events e leases exports runs withdrawn told opened used moment effective q =
-    refusal-kept config events e leases exports runs withdrawn told opened used moment q.keeps q.built
+    refusal-kept config events e leases exports runs withdrawn told opened used moment q.keeps
     ∙ three _ _ _ _ _ _ (sym (is-effective config events e leases exports runs withdrawn told opened used moment effective q)) (ap (max e.moment) (sym q.keeps.stands.moment_is))
     (call-alike (has (table config (places config events))) (is_exported exports.rows) (λ o. sym (rows-has config events leases exports runs withdrawn told opened used moment q.keeps o)) (max e.moment (now (places config events))) e.ask
     ∙ ap (λ n. call_with (is_exported exports.rows) n e.ask) (ap (max e.moment) (sym q.keeps.stands.moment_is)))
   where
     three : (a b : Bool) (n m : ℕ) (x y : List _) → a ≡ b → n ≡ m → x ≡ y →
-        first_of_two (room_refusal used (length runs) (length exports.rows) a e.ask) (first_of_two (await_refusal n exports.rows exports.waits a e.ask) (lease_refusal config.lease_ms n (live_calls (table config (places config events)) (lease_calls (places config events))) x))
-        ≡ first_of_two (room_refusal used (length runs) (length exports.rows) b e.ask) (first_of_two (await_refusal m exports.rows exports.waits b e.ask) (lease_refusal config.lease_ms m (live_calls (table config (places config events)) (lease_calls (places config events))) y))
+        first_of_two (room_refusal used (length runs) (length exports.rows) a e.ask) (first_of_two (await_refusal n exports.rows exports.waits (stood_for (places config events) e.ask) a e.ask)
+        (told_refusal config.lease_ms n (live_calls (table config (places config events)) (lease_calls (places config events))) x (length (names (places config events))) (stood_for (places config events) e.ask) a e.ask))
+        ≡ first_of_two (room_refusal used (length runs) (length exports.rows) b e.ask) (first_of_two (await_refusal m exports.rows exports.waits (stood_for (places config events) e.ask) b e.ask)
+        (told_refusal config.lease_ms m (live_calls (table config (places config events)) (lease_calls (places config events))) y (length (names (places config events))) (stood_for (places config events) e.ask) b e.ask))
     three a b n m x y p r s = rw (p, r, s) refl
 
 -- There was no room.
@@ -73,30 +75,30 @@ pub room-step : (config : SpaceConfig) (events : List Event) (e : Event) (leases
 room-step config events e leases exports runs withdrawn told opened used moment effective refused q r =
     step-refused config events e refused (
     refused-as config events e leases exports runs withdrawn told opened used moment effective q
-    ∙ ap (λ x. first_of_two x (first_of_two (await_refusal (max e.moment moment) exports.rows exports.waits effective e.ask)
-    (lease_refusal config.lease_ms (max e.moment moment) (live_calls (table config (places config events)) (lease_calls (places config events))) (call_with (is_exported exports.rows) (max e.moment moment) e.ask)))) r)
+    ∙ ap (λ x. first_of_two x (first_of_two (await_refusal (max e.moment moment) exports.rows exports.waits (stood_for (places config events) e.ask) effective e.ask)
+    (told_refusal config.lease_ms (max e.moment moment) (live_calls (table config (places config events)) (lease_calls (places config events))) (call_with (is_exported exports.rows) (max e.moment moment) e.ask) (length (names (places config events))) (stood_for (places config events) e.ask) effective e.ask))) r)
 
 -- The refusal where there was room.
 refused-then : (config : SpaceConfig) (events : List Event) (e : Event) (leases : LeaseTable) (exports : ExportTable) (runs : List Run) (withdrawn : List Withdrawal) (told opened used moment : ℕ) (effective : Bool) →
     IsAsked config events e leases exports runs withdrawn told opened used moment effective → room_refusal used (length runs) (length exports.rows) effective e.ask ≡ None →
     refusal limits config (places config events) e
-    ≡ first_of_two (await_refusal (max e.moment moment) exports.rows exports.waits effective e.ask)
-    (lease_refusal config.lease_ms (max e.moment moment) (live_calls (table config (places config events)) (lease_calls (places config events))) (call_with (is_exported exports.rows) (max e.moment moment) e.ask))
+    ≡ first_of_two (await_refusal (max e.moment moment) exports.rows exports.waits (stood_for (places config events) e.ask) effective e.ask)
+    (told_refusal config.lease_ms (max e.moment moment) (live_calls (table config (places config events)) (lease_calls (places config events))) (call_with (is_exported exports.rows) (max e.moment moment) e.ask) (length (names (places config events))) (stood_for (places config events) e.ask) effective e.ask)
 refused-then config events e leases exports runs withdrawn told opened used moment effective q none =
     refused-as config events e leases exports runs withdrawn told opened used moment effective q
-    ∙ ap (λ x. first_of_two x (first_of_two (await_refusal (max e.moment moment) exports.rows exports.waits effective e.ask)
-    (lease_refusal config.lease_ms (max e.moment moment) (live_calls (table config (places config events)) (lease_calls (places config events))) (call_with (is_exported exports.rows) (max e.moment moment) e.ask)))) none
+    ∙ ap (λ x. first_of_two x (first_of_two (await_refusal (max e.moment moment) exports.rows exports.waits (stood_for (places config events) e.ask) effective e.ask)
+    (told_refusal config.lease_ms (max e.moment moment) (live_calls (table config (places config events)) (lease_calls (places config events))) (call_with (is_exported exports.rows) (max e.moment moment) e.ask) (length (names (places config events))) (stood_for (places config events) e.ask) effective e.ask))) none
 
 -- There was room, and none for the references that are returned.
 pub await-step : (config : SpaceConfig) (events : List Event) (e : Event) (leases : LeaseTable) (exports : ExportTable) (runs : List Run) (withdrawn : List Withdrawal) (told opened used moment : ℕ) (effective : Bool) (refused : Refused) →
     IsAsked config events e leases exports runs withdrawn told opened used moment effective → room_refusal used (length runs) (length exports.rows) effective e.ask ≡ None →
-    Agrees {T = Unit {0}} (await_refusal (max e.moment moment) exports.rows exports.waits effective e.ask) (Err refused) → Step config events e (Err refused) events
+    Agrees {T = Unit {0}} (await_refusal (max e.moment moment) exports.rows exports.waits (stood_for (places config events) e.ask) effective e.ask) (Err refused) → Step config events e (Err refused) events
 await-step config events e leases exports runs withdrawn told opened used moment effective refused q none answer =
     let P : Option Refused → Type 0 = λ x. Agrees {T = Unit {0}} x (Err refused) in
     step-agrees config events e refused
     (subst P (sym (refused-then config events e leases exports runs withdrawn told opened used moment effective q none))
-    (first (await_refusal (max e.moment moment) exports.rows exports.waits effective e.ask)
-    (lease_refusal config.lease_ms (max e.moment moment) (live_calls (table config (places config events)) (lease_calls (places config events))) (call_with (is_exported exports.rows) (max e.moment moment) e.ask)) answer))
+    (first (await_refusal (max e.moment moment) exports.rows exports.waits (stood_for (places config events) e.ask) effective e.ask)
+    (told_refusal config.lease_ms (max e.moment moment) (live_calls (table config (places config events)) (lease_calls (places config events))) (call_with (is_exported exports.rows) (max e.moment moment) e.ask) (length (names (places config events))) (stood_for (places config events) e.ask) effective e.ask) answer))
   where
     first : (o more : Option Refused) → Agrees {T = Unit {0}} o (Err refused) → Agrees {T = Unit {0}} (first_of_two o more) (Err refused)
     first o more (inl r) = inl (ap (λ x. first_of_two x more) r)
@@ -104,21 +106,21 @@ await-step config events e leases exports runs withdrawn told opened used moment
 
 -- There was room for both, and the lease table refused.
 pub told-step : (config : SpaceConfig) (events : List Event) (e : Event) (leases : LeaseTable) (exports : ExportTable) (runs : List Run) (withdrawn : List Withdrawal) (told opened used moment : ℕ) (effective : Bool) (refused : Refused) →
-    IsAsked config events e leases exports runs withdrawn told opened used moment effective → room_refusal used (length runs) (length exports.rows) effective e.ask ≡ None → await_refusal (max e.moment moment) exports.rows exports.waits effective e.ask ≡ None →
-    ForEachLogBy (max e.moment moment) leases (λ lease calls. Agrees {T = Unit {0}} (lease_refusal lease (max e.moment moment) calls (call_with (is_exported exports.rows) (max e.moment moment) e.ask)) (Err refused)) → Step config events e (Err refused) events
+    IsAsked config events e leases exports runs withdrawn told opened used moment effective → room_refusal used (length runs) (length exports.rows) effective e.ask ≡ None → await_refusal (max e.moment moment) exports.rows exports.waits (stood_for (places config events) e.ask) effective e.ask ≡ None →
+    ForEachLogBy (max e.moment moment) leases (λ lease calls. Agrees {T = Unit {0}} (told_refusal lease (max e.moment moment) calls (call_with (is_exported exports.rows) (max e.moment moment) e.ask) (length (names (places config events))) (stood_for (places config events) e.ask) effective e.ask) (Err refused)) → Step config events e (Err refused) events
 told-step config events e leases exports runs withdrawn told opened used moment effective refused q none fit answer =
     let P : Option Refused → Type 0 = λ x. Agrees {T = Unit {0}} x (Err refused) in
     step-agrees config events e refused
     (subst P (sym (refused-then config events e leases exports runs withdrawn told opened used moment effective q none
-    ∙ ap (λ x. first_of_two x (lease_refusal config.lease_ms (max e.moment moment) (live_calls (table config (places config events)) (lease_calls (places config events))) (call_with (is_exported exports.rows) (max e.moment moment) e.ask))) fit))
+    ∙ ap (λ x. first_of_two x (told_refusal config.lease_ms (max e.moment moment) (live_calls (table config (places config events)) (lease_calls (places config events))) (call_with (is_exported exports.rows) (max e.moment moment) e.ask) (length (names (places config events))) (stood_for (places config events) e.ask) effective e.ask)) fit))
     (answer config.lease_ms moment (live_calls (table config (places config events)) (lease_calls (places config events))) q.keeps.stands.leases_stand (omega arith)))
 
 pub taken : (config : SpaceConfig) (events : List Event) (e : Event) (leases : LeaseTable) (exports : ExportTable) (runs : List Run) (withdrawn : List Withdrawal) (told opened used moment : ℕ) (effective : Bool) →
-    IsAsked config events e leases exports runs withdrawn told opened used moment effective → room_refusal used (length runs) (length exports.rows) effective e.ask ≡ None → await_refusal (max e.moment moment) exports.rows exports.waits effective e.ask ≡ None →
-    ForEachLogBy (max e.moment moment) leases (λ lease calls. lease_refusal lease (max e.moment moment) calls (call_with (is_exported exports.rows) (max e.moment moment) e.ask) ≡ None) → refusal limits config (places config events) e ≡ None
+    IsAsked config events e leases exports runs withdrawn told opened used moment effective → room_refusal used (length runs) (length exports.rows) effective e.ask ≡ None → await_refusal (max e.moment moment) exports.rows exports.waits (stood_for (places config events) e.ask) effective e.ask ≡ None →
+    ForEachLogBy (max e.moment moment) leases (λ lease calls. told_refusal lease (max e.moment moment) calls (call_with (is_exported exports.rows) (max e.moment moment) e.ask) (length (names (places config events))) (stood_for (places config events) e.ask) effective e.ask ≡ None) → refusal limits config (places config events) e ≡ None
 taken config events e leases exports runs withdrawn told opened used moment effective q none fit answer =
     refused-then config events e leases exports runs withdrawn told opened used moment effective q none
-    ∙ ap (λ x. first_of_two x (lease_refusal config.lease_ms (max e.moment moment) (live_calls (table config (places config events)) (lease_calls (places config events))) (call_with (is_exported exports.rows) (max e.moment moment) e.ask))) fit
+    ∙ ap (λ x. first_of_two x (told_refusal config.lease_ms (max e.moment moment) (live_calls (table config (places config events)) (lease_calls (places config events))) (call_with (is_exported exports.rows) (max e.moment moment) e.ask) (length (names (places config events))) (stood_for (places config events) e.ask) effective e.ask)) fit
     ∙ answer config.lease_ms moment (live_calls (table config (places config events)) (lease_calls (places config events))) q.keeps.stands.leases_stand (omega arith)
 
 -- WHAT IS KNOWN once it has acted, and nothing is withdrawn yet.
@@ -126,10 +128,10 @@ pub record HasActed (config : SpaceConfig) (events : List Event) (e : Event) (le
   pub asked : IsAsked config events e leases exports runs withdrawn told opened used moment effective
   pub early : e.moment < 2 ^ 62
   pub room : room_refusal used (length runs) (length exports.rows) effective e.ask ≡ None
-  pub fit : await_refusal (max e.moment moment) exports.rows exports.waits effective e.ask ≡ None
-  pub unrefused : ForEachLogBy (max e.moment moment) leases (λ lease calls. lease_refusal lease (max e.moment moment) calls (call_with (is_exported exports.rows) (max e.moment moment) e.ask) ≡ None)
+  pub fit : await_refusal (max e.moment moment) exports.rows exports.waits (stood_for (places config events) e.ask) effective e.ask ≡ None
+  pub unrefused : ForEachLogBy (max e.moment moment) leases (λ lease calls. told_refusal lease (max e.moment moment) calls (call_with (is_exported exports.rows) (max e.moment moment) e.ask) (length (names (places config events))) (stood_for (places config events) e.ask) effective e.ask ≡ None)
   pub told_leases : ForEachLogBy (max e.moment moment) leases (λ lease calls. StandsFor lease leases1 (max e.moment moment) (call_with (is_exported exports.rows) (max e.moment moment) e.ask ++ calls))
-  pub act : t ≡ acted effective (max e.moment moment) e.ask exports
+  pub act : t ≡ acted (stood_for (places config events) e.ask) effective (max e.moment moment) e.ask exports
 
 is-acted : (config : SpaceConfig) (events : List Event) (e : Event) (leases leases1 : LeaseTable) (exports t : ExportTable) (runs : List Run) (withdrawn : List Withdrawal) (told opened used moment : ℕ) (effective : Bool) →
     HasActed config events e leases leases1 exports t runs withdrawn told opened used moment effective → IsActed config events e leases1 t (acted_runs effective e.by e.ask runs)
@@ -145,9 +147,9 @@ is-acted config events e leases leases1 exports t runs withdrawn told opened use
       leases_stand = subst T k.stands.moment_is
           (subst L (call-alike (is_exported exports.rows) (has (table config (places config events))) (rows-has config events leases exports runs withdrawn told opened used moment k) (max e.moment moment) e.ask)
           (a.told_leases config.lease_ms moment (live_calls (table config (places config events)) (lease_calls (places config events))) k.stands.leases_stand (omega arith)));
-      rows_are = ap (λ (x : ExportTable). x.rows) (a.act ∙ ap (λ b. acted b (max e.moment moment) e.ask exports) eff) ∙ rows-act config events e exports (max e.moment moment) a.asked.built k.stands.space_is (k.stands.added_is ∙ k.stands.opened_is) k.stands.rows_are;
-      waits_stand = subst W (sym a.act) (waits-act config events e exports effective (max e.moment moment) a.asked.built (ap (max e.moment) k.stands.moment_is) eff k.stands.space_is k.stands.ack_is (k.stands.added_is ∙ k.stands.opened_is) k.stands.rows_are (subst N k.stands.moment_is k.stands.waits_stand));
-      runs_stand = subst R (sym eff) (runs-act config events e runs a.asked.built k.stands.runs_stand);
+      rows_are = ap (λ (x : ExportTable). x.rows) (a.act ∙ ap (λ b. acted (stood_for (places config events) e.ask) b (max e.moment moment) e.ask exports) eff) ∙ rows-act config events e exports (max e.moment moment) k.stands.space_is (k.stands.added_is ∙ k.stands.opened_is) k.stands.rows_are;
+      waits_stand = subst W (sym a.act) (waits-act config events e exports effective (max e.moment moment) (ap (max e.moment) k.stands.moment_is) eff k.stands.space_is k.stands.ack_is (k.stands.added_is ∙ k.stands.opened_is) k.stands.rows_are (subst N k.stands.moment_is k.stands.waits_stand));
+      runs_stand = subst R (sym eff) (runs-act config events e runs k.stands.runs_stand);
     }
 
 -- ---- what is withdrawn
@@ -178,7 +180,6 @@ keeps-alike config events leases x y runs withdrawn told opened used moment s a 
       early = k.early;
       few_events = k.few_events;
       few_opened = k.few_opened;
-      built = k.built;
       legal = k.legal;
     }
 
@@ -193,23 +194,26 @@ pub record ActsOn (effective : Bool) (a : Ask) (x t : ExportTable) : Type 0 wher
   pub ack : t.ack ≡ x.ack
   pub added : t.added ≡ x.added + opens effective a
 
-pub acts-on : (effective : Bool) (at : ℕ) (a : Ask) (x : ExportTable) → IsBuilt a → ActsOn effective a x (acted effective at a x)
-acts-on effective at (Open kind pinned) x b = record { space = refl; ack = refl; added = refl }
-acts-on true at (Begin o) x b = record { space = refl; ack = refl; added = omega arith }
-acts-on false at (Begin o) x b = record { space = refl; ack = refl; added = omega arith }
-acts-on true at (Finish o made listed u) x b = record { space = refl; ack = refl; added = refl }
-acts-on false at (Finish o made listed u) x b = record { space = refl; ack = refl; added = omega arith }
-acts-on true at (Abandon o) x b = record { space = refl; ack = refl; added = omega arith }
-acts-on false at (Abandon o) x b = record { space = refl; ack = refl; added = omega arith }
-acts-on effective at (Ack u) x b = record { space = refl; ack = refl; added = omega arith }
-acts-on effective at (Dirty y z v w) x b = record { space = refl; ack = refl; added = omega arith }
-acts-on effective at (Clean y z v w) x b = record { space = refl; ack = refl; added = omega arith }
-acts-on effective at Tick x b = record { space = refl; ack = refl; added = omega arith }
-acts-on effective at (Bind y z) x b = absurd b
-acts-on effective at (Rebind y z) x b = absurd b
-acts-on effective at (Unbind y) x b = absurd b
-acts-on effective at (Lookup y z) x b = absurd b
-acts-on effective at ListNames x b = absurd b
+pub acts-on : (stood : Option ObjId) (effective : Bool) (at : ℕ) (a : Ask) (x : ExportTable) → ActsOn effective a x (acted stood effective at a x)
+acts-on stood effective at (Open kind pinned) x = record { space = refl; ack = refl; added = refl }
+acts-on stood true at (Begin o) x = record { space = refl; ack = refl; added = omega arith }
+acts-on stood false at (Begin o) x = record { space = refl; ack = refl; added = omega arith }
+acts-on stood true at (Finish o made listed u) x = record { space = refl; ack = refl; added = refl }
+acts-on stood false at (Finish o made listed u) x = record { space = refl; ack = refl; added = omega arith }
+acts-on stood true at (Abandon o) x = record { space = refl; ack = refl; added = omega arith }
+acts-on stood false at (Abandon o) x = record { space = refl; ack = refl; added = omega arith }
+acts-on stood effective at (Ack u) x = record { space = refl; ack = refl; added = omega arith }
+acts-on stood effective at (Dirty y z v w) x = record { space = refl; ack = refl; added = omega arith }
+acts-on stood effective at (Clean y z v w) x = record { space = refl; ack = refl; added = omega arith }
+acts-on stood effective at Tick x = record { space = refl; ack = refl; added = omega arith }
+acts-on stood true at (Bind y z) x = record { space = refl; ack = refl; added = omega arith }
+acts-on stood false at (Bind y z) x = record { space = refl; ack = refl; added = omega arith }
+acts-on stood true at (Rebind y z) x = record { space = refl; ack = refl; added = omega arith }
+acts-on stood false at (Rebind y z) x = record { space = refl; ack = refl; added = omega arith }
+acts-on stood true at (Unbind y) x = record { space = refl; ack = refl; added = omega arith }
+acts-on stood false at (Unbind y) x = record { space = refl; ack = refl; added = omega arith }
+acts-on stood effective at (Lookup y z) x = record { space = refl; ack = refl; added = omega arith }
+acts-on stood effective at ListNames x = record { space = refl; ack = refl; added = omega arith }
 
 kept-alike : (lease n k : ℕ) (calls : List Call) (us ws : List Wait) (rs ss : List Export) → n ≡ k → us ≡ ws → rs ≡ ss →
     filter (row_kept n (held_by lease (max n k) calls) us) rs ≡ filter (row_kept k (held_by lease k calls) ws) ss
@@ -251,7 +255,7 @@ turn-keeps config events e leases leases1 leases2 exports t x3 runs withdrawn to
     let k = a.asked.keeps in
     let same : time ≡ max e.moment (now (places config events)) = m ∙ ap (max e.moment) k.stands.moment_is in
     let kept = w.kept config.lease_ms (max e.moment (now (places config events))) (told_calls config events e) d.leases_stand in
-    let on = acts-on effective (max e.moment moment) e.ask exports a.asked.built in
+    let on = acts-on (stood_for (places config events) e.ask) effective (max e.moment moment) e.ask exports in
     let goes = goes-alike config.lease_ms time (max e.moment (now (places config events))) (told_calls config events e) t.waits t.waits t.rows t.rows same refl refl in
     let L : List ObjId → Type 0 = λ os. StandsFor config.lease_ms leases2 (max e.moment (now (places config events))) (map (without_all os) (told_calls config events e)) in
     let rest : drop (length told_gone) all_gone ≡ going_now config events e t =
@@ -259,7 +263,7 @@ turn-keeps config events e leases leases1 leases2 exports t x3 runs withdrawn to
     let all : withdrawn' ≡ withdrawn_then config events e t withdrawn = wd ∙ ap (λ n. withdrawn ++ map (withdrawal_at n) (drop (length told_gone) all_gone)) at ∙ ap (λ os. withdrawn ++ map (withdrawal_at (length events)) os) rest in
     let pushed : Keeps config (events ++ e ∷ []) leases2 (left config events e t) (acted_runs effective e.by e.ask runs) (withdrawn_then config events e t withdrawn)
     (told_after told (length (withdrawn_then config events e t withdrawn)) e.ask) (opened + opens effective e.ask) (used + units_of e.ask) (max e.moment (now (places config events))) =
-    keeps-push config events e leases leases1 leases2 exports t runs (acted_runs effective e.by e.ask runs) withdrawn told opened used moment effective (is-effective config events e leases exports runs withdrawn told opened used moment effective a.asked) k a.asked.built a.early
+    keeps-push config events e leases leases1 leases2 exports t runs (acted_runs effective e.by e.ask runs) withdrawn told opened used moment effective (is-effective config events e leases exports runs withdrawn told opened used moment effective a.asked) k a.early
     (taken config events e leases exports runs withdrawn told opened used moment effective a.asked a.room a.fit a.unrefused) d
     (ap (λ (x : ExportTable). x.space) a.act ∙ on.space ∙ k.stands.space_is) (ap (λ (x : ExportTable). x.ack) a.act ∙ on.ack ∙ k.stands.ack_is)
     (ap (λ (x : ExportTable). x.added) a.act ∙ on.added ∙ ap (λ n. n + opens effective e.ask) k.stands.added_is)
@@ -281,15 +285,15 @@ turn-keeps config events e leases leases1 leases2 exports t x3 runs withdrawn to
 -- WHAT A TURN ANSWERS.
 pub turn-step : (config : SpaceConfig) (events : List Event) (e : Event) (leases leases1 leases2 : LeaseTable) (exports t x3 : ExportTable) (runs : List Run) (withdrawn : List Withdrawal) (told opened used moment time : ℕ) (effective : Bool) (told_gone all_gone : List ObjId) →
     HasActed config events e leases leases1 exports t runs withdrawn told opened used moment effective → time ≡ max e.moment moment → HasWithdrawn leases1 leases2 t x3 time told_gone all_gone →
-    (place : ℕ) (reply : Reply) (gone : List ObjId) (events' : List Event) → place ≡ length events → events' ≡ events ++ e ∷ [] → reply ≡ reply_at config opened exports.rows effective e.ask → told_gone ≡ map (λ (w : Withdrawal). w.object) (drop told withdrawn) →
+    (place : ℕ) (reply : Reply) (gone : List ObjId) (events' : List Event) → place ≡ length events → events' ≡ events ++ e ∷ [] → reply ≡ reply_at config opened exports.rows (names (places config events)) (stood_for (places config events) e.ask) effective e.ask → told_gone ≡ map (λ (w : Withdrawal). w.object) (drop told withdrawn) →
     gone ≡ all_gone → Step config events e (Ok (record { place = place; reply = reply; gone = gone })) events'
 turn-step config events e leases leases1 leases2 exports t x3 runs withdrawn told opened used moment time effective told_gone all_gone a m w place reply gone events' at ev re tg go =
     let P : List Event → Type 0 = λ es. Step config events e (Ok (record { place = place; reply = reply; gone = gone })) es in
     subst P (sym ev) (step-taken config events e (record { place = place; reply = reply; gone = gone })
     (taken config events e leases exports runs withdrawn told opened used moment effective a.asked a.room a.fit a.unrefused)
-    (three place (length events) reply (reply_at config opened exports.rows effective e.ask) gone (map (λ (w : Withdrawal). w.object) (drop told withdrawn) ++ going_now config events e t) at re
+    (three place (length events) reply (reply_at config opened exports.rows (names (places config events)) (stood_for (places config events) e.ask) effective e.ask) gone (map (λ (w : Withdrawal). w.object) (drop told withdrawn) ++ going_now config events e t) at re
     (go ∙ goes-now config events e leases leases1 leases2 exports t x3 runs withdrawn told opened used moment time effective told_gone all_gone a m w ∙ ap (λ l. l ++ going_now config events e t) tg)
-    ∙ sym (turn-is config events e leases leases1 exports t runs (acted_runs effective e.by e.ask runs) withdrawn told opened used moment effective a.asked.keeps a.asked.built
+    ∙ sym (turn-is config events e leases leases1 exports t runs (acted_runs effective e.by e.ask runs) withdrawn told opened used moment effective a.asked.keeps
     (is-effective config events e leases exports runs withdrawn told opened used moment effective a.asked) (is-acted config events e leases leases1 exports t runs withdrawn told opened used moment effective a))))
   where
     three : (p q : ℕ) (x y : Reply) (g h : List ObjId) → p ≡ q → x ≡ y → g ≡ h → ◌≡◌ {A = Turn} (record { place = p; reply = x; gone = g }) (record { place = q; reply = y; gone = h })
@@ -305,6 +309,6 @@ pub memory-step : (config : SpaceConfig) (events events' : List Event) (e : Even
 memory-step config events events' e refused r s = inr (ap (λ x. Err x) r, s)
 
 -- What holds in any case holds of a refusal.
-pub whole-err : {T E A B : Type 0} (r : Result T E) → A → B → OnErr r (A × B)
-whole-err (Ok x) a b = tt
-whole-err (Err e) a b = (a, b)
+pub whole-err : {T E A B C : Type 0} (r : Result T E) → A → B → C → OnErr r (A × B × C)
+whole-err (Ok x) a b d = tt
+whole-err (Err e) a b d = (a, b, d)

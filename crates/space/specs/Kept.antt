@@ -1,5 +1,5 @@
 -- What a space keeps beside its history.
-use Rattle.std.specs.Prelude.{◌≡◌, ℕ, ◌+◌, ◌≤◌, ◌<◌, ◌^◌, List, [], ◌∷◌, length, filter, map, reverse, drop}
+use Rattle.std.specs.Prelude.{◌≡◌, ℕ, ◌+◌, ◌≤◌, ◌<◌, ◌^◌, List, [], ◌∷◌, length, filter, map, drop}
 use Rattle.object_ids.specs.Same.{same_client}
 use Rattle.history.specs.declared.asks.SpaceConfig.{SpaceConfig}
 use Rattle.history.specs.declared.asks.Event.{Event}
@@ -21,7 +21,6 @@ use Rattle.history.specs.Table.{places, table, withdrawals}
 use Rattle.dgc_server.specs.Stands.{LeaseTable, StandsFor}
 use Rattle.export_table.specs.Table.{ExportTable}
 use Rattle.space.specs.declared.runs.Run.{Run}
-use Rattle.space.specs.Built.{IsBuilt}
 use Rattle.space.specs.Runs.{RunsStand, caller_of, object_of}
 use Rattle.export_table.specs.Stands.{WaitsStand, reference_of, end_of, rows_of}
 
@@ -48,11 +47,6 @@ pub record IsWithin (config : SpaceConfig) (h : List Place) : Type 0 where
   pub pairs : length (distinct same_pair (pairs_with config.lease_ms (now h) (lease_calls h) (ids (table config h)))) ≤ MAX_PAIRS
   pub names : length (names h) ≤ MAX_NAMES
 
--- Each event is one that is served. The events are here the newest first.
-abbrev pub AllBuilt : List Event → Type 0
-AllBuilt [] = Unit {0}
-AllBuilt (e ∷ before) = IsBuilt e.ask × AllBuilt before
-
 -- What is kept is that of a history: the leases, the exported objects and the references that await, the running calls, the withdrawals and
 -- how many of them were told as gone, how many objects there ever were, the units and the greatest moment.
 pub record Stands (config : SpaceConfig) (h : List Place) (leases : LeaseTable) (exports : ExportTable) (runs : List Run) (withdrawn : List Withdrawal) (told opened used moment : ℕ) : Type 0 where
@@ -71,12 +65,11 @@ pub record Stands (config : SpaceConfig) (h : List Place) (leases : LeaseTable) 
   pub moment_is : moment ≡ now h
   pub within : IsWithin config h
 
--- The same of a list of events, each of which is served, with what bounds the numbers. They are a legal history.
+-- The same of a list of events, with what bounds the numbers. They are a legal history.
 pub record Keeps (config : SpaceConfig) (events : List Event) (leases : LeaseTable) (exports : ExportTable) (runs : List Run) (withdrawn : List Withdrawal) (told opened used moment : ℕ) : Type 0 where
   pub durations : HasDurations config
   pub stands : Stands config (places config events) leases exports runs withdrawn told opened used moment
   pub early : moment < 2 ^ 62
   pub few_events : length events ≤ used
   pub few_opened : opened ≤ used
-  pub built : AllBuilt (reverse events)
   pub legal : IsLegal config events

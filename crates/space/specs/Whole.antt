@@ -1,6 +1,8 @@
 -- What a space keeps stands for its events, with room for the ends of its calls.
 use Rattle.std.specs.Prelude.{List, vec_capacity}
 use Rattle.history.specs.declared.asks.Event.{Event}
+use Rattle.history.specs.Table.{places}
+use Rattle.rmi_registry.specs.Stands.{AreBindings}
 use Rattle.space.specs.declared.tables.Tables.{Tables}
 use Rattle.space.specs.Ahead.{HasRoom}
 use Rattle.space.specs.Kept.{Keeps}
@@ -10,6 +12,7 @@ abbrev pub IsWholeWith : Tables → List Event → Type 0
 IsWholeWith t events =
     Keeps t.config events t.leases t.exports t.runs.items t.withdrawn.items t.told t.added t.units t.moment
     × HasRoom events (vec_capacity t.events) t.runs.items t.withdrawn.items (vec_capacity t.withdrawn) t.exports t.scratch.items (vec_capacity t.scratch)
+    × AreBindings (places t.config events) t.names
 
 -- The same of the events that are there.
 abbrev pub IsWhole : Tables → Type 0

@@ -1,12 +1,13 @@
 //! What an ask does to the exported objects and to the withdrawals.
-ghost use Rattle.std.specs.Prelude.{◌≡◌, ◌≤◌, ◌<◌, ◌+◌, ◌^◌, ◌++◌, ◌∷◌, [], ℕ, List, Bool, true, map, drop, length, IfOk, vec_len, vec_capacity};
+ghost use Rattle.std.specs.Prelude.{◌≡◌, ◌≤◌, ◌<◌, ◌+◌, ◌^◌, ◌++◌, ◌∷◌, [], ℕ, List, Bool, true, Some, map, drop, length, IfOk, vec_len, vec_capacity};
 ghost use Rattle.std.specs.List.{AllByRecursion};
 ghost use Rattle.object_ids.specs.declared.ids.ObjId.{ObjId};
 ghost use Rattle.object_ids.specs.declared.ids.Uid.{Uid};
 ghost use Rattle.history.specs.declared.limits.TheConstants.{MAX_EXPORTS, MAX_AWAITING};
-ghost use Rattle.history.specs.declared.asks.Ask.TheVariants.{Abandon, Finish};
+ghost use Rattle.history.specs.declared.asks.Ask.TheVariants.{Abandon, Finish, Lookup};
+ghost use Rattle.history.specs.Names.{object_bound};
 ghost use Rattle.history.specs.Places.{id_at};
-ghost use Rattle.export_table.specs.Rows.{is_exported, running_of, new_row};
+ghost use Rattle.export_table.specs.Rows.{is_exported, running_of, pins_of, new_row, changed, pinned_once, unpinned};
 ghost use Rattle.space.specs.Acts.{acted, awaiting_with, new_rows, opens, returned_by, returned_from, withdrawal_at};
 ghost use Rattle.export_table.specs.Stands.{waits_once, reference_of};
 ghost use Rattle.export_table.specs.Waits.{listed_each};
@@ -41,9 +42,16 @@ fn objects_of(alloc: Global, withdrawn: &[Withdrawal]) -> Result<Vec<ObjId>, All
         .collect(alloc)
 }
 
-/// Does what an ask does to the exported objects at a moment, but for the withdrawals. There is room for what it adds, and it returns
-/// references to the objects `returned`.
-pub(crate) fn act(exports: &mut Exports, effective: bool, now: u64, returned: &[ObjId], ask: &Ask)
+/// Does what an ask, whose name stood for `stood`, does to the exported objects at a moment, but for the withdrawals. There is room for
+/// what it adds, and it returns references to the objects `returned`.
+pub(crate) fn act(
+    exports: &mut Exports,
+    stood: Option<ObjId>,
+    effective: bool,
+    now: u64,
+    returned: &[ObjId],
+    ask: &Ask,
+)
     requires few { (o : ObjId) → running_of exports.old.rows o < 2 ^ 31 }
     requires runs { (o : ObjId) → effective ≡ true → ask.now ≡ Abandon o → 0 < running_of exports.old.rows o }
     requires returns { (o : ObjId) (made : List ℕ) (listed : List ObjId) (u : Uid) → effective ≡ true → ask.now ≡ Finish o made listed u → 0 < running_of exports.old.rows o }
@@ -52,11 +60,15 @@ pub(crate) fn act(exports: &mut Exports, effective: bool, now: u64, returned: &[
     requires early { now < 2 ^ 62 }
     requires some { 1 ≤ exports.old.ack }
     requires once { waits_once reference_of exports.old.waits }
-    requires returned { returned.now ≡ returned_by exports.old.space exports.old.added exports.old.rows effective ask.now }
+    requires returned { returned.now ≡ returned_by exports.old.space exports.old.added exports.old.rows stood effective ask.now }
+    requires stands { (o : ObjId) → stood ≡ Some o → (is_exported exports.old.rows o ≡ true) × 0 < pins_of exports.old.rows o }
+    requires few_pins { (o : ObjId) → pins_of exports.old.rows o < 2 ^ 31 }
+    requires bound { (o : ObjId) → effective ≡ true → object_bound ask.now ≡ Some o → is_exported exports.old.rows o ≡ true }
+    requires looks { (n : List ℕ) (u : Uid) → ask.now ≡ Lookup n u → awaiting_with now u returned.now exports.old.waits ≤ MAX_AWAITING }
     requires awaiting { (o : ObjId) (made : List ℕ) (listed : List ObjId) (u : Uid) → effective ≡ true → ask.now ≡ Finish o made listed u → awaiting_with now u returned.now exports.old.waits ≤ MAX_AWAITING }
     requires objects_room { opens effective ask.now ≤ exports.old.room.exports }
     requires waits_room { length returned.now ≤ exports.old.room.waits }
-    ensures { exports.new ≡ record (acted effective now ask.now exports.old) { room = exports.new.room } }
+    ensures { exports.new ≡ record (acted stood effective now ask.now exports.old) { room = exports.new.room } }
 {
     match ask {
         Ask::Open { kind, pinned } => add(exports, *kind, *pinned),
@@ -81,7 +93,44 @@ pub(crate) fn act(exports: &mut Exports, effective: bool, now: u64, returned: &[
             }
         }
         Ask::Ack { uid } => exports.ack(*uid),
+        Ask::Bind { name: _, object } => {
+            if effective {
+                pin_for_name(exports, object, stood);
+            }
+        }
+        Ask::Rebind { name: _, object } => {
+            if effective {
+                pin_for_name(exports, object, stood);
+            }
+        }
+        Ask::Unbind { name: _ } => {
+            if effective {
+                unpin(exports, stood);
+            }
+        }
+        Ask::Lookup { name: _, uid } => await_all(exports, now, returned, uid),
         _ => {}
+    }
+}
+
+/// Pins the object to which a name is bound, and takes a pin off the one for which the name stood before, if it stood for one.
+fn pin_for_name(exports: &mut Exports, object: &ObjId, before: Option<ObjId>)
+    requires exported { is_exported exports.old.rows object.now ≡ true }
+    requires few { pins_of exports.old.rows object.now < 2 ^ 31 }
+    requires stands { (o : ObjId) → before ≡ Some o → (is_exported exports.old.rows o ≡ true) × 0 < pins_of exports.old.rows o }
+    ensures { exports.new ≡ record exports.old { rows = unpinned before (changed pinned_once object.now exports.old.rows) } }
+{
+    exports.pin(*object);
+    unpin(exports, before);
+}
+
+/// Takes a pin off this object, if there is one.
+fn unpin(exports: &mut Exports, stood: Option<ObjId>)
+    requires { (o : ObjId) → stood ≡ Some o → (is_exported exports.old.rows o ≡ true) × 0 < pins_of exports.old.rows o }
+    ensures { exports.new ≡ record exports.old { rows = unpinned stood exports.old.rows } }
+{
+    if let Some(object) = stood {
+        exports.unpin(object);
     }
 }
 

@@ -1,10 +1,10 @@
 //! Whether an ask is effective, whether there is room for it, and what it is answered.
-ghost use Rattle.std.specs.Prelude.{◌≡◌, ◌+◌, ◌≤◌, ◌<◌, ◌^◌, nat_lt, if◌then◌else◌, IfOk};
+ghost use Rattle.std.specs.Prelude.{◌≡◌, ◌+◌, ◌≤◌, ◌<◌, ◌^◌, nat_lt, option_and_then, if◌then◌else◌, IfOk};
 ghost use Rattle.history.specs.declared.limits.TheConstants.{MAX_UNITS};
-ghost use Rattle.history.specs.Limits as limit_words;
-ghost use Rattle.history.specs.Replies as reply_words;
+ghost use Rattle.history.specs.Names.{name_in};
 ghost use Rattle.export_table.specs.Rows.{is_exported};
-ghost use Rattle.space.specs.Acts.{effective_by, opens, reply_at, room_refusal, started_reply, told_after};
+ghost use Rattle.rmi_registry.specs.Named.{names_in, object_of};
+ghost use Rattle.space.specs.Acts.{effective_by, opens, reply_at, room_refusal, started_reply, unbound_reply, found_reply, told_after};
 
 use crate::returns::new_ids;
 use crate::runs::{Run, is_running};
@@ -15,6 +15,7 @@ use history::plain::places::id_at;
 use history::plain::turns::is_abandon;
 use history::{Ask, Refused, Reply, SpaceConfig};
 use object_ids::{FullKind, ObjId, ObjIds};
+use rmi_registry::Names;
 use std::alloc::{AllocError, Global};
 
 /// Whether an object is exported.
@@ -24,9 +25,28 @@ pub(crate) fn is_exported(exports: &Exports, object: &ObjId) -> bool
     exports.find(*object).is_some()
 }
 
-/// Whether an ask of a connection is effective.
-pub(crate) fn is_effective(exports: &Exports, runs: &[Run], by: u32, ask: &Ask) -> bool
-    ensures { result ≡ effective_by exports.now.rows runs.now by ask.now }
+/// What the name in an ask stands for, if there is a name and it stands for something.
+pub(crate) fn stood_for(names: &Names, ask: &Ask) -> Option<ObjId>
+    ensures { result ≡ option_and_then (object_of names.now) (name_in ask.now) }
+{
+    match ask {
+        Ask::Bind { name, object: _ } => names.lookup(name).ok(),
+        Ask::Rebind { name, object: _ } => names.lookup(name).ok(),
+        Ask::Unbind { name } => names.lookup(name).ok(),
+        Ask::Lookup { name, uid: _ } => names.lookup(name).ok(),
+        _ => None,
+    }
+}
+
+/// Whether an ask of a connection is effective, where its name stands for `stood`.
+pub(crate) fn is_effective(
+    exports: &Exports,
+    runs: &[Run],
+    stood: Option<ObjId>,
+    by: u32,
+    ask: &Ask,
+) -> bool
+    ensures { result ≡ effective_by exports.now.rows runs.now stood by ask.now }
 {
     match ask {
         Ask::Begin { object } => is_exported(exports, object),
@@ -37,6 +57,10 @@ pub(crate) fn is_effective(exports: &Exports, runs: &[Run], by: u32, ask: &Ask) 
             uid: _,
         } => is_running(runs, by, object),
         Ask::Abandon { object } => is_running(runs, by, object),
+        Ask::Bind { name: _, object } => is_exported(exports, object) && stood.is_none(),
+        Ask::Rebind { name: _, object } => is_exported(exports, object),
+        Ask::Unbind { name: _ } => stood.is_some(),
+        Ask::Lookup { name: _, uid: _ } => stood.is_some(),
         _ => true,
     }
 }
@@ -90,17 +114,19 @@ pub(crate) fn room_refusal(
     }
 }
 
-/// What an ask is answered where it is taken, and the next object is the space's k-th.
+/// What an ask is answered where it is taken, the next object is the space's k-th, and the ask's name stands for `stood`.
 pub(crate) fn reply_at(
     alloc: Global,
     config: &SpaceConfig,
     k: u64,
     exports: &Exports,
+    names: &Names,
+    stood: Option<ObjId>,
     effective: bool,
     ask: &Ask,
 ) -> Result<Reply, AllocError>
     requires { k + opens effective ask.now < 2 ^ 62 }
-    ensures { IfOk result (λ reply. reply ≡ reply_at config.now k exports.now.rows effective ask.now) }
+    ensures { IfOk result (λ reply. reply ≡ reply_at config.now k exports.now.rows (names_in names.now) stood effective ask.now) }
 {
     Ok(match ask {
         Ask::Open { kind: _, pinned: _ } => Reply::Opened(id_at(config.uid, k)),
@@ -130,6 +156,29 @@ pub(crate) fn reply_at(
             asked: _,
             objects: _,
         } => Reply::Granted(config.lease_ms),
+        Ask::Bind { name: _, object } => {
+            if effective {
+                Reply::Bound
+            } else {
+                unbound_reply(is_exported(exports, object))
+            }
+        }
+        Ask::Rebind { name: _, object: _ } => {
+            if effective {
+                Reply::Bound
+            } else {
+                Reply::NoObject
+            }
+        }
+        Ask::Unbind { name: _ } => {
+            if effective {
+                Reply::Unbound
+            } else {
+                Reply::NotBound
+            }
+        }
+        Ask::Lookup { name: _, uid: _ } => found_reply(exports, stood),
+        Ask::List => Reply::Names(names.list(alloc)?),
         _ => Reply::Done,
     })
 }
@@ -141,6 +190,27 @@ fn started_reply(kind: Option<u32>) -> Reply
     match kind {
         Some(kind) => Reply::Started(kind),
         None => Reply::NoObject,
+    }
+}
+
+/// The reply to a Bind that is not effective, whose object is exported or is not.
+fn unbound_reply(exported: bool) -> Reply
+    ensures { result ≡ unbound_reply exported }
+{
+    if exported {
+        Reply::AlreadyBound
+    } else {
+        Reply::NoObject
+    }
+}
+
+/// The reply to a Lookup of a name that stands for this.
+fn found_reply(exports: &Exports, stood: Option<ObjId>) -> Reply
+    ensures { result ≡ found_reply exports.now.rows stood }
+{
+    match stood {
+        Some(object) => Reply::Found(object, exports.find(object).unwrap_or(0)),
+        None => Reply::NotBound,
     }
 }
 

@@ -69,7 +69,7 @@ pub fn summary(alloc: Global, space: &Space) -> Result<ByteList, AllocError>
         clients: clients.len() as u64,
         pairs: u64::from(space.tables.leases.pairs(space.tables.moment)),
         awaiting: u64::from(space.tables.exports.waiting(space.tables.moment)),
-        names: 0,
+        names: u64::from(space.tables.names.len()),
         withdrawn: space.tables.withdrawn.len() as u64,
     };
     put_counts(&mut text, counts)?;

@@ -11,6 +11,7 @@ pub mod direct_port;
 pub mod journal_text;
 pub mod laws;
 pub mod lists;
+mod names;
 mod noted;
 pub mod port;
 mod prepared;

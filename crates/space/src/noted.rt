@@ -1,16 +1,17 @@
 //! Turns with their entries.
 ghost use Rattle.std.specs.Prelude.{◌≡◌, ◌≢◌, ◌≤◌, ◌<◌, ◌+◌, ◌^◌, ◌↔◌, ℕ, List, [], length, map, drop, Err, IfOk, OnErr, IsTrue, vec_capacity};
 ghost use Rattle.object_ids.specs.declared.ids.ObjId.{ObjId};
-ghost use Rattle.history.specs.declared.replies.Reply.TheVariants.{Finished, Names};
+ghost use Rattle.history.specs.declared.asks.Ask.TheVariants.{List as ListNames};
+ghost use Rattle.history.specs.declared.replies.Reply.TheVariants.{Finished, Names as NamesReply};
 ghost use Rattle.history.specs.Limits.{units_of};
 ghost use Rattle.history.specs.Running.{running};
 ghost use Rattle.history.specs.Steps.{Step};
 ghost use Rattle.history.specs.Table.{places};
 ghost use Rattle.space.specs.Acts.{event_of};
-ghost use Rattle.space.specs.Built.{IsBuilt};
 ghost use Rattle.space.specs.Entries.{end_of, entry_of};
 ghost use Rattle.space.specs.Noted.{Fits, FitsIn};
 ghost use Rattle.space.specs.Ports.{IsAnswerTo};
+ghost use Rattle.rmi_registry.specs.Named.{names_in, IsRegistry};
 ghost use Rattle.space.specs.Whole.{IsWhole};
 
 use crate::acts::still_to_tell;
@@ -21,6 +22,7 @@ use history::plain::limits::units_of;
 use history::{Ask, Refused, Reply, Turn};
 use mod_utf::list::NameList;
 use object_ids::{ObjId, ObjIds};
+use rmi_registry::Names;
 use std::alloc::{AllocError, Global};
 
 impl Space {
@@ -33,7 +35,6 @@ impl Space {
         ask: Ask,
     ) -> Result<(Result<Turn, Refused>, Asked), AllocError>
         requires moment { moment < 2 ^ 62 }
-        requires built { IsBuilt ask }
         ensures step { IfOk result (λ x. Step self.old.configuration self.old.events (event_of by moment ask) x.0 self.new.events) }
         ensures noted { IfOk result (λ x. x.1 ≡ entry_of moment ask x.0) }
         ensures row { IfOk result (λ x. IsAnswerTo (λ o. 0 < running (places self.old.configuration self.old.events) by o) ask x.0) }
@@ -67,21 +68,34 @@ fn take_note(tables: &Tables, ask: &Ask) -> Result<Note, AllocError>
     ensures ids { IfOk result (λ n. units_of ask.now ≤ vec_capacity n.ids) }
     ensures gone { IfOk result (λ n. length (map (λ w. w.object) (drop tables.now.told tables.now.withdrawn.items))
         + (length tables.now.exports.rows + units_of ask.now) ≤ vec_capacity n.gone) }
-    ensures names { IfOk result (λ n. n.names ≡ []) }
+    ensures names { IfOk result (λ n. ask.now ≡ ListNames → n.names ≡ names_in tables.now.names) }
+    ensures sound { IsRegistry tables.now.names }
 {
     let alloc = tables.alloc;
+    let names = names_for(alloc, &tables.names, ask)?;
     let units = units_of(ask) as usize;
     let objects = tables.exports.count() as usize + units;
     let gone = still_to_tell(alloc, &tables.withdrawn, tables.told, objects)?;
     let ids = Vec::with_capacity(alloc, units)?;
     let ask = ask.copy(alloc)?;
-    let names = NameList::new(alloc);
     Ok(Note {
         ask,
         ids,
         gone,
         names,
     })
+}
+
+/// The names, where an ask asks for them.
+fn names_for(alloc: Global, names: &Names, ask: &Ask) -> Result<NameList, AllocError>
+    ensures names { IfOk result (λ list. ask.now ≡ ListNames → list ≡ names_in names.now) }
+    ensures sound { IsRegistry names.now }
+{
+    let _count = names.len();
+    match ask {
+        Ask::List => names.list(alloc),
+        _ => Ok(NameList::new(alloc)),
+    }
 }
 
 /// A turn's answer with its entry, unless there was no memory.
@@ -139,7 +153,7 @@ fn end_of(
 fn copied(turn: &Turn, ids: Vec<ObjId>, gone: Vec<ObjId>, names: NameList) -> Turn
     requires ids { (os : List ObjId) → turn.now.reply ≡ Finished os → length os ≤ vec_capacity ids }
     requires gone { length turn.now.gone ≤ vec_capacity gone }
-    requires names { (ns : List (List ℕ)) → turn.now.reply ≡ Names ns → names ≡ ns }
+    requires names { (ns : List (List ℕ)) → turn.now.reply ≡ NamesReply ns → names ≡ ns }
     ensures { result ≡ turn.now }
 {
     Turn {
@@ -151,7 +165,7 @@ fn copied(turn: &Turn, ids: Vec<ObjId>, gone: Vec<ObjId>, names: NameList) -> Tu
 
 fn copied_reply(reply: &Reply, ids: Vec<ObjId>, names: NameList) -> Reply
     requires ids { (os : List ObjId) → reply.now ≡ Finished os → length os ≤ vec_capacity ids }
-    requires names { (ns : List (List ℕ)) → reply.now ≡ Names ns → names ≡ ns }
+    requires names { (ns : List (List ℕ)) → reply.now ≡ NamesReply ns → names ≡ ns }
     ensures { result ≡ reply.now }
 {
     match reply {

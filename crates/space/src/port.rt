@@ -1,6 +1,5 @@
 //! Where a connection makes its turns.
 ghost use Rattle.std.specs.Prelude.{◌≡◌, ℕ, ◌+◌, ◌<◌, ◌≤◌, ◌^◌, ◌++◌, ◌∷◌, [], List};
-ghost use Rattle.space.specs.Built.{IsBuilt};
 ghost use Rattle.space.specs.declared.asked.Asked.{Asked};
 ghost use Rattle.space.specs.Ports.{abandoned_at, entries_of, Shows, IsAnswerTo};
 
@@ -27,7 +26,6 @@ pub trait Port {
         requires ready { ready self.old }
         requires room { 0 < room_of self.old }
         requires moment { moment < 2 ^ 62 }
-        requires built { IsBuilt ask }
         ensures asked { asked self.new ≡ asked self.old ++ entries_of moment ask result }
         ensures answer { IsAnswerTo (Shows (asked self.old)) ask result }
         ensures room { room_of self.old ≤ room_of self.new + 1 }

@@ -1,5 +1,6 @@
 //! What a turn answers and adds, found before anything changes.
 ghost use Rattle.std.specs.Prelude.{◌≡◌, ◌+◌, ◌≤◌, ◌<◌, ◌^◌, drop, length, map, IfOk, vec_len, vec_capacity};
+ghost use Rattle.rmi_registry.specs.Named.{names_in};
 ghost use Rattle.space.specs.Acts.{Agrees, await_refusal, opens, reply_at, returned_by};
 
 use crate::acts::still_to_tell;
@@ -8,6 +9,7 @@ use crate::returns::returned;
 use export_table::Exports;
 use history::{Ask, Refused, Reply, SpaceConfig, Withdrawal};
 use object_ids::ObjId;
+use rmi_registry::Names;
 use std::alloc::Global;
 
 /// What a turn answers and adds.
@@ -25,15 +27,17 @@ pub(crate) struct Prepared {
     pub reply: Reply,
 }
 
-/// What a turn at a moment answers and adds, where the next object is the space's k-th and so many withdrawals
-/// were told. It is refused where the references that it returns would pass the limit of those that await.
+/// What a turn at a moment answers and adds, where the next object is the space's k-th, so many withdrawals
+/// were told, and the ask's name stands for `stood`. It is refused where the references that it returns would pass the limit of those that await.
 pub(crate) fn prepare(
     alloc: Global,
     config: &SpaceConfig,
     k: u64,
     exports: &Exports,
+    names: &Names,
     withdrawn: &[Withdrawal],
     told: usize,
+    stood: Option<ObjId>,
     effective: bool,
     now: u64,
     ask: &Ask,
@@ -42,17 +46,17 @@ pub(crate) fn prepare(
     requires told { told ≤ length withdrawn.now }
     ensures opened { IfOk result (λ p. p.opened ≡ opens effective ask.now) }
     ensures objects { IfOk result (λ p. p.objects ≡ length exports.now.rows + opens effective ask.now) }
-    ensures references { IfOk result (λ p. p.references.items ≡ returned_by config.now.uid k exports.now.rows effective ask.now) }
+    ensures references { IfOk result (λ p. p.references.items ≡ returned_by config.now.uid k exports.now.rows stood effective ask.now) }
     ensures gone { IfOk result (λ p. p.gone.items ≡ map (λ w. w.object) (drop told withdrawn.now)) }
     ensures room { IfOk result (λ p. vec_len p.gone + p.objects ≤ vec_capacity p.gone) }
-    ensures reply { IfOk result (λ p. p.reply ≡ reply_at config.now k exports.now.rows effective ask.now) }
-    ensures refusal { Agrees (await_refusal now exports.now.rows exports.now.waits effective ask.now) result }
+    ensures reply { IfOk result (λ p. p.reply ≡ reply_at config.now k exports.now.rows (names_in names.now) stood effective ask.now) }
+    ensures refusal { Agrees (await_refusal now exports.now.rows exports.now.waits stood effective ask.now) result }
 {
     let opened = opens(effective, ask);
     let objects = exports.count() as usize + opened as usize;
-    let references = returned(alloc, config.uid, k, exports, effective, now, ask)?;
+    let references = returned(alloc, config.uid, k, exports, stood, effective, now, ask)?;
     let gone = still_to_tell(alloc, withdrawn, told, objects)?;
-    let reply = reply_at(alloc, config, k, exports, effective, ask)?;
+    let reply = reply_at(alloc, config, k, exports, names, stood, effective, ask)?;
     Ok(Prepared {
         opened,
         objects,

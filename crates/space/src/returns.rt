@@ -1,5 +1,5 @@
 //! The references that an ask returns.
-ghost use Rattle.std.specs.Prelude.{◌≡◌, ◌+◌, ◌<◌, ◌≤◌, ◌^◌, ◌++◌, ◌&&◌, length, filter, not, nat_lt, IfOk};
+ghost use Rattle.std.specs.Prelude.{◌≡◌, ◌+◌, ◌<◌, ◌≤◌, ◌^◌, ◌++◌, ◌&&◌, length, filter, not, nat_lt, option_to_list, IfOk};
 ghost use Rattle.std.specs.List.{list_any};
 ghost use Rattle.history.specs.declared.limits.TheConstants.{MAX_AWAITING};
 ghost use Rattle.history.specs.Lists.{distinct};
@@ -17,20 +17,21 @@ use mod_utf::list::Same;
 use object_ids::{FullKind, ObjId, ObjIds, Uid};
 use std::alloc::{AllocError, Global};
 
-/// The objects to which an ask returns references, where the next object is the space's k-th. It is refused
-/// where these references would pass the limit of those that await at a moment.
+/// The objects to which an ask returns references, where the next object is the space's k-th, and the ask's name
+/// stands for `stood`. It is refused where these references would pass the limit of those that await at a moment.
 pub(crate) fn returned(
     alloc: Global,
     space: Uid,
     k: u64,
     exports: &Exports,
+    stood: Option<ObjId>,
     effective: bool,
     now: u64,
     ask: &Ask,
 ) -> Result<Vec<ObjId>, Refused>
     requires { k + opens effective ask.now < 2 ^ 62 }
-    ensures objects { IfOk result (λ objects. objects.items ≡ returned_by space k exports.now.rows effective ask.now) }
-    ensures refusal { Agrees (await_refusal now exports.now.rows exports.now.waits effective ask.now) result }
+    ensures objects { IfOk result (λ objects. objects.items ≡ returned_by space k exports.now.rows stood effective ask.now) }
+    ensures refusal { Agrees (await_refusal now exports.now.rows exports.now.waits stood effective ask.now) result }
 {
     match ask {
         Ask::Finish {
@@ -45,8 +46,37 @@ pub(crate) fn returned(
                 Ok(Vec::new(alloc))
             }
         }
+        Ask::Lookup { name: _, uid } => of_lookup(alloc, exports, stood, now, uid),
         _ => Ok(Vec::new(alloc)),
     }
+}
+
+/// The object for which a name stands, if it stands for one.
+fn of_lookup(
+    alloc: Global,
+    exports: &Exports,
+    stood: Option<ObjId>,
+    now: u64,
+    uid: &Uid,
+) -> Result<Vec<ObjId>, Refused>
+    ensures objects { IfOk result (λ objects. objects.items ≡ option_to_list stood) }
+    ensures refusal { Agrees (return_refusal now uid.now 0 (option_to_list stood) exports.now.waits) result }
+{
+    let found = listed(alloc, stood)?;
+    if is_past(exports, now, uid, 0, &found) {
+        return Err(Refused::Full(FullKind::Awaiting));
+    }
+    Ok(found)
+}
+
+fn listed(alloc: Global, object: Option<ObjId>) -> Result<Vec<ObjId>, AllocError>
+    ensures { IfOk result (λ objects. objects.items ≡ option_to_list object) }
+{
+    let mut objects = Vec::new(alloc);
+    if let Some(object) = object {
+        objects.push(object)?;
+    }
+    Ok(objects)
 }
 
 fn of_return(

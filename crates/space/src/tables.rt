@@ -2,12 +2,11 @@
 ghost use Rattle.std.specs.Prelude.{◌≡◌, ◌<◌, ◌^◌, ◌++◌, ◌∷◌, [], Ok, Err, IfOk, IfErr, OnOk, OnErr};
 ghost use Rattle.history.specs.Steps.{Step};
 ghost use Rattle.space.specs.Acts.{event_of};
-ghost use Rattle.space.specs.Built.{IsBuilt};
 ghost use Rattle.space.specs.Whole.{IsWhole, IsWholeWith};
 
 use crate::acts::{act, note_withdrawn};
-use crate::asks::{is_effective, room_refusal, told_after};
-use crate::calls::tell;
+use crate::asks::{is_effective, room_refusal, stood_for, told_after};
+use crate::names::settle;
 use crate::prepared::prepare;
 use crate::rooms::{room_for_event, room_for_gone, room_in_table};
 use crate::runs::{Run, act_on_runs};
@@ -16,6 +15,7 @@ use export_table::Exports;
 use history::plain::limits::units_of;
 use history::{Ask, Event, Refused, SpaceConfig, Turn, Withdrawal};
 use object_ids::{ObjId, ObjIds};
+use rmi_registry::Names;
 use std::alloc::Global;
 
 /// What a space keeps of the events that it took.
@@ -33,6 +33,8 @@ pub struct Tables {
     pub leases: Leases,
     /// The exported objects, and the references that await.
     pub exports: Exports,
+    /// The names, each with the object for which it stands.
+    pub names: Names,
     /// The calls that run.
     pub runs: Vec<Run>,
     /// The events.
@@ -52,7 +54,6 @@ impl Tables {
     /// most.
     pub(crate) fn turn(&mut self, by: u32, moment: u64, ask: &Ask) -> Result<Turn, Refused>
         requires moment { moment < 2 ^ 62 }
-        requires built { IsBuilt ask.now }
         requires whole { IsWhole self.old }
         ensures taken { IfOk result (λ turn. let e = event_of by moment ask.now in
             Step self.old.config self.old.events.items e (Ok turn) (self.old.events.items ++ e ∷ [])) }
@@ -63,7 +64,8 @@ impl Tables {
         ensures events { self.new.events.items ≡ self.old.events.items }
         ensures config { self.new.config ≡ self.old.config }
     {
-        let effective = is_effective(&self.exports, &self.runs, by, ask);
+        let stood = stood_for(&self.names, ask);
+        let effective = is_effective(&self.exports, &self.runs, stood, by, ask);
         let exported = self.exports.count();
         let running = self.runs.len();
         if let Some(refused) = room_refusal(self.units, running, exported, effective, ask) {
@@ -75,8 +77,10 @@ impl Tables {
             &self.config,
             self.added,
             &self.exports,
+            &self.names,
             &self.withdrawn,
             self.told,
+            stood,
             effective,
             now,
             ask,
@@ -84,9 +88,24 @@ impl Tables {
         room_for_event(&mut self.events, &mut self.runs)?;
         room_for_gone(&mut self.withdrawn, &mut self.scratch, ready.objects)?;
         room_in_table(&mut self.exports, ready.opened, ready.references.len())?;
-        tell(self.alloc, &mut self.leases, &self.exports, now, ask)?;
+        settle(
+            self.alloc,
+            &mut self.leases,
+            &mut self.names,
+            &self.exports,
+            effective,
+            now,
+            ask,
+        )?;
         let place = self.events.len() as u64;
-        act(&mut self.exports, effective, now, &ready.references, ask);
+        act(
+            &mut self.exports,
+            stood,
+            effective,
+            now,
+            &ready.references,
+            ask,
+        );
         act_on_runs(&mut self.runs, effective, by, ask);
         let untold = ready.gone.len();
         self.exports

@@ -3,15 +3,18 @@ ghost use Rattle.std.specs.Prelude.{◌≡◌, ◌++◌, flat_map, max, OnOk, If
 ghost use Rattle.history.specs.Leases.{lease_rows};
 ghost use Rattle.history.specs.Outline as lines;
 ghost use Rattle.dgc_server.specs.Stands.{ForEachLog};
-ghost use Rattle.space.specs.Rows.{held_row};
+ghost use Rattle.space.specs.Rows.{held_row, binding_text};
 
 use crate::turns::Space;
 use dgc_server::{LeaseRow, Leases};
 use export_table::ExportRow;
 use history::{SpaceConfig, Withdrawal};
 use journal::ObjectRow;
-use journal::outline::{put_events_line, put_lease_line, put_object_line, put_withdrawal_line};
+use journal::outline::{
+    put_events_line, put_lease_line, put_name_line, put_object_line, put_withdrawal_line,
+};
 use mod_utf::list::ByteList;
+use rmi_registry::Binding;
 use std::alloc::{AllocError, Global};
 
 /// The outline of a space: how many events it took, their units and its present moment; each exported object;
@@ -35,6 +38,8 @@ pub fn outline(alloc: Global, space: &Space) -> Result<ByteList, AllocError>
         rows.as_slice(),
     )?;
     put_leases(alloc, &mut text, &space.tables.leases, space.tables.moment)?;
+    let bindings = space.tables.names.bindings(alloc)?;
+    put_names(&mut text, &space.tables.config, bindings.as_slice())?;
     put_withdrawals(&mut text, &space.tables.config, &space.tables.withdrawn)?;
     Ok(text)
 }
@@ -68,7 +73,7 @@ fn row_of(leases: &Leases, now: u64, object: &ExportRow) -> ObjectRow
         running: u64::from(object.running),
         awaiting: u64::from(object.awaiting),
         held: u64::from(leases.holders(object.id, now)),
-        names: 0,
+        names: u64::from(object.pins),
     }
 }
 
@@ -91,6 +96,20 @@ fn put_rows(text: &mut ByteList, rows: &[LeaseRow]) -> Result<(), AllocError>
 {
     for row in rows {
         put_lease_line(text, &row.client, row.until)?;
+    }
+    Ok(())
+}
+
+/// Appends the lines of names, each with the object for which it stands.
+fn put_names(
+    text: &mut ByteList,
+    config: &SpaceConfig,
+    bindings: &[Binding],
+) -> Result<(), AllocError>
+    ensures { OnOk result (text.new ≡ text.old ++ flat_map (binding_text config.now) bindings.now) }
+{
+    for binding in bindings {
+        put_name_line(text, *config, &binding.name, binding.object)?;
     }
     Ok(())
 }

@@ -6,7 +6,6 @@ ghost use Rattle.history.specs.Running.{running};
 ghost use Rattle.history.specs.Steps.{Step, IsLegal};
 ghost use Rattle.history.specs.Table.{places};
 ghost use Rattle.space.specs.Acts.{event_of};
-ghost use Rattle.space.specs.Built.{IsBuilt};
 
 use crate::acts::put_event;
 use crate::runs::count;
@@ -15,6 +14,7 @@ use dgc_server::Leases;
 use export_table::Exports;
 use history::{Ask, Event, Refused, SpaceConfig, Turn};
 use object_ids::ObjId;
+use rmi_registry::Names;
 use std::alloc::Global;
 use std::marker::Model;
 
@@ -59,19 +59,17 @@ impl Space {
                 told: 0,
                 added: 0,
                 scratch: Vec::new(alloc),
+                names: Names::fresh(alloc),
             },
         }
     }
 
     /// Takes an event that connection `by` hands in at a moment, in milliseconds, and answers it; or refuses
     /// it, and is as it was, the present moment included. HistoryFull comes exactly where the events' units
-    /// would pass their limit; else Full(Exports), Full(Awaiting), Full(Clients) and Full(Pairs), in this order,
-    /// exactly where the entries of these tables would. OutOfMemory may come in place of any answer. Served are
-    /// the opening of an object, calls of it, returns of calls, calls that are abandoned, dirty and clean calls,
-    /// acknowledgements, and ticks.
+    /// would pass their limit; else Full(Exports), Full(Awaiting), Full(Clients), Full(Pairs) and Full(Names), in
+    /// this order, exactly where the entries of these tables would. OutOfMemory may come in place of any answer.
     pub fn turn(&mut self, by: u32, moment: u64, ask: Ask) -> Result<Turn, Refused>
         requires moment { moment < 2 ^ 62 }
-        requires built { IsBuilt ask }
         ensures step { Step self.old.configuration self.old.events (record { by = by; moment = moment; ask = ask }) result self.new.events }
 
         // The history's table keeps what there is a reason to keep, and the rest is withdrawn. This follows from `step`; that the

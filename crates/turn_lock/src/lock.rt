@@ -5,7 +5,6 @@ ghost use Rattle.history.specs.Running.{running};
 ghost use Rattle.history.specs.Steps.{turn_of};
 ghost use Rattle.history.specs.Table.{places};
 ghost use Rattle.space.specs.Acts.{event_of};
-ghost use Rattle.space.specs.Built.{IsBuilt};
 ghost use Rattle.space.specs.Entries.{entry_of};
 ghost use Rattle.turn_lock.specs.Rule.{Events, InOrder, TurnedAt, TurnedBy, Settled, StartsWith, left_of, right_of, joined_of};
 ghost use Rattle.turn_lock.specs.Handles.{IsPassOf, IsBranchOf, IsFresh, IsRootOf, opening_of, view_of};
@@ -150,7 +149,6 @@ impl Pass {
         requires own { IsPassOf lock.now self.old }
         requires room { 0 < self.old.room }
         requires moment { moment < 2 ^ 62 }
-        requires built { IsBuilt ask }
         ensures pass { IsPassOf lock.now self.new × (self.new.room + 1 ≡ self.old.room) × (self.new.seat.id ≡ self.old.seat.id) × (self.new.number ≡ self.old.number) }
         ensures turned { MatchResult result (λ x. TurnedBy (view_of self.old) self.old.number moment ask x.0 (view_of self.new))
             (λ refused. TurnedBy (view_of self.old) self.old.number moment ask (Err Refused.OutOfMemory) (view_of self.new)) }

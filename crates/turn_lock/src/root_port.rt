@@ -2,7 +2,6 @@
 ghost use Rattle.std.specs.Prelude.{◌≡◌, ◌+◌, ◌<◌, ◌≤◌, ◌^◌, [], vec_capacity};
 ghost use Rattle.std.specs.Borrow.{sem};
 ghost use Rattle.space.specs.Ties.{IsTied};
-ghost use Rattle.space.specs.Built.{IsBuilt};
 ghost use Rattle.space.specs.Ports.{entries_of};
 ghost use Rattle.turn_lock.specs.Handles.{IsPassOf, IsRootOf, opening_of, seen_space, view_of};
 ghost use Rattle.turn_lock.specs.Lending.{LendsPass};
@@ -53,7 +52,6 @@ impl Root {
         requires own { IsRootOf lock.now self.old }
         requires room { 0 < self.old.pass.room }
         requires moment { moment < 2 ^ 62 }
-        requires built { IsBuilt ask }
         ensures root { IsRootOf lock.now self.new }
         ensures counts { (self.new.made ≡ self.old.made) × (self.new.out ≡ self.old.out) }
         ensures went { PassWent self.old.pass self.new.pass result.1 }
@@ -77,7 +75,6 @@ fn turned<R: Wait>(
     requires own { IsPassOf lock.now pass.old }
     requires room { 0 < pass.old.room }
     requires moment { moment < 2 ^ 62 }
-    requires built { IsBuilt ask }
     ensures own { IsPassOf lock.now pass.new }
     ensures went { PassWent pass.old pass.new result.1 }
     ensures asked { result.1 ≡ entries_of moment ask result.0 }

@@ -6,7 +6,6 @@ ghost use Rattle.history.specs.Running.{running};
 ghost use Rattle.history.specs.Steps.{turn_of};
 ghost use Rattle.history.specs.Table.{places};
 ghost use Rattle.space.specs.Acts.{event_of};
-ghost use Rattle.space.specs.Built.{IsBuilt};
 ghost use Rattle.space.specs.Entries.{entry_of};
 ghost use Rattle.space.specs.Ports.{IsAnswerTo};
 ghost use Rattle.turn_lock.specs.declared.view.Stage.TheVariants.{Idle, Drawn, Called};
@@ -160,7 +159,6 @@ pub(crate) fn turn<R: Wait>(
     requires idle { (seat.old.me.0.stage ≡ Idle) × (seat.old.me.1 ≡ []) × (seat.old.me.0.drawn < 2147483648 * seat.old.me.0.parts) }
     requires number { by ≡ seat.old.me.0.number }
     requires moment { moment < 2 ^ 62 }
-    requires built { IsBuilt ask }
     ensures seat { (seat.new.table_id ≡ seat.old.table_id) × (seat.new.id ≡ seat.old.id) × (seat.new.me.1 ≡ []) }
     ensures turned { (before : Events) × TurnedAt seat.old.me.0 before (event_of by moment ask) (answer_of result) seat.new.me.0
         × IfOk result (λ x. IsAnswerTo (λ o. 0 < running (places seat.old.me.0.config before) by o) ask x.0) }

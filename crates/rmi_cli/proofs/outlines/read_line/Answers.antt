@@ -1,7 +1,5 @@
-use Rattle.std.proofs.Common.{rules, ◌≡◌, IsTrue, false, refl}
-use Rattle.std.specs.Prelude.{◌↔◌}
-use Rattle.rmi_cli.specs.Replay.{IsServed}
-use Rattle.rmi_cli.proofs.Replaying.{no_end, no_event, unserved, not_true}
+use Rattle.std.proofs.Common.{refl}
+use Rattle.rmi_cli.proofs.Replaying.{no_end, no_event}
 use Rattle.rmi_cli.proofs.outlines.read_line.Goals as goal
 
 pub returns-in_default-clause-bad : goal.returns-in_default-clause-bad
@@ -11,11 +9,3 @@ pub returns-in-Ok-None-clause-bad : goal.returns-in-Ok-None-clause-bad
 returns-in-Ok-None-clause-bad c =
     let found = rw c.in-Ok-None.field-0-is at c.in-Ok-None.ensures in
     no_event c.args.config.now c.args.config.now.uid c.args.lines.now c.in-Some.line.now c.in-Some.more.now refl c.in-Some.ensures.0 c.in-Some.ensures.1 found
-
-pub returns-clause-bad : goal.returns-clause-bad
-returns-clause-bad c =
-    let found = rw c.in-Ok-Some.field-0-is at c.in-Ok-Some.ensures in
-    let tested : IsTrue c.is_served.result ↔ IsServed c.in-Ok-Some.event.ask = c.is_served.ensures in
-    let is_not : c.is_served.result ≡ false = search rules in
-    unserved c.args.config.now c.args.config.now.uid c.args.lines.now c.in-Some.line.now c.in-Some.more.now c.in-Ok-Some.event refl c.in-Some.ensures.0 c.in-Some.ensures.1 found
-    (λ served. not_true (rw is_not at (tested.1 served)))

@@ -1,12 +1,9 @@
 use Rattle.std.proofs.Common.{◌≡◌, ◌+◌, length, ap, rules}
-use Rattle.rmi_cli.proofs.Replaying.{spelled_moments, spelled_served, takes_to, bad_next, halts_there}
+use Rattle.rmi_cli.proofs.Replaying.{spelled_moments, takes_to, bad_next, halts_there}
 use Rattle.rmi_cli.proofs.outlines.take_batch.Goals as goal
 
-pub make_turns-requires-clause-moments : goal.make_turns-requires-clause-moments
-make_turns-requires-clause-moments c = spelled_moments c.args.config.now c.in-Ok.batch.events.items c.in-Ok.ensures.read.front c.in-Ok.ensures.read.spelled
-
-pub make_turns-requires-clause-built : goal.make_turns-requires-clause-built
-make_turns-requires-clause-built c = spelled_served c.args.config.now c.in-Ok.batch.events.items c.in-Ok.ensures.read.front c.in-Ok.ensures.read.spelled
+pub make_turns-requires : goal.make_turns-requires
+make_turns-requires c = spelled_moments c.args.config.now c.in-Ok.batch.events.items c.in-Ok.ensures.read.front c.in-Ok.ensures.read.spelled
 
 pub returns-then-is_bad-clause-stops : goal.returns-then-is_bad-clause-stops
 returns-then-is_bad-clause-stops c =

@@ -1,18 +1,23 @@
-use Rattle.std.proofs.Common.{◌≡◌, ◌∷◌, ◌++◌, [], ℕ, length, refl, ap, sym, subst, ◌∙◌, rules, arith, max, Err, Result, None, Some}
-use Rattle.std.specs.Prelude.{IfErr, vec_len, vec_capacity, drop, ◌+◌, map}
+use Rattle.std.proofs.Common.{◌≡◌, ◌∷◌, ◌++◌, [], ℕ, length, refl, ap, sym, subst, ◌∙◌, rules, arith, max, Err, Result, Option, None, Some}
+use Rattle.std.specs.Prelude.{IfErr, vec_len, vec_capacity, drop, ◌+◌, map, option_and_then}
+use Rattle.object_ids.specs.declared.ids.ObjId.{ObjId}
 use Rattle.history.specs.declared.replies.Refused.{Refused}
 use Rattle.history.specs.declared.replies.Turn.{Turn}
 use Rattle.history.specs.LeaseCalls.{call_with}
+use Rattle.history.specs.Names.{name_in, names}
 use Rattle.history.specs.Steps.{Step}
+use Rattle.history.specs.Table.{places}
 use Rattle.export_table.specs.Rows.{is_exported}
 use Rattle.export_table.specs.Table.{ExportTable}
 use Rattle.dgc_server.proofs.Told.{error-is}
 use Rattle.history.specs.declared.places.Withdrawal.{Withdrawal}
-use Rattle.space.specs.Acts.{ForEachLogBy, event_of, acted, acted_runs, reply_at, returned_by, withdrawal_at, told_after, await_refusal, lease_refusal, Agrees}
+use Rattle.space.specs.Acts.{ForEachLogBy, event_of, acted, acted_runs, reply_at, returned_by, withdrawal_at, told_after, await_refusal, told_refusal, Agrees}
 use Rattle.space.proofs.TurnLaws.{is-effective, none-else, room-step, await-step, memory-step, told-step, turn-keeps, turn-step, whole-err}
 use Rattle.space.proofs.AheadLaws.{room-grown, room-turned, few-calls}
 use Rattle.space.proofs.EndLaws.{has-acted, has-withdrawn, goes-after, goes-few}
-use Rattle.space.proofs.AskLaws.{keeps-roomy, asked, room-as, few-run, abandon-counted, finish-counted, finish-few, room-units, returned-few, acted-few}
+use Rattle.space.proofs.AskLaws.{stood-is, stood-pinned, few-pins, bound-exported, lookup-fits, keeps-roomy, asked, room-as, few-run, abandon-counted, finish-counted, finish-few, room-units, returned-few, acted-few}
+use Rattle.rmi_registry.specs.Named.{names_in, object_of}
+use Rattle.space.proofs.Bindings.{bindings-counted, bindings-same, names-next}
 use Rattle.space.proofs.tables.Tables.turn.Goals as goal
 
 pub returns-in-Some-clause-refused : goal.returns-in-Some-clause-refused
@@ -21,7 +26,7 @@ returns-in-Some-clause-refused c =
     room-step c.args.self.now.config c.args.self.now.events.items (event_of c.args.by c.args.moment c.args.ask.now) c.args.self.now.leases c.args.self.now.exports c.args.self.now.runs.items c.args.self.now.withdrawn.items
     c.args.self.now.told c.args.self.now.added c.args.self.now.units c.args.self.now.moment c.is_effective-effective.result c.in-Some.refused
     (asked c.args.self.now.config c.args.self.now.events.items (event_of c.args.by c.args.moment c.args.ask.now) c.args.self.now.leases c.args.self.now.exports c.args.self.now.exports c.args.self.now.runs.items c.deref.result.now c.args.self.now.withdrawn.items
-    c.args.self.now.told c.args.self.now.added c.args.self.now.units c.args.self.now.moment c.is_effective-effective.result c.requires.whole.0 c.requires.built c.is_effective-effective.ensures c.deref.ensures.value refl)
+    c.args.self.now.told c.args.self.now.added c.args.self.now.units c.args.self.now.moment c.stood_for-stood.result c.is_effective-effective.result c.requires.whole.0 (c.stood_for-stood.ensures ∙ stood-is (places c.args.self.now.config c.args.self.now.events.items) c.args.self.now.names c.args.ask.now c.requires.whole.2) c.is_effective-effective.ensures c.deref.ensures.value refl)
     (room-as c.args.self.now.units c.len-running.result c.count-exported.result c.is_effective-effective.result c.args.ask.now c.args.self.now.runs.items c.args.self.now.exports c.args.self.now.exports c.room_refusal.result (Some c.in-Some.refused)
     c.room_refusal.ensures running c.count-exported.ensures.value refl c.in-Some.is)
 
@@ -36,6 +41,7 @@ returns-in_err-room_for_event-clause-whole c =
     (vec_capacity c.room_for_event.new.events) (vec_capacity c.args.self.now.withdrawn) (vec_capacity c.args.self.now.scratch)
     c.requires.whole.1 c.room_for_event.ensures.events c.room_for_event.ensures.runs refl refl refl
     c.room_for_event.ensures.grow (omega arith) (omega arith))
+    (bindings-same c.args.self.now.config c.args.self.now.events.items c.room_for_event.new.events.items c.args.self.now.names c.args.self.now.names c.requires.whole.2 c.room_for_event.ensures.events refl)
 
 pub returns-in_err-room_for_gone-clause-whole : goal.returns-in_err-room_for_gone-clause-whole
 returns-in_err-room_for_gone-clause-whole c =
@@ -48,6 +54,7 @@ returns-in_err-room_for_gone-clause-whole c =
     (vec_capacity c.room_for_event.new.events) (vec_capacity c.room_for_gone.new.withdrawn) (vec_capacity c.room_for_gone.new.scratch)
     c.requires.whole.1 c.room_for_event.ensures.events c.room_for_event.ensures.runs c.room_for_gone.ensures.withdrawn refl c.room_for_gone.ensures.scratch
     c.room_for_event.ensures.grow c.room_for_gone.ensures.withdrawn_grow c.room_for_gone.ensures.scratch_grow)
+    (bindings-same c.args.self.now.config c.args.self.now.events.items c.room_for_event.new.events.items c.args.self.now.names c.args.self.now.names c.requires.whole.2 c.room_for_event.ensures.events refl)
 
 pub returns-in_err-room_in_table-clause-whole : goal.returns-in_err-room_in_table-clause-whole
 returns-in_err-room_in_table-clause-whole c =
@@ -60,18 +67,20 @@ returns-in_err-room_in_table-clause-whole c =
     (vec_capacity c.room_for_event.new.events) (vec_capacity c.room_for_gone.new.withdrawn) (vec_capacity c.room_for_gone.new.scratch)
     c.requires.whole.1 c.room_for_event.ensures.events c.room_for_event.ensures.runs c.room_for_gone.ensures.withdrawn c.room_in_table.ensures.rest c.room_for_gone.ensures.scratch
     c.room_for_event.ensures.grow c.room_for_gone.ensures.withdrawn_grow c.room_for_gone.ensures.scratch_grow)
+    (bindings-same c.args.self.now.config c.args.self.now.events.items c.room_for_event.new.events.items c.args.self.now.names c.args.self.now.names c.requires.whole.2 c.room_for_event.ensures.events refl)
 
-pub returns-in_err-tell-clause-whole : goal.returns-in_err-tell-clause-whole
-returns-in_err-tell-clause-whole c =
-    whole-err c.from_residual-in_err-tell.result
-    (keeps-roomy c.args.self.now.config c.args.self.now.events.items c.room_for_event.new.events.items c.args.self.now.leases c.tell.new.leases c.args.self.now.exports c.room_in_table.new.exports c.args.self.now.runs.items c.room_for_event.new.runs.items
+pub returns-in_err-settle-clause-whole : goal.returns-in_err-settle-clause-whole
+returns-in_err-settle-clause-whole c =
+    whole-err c.from_residual-in_err-settle.result
+    (keeps-roomy c.args.self.now.config c.args.self.now.events.items c.room_for_event.new.events.items c.args.self.now.leases c.settle.new.leases c.args.self.now.exports c.room_in_table.new.exports c.args.self.now.runs.items c.room_for_event.new.runs.items
     c.args.self.now.withdrawn.items c.room_for_gone.new.withdrawn.items c.args.self.now.told c.args.self.now.added c.args.self.now.units c.args.self.now.moment
-    c.requires.whole.0 c.room_in_table.ensures.rest c.room_for_event.ensures.events (c.in_err-tell.ensures {u = tt}).err c.room_for_event.ensures.runs c.room_for_gone.ensures.withdrawn)
+    c.requires.whole.0 c.room_in_table.ensures.rest c.room_for_event.ensures.events (c.in_err-settle.ensures {u = tt}).err c.room_for_event.ensures.runs c.room_for_gone.ensures.withdrawn)
     (room-grown c.args.self.now.events.items c.room_for_event.new.events.items c.args.self.now.runs.items c.room_for_event.new.runs.items c.args.self.now.withdrawn.items c.room_for_gone.new.withdrawn.items c.args.self.now.exports c.room_in_table.new.exports
     c.args.self.now.scratch.items c.room_for_gone.new.scratch.items (vec_capacity c.args.self.now.events) (vec_capacity c.args.self.now.withdrawn) (vec_capacity c.args.self.now.scratch)
     (vec_capacity c.room_for_event.new.events) (vec_capacity c.room_for_gone.new.withdrawn) (vec_capacity c.room_for_gone.new.scratch)
     c.requires.whole.1 c.room_for_event.ensures.events c.room_for_event.ensures.runs c.room_for_gone.ensures.withdrawn c.room_in_table.ensures.rest c.room_for_gone.ensures.scratch
     c.room_for_event.ensures.grow c.room_for_gone.ensures.withdrawn_grow c.room_for_gone.ensures.scratch_grow)
+    (bindings-same c.args.self.now.config c.args.self.now.events.items c.room_for_event.new.events.items c.args.self.now.names c.settle.new.names c.requires.whole.2 c.room_for_event.ensures.events (c.in_err-settle.ensures {u = tt}).kept)
 
 pub returns-in_err-room_for_event-clause-refused : goal.returns-in_err-room_for_event-clause-refused
 returns-in_err-room_for_event-clause-refused c =
@@ -91,36 +100,40 @@ returns-in_err-room_in_table-clause-refused c =
     subst P (sym (error-is c.from_residual-in_err-room_in_table.result c.in_err-room_in_table.field-0.0 c.from_residual-in_err-room_in_table.ensures.1))
     (memory-step c.args.self.now.config c.args.self.now.events.items c.args.self.now.events.items (event_of c.args.by c.args.moment c.args.ask.now) c.in_err-room_in_table.field-0.0 (c.in_err-room_in_table.ensures {u = tt}).refusal refl)
 
-pub returns-in_err-tell-clause-refused : goal.returns-in_err-tell-clause-refused
-returns-in_err-tell-clause-refused c =
+pub returns-in_err-settle-clause-refused : goal.returns-in_err-settle-clause-refused
+returns-in_err-settle-clause-refused c =
     let running : c.len-running.result ≡ length c.args.self.now.runs.items = search rules in
     let time : c.max-now.result ≡ max c.args.moment c.args.self.now.moment = search rules in
     let P : Result Turn Refused → Type 0 = λ r. IfErr r (λ refused. Step c.args.self.now.config c.args.self.now.events.items (event_of c.args.by c.args.moment c.args.ask.now) (Err refused) c.args.self.now.events.items) in
-    let N : ℕ → Type 0 = λ n. ForEachLogBy n c.args.self.now.leases (λ lease calls. Agrees {T = Unit {0}} (lease_refusal lease n calls (call_with (is_exported c.room_in_table.new.exports.rows) n c.args.ask.now)) (Err c.in_err-tell.field-0.0)) in
-    subst P (sym (error-is c.from_residual-in_err-tell.result c.in_err-tell.field-0.0 c.from_residual-in_err-tell.ensures.1))
+    let N : ℕ → Type 0 = λ n. ForEachLogBy n c.args.self.now.leases (λ lease calls. Agrees {T = Unit {0}} (told_refusal lease n calls (call_with (is_exported c.room_in_table.new.exports.rows) n c.args.ask.now) (length c.args.self.now.names) (option_and_then (object_of c.args.self.now.names) (name_in c.args.ask.now)) c.is_effective-effective.result c.args.ask.now) (Err c.in_err-settle.field-0.0)) in
+    let C : ℕ → Type 0 = λ n. ForEachLogBy (max c.args.moment c.args.self.now.moment) c.args.self.now.leases (λ lease calls. Agrees {T = Unit {0}} (told_refusal lease (max c.args.moment c.args.self.now.moment) calls (call_with (is_exported c.room_in_table.new.exports.rows) (max c.args.moment c.args.self.now.moment) c.args.ask.now) n (option_and_then (object_of c.args.self.now.names) (name_in c.args.ask.now)) c.is_effective-effective.result c.args.ask.now) (Err c.in_err-settle.field-0.0)) in
+    let O : Option ObjId → Type 0 = λ o. ForEachLogBy (max c.args.moment c.args.self.now.moment) c.args.self.now.leases (λ lease calls. Agrees {T = Unit {0}} (told_refusal lease (max c.args.moment c.args.self.now.moment) calls (call_with (is_exported c.room_in_table.new.exports.rows) (max c.args.moment c.args.self.now.moment) c.args.ask.now) (length (names (places c.args.self.now.config c.args.self.now.events.items))) o c.is_effective-effective.result c.args.ask.now) (Err c.in_err-settle.field-0.0)) in
+    subst P (sym (error-is c.from_residual-in_err-settle.result c.in_err-settle.field-0.0 c.from_residual-in_err-settle.ensures.1))
     (told-step c.args.self.now.config c.args.self.now.events.items (event_of c.args.by c.args.moment c.args.ask.now) c.args.self.now.leases c.room_in_table.new.exports c.args.self.now.runs.items c.args.self.now.withdrawn.items
-    c.args.self.now.told c.args.self.now.added c.args.self.now.units c.args.self.now.moment c.is_effective-effective.result c.in_err-tell.field-0.0
+    c.args.self.now.told c.args.self.now.added c.args.self.now.units c.args.self.now.moment c.is_effective-effective.result c.in_err-settle.field-0.0
     (asked c.args.self.now.config c.args.self.now.events.items (event_of c.args.by c.args.moment c.args.ask.now) c.args.self.now.leases c.args.self.now.exports c.room_in_table.new.exports c.args.self.now.runs.items c.deref.result.now c.args.self.now.withdrawn.items
-    c.args.self.now.told c.args.self.now.added c.args.self.now.units c.args.self.now.moment c.is_effective-effective.result c.requires.whole.0 c.requires.built c.is_effective-effective.ensures c.deref.ensures.value c.room_in_table.ensures.rest)
+    c.args.self.now.told c.args.self.now.added c.args.self.now.units c.args.self.now.moment c.stood_for-stood.result c.is_effective-effective.result c.requires.whole.0 (c.stood_for-stood.ensures ∙ stood-is (places c.args.self.now.config c.args.self.now.events.items) c.args.self.now.names c.args.ask.now c.requires.whole.2) c.is_effective-effective.ensures c.deref.ensures.value c.room_in_table.ensures.rest)
     (room-as c.args.self.now.units c.len-running.result c.count-exported.result c.is_effective-effective.result c.args.ask.now c.args.self.now.runs.items c.args.self.now.exports c.room_in_table.new.exports c.room_refusal.result None
     c.room_refusal.ensures running c.count-exported.ensures.value c.room_in_table.ensures.rest (none-else c.room_refusal.result c.in_default.not-Some))
-    (ap (λ n. await_refusal n c.room_in_table.new.exports.rows c.room_in_table.new.exports.waits c.is_effective-effective.result c.args.ask.now) (sym time) ∙ ap (λ (t : ExportTable). await_refusal c.max-now.result t.rows t.waits c.is_effective-effective.result c.args.ask.now) c.room_in_table.ensures.rest ∙ c.in_ok-ready.ensures.refusal)
-    (subst N time (c.in_err-tell.ensures {u = tt}).refusal))
+    (ap (λ o. await_refusal (max c.args.moment c.args.self.now.moment) c.room_in_table.new.exports.rows c.room_in_table.new.exports.waits o c.is_effective-effective.result c.args.ask.now) (sym (c.stood_for-stood.ensures ∙ stood-is (places c.args.self.now.config c.args.self.now.events.items) c.args.self.now.names c.args.ask.now c.requires.whole.2))
+    ∙ ap (λ n. await_refusal n c.room_in_table.new.exports.rows c.room_in_table.new.exports.waits c.stood_for-stood.result c.is_effective-effective.result c.args.ask.now) (sym time) ∙ ap (λ (t : ExportTable). await_refusal c.max-now.result t.rows t.waits c.stood_for-stood.result c.is_effective-effective.result c.args.ask.now) c.room_in_table.ensures.rest ∙ c.in_ok-ready.ensures.refusal)
+    (subst O (stood-is (places c.args.self.now.config c.args.self.now.events.items) c.args.self.now.names c.args.ask.now c.requires.whole.2) (subst C (bindings-counted c.args.self.now.config c.args.self.now.events.items c.args.self.now.names c.requires.whole.2) (subst N time (c.in_err-settle.ensures {u = tt}).refusal))))
 
 pub returns-in_err-ready-clause-refused : goal.returns-in_err-ready-clause-refused
 returns-in_err-ready-clause-refused c =
     let running : c.len-running.result ≡ length c.args.self.now.runs.items = search rules in
     let time : c.max-now.result ≡ max c.args.moment c.args.self.now.moment = search rules in
     let P : Result Turn Refused → Type 0 = λ r. IfErr r (λ refused. Step c.args.self.now.config c.args.self.now.events.items (event_of c.args.by c.args.moment c.args.ask.now) (Err refused) c.args.self.now.events.items) in
-    let N : ℕ → Type 0 = λ n. Agrees {T = Unit {0}} (await_refusal n c.args.self.now.exports.rows c.args.self.now.exports.waits c.is_effective-effective.result c.args.ask.now) (Err c.in_err-ready.field-0.0) in
+    let N : ℕ → Type 0 = λ n. Agrees {T = Unit {0}} (await_refusal n c.args.self.now.exports.rows c.args.self.now.exports.waits c.stood_for-stood.result c.is_effective-effective.result c.args.ask.now) (Err c.in_err-ready.field-0.0) in
+    let O : Option ObjId → Type 0 = λ o. Agrees {T = Unit {0}} (await_refusal (max c.args.moment c.args.self.now.moment) c.args.self.now.exports.rows c.args.self.now.exports.waits o c.is_effective-effective.result c.args.ask.now) (Err c.in_err-ready.field-0.0) in
     subst P (sym (error-is c.from_residual.result c.in_err-ready.field-0.0 c.from_residual.ensures.1))
     (await-step c.args.self.now.config c.args.self.now.events.items (event_of c.args.by c.args.moment c.args.ask.now) c.args.self.now.leases c.args.self.now.exports c.args.self.now.runs.items c.args.self.now.withdrawn.items
     c.args.self.now.told c.args.self.now.added c.args.self.now.units c.args.self.now.moment c.is_effective-effective.result c.in_err-ready.field-0.0
     (asked c.args.self.now.config c.args.self.now.events.items (event_of c.args.by c.args.moment c.args.ask.now) c.args.self.now.leases c.args.self.now.exports c.args.self.now.exports c.args.self.now.runs.items c.deref.result.now c.args.self.now.withdrawn.items
-    c.args.self.now.told c.args.self.now.added c.args.self.now.units c.args.self.now.moment c.is_effective-effective.result c.requires.whole.0 c.requires.built c.is_effective-effective.ensures c.deref.ensures.value refl)
+    c.args.self.now.told c.args.self.now.added c.args.self.now.units c.args.self.now.moment c.stood_for-stood.result c.is_effective-effective.result c.requires.whole.0 (c.stood_for-stood.ensures ∙ stood-is (places c.args.self.now.config c.args.self.now.events.items) c.args.self.now.names c.args.ask.now c.requires.whole.2) c.is_effective-effective.ensures c.deref.ensures.value refl)
     (room-as c.args.self.now.units c.len-running.result c.count-exported.result c.is_effective-effective.result c.args.ask.now c.args.self.now.runs.items c.args.self.now.exports c.args.self.now.exports c.room_refusal.result None
     c.room_refusal.ensures running c.count-exported.ensures.value refl (none-else c.room_refusal.result c.in_default.not-Some))
-    (subst N time c.in_err-ready.ensures.refusal))
+    (subst O (c.stood_for-stood.ensures ∙ stood-is (places c.args.self.now.config c.args.self.now.events.items) c.args.self.now.names c.args.ask.now c.requires.whole.2) (subst N time c.in_err-ready.ensures.refusal)))
 
 pub returns-clause-taken : goal.returns-clause-taken
 returns-clause-taken c =
@@ -128,18 +141,20 @@ returns-clause-taken c =
     let time : c.max-now.result ≡ max c.args.moment c.args.self.now.moment = search rules in
     let untold : c.len-untold.result ≡ length c.in_ok-ready.ready.gone.items = search rules in
     let place : c.len-place.result ≡ length c.room_for_event.new.events.items = search rules in
-    turn-step c.args.self.now.config c.args.self.now.events.items (event_of c.args.by c.args.moment c.args.ask.now) c.args.self.now.leases c.tell.new.leases c.withdraw.new.leases c.room_in_table.new.exports (acted c.is_effective-effective.result c.max-now.result c.args.ask.now c.room_in_table.new.exports) c.withdraw.new.self
+    turn-step c.args.self.now.config c.args.self.now.events.items (event_of c.args.by c.args.moment c.args.ask.now) c.args.self.now.leases c.settle.new.leases c.withdraw.new.leases c.room_in_table.new.exports (acted c.stood_for-stood.result c.is_effective-effective.result c.max-now.result c.args.ask.now c.room_in_table.new.exports) c.withdraw.new.self
     c.args.self.now.runs.items c.args.self.now.withdrawn.items c.args.self.now.told c.args.self.now.added c.args.self.now.units c.args.self.now.moment c.max-now.result c.is_effective-effective.result c.in_ok-ready.ready.gone.items c.withdraw.new.gone.items
-    (has-acted c.args.self.now.config c.args.self.now.events.items (event_of c.args.by c.args.moment c.args.ask.now) c.args.self.now.leases c.tell.new.leases c.args.self.now.exports c.room_in_table.new.exports c.args.self.now.runs.items c.deref.result.now c.args.self.now.withdrawn.items
-    c.args.self.now.told c.args.self.now.added c.args.self.now.units c.args.self.now.moment c.max-now.result c.len-running.result c.count-exported.result c.is_effective-effective.result c.room_refusal.result
-    c.requires.whole.0 c.requires.built c.requires.moment c.is_effective-effective.ensures c.deref.ensures.value c.room_in_table.ensures.rest c.room_refusal.ensures running c.count-exported.ensures.value (none-else c.room_refusal.result c.in_default.not-Some) time
-    (ap (λ (t : ExportTable). await_refusal c.max-now.result t.rows t.waits c.is_effective-effective.result c.args.ask.now) c.room_in_table.ensures.rest ∙ c.in_ok-ready.ensures.refusal)
-    (c.in_ok-tell.ensures {u = tt}).refusal (c.in_ok-tell.ensures {u = tt}).ok)
-    time (has-withdrawn c.tell.new.leases c.withdraw.new.leases (acted c.is_effective-effective.result c.max-now.result c.args.ask.now c.room_in_table.new.exports) c.act.new.exports c.withdraw.new.self c.max-now.result c.in_ok-ready.ready.gone.items c.withdraw.new.gone.items
+    (has-acted c.args.self.now.config c.args.self.now.events.items (event_of c.args.by c.args.moment c.args.ask.now) c.args.self.now.leases c.settle.new.leases c.args.self.now.exports c.room_in_table.new.exports c.args.self.now.runs.items c.deref.result.now c.args.self.now.withdrawn.items
+    c.args.self.now.told c.args.self.now.added c.args.self.now.units c.args.self.now.moment c.max-now.result c.len-running.result c.count-exported.result c.stood_for-stood.result (option_and_then (object_of c.args.self.now.names) (name_in c.args.ask.now)) c.is_effective-effective.result c.room_refusal.result (length c.args.self.now.names)
+    c.requires.whole.0 (c.stood_for-stood.ensures ∙ stood-is (places c.args.self.now.config c.args.self.now.events.items) c.args.self.now.names c.args.ask.now c.requires.whole.2) c.stood_for-stood.ensures (bindings-counted c.args.self.now.config c.args.self.now.events.items c.args.self.now.names c.requires.whole.2) c.requires.moment c.is_effective-effective.ensures c.deref.ensures.value c.room_in_table.ensures.rest c.room_refusal.ensures running c.count-exported.ensures.value (none-else c.room_refusal.result c.in_default.not-Some) time
+    (ap (λ (t : ExportTable). await_refusal c.max-now.result t.rows t.waits c.stood_for-stood.result c.is_effective-effective.result c.args.ask.now) c.room_in_table.ensures.rest ∙ c.in_ok-ready.ensures.refusal)
+    (c.in_ok-settle.ensures {u = tt}).refusal (c.in_ok-settle.ensures {u = tt}).ok)
+    time (has-withdrawn c.settle.new.leases c.withdraw.new.leases (acted c.stood_for-stood.result c.is_effective-effective.result c.max-now.result c.args.ask.now c.room_in_table.new.exports) c.act.new.exports c.withdraw.new.self c.max-now.result c.in_ok-ready.ready.gone.items c.withdraw.new.gone.items
     c.act.ensures c.withdraw.ensures.kept c.withdraw.ensures.gone c.withdraw.ensures.dropped)
     c.len-place.result c.in_ok-ready.ready.reply c.from_vec-gone.result (c.args.self.now.events.items ++ (event_of c.args.by c.args.moment c.args.ask.now) ∷ [])
     (place ∙ ap length c.room_for_event.ensures.events) refl
-    (c.in_ok-ready.ensures.reply ∙ ap (λ (t : ExportTable). reply_at c.args.self.now.config c.args.self.now.added t.rows c.is_effective-effective.result c.args.ask.now) (sym c.room_in_table.ensures.rest))
+    (c.in_ok-ready.ensures.reply ∙ ap (λ (t : ExportTable). reply_at c.args.self.now.config c.args.self.now.added t.rows (names_in c.args.self.now.names) c.stood_for-stood.result c.is_effective-effective.result c.args.ask.now) (sym c.room_in_table.ensures.rest)
+    ∙ ap (λ ns. reply_at c.args.self.now.config c.args.self.now.added c.room_in_table.new.exports.rows ns c.stood_for-stood.result c.is_effective-effective.result c.args.ask.now) c.requires.whole.2.names
+    ∙ ap (λ o. reply_at c.args.self.now.config c.args.self.now.added c.room_in_table.new.exports.rows (names (places c.args.self.now.config c.args.self.now.events.items)) o c.is_effective-effective.result c.args.ask.now) (c.stood_for-stood.ensures ∙ stood-is (places c.args.self.now.config c.args.self.now.events.items) c.args.self.now.names c.args.ask.now c.requires.whole.2))
     (c.in_ok-ready.ensures.gone ∙ ap (λ l. map (λ (w : Withdrawal). w.object) (drop c.args.self.now.told l)) c.deref-2.ensures.value) c.from_vec-gone.ensures
 
 pub returns-clause-with_event : goal.returns-clause-with_event
@@ -151,15 +166,15 @@ returns-clause-with_event c =
     let all : c.len-2.result ≡ length c.note_withdrawn.new.withdrawn.items = search rules in
     let seen : c.deref-4.result.now ≡ c.withdraw.new.gone.items = c.deref-4.ensures.value in
     let ended : c.room_for_event.new.events.items ++ (event_of c.args.by c.args.moment c.args.ask.now) ∷ [] ≡ c.args.self.now.events.items ++ (event_of c.args.by c.args.moment c.args.ask.now) ∷ [] = ap (λ l. l ++ (event_of c.args.by c.args.moment c.args.ask.now) ∷ []) c.room_for_event.ensures.events in
-    let acts = has-acted c.args.self.now.config c.args.self.now.events.items (event_of c.args.by c.args.moment c.args.ask.now) c.args.self.now.leases c.tell.new.leases c.args.self.now.exports c.room_in_table.new.exports c.args.self.now.runs.items c.deref.result.now c.args.self.now.withdrawn.items
-    c.args.self.now.told c.args.self.now.added c.args.self.now.units c.args.self.now.moment c.max-now.result c.len-running.result c.count-exported.result c.is_effective-effective.result c.room_refusal.result
-    c.requires.whole.0 c.requires.built c.requires.moment c.is_effective-effective.ensures c.deref.ensures.value c.room_in_table.ensures.rest c.room_refusal.ensures running c.count-exported.ensures.value (none-else c.room_refusal.result c.in_default.not-Some) time
-    (ap (λ (t : ExportTable). await_refusal c.max-now.result t.rows t.waits c.is_effective-effective.result c.args.ask.now) c.room_in_table.ensures.rest ∙ c.in_ok-ready.ensures.refusal)
-    (c.in_ok-tell.ensures {u = tt}).refusal (c.in_ok-tell.ensures {u = tt}).ok in
-    let kept = turn-keeps c.args.self.now.config c.args.self.now.events.items (event_of c.args.by c.args.moment c.args.ask.now) c.args.self.now.leases c.tell.new.leases c.withdraw.new.leases c.room_in_table.new.exports (acted c.is_effective-effective.result c.max-now.result c.args.ask.now c.room_in_table.new.exports) c.withdraw.new.self
+    let acts = has-acted c.args.self.now.config c.args.self.now.events.items (event_of c.args.by c.args.moment c.args.ask.now) c.args.self.now.leases c.settle.new.leases c.args.self.now.exports c.room_in_table.new.exports c.args.self.now.runs.items c.deref.result.now c.args.self.now.withdrawn.items
+    c.args.self.now.told c.args.self.now.added c.args.self.now.units c.args.self.now.moment c.max-now.result c.len-running.result c.count-exported.result c.stood_for-stood.result (option_and_then (object_of c.args.self.now.names) (name_in c.args.ask.now)) c.is_effective-effective.result c.room_refusal.result (length c.args.self.now.names)
+    c.requires.whole.0 (c.stood_for-stood.ensures ∙ stood-is (places c.args.self.now.config c.args.self.now.events.items) c.args.self.now.names c.args.ask.now c.requires.whole.2) c.stood_for-stood.ensures (bindings-counted c.args.self.now.config c.args.self.now.events.items c.args.self.now.names c.requires.whole.2) c.requires.moment c.is_effective-effective.ensures c.deref.ensures.value c.room_in_table.ensures.rest c.room_refusal.ensures running c.count-exported.ensures.value (none-else c.room_refusal.result c.in_default.not-Some) time
+    (ap (λ (t : ExportTable). await_refusal c.max-now.result t.rows t.waits c.stood_for-stood.result c.is_effective-effective.result c.args.ask.now) c.room_in_table.ensures.rest ∙ c.in_ok-ready.ensures.refusal)
+    (c.in_ok-settle.ensures {u = tt}).refusal (c.in_ok-settle.ensures {u = tt}).ok in
+    let kept = turn-keeps c.args.self.now.config c.args.self.now.events.items (event_of c.args.by c.args.moment c.args.ask.now) c.args.self.now.leases c.settle.new.leases c.withdraw.new.leases c.room_in_table.new.exports (acted c.stood_for-stood.result c.is_effective-effective.result c.max-now.result c.args.ask.now c.room_in_table.new.exports) c.withdraw.new.self
     c.args.self.now.runs.items c.args.self.now.withdrawn.items c.args.self.now.told c.args.self.now.added c.args.self.now.units c.args.self.now.moment c.max-now.result c.is_effective-effective.result c.in_ok-ready.ready.gone.items c.withdraw.new.gone.items
     acts
-    time (has-withdrawn c.tell.new.leases c.withdraw.new.leases (acted c.is_effective-effective.result c.max-now.result c.args.ask.now c.room_in_table.new.exports) c.act.new.exports c.withdraw.new.self c.max-now.result c.in_ok-ready.ready.gone.items c.withdraw.new.gone.items
+    time (has-withdrawn c.settle.new.leases c.withdraw.new.leases (acted c.stood_for-stood.result c.is_effective-effective.result c.max-now.result c.args.ask.now c.room_in_table.new.exports) c.act.new.exports c.withdraw.new.self c.max-now.result c.in_ok-ready.ready.gone.items c.withdraw.new.gone.items
     c.act.ensures c.withdraw.ensures.kept c.withdraw.ensures.gone c.withdraw.ensures.dropped)
     c.len-place.result c.told_after-self.result _ _ (c.room_for_event.new.events.items ++ (event_of c.args.by c.args.moment c.args.ask.now) ∷ []) c.act_on_runs.new.runs.items c.note_withdrawn.new.withdrawn.items
     (place ∙ ap length c.room_for_event.ensures.events) ended
@@ -183,8 +198,13 @@ returns-clause-with_event c =
           c.told_after-self.result _ _ c.max-now.result c.in_ok-ready.ready.objects c.room_for_gone.new.scratch.items (vec_capacity c.room_for_event.new.events) (vec_capacity c.note_withdrawn.new.withdrawn) (vec_capacity c.room_for_gone.new.scratch)
           c.is_effective-effective.result (is-effective c.args.self.now.config c.args.self.now.events.items (event_of c.args.by c.args.moment c.args.ask.now) c.args.self.now.leases c.room_in_table.new.exports c.args.self.now.runs.items c.args.self.now.withdrawn.items
           c.args.self.now.told c.args.self.now.added c.args.self.now.units c.args.self.now.moment c.is_effective-effective.result acts.asked)
-          c.requires.whole.0 c.requires.built kept ended (omega (arith, objects)) (omega (arith, events_room, events_len, events_same, runs_len, runs_same)) (omega (arith, withdrawn_room, withdrawn_grow, withdrawn_len, withdrawn_same))
+          c.requires.whole.0 kept ended (omega (arith, objects)) (omega (arith, events_room, events_len, events_same, runs_len, runs_same)) (omega (arith, withdrawn_room, withdrawn_grow, withdrawn_len, withdrawn_same))
           scratch_room (c.room_for_gone.ensures.scratch ∙ c.requires.whole.1.empty),
+      bindings-same c.args.self.now.config (c.args.self.now.events.items ++ (event_of c.args.by c.args.moment c.args.ask.now) ∷ []) (c.room_for_event.new.events.items ++ (event_of c.args.by c.args.moment c.args.ask.now) ∷ []) c.settle.new.names c.settle.new.names
+          (names-next c.args.self.now.config c.args.self.now.events.items (event_of c.args.by c.args.moment c.args.ask.now) c.is_effective-effective.result c.args.self.now.names c.settle.new.names c.requires.whole.2
+          (is-effective c.args.self.now.config c.args.self.now.events.items (event_of c.args.by c.args.moment c.args.ask.now) c.args.self.now.leases c.room_in_table.new.exports c.args.self.now.runs.items c.args.self.now.withdrawn.items
+          c.args.self.now.told c.args.self.now.added c.args.self.now.units c.args.self.now.moment c.is_effective-effective.result acts.asked)
+          (c.in_ok-settle.ensures {u = tt}).names) ended refl,
     )
 
 pub act-requires-clause-few : goal.act-requires-clause-few
@@ -198,12 +218,12 @@ act-requires-clause-runs c o t s =
     abandon-counted c.args.self.now.config c.args.self.now.events.items (event_of c.args.by c.args.moment c.args.ask.now) c.args.self.now.leases c.room_in_table.new.exports c.args.self.now.runs.items c.args.self.now.withdrawn.items
     c.args.self.now.told c.args.self.now.added c.args.self.now.units c.args.self.now.moment c.is_effective-effective.result
     (asked c.args.self.now.config c.args.self.now.events.items (event_of c.args.by c.args.moment c.args.ask.now) c.args.self.now.leases c.args.self.now.exports c.room_in_table.new.exports c.args.self.now.runs.items c.deref.result.now c.args.self.now.withdrawn.items
-    c.args.self.now.told c.args.self.now.added c.args.self.now.units c.args.self.now.moment c.is_effective-effective.result c.requires.whole.0 c.requires.built c.is_effective-effective.ensures c.deref.ensures.value c.room_in_table.ensures.rest)
+    c.args.self.now.told c.args.self.now.added c.args.self.now.units c.args.self.now.moment c.stood_for-stood.result c.is_effective-effective.result c.requires.whole.0 (c.stood_for-stood.ensures ∙ stood-is (places c.args.self.now.config c.args.self.now.events.items) c.args.self.now.names c.args.ask.now c.requires.whole.2) c.is_effective-effective.ensures c.deref.ensures.value c.room_in_table.ensures.rest)
     o t s
 
 pub withdraw-requires : goal.withdraw-requires
 withdraw-requires c =
-    let few = acted-few c.is_effective-effective.result c.max-now.result c.args.ask.now c.room_in_table.new.exports c.act.new.exports c.requires.built c.act.ensures in
+    let few = acted-few c.stood_for-stood.result c.is_effective-effective.result c.max-now.result c.args.ask.now c.room_in_table.new.exports c.act.new.exports c.act.ensures in
     let same = ap (λ (t : ExportTable). length t.rows) c.room_in_table.ensures.rest in
     let objects = c.in_ok-ready.ensures.objects in let room = c.in_ok-ready.ensures.room in
     omega (arith, few, same, objects, room)
@@ -213,14 +233,14 @@ note_withdrawn-requires-clause-within c =
     let running : c.len-running.result ≡ length c.args.self.now.runs.items = search rules in
     let time : c.max-now.result ≡ max c.args.moment c.args.self.now.moment = search rules in
     let untold : c.len-untold.result ≡ length c.in_ok-ready.ready.gone.items = search rules in
-    let after = goes-after c.args.self.now.config c.args.self.now.events.items (event_of c.args.by c.args.moment c.args.ask.now) c.args.self.now.leases c.tell.new.leases c.withdraw.new.leases c.room_in_table.new.exports (acted c.is_effective-effective.result c.max-now.result c.args.ask.now c.room_in_table.new.exports) c.withdraw.new.self
+    let after = goes-after c.args.self.now.config c.args.self.now.events.items (event_of c.args.by c.args.moment c.args.ask.now) c.args.self.now.leases c.settle.new.leases c.withdraw.new.leases c.room_in_table.new.exports (acted c.stood_for-stood.result c.is_effective-effective.result c.max-now.result c.args.ask.now c.room_in_table.new.exports) c.withdraw.new.self
     c.args.self.now.runs.items c.args.self.now.withdrawn.items c.args.self.now.told c.args.self.now.added c.args.self.now.units c.args.self.now.moment c.max-now.result c.is_effective-effective.result c.in_ok-ready.ready.gone.items c.withdraw.new.gone.items
-    (has-acted c.args.self.now.config c.args.self.now.events.items (event_of c.args.by c.args.moment c.args.ask.now) c.args.self.now.leases c.tell.new.leases c.args.self.now.exports c.room_in_table.new.exports c.args.self.now.runs.items c.deref.result.now c.args.self.now.withdrawn.items
-    c.args.self.now.told c.args.self.now.added c.args.self.now.units c.args.self.now.moment c.max-now.result c.len-running.result c.count-exported.result c.is_effective-effective.result c.room_refusal.result
-    c.requires.whole.0 c.requires.built c.requires.moment c.is_effective-effective.ensures c.deref.ensures.value c.room_in_table.ensures.rest c.room_refusal.ensures running c.count-exported.ensures.value (none-else c.room_refusal.result c.in_default.not-Some) time
-    (ap (λ (t : ExportTable). await_refusal c.max-now.result t.rows t.waits c.is_effective-effective.result c.args.ask.now) c.room_in_table.ensures.rest ∙ c.in_ok-ready.ensures.refusal)
-    (c.in_ok-tell.ensures {u = tt}).refusal (c.in_ok-tell.ensures {u = tt}).ok)
-    time (has-withdrawn c.tell.new.leases c.withdraw.new.leases (acted c.is_effective-effective.result c.max-now.result c.args.ask.now c.room_in_table.new.exports) c.act.new.exports c.withdraw.new.self c.max-now.result c.in_ok-ready.ready.gone.items c.withdraw.new.gone.items
+    (has-acted c.args.self.now.config c.args.self.now.events.items (event_of c.args.by c.args.moment c.args.ask.now) c.args.self.now.leases c.settle.new.leases c.args.self.now.exports c.room_in_table.new.exports c.args.self.now.runs.items c.deref.result.now c.args.self.now.withdrawn.items
+    c.args.self.now.told c.args.self.now.added c.args.self.now.units c.args.self.now.moment c.max-now.result c.len-running.result c.count-exported.result c.stood_for-stood.result (option_and_then (object_of c.args.self.now.names) (name_in c.args.ask.now)) c.is_effective-effective.result c.room_refusal.result (length c.args.self.now.names)
+    c.requires.whole.0 (c.stood_for-stood.ensures ∙ stood-is (places c.args.self.now.config c.args.self.now.events.items) c.args.self.now.names c.args.ask.now c.requires.whole.2) c.stood_for-stood.ensures (bindings-counted c.args.self.now.config c.args.self.now.events.items c.args.self.now.names c.requires.whole.2) c.requires.moment c.is_effective-effective.ensures c.deref.ensures.value c.room_in_table.ensures.rest c.room_refusal.ensures running c.count-exported.ensures.value (none-else c.room_refusal.result c.in_default.not-Some) time
+    (ap (λ (t : ExportTable). await_refusal c.max-now.result t.rows t.waits c.stood_for-stood.result c.is_effective-effective.result c.args.ask.now) c.room_in_table.ensures.rest ∙ c.in_ok-ready.ensures.refusal)
+    (c.in_ok-settle.ensures {u = tt}).refusal (c.in_ok-settle.ensures {u = tt}).ok)
+    time (has-withdrawn c.settle.new.leases c.withdraw.new.leases (acted c.stood_for-stood.result c.is_effective-effective.result c.max-now.result c.args.ask.now c.room_in_table.new.exports) c.act.new.exports c.withdraw.new.self c.max-now.result c.in_ok-ready.ready.gone.items c.withdraw.new.gone.items
     c.act.ensures c.withdraw.ensures.kept c.withdraw.ensures.gone c.withdraw.ensures.dropped) in
     let seen = ap length c.deref-4.ensures.value in
     omega (arith, untold, after, seen)
@@ -230,17 +250,17 @@ note_withdrawn-requires-clause-room c =
     let running : c.len-running.result ≡ length c.args.self.now.runs.items = search rules in
     let time : c.max-now.result ≡ max c.args.moment c.args.self.now.moment = search rules in
     let untold : c.len-untold.result ≡ length c.in_ok-ready.ready.gone.items = search rules in
-    let few = goes-few c.args.self.now.config c.args.self.now.events.items (event_of c.args.by c.args.moment c.args.ask.now) c.args.self.now.leases c.tell.new.leases c.withdraw.new.leases c.room_in_table.new.exports (acted c.is_effective-effective.result c.max-now.result c.args.ask.now c.room_in_table.new.exports) c.withdraw.new.self
+    let few = goes-few c.args.self.now.config c.args.self.now.events.items (event_of c.args.by c.args.moment c.args.ask.now) c.args.self.now.leases c.settle.new.leases c.withdraw.new.leases c.room_in_table.new.exports (acted c.stood_for-stood.result c.is_effective-effective.result c.max-now.result c.args.ask.now c.room_in_table.new.exports) c.withdraw.new.self
     c.args.self.now.runs.items c.args.self.now.withdrawn.items c.args.self.now.told c.args.self.now.added c.args.self.now.units c.args.self.now.moment c.max-now.result c.is_effective-effective.result c.in_ok-ready.ready.gone.items c.withdraw.new.gone.items
-    (has-acted c.args.self.now.config c.args.self.now.events.items (event_of c.args.by c.args.moment c.args.ask.now) c.args.self.now.leases c.tell.new.leases c.args.self.now.exports c.room_in_table.new.exports c.args.self.now.runs.items c.deref.result.now c.args.self.now.withdrawn.items
-    c.args.self.now.told c.args.self.now.added c.args.self.now.units c.args.self.now.moment c.max-now.result c.len-running.result c.count-exported.result c.is_effective-effective.result c.room_refusal.result
-    c.requires.whole.0 c.requires.built c.requires.moment c.is_effective-effective.ensures c.deref.ensures.value c.room_in_table.ensures.rest c.room_refusal.ensures running c.count-exported.ensures.value (none-else c.room_refusal.result c.in_default.not-Some) time
-    (ap (λ (t : ExportTable). await_refusal c.max-now.result t.rows t.waits c.is_effective-effective.result c.args.ask.now) c.room_in_table.ensures.rest ∙ c.in_ok-ready.ensures.refusal)
-    (c.in_ok-tell.ensures {u = tt}).refusal (c.in_ok-tell.ensures {u = tt}).ok)
-    time (has-withdrawn c.tell.new.leases c.withdraw.new.leases (acted c.is_effective-effective.result c.max-now.result c.args.ask.now c.room_in_table.new.exports) c.act.new.exports c.withdraw.new.self c.max-now.result c.in_ok-ready.ready.gone.items c.withdraw.new.gone.items
+    (has-acted c.args.self.now.config c.args.self.now.events.items (event_of c.args.by c.args.moment c.args.ask.now) c.args.self.now.leases c.settle.new.leases c.args.self.now.exports c.room_in_table.new.exports c.args.self.now.runs.items c.deref.result.now c.args.self.now.withdrawn.items
+    c.args.self.now.told c.args.self.now.added c.args.self.now.units c.args.self.now.moment c.max-now.result c.len-running.result c.count-exported.result c.stood_for-stood.result (option_and_then (object_of c.args.self.now.names) (name_in c.args.ask.now)) c.is_effective-effective.result c.room_refusal.result (length c.args.self.now.names)
+    c.requires.whole.0 (c.stood_for-stood.ensures ∙ stood-is (places c.args.self.now.config c.args.self.now.events.items) c.args.self.now.names c.args.ask.now c.requires.whole.2) c.stood_for-stood.ensures (bindings-counted c.args.self.now.config c.args.self.now.events.items c.args.self.now.names c.requires.whole.2) c.requires.moment c.is_effective-effective.ensures c.deref.ensures.value c.room_in_table.ensures.rest c.room_refusal.ensures running c.count-exported.ensures.value (none-else c.room_refusal.result c.in_default.not-Some) time
+    (ap (λ (t : ExportTable). await_refusal c.max-now.result t.rows t.waits c.stood_for-stood.result c.is_effective-effective.result c.args.ask.now) c.room_in_table.ensures.rest ∙ c.in_ok-ready.ensures.refusal)
+    (c.in_ok-settle.ensures {u = tt}).refusal (c.in_ok-settle.ensures {u = tt}).ok)
+    time (has-withdrawn c.settle.new.leases c.withdraw.new.leases (acted c.stood_for-stood.result c.is_effective-effective.result c.max-now.result c.args.ask.now c.room_in_table.new.exports) c.act.new.exports c.withdraw.new.self c.max-now.result c.in_ok-ready.ready.gone.items c.withdraw.new.gone.items
     c.act.ensures c.withdraw.ensures.kept c.withdraw.ensures.gone c.withdraw.ensures.dropped) in
     let same = ap (λ (t : ExportTable). length t.rows) c.act.ensures in
-    let rows = acted-few c.is_effective-effective.result c.max-now.result c.args.ask.now c.room_in_table.new.exports c.act.new.exports c.requires.built c.act.ensures in
+    let rows = acted-few c.stood_for-stood.result c.is_effective-effective.result c.max-now.result c.args.ask.now c.room_in_table.new.exports c.act.new.exports c.act.ensures in
     let before = ap (λ (t : ExportTable). length t.rows) c.room_in_table.ensures.rest in
     let seen = ap (λ l. length (drop c.len-untold.result l)) c.deref-4.ensures.value in
     let at = ap (λ n. length (drop n c.withdraw.new.gone.items)) untold in
@@ -252,7 +272,7 @@ pub room_in_table-requires-clause-few_returned : goal.room_in_table-requires-cla
 room_in_table-requires-clause-few_returned c =
     let count : c.len.result ≡ length c.in_ok-ready.ready.references.items = search rules in
     let same = ap length c.in_ok-ready.ensures.references in
-    let few = returned-few c.args.self.now.config.uid c.args.self.now.added c.args.self.now.exports.rows c.is_effective-effective.result c.args.ask.now in
+    let few = returned-few c.args.self.now.config.uid c.args.self.now.added c.args.self.now.exports.rows c.stood_for-stood.result c.is_effective-effective.result c.args.ask.now in
     let some = room-units c.args.self.now.units c.len-running.result c.count-exported.result c.is_effective-effective.result c.args.ask.now (sym c.room_refusal.ensures ∙ none-else c.room_refusal.result c.in_default.not-Some) in
     omega (arith, count, same, few, some)
 
@@ -261,7 +281,7 @@ act-requires-clause-returns c o made listed u t s =
     finish-counted c.args.self.now.config c.args.self.now.events.items (event_of c.args.by c.args.moment c.args.ask.now) c.args.self.now.leases c.room_in_table.new.exports c.args.self.now.runs.items c.args.self.now.withdrawn.items
     c.args.self.now.told c.args.self.now.added c.args.self.now.units c.args.self.now.moment c.is_effective-effective.result
     (asked c.args.self.now.config c.args.self.now.events.items (event_of c.args.by c.args.moment c.args.ask.now) c.args.self.now.leases c.args.self.now.exports c.room_in_table.new.exports c.args.self.now.runs.items c.deref.result.now c.args.self.now.withdrawn.items
-    c.args.self.now.told c.args.self.now.added c.args.self.now.units c.args.self.now.moment c.is_effective-effective.result c.requires.whole.0 c.requires.built c.is_effective-effective.ensures c.deref.ensures.value c.room_in_table.ensures.rest)
+    c.args.self.now.told c.args.self.now.added c.args.self.now.units c.args.self.now.moment c.stood_for-stood.result c.is_effective-effective.result c.requires.whole.0 (c.stood_for-stood.ensures ∙ stood-is (places c.args.self.now.config c.args.self.now.events.items) c.args.self.now.names c.args.ask.now c.requires.whole.2) c.is_effective-effective.ensures c.deref.ensures.value c.room_in_table.ensures.rest)
     o made listed u t s
 
 pub act-requires-clause-awaiting : goal.act-requires-clause-awaiting
@@ -271,13 +291,47 @@ act-requires-clause-awaiting c o made listed u t s =
     finish-few c.args.self.now.config c.args.self.now.events.items (event_of c.args.by c.args.moment c.args.ask.now) c.args.self.now.leases c.room_in_table.new.exports c.args.self.now.runs.items c.args.self.now.withdrawn.items
     c.args.self.now.told c.args.self.now.added c.args.self.now.units c.args.self.now.moment c.max-now.result c.is_effective-effective.result
     (asked c.args.self.now.config c.args.self.now.events.items (event_of c.args.by c.args.moment c.args.ask.now) c.args.self.now.leases c.args.self.now.exports c.room_in_table.new.exports c.args.self.now.runs.items c.deref.result.now c.args.self.now.withdrawn.items
-    c.args.self.now.told c.args.self.now.added c.args.self.now.units c.args.self.now.moment c.is_effective-effective.result c.requires.whole.0 c.requires.built c.is_effective-effective.ensures c.deref.ensures.value c.room_in_table.ensures.rest)
-    time (ap (λ (t : ExportTable). await_refusal c.max-now.result t.rows t.waits c.is_effective-effective.result c.args.ask.now) c.room_in_table.ensures.rest ∙ c.in_ok-ready.ensures.refusal) c.deref-3.result.now
+    c.args.self.now.told c.args.self.now.added c.args.self.now.units c.args.self.now.moment c.stood_for-stood.result c.is_effective-effective.result c.requires.whole.0 (c.stood_for-stood.ensures ∙ stood-is (places c.args.self.now.config c.args.self.now.events.items) c.args.self.now.names c.args.ask.now c.requires.whole.2) c.is_effective-effective.ensures c.deref.ensures.value c.room_in_table.ensures.rest)
+    time (ap (λ o. await_refusal c.max-now.result c.room_in_table.new.exports.rows c.room_in_table.new.exports.waits o c.is_effective-effective.result c.args.ask.now) (sym (c.stood_for-stood.ensures ∙ stood-is (places c.args.self.now.config c.args.self.now.events.items) c.args.self.now.names c.args.ask.now c.requires.whole.2)) ∙ ap (λ (t : ExportTable). await_refusal c.max-now.result t.rows t.waits c.stood_for-stood.result c.is_effective-effective.result c.args.ask.now) c.room_in_table.ensures.rest ∙ c.in_ok-ready.ensures.refusal) c.deref-3.result.now
     (c.deref-3.ensures.value ∙ c.in_ok-ready.ensures.references
-    ∙ ap (λ y. returned_by y c.args.self.now.added c.args.self.now.exports.rows c.is_effective-effective.result c.args.ask.now) (sym kept.space_is)
-    ∙ ap (λ n. returned_by c.args.self.now.exports.space n c.args.self.now.exports.rows c.is_effective-effective.result c.args.ask.now) (sym kept.added_is)
-    ∙ ap (λ (x : ExportTable). returned_by x.space x.added x.rows c.is_effective-effective.result c.args.ask.now) (sym c.room_in_table.ensures.rest))
+    ∙ ap (λ y. returned_by y c.args.self.now.added c.args.self.now.exports.rows c.stood_for-stood.result c.is_effective-effective.result c.args.ask.now) (sym kept.space_is)
+    ∙ ap (λ n. returned_by c.args.self.now.exports.space n c.args.self.now.exports.rows c.stood_for-stood.result c.is_effective-effective.result c.args.ask.now) (sym kept.added_is)
+    ∙ ap (λ (x : ExportTable). returned_by x.space x.added x.rows c.stood_for-stood.result c.is_effective-effective.result c.args.ask.now) (sym c.room_in_table.ensures.rest)
+    ∙ ap (λ o. returned_by c.room_in_table.new.exports.space c.room_in_table.new.exports.added c.room_in_table.new.exports.rows o c.is_effective-effective.result c.args.ask.now) (c.stood_for-stood.ensures ∙ stood-is (places c.args.self.now.config c.args.self.now.events.items) c.args.self.now.names c.args.ask.now c.requires.whole.2))
     o made listed u t s
+
+pub act-requires-clause-looks : goal.act-requires-clause-looks
+act-requires-clause-looks c n u s =
+    let kept = c.requires.whole.0.stands in
+    lookup-fits c.args.self.now.config c.args.self.now.events.items (event_of c.args.by c.args.moment c.args.ask.now) c.args.self.now.leases c.room_in_table.new.exports c.args.self.now.runs.items c.args.self.now.withdrawn.items
+    c.args.self.now.told c.args.self.now.added c.args.self.now.units c.args.self.now.moment c.max-now.result c.is_effective-effective.result
+    (asked c.args.self.now.config c.args.self.now.events.items (event_of c.args.by c.args.moment c.args.ask.now) c.args.self.now.leases c.args.self.now.exports c.room_in_table.new.exports c.args.self.now.runs.items c.deref.result.now c.args.self.now.withdrawn.items
+    c.args.self.now.told c.args.self.now.added c.args.self.now.units c.args.self.now.moment c.stood_for-stood.result c.is_effective-effective.result c.requires.whole.0 (c.stood_for-stood.ensures ∙ stood-is (places c.args.self.now.config c.args.self.now.events.items) c.args.self.now.names c.args.ask.now c.requires.whole.2) c.is_effective-effective.ensures c.deref.ensures.value c.room_in_table.ensures.rest)
+    (ap (λ o. await_refusal c.max-now.result c.room_in_table.new.exports.rows c.room_in_table.new.exports.waits o c.is_effective-effective.result c.args.ask.now) (sym (c.stood_for-stood.ensures ∙ stood-is (places c.args.self.now.config c.args.self.now.events.items) c.args.self.now.names c.args.ask.now c.requires.whole.2)) ∙ ap (λ (t : ExportTable). await_refusal c.max-now.result t.rows t.waits c.stood_for-stood.result c.is_effective-effective.result c.args.ask.now) c.room_in_table.ensures.rest ∙ c.in_ok-ready.ensures.refusal) c.deref-3.result.now
+    (c.deref-3.ensures.value ∙ c.in_ok-ready.ensures.references
+    ∙ ap (λ y. returned_by y c.args.self.now.added c.args.self.now.exports.rows c.stood_for-stood.result c.is_effective-effective.result c.args.ask.now) (sym kept.space_is)
+    ∙ ap (λ n. returned_by c.args.self.now.exports.space n c.args.self.now.exports.rows c.stood_for-stood.result c.is_effective-effective.result c.args.ask.now) (sym kept.added_is)
+    ∙ ap (λ (x : ExportTable). returned_by x.space x.added x.rows c.stood_for-stood.result c.is_effective-effective.result c.args.ask.now) (sym c.room_in_table.ensures.rest)
+    ∙ ap (λ o. returned_by c.room_in_table.new.exports.space c.room_in_table.new.exports.added c.room_in_table.new.exports.rows o c.is_effective-effective.result c.args.ask.now) (c.stood_for-stood.ensures ∙ stood-is (places c.args.self.now.config c.args.self.now.events.items) c.args.self.now.names c.args.ask.now c.requires.whole.2))
+    n u s
+
+pub act-requires-clause-stands : goal.act-requires-clause-stands
+act-requires-clause-stands c o s =
+    stood-pinned c.args.self.now.config c.args.self.now.events.items c.args.self.now.leases c.room_in_table.new.exports c.args.self.now.runs.items c.args.self.now.withdrawn.items c.args.self.now.told c.args.self.now.added c.args.self.now.units c.args.self.now.moment
+    (keeps-roomy c.args.self.now.config c.args.self.now.events.items c.args.self.now.events.items c.args.self.now.leases c.args.self.now.leases c.args.self.now.exports c.room_in_table.new.exports c.args.self.now.runs.items c.args.self.now.runs.items
+    c.args.self.now.withdrawn.items c.args.self.now.withdrawn.items c.args.self.now.told c.args.self.now.added c.args.self.now.units c.args.self.now.moment c.requires.whole.0 c.room_in_table.ensures.rest refl refl refl refl)
+    c.args.ask.now o (sym (c.stood_for-stood.ensures ∙ stood-is (places c.args.self.now.config c.args.self.now.events.items) c.args.self.now.names c.args.ask.now c.requires.whole.2) ∙ s)
+
+pub act-requires-clause-few_pins : goal.act-requires-clause-few_pins
+act-requires-clause-few_pins c o =
+    few-pins c.args.self.now.config c.args.self.now.events.items c.args.self.now.leases c.room_in_table.new.exports c.args.self.now.runs.items c.args.self.now.withdrawn.items c.args.self.now.told c.args.self.now.added c.args.self.now.units c.args.self.now.moment
+    (keeps-roomy c.args.self.now.config c.args.self.now.events.items c.args.self.now.events.items c.args.self.now.leases c.args.self.now.leases c.args.self.now.exports c.room_in_table.new.exports c.args.self.now.runs.items c.args.self.now.runs.items
+    c.args.self.now.withdrawn.items c.args.self.now.withdrawn.items c.args.self.now.told c.args.self.now.added c.args.self.now.units c.args.self.now.moment c.requires.whole.0 c.room_in_table.ensures.rest refl refl refl refl) o
+
+pub act-requires-clause-bound : goal.act-requires-clause-bound
+act-requires-clause-bound c o f b =
+    ap (λ (t : ExportTable). is_exported t.rows o) c.room_in_table.ensures.rest
+    ∙ bound-exported c.args.self.now.exports.rows c.deref.result.now c.stood_for-stood.result c.args.by c.args.ask.now o (sym c.is_effective-effective.ensures ∙ f) b
 
 pub room_for_event-requires : goal.room_for_event-requires
 room_for_event-requires c =

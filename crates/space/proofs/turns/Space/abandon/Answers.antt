@@ -1,11 +1,12 @@
 use Rattle.history.specs.declared.asks.Ask.TheVariants.{Abandon}
-use Rattle.std.proofs.Common.{◌≡◌, ◌+◌, ◌<◌, ◌≤◌, ◌++◌, length, ap, ◌∙◌, map, max, rules, arith}
-use Rattle.std.specs.Prelude.{vec_len, vec_capacity}
+use Rattle.std.proofs.Common.{◌≡◌, ◌+◌, ◌<◌, ◌≤◌, [], ◌∷◌, ◌++◌, length, refl, ap, sym, ◌∙◌, map, max, rules, arith}
+use Rattle.std.specs.Prelude.{true, vec_len, vec_capacity}
 use Rattle.history.specs.Running.{running}
 use Rattle.history.specs.Table.{places}
 use Rattle.space.specs.Acts.{event_of, withdrawal_at}
 use Rattle.space.proofs.CollectLaws.{appended-collects}
-use Rattle.space.proofs.AbandonLaws.{is-running, end-counted, end-acted, end-keeps, end-room, end-step, end-goes}
+use Rattle.space.proofs.AbandonLaws.{is-running, runs-effective, end-counted, end-acted, end-keeps, end-room, end-step, end-goes}
+use Rattle.space.proofs.Bindings.{bindings-same, names-next}
 use Rattle.space.proofs.TurnLaws.{HasWithdrawn}
 use Rattle.space.proofs.turns.Space.abandon.Goals as goal
 
@@ -50,6 +51,9 @@ invariant_of-self c =
           c.self.inside.tables.withdrawn.items c.note_withdrawn.new.withdrawn.items c.self.inside.tables.told c.self.inside.tables.added c.self.inside.tables.units c.self.inside.tables.moment c.self.inside.tables.told c.self.inside.tables.added (c.self.inside.tables.units + 1) c.max-now.result c.self.inside.tables.scratch.items c.clear.new.self.items
           (vec_capacity c.self.inside.tables.events) (vec_capacity c.self.inside.tables.withdrawn) (vec_capacity c.self.inside.tables.scratch) (vec_capacity c.put_event.new.events) (vec_capacity c.note_withdrawn.new.withdrawn) (vec_capacity c.clear.new.self)
           c.self.invariant.0 c.self.invariant.1 runs kept c.put_event.ensures.items c.drop_first.ensures c.clear.ensures.items c.put_event.ensures.capacity c.note_withdrawn.ensures.capacity scratch_room,
+      bindings-same c.self.inside.tables.config (c.self.inside.tables.events.items ++ event_of c.args.by c.args.moment (Abandon c.args.object) ∷ []) c.put_event.new.events.items c.self.inside.tables.names c.self.inside.tables.names
+          (names-next c.self.inside.tables.config c.self.inside.tables.events.items (event_of c.args.by c.args.moment (Abandon c.args.object)) true c.self.inside.tables.names c.self.inside.tables.names c.self.invariant.2 (sym (runs-effective c.self.inside.tables.config c.self.inside.tables.events.items c.args.by c.args.object runs)) refl)
+          c.put_event.ensures.items refl,
     )
 
 pub returns-clause-step : goal.returns-clause-step

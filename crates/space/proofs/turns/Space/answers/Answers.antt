@@ -2,7 +2,6 @@ use Rattle.std.proofs.Common.{◌≡◌, ◌+◌, ◌<◌, ◌^◌, ◌∷◌, [
 use Rattle.std.specs.List.{AllByRecursion}
 use Rattle.std.specs.Vec.Iter.{into_iter_items, into_iter_len}
 use Rattle.history.specs.declared.asks.Event.{Event}
-use Rattle.space.specs.Built.{IsBuilt}
 use Rattle.space.proofs.StepsLaws.{none-left, answered-next, answered-all, answered-exact}
 use Rattle.space.proofs.turns.Space.answers.Goals as goal
 
@@ -17,13 +16,11 @@ loop-event-preserved c =
     let longer = ap length c.push_reserved.ensures.items ∙ length-append c.loop-event.answers.items (c.turn.result ∷ []) in
     let capacity = c.push_reserved.ensures.capacity in
     let P : List Event → Type 0 = λ es. AllByRecursion (λ e. e.moment < 2 ^ 62) es in
-    let Q : List Event → Type 0 = λ es. AllByRecursion (λ e. IsBuilt e.ask) es in
     record {
       answered = answered-next c.args.self.now.configuration c.loop-event.self.configuration c.args.self.now.events c.args.events.items c.loop-event.answers.items c.push_reserved.new.self.items c.in-Some.event
           (into_iter_items c.loop-event.event-iterator) (into_iter_items c.next.new.self) c.loop-event.self.events c.turn.new.self.events c.turn.result h.config first c.push_reserved.ensures.items h.answered c.turn.ensures.step;
       config = c.turn.ensures.config ∙ h.config;
       moments = (subst P first h.moments).1;
-      built = (subst Q first h.built).1;
       left = omega (arith, h.left, fewer, count);
       room = omega (arith, h.room, fewer, before, after, longer, capacity);
     }

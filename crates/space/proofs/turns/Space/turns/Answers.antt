@@ -2,7 +2,7 @@ use Rattle.std.proofs.Common.{◌≡◌, ◌+◌, ◌<◌, ◌^◌, ◌∷◌, L
 use Rattle.std.specs.List.{AllByRecursion}
 use Rattle.std.specs.Vec.Iter.{into_iter_items, into_iter_len}
 use Rattle.history.specs.declared.asks.Event.{Event}
-use Rattle.space.specs.Built.{IsBuilt, SpaceHistory}
+use Rattle.space.specs.Built.{SpaceHistory}
 use Rattle.space.specs.Lists.{CollectsEach}
 use Rattle.space.proofs.CollectLaws.{front-collects}
 use Rattle.space.proofs.ListLaws.{takes-next}
@@ -15,13 +15,11 @@ loop-event-preserved c =
     let fewer : into_iter_len c.next.new.self + 1 ≡ into_iter_len c.loop-event.event-iterator = c.in-Some.ensures.steps.1 in
     let count = ap length first in
     let P : List Event → Type 0 = λ es. AllByRecursion (λ e. e.moment < 2 ^ 62) es in
-    let Q : List Event → Type 0 = λ es. AllByRecursion (λ e. IsBuilt e.ask) es in
     record {
       taken = takes-next c.args.self.now.configuration c.loop-event.self.configuration c.args.self.now.events c.args.events.items c.loop-event.turns.items c.push_reserved.new.self.items c.in-Some.event
           (into_iter_items c.loop-event.event-iterator) (into_iter_items c.next.new.self) c.loop-event.self.events c.turn.new.self.events c.in-Ok.turn h.config first c.push_reserved.ensures.items h.taken c.in-Ok.ensures.step;
       config = c.in-Ok.ensures.config ∙ h.config;
       moments = (subst P first h.moments).1;
-      built = (subst Q first h.built).1;
       left = omega (arith, h.left, fewer, count);
       room = (let capacity = c.push_reserved.ensures.capacity in let before : vec_len c.loop-event.turns ≡ length c.loop-event.turns.items = search rules in let after : vec_len c.push_reserved.new.self ≡ length c.push_reserved.new.self.items = search rules in let longer = ap length c.push_reserved.ensures.items ∙ length-append c.loop-event.turns.items (c.in-Ok.turn ∷ []) in omega (arith, h.room, fewer, capacity, before, after, longer));
     }

@@ -1,0 +1,102 @@
+//! What an ask does to the leases and to the names, in the last step that may be refused.
+ghost use Rattle.std.specs.Prelude.{◌≡◌, ◌<◌, ◌^◌, ◌++◌, length, true, option_and_then, OnOk, OnErr};
+ghost use Rattle.history.specs.LeaseCalls.{call_with};
+ghost use Rattle.history.specs.Names.{name_in, is_name_change};
+ghost use Rattle.dgc_server.specs.Stands.{StandsFor};
+ghost use Rattle.export_table.specs.Rows.{is_exported};
+ghost use Rattle.rmi_registry.specs.Named.{object_of, rebound};
+ghost use Rattle.space.specs.Acts.{ForEachLogBy, acted_names, binding_refusal, name_refusal, told_refusal, Agrees};
+ghost use Rattle.space.specs.Faults.{unbound_for};
+
+use crate::calls::tell;
+use dgc_server::Leases;
+use export_table::Exports;
+use history::{Ask, Name, Refused};
+use object_ids::ObjId;
+use rmi_registry::{NameFault, Names};
+use std::alloc::Global;
+
+/// Tells the lease table of an ask at a moment, and binds or unbinds its name. After a refusal all is as it was.
+pub(crate) fn settle(
+    alloc: Global,
+    leases: &mut Leases,
+    names: &mut Names,
+    exports: &Exports,
+    effective: bool,
+    now: u64,
+    ask: &Ask,
+) -> Result<(), Refused>
+    requires { now < 2 ^ 62 }
+    ensures ok { OnOk result (ForEachLogBy now leases.old (λ lease calls.
+        StandsFor lease leases.new now (call_with (is_exported exports.now.rows) now ask.now ++ calls))) }
+    ensures names { OnOk result (names.new ≡ acted_names effective ask.now names.old) }
+    ensures refusal { ForEachLogBy now leases.old (λ lease calls.
+        Agrees (told_refusal lease now calls (call_with (is_exported exports.now.rows) now ask.now)
+        (length names.old) (option_and_then (object_of names.old) (name_in ask.now)) effective ask.now) result) }
+    ensures err { OnErr result (leases.new ≡ leases.old) }
+    ensures kept { OnErr result (names.new ≡ names.old) }
+{
+    if changes_name(ask) {
+        rename(alloc, names, effective, ask)?;
+        leases.lapse(now);
+        Ok(())
+    } else {
+        tell(alloc, leases, exports, now, ask)
+    }
+}
+
+/// Whether an ask changes what a name stands for, where it is effective.
+fn changes_name(ask: &Ask) -> bool
+    ensures { result ≡ is_name_change ask.now }
+{
+    match ask {
+        Ask::Bind { name: _, object: _ } => true,
+        Ask::Rebind { name: _, object: _ } => true,
+        Ask::Unbind { name: _ } => true,
+        _ => false,
+    }
+}
+
+/// Binds or unbinds the name in an ask. After a refusal the names are as they were.
+fn rename(alloc: Global, names: &mut Names, effective: bool, ask: &Ask) -> Result<(), Refused>
+    ensures ok { OnOk result (names.new ≡ acted_names effective ask.now names.old) }
+    ensures refusal { Agrees (name_refusal (length names.old) (option_and_then (object_of names.old) (name_in ask.now)) effective ask.now) result }
+    ensures err { OnErr result (names.new ≡ names.old) }
+{
+    if !effective {
+        return Ok(());
+    }
+    match ask {
+        Ask::Bind { name, object } => bind(alloc, names, name, *object),
+        Ask::Rebind { name, object } => bind(alloc, names, name, *object),
+        Ask::Unbind { name } => {
+            let _stood = names.unbind(name);
+            Ok(())
+        }
+        _ => Ok(()),
+    }
+}
+
+/// Binds a name, whatever it stood for.
+fn bind(alloc: Global, names: &mut Names, name: &Name, object: ObjId) -> Result<(), Refused>
+    ensures ok { OnOk result (names.new ≡ rebound names.old name.now object) }
+    ensures refusal { Agrees (binding_refusal (length names.old) (object_of names.old name.now) true) result }
+    ensures err { OnErr result (names.new ≡ names.old) }
+{
+    let name = name.copy(alloc)?;
+    match names.rebind(name, object) {
+        Ok(_stood) => Ok(()),
+        Err(fault) => Err(unbound_for(fault)),
+    }
+}
+
+/// The refusal of an event whose name is not bound.
+fn unbound_for(fault: NameFault) -> Refused
+    ensures { result ≡ unbound_for fault }
+{
+    match fault {
+        NameFault::Full(kind) => Refused::Full(kind),
+        // a name that is bound anew has no other fault but want of memory
+        _ => Refused::OutOfMemory,
+    }
+}
