@@ -1,5 +1,5 @@
 -- What calls leave of the passes.
-use Rattle.std.proofs.Common.{◌≡◌, ◌≢◌, ◌<◌, ◌≤◌, ◌+◌, ◌-◌, ℕ, Bool, true, false, [], ◌∷◌, ◌++◌, length, ltb, ltb-true, cond, refl, sym, ap, ◌∙◌, subst, append_assoc, arith}
+use Rattle.std.proofs.Common.{◌≡◌, ◌≢◌, ◌<◌, ◌≤◌, ◌+◌, ◌-◌, ℕ, Bool, true, false, [], ◌∷◌, ◌++◌, length, ltb, ltb-true, cond, refl, sym, ap, ◌∙◌, subst, append_assoc, append-nil, arith}
 use Rattle.std.specs.Prelude.{Result, Ok, Err}
 use Rattle.history.specs.declared.asks.Ask.{Ask}
 use Rattle.history.specs.declared.asks.SpaceConfig.{SpaceConfig}
@@ -13,8 +13,8 @@ use Rattle.turn_lock.specs.declared.view.View.{View}
 use Rattle.turn_lock.specs.declared.handles.Pass.{Pass}
 use Rattle.turn_lock.specs.declared.handles.Root.{Root}
 use Rattle.turn_lock.specs.declared.handles.TurnLock.{TurnLock}
-use Rattle.turn_lock.specs.Handles.{IsPassOf, IsBranchOf, IsRootOf, view_of}
-use Rattle.turn_lock.specs.Rule.{Events, HasOwn, InOrder, Sat, TurnedAt, events_by, joined_of, left_of, longer, right_of}
+use Rattle.turn_lock.specs.Handles.{IsPassOf, IsBranchOf, IsRootOf, IsFresh, opening_of, view_of}
+use Rattle.turn_lock.specs.Rule.{Events, HasOwn, InOrder, Sat, TurnedAt, events_by, joined_of, left_of, longer, right_of, root}
 use Rattle.turn_lock.proofs.Keeps.{own_more}
 use Rattle.turn_lock.proofs.PortSteps.{legal_turned}
 
@@ -184,4 +184,42 @@ root_split l r s is fits table id me number room made out =
       some_out = omega (arith, some_out, out, made);
       most = omega (arith, most, made, fits);
       turns = omega (arith, drawn_are, all, room, made, out, some_out);
+    }
+
+-- What the root of a new lock has seen is in order.
+pub root_order : (s : SpaceHistory) → IsLegal s.configuration s.events → InOrder s (root s)
+root_order s legal = record { legal = legal; tail = []; begins = sym (append-nil s.events); own = refl }
+
+-- A root that knows what the root of a new lock knows is fresh.
+pub fresh_root : (l : TurnLock) (r : Root) → r.pass.seat.table_id ≡ l.board.shared.table_id → r.pass.seat.id ≡ 0 → r.pass.seat.me ≡ (root (opening_of l), [])
+    → r.pass.number ≡ 0 → r.pass.room ≡ 2147483648 → r.made ≡ 0 → r.out ≡ 0 → IsLegal (opening_of l).configuration (opening_of l).events → IsFresh l r
+fresh_root l r table first me number room made out legal =
+    let knows : r.pass.seat.me.0 ≡ root (opening_of l) = ap (λ x. x.0) me in
+    let parts : r.pass.seat.me.0.parts ≡ 2147483649 = ap (λ (v : View). v.parts) knows in
+    let drawn : r.pass.seat.me.0.drawn ≡ 0 = ap (λ (v : View). v.drawn) knows in
+    let made_is : r.pass.seat.me.0.made ≡ 0 = ap (λ (v : View). v.made) knows in
+    record {
+      own = record {
+        pass_is = record {
+          table = table;
+          empty = ap (λ x. x.1) me;
+          idle = ap (λ (v : View). v.stage) knows;
+          numbered = number ∙ sym (ap (λ (v : View). v.number) knows);
+          part = omega (arith, parts);
+          configured = ap (λ (v : View). v.config) knows;
+          opened = ap (λ (v : View). v.opening) knows;
+          legal = subst (λ (v : View). IsLegal v.config v.seen) (sym knows) legal;
+          ordered = subst (InOrder (opening_of l)) (sym knows) (root_order (opening_of l) legal);
+          turns = omega (arith, parts, drawn, room);
+        };
+        first = first;
+        made_are = made_is ∙ sym made;
+        parts = omega (arith, parts, out);
+        some_out = omega (arith, made, out);
+        most = omega (arith, made);
+        turns = omega (arith, drawn, room, made, out);
+      };
+      knows = knows;
+      none_out = out;
+      all_room = room;
     }

@@ -1,8 +1,10 @@
-use Rattle.std.proofs.Common.{◌≡◌, ◌∷◌, ◌++◌, [], ◌∙◌, ap, sym, subst, Some, List, Option, ℕ}
+use Rattle.std.proofs.Common.{◌≡◌, ◌∷◌, ◌++◌, [], ◌∙◌, ap, sym, subst, refl, Some, List, Option, ℕ}
+use Rattle.history.specs.Steps.{IsLegal}
 use Rattle.space.specs.Built.{SpaceHistory}
-use Rattle.turn_lock.specs.Rule.{Kept, root}
+use Rattle.turn_lock.specs.Rule.{InOrder, Kept, root}
 use Rattle.atomic_table.specs.Table.{opening}
 use Rattle.turn_lock.proofs.Keeps.{starts}
+use Rattle.turn_lock.proofs.Passes.{root_order, fresh_root}
 use Rattle.turn_lock.proofs.handles.TurnLock.around.Goals as goal
 
 pub new-requires : goal.new-requires
@@ -10,3 +12,17 @@ new-requires c =
     let P : SpaceHistory × ℕ × List (Option SpaceHistory) → Type 0 = λ x. Kept x.0 (opening (0 ∷ 0 ∷ x.1 ∷ []) x.2 (root x.0)) in
     let items : c.push.new.self.items ≡ Some c.args.space ∷ [] = c.in_default.ensures.items ∙ ap (λ l. l ++ Some c.args.space ∷ []) c.new-slots.ensures.items in
     subst P (λ i. (sym c.of-about.ensures i, sym c.len-length.ensures.value i, sym items i)) (starts c.args.space c.len-length.ensures.legal)
+
+pub returns-in-Ok-clause-fresh : goal.returns-in-Ok-clause-fresh
+returns-in-Ok-clause-fresh c =
+    let ok = c.in-Ok.ensures.ok in
+    let opened : c.in-Ok.board.shared.key.value ≡ c.args.space = ap (λ k. k.value) ok.5 ∙ c.of-about.ensures in
+    let me : c.in-Ok.seat.me ≡ (root c.in-Ok.board.shared.key.value, []) = ok.4 ∙ ap (λ k. (root k.value, [])) (sym ok.5) in
+    let legal = subst (λ (s : SpaceHistory). IsLegal s.configuration s.events) (sym opened) c.len-length.ensures.legal in
+    (fresh_root _ _ ok.2 ok.3 me refl refl refl refl legal, opened)
+
+pub returns-in-Ok-clause-ordered : goal.returns-in-Ok-clause-ordered
+returns-in-Ok-clause-ordered c =
+    let ok = c.in-Ok.ensures.ok in
+    let knows : c.in-Ok.seat.me.0 ≡ root c.args.space = ap (λ x. x.0) ok.4 ∙ ap root c.of-about.ensures in
+    subst (InOrder c.args.space) (sym knows) (root_order c.args.space c.len-length.ensures.legal)
