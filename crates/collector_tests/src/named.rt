@@ -77,16 +77,16 @@ const FULL_SUMMARY: &str = "events 4100 units 4100 now 0
 objects 1 clients 0 pairs 0 awaiting 0 names 4096 withdrawn 0
 ";
 
-/// Binds names of one unit to an object, from this one on, and answers whether each is bound.
+/// Binds names of one unit to an object, from the first one to the one before the end, and answers whether each is bound.
 fn is_each_bound(
     alloc: Global,
     space: &mut Space,
     object: ObjId,
     first: u16,
-    count: u16,
+    end: u16,
 ) -> Result<bool, Fail> {
-    for number in 0..count {
-        let units = Units::from_slice(alloc, &[first + number])?;
+    for unit in first..end {
+        let units = Units::from_slice(alloc, &[unit])?;
         let name = Name::new(units).ok().ok_or("too long")?;
         match space.turn(0, 0, Ask::Bind { name, object }) {
             Ok(turn) if turn.reply.is_same(&Reply::Bound) => {}
@@ -115,7 +115,7 @@ fn one_name_more_is_full_in_a_space(rt: HostRuntime) -> Result<(), Fail> {
     };
     must(
         &rt,
-        is_each_bound(alloc, &mut space, object, 256, 4_096)?,
+        is_each_bound(alloc, &mut space, object, 256, 4_352)?,
         "bound",
     );
     let mut text = ByteList::new(alloc);
