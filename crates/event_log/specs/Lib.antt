@@ -1,0 +1,4 @@
+pub mod Ids
+pub mod Log
+pub mod Rows
+pub mod Views

@@ -1,0 +1,140 @@
+//! A list of events in few bytes.
+ghost use Rattle.std.specs.Prelude.{◌≡◌, ◌⊎◌, ◌≤◌, ◌<◌, ◌+◌, ◌++◌, ◌∷◌, [], ◌↔◌, true, false, length, slice_get, option_map, Some, IsTrue, OnOk, OnErr};
+ghost use Rattle.event_log.specs.Rows.{IsPlain, event_of};
+ghost use Rattle.event_log.specs.Views.{viewed};
+
+use crate::rows::{Row, is_plain, plain_row, view_of, whole_row};
+use crate::view::EventView;
+use history::{Ask, Event};
+use object_ids::Uid;
+use std::alloc::{AllocError, Global};
+use std::marker::Model;
+
+/// The events of a space, oldest first. One that is plain (an Open, a Begin, an Abandon, an Ack, a List, a Tick, or a Finish of an object of
+/// the space that makes and lists nothing) takes 48 bytes, and each other one a box beside. Contracts see it as an `EventRecord`: the list of
+/// its events, how many of them it has room for, and whether it has a box to spare.
+#[derive(Debug, Drop)]
+pub struct EventLog {
+    alloc: Global,
+    space: Uid,
+    rows: Vec<Row>,
+    spare: Option<Box<Event>>,
+}
+
+impl Model for EventLog {
+    ghost use Rattle.std.specs.Prelude.{map, vec_capacity, is_some};
+    ghost use Rattle.event_log.specs.Log.{EventRecord};
+    ghost use Rattle.event_log.specs.Rows.{event_of};
+
+    ghost Value = { EventRecord };
+
+    ghost view = { λ l. record {
+      space = l.space;
+      items = map (event_of l.space) l.rows.items;
+      capacity = vec_capacity l.rows;
+      spare = is_some l.spare;
+    } };
+}
+
+/// A box with room for an event.
+fn room(alloc: Global) -> Result<Box<Event>, AllocError> {
+    let event = Event {
+        by: 0,
+        moment: 0,
+        ask: Ask::Tick,
+    };
+    Ok(Box::new(alloc, event)?)
+}
+
+impl EventLog {
+    /// The empty list of the events of a space with this identifier. It takes no memory.
+    pub fn new(alloc: Global, space: Uid) -> EventLog
+        ensures space { result.space ≡ space }
+        ensures items { result.items ≡ [] }
+    {
+        EventLog {
+            alloc,
+            space,
+            rows: Vec::new(alloc),
+            spare: None,
+        }
+    }
+
+    /// How many events there are.
+    pub fn len(&self) -> usize
+        ensures { result ≡ length self.now.items }
+    {
+        self.rows.len()
+    }
+
+    /// Whether there are none.
+    pub fn is_empty(&self) -> bool
+        ensures { IsTrue result ↔ (self.now.items ≡ []) }
+    {
+        self.rows.is_empty()
+    }
+
+    /// The event at a place, counted from 0: none where there are no more events than that. It takes no memory.
+    pub fn get(&self, place: usize) -> Option<EventView<'_>>
+        ensures { option_map viewed result ≡ slice_get self.now.items place }
+    {
+        match self.rows.get(place) {
+            Some(row) => Some(view_of(self.alloc, self.space, row)),
+            None => None,
+        }
+    }
+
+    /// The event at a place, counted from 0, where there is one. It takes no memory.
+    pub fn event(&self, place: usize) -> EventView<'_>
+        requires { place < length self.now.items }
+        ensures { slice_get self.now.items place ≡ Some (viewed result) }
+    {
+        view_of(self.alloc, self.space, &self.rows[place])
+    }
+
+    /// Makes room for `more` further events, and for one that isn't plain. After a refusal no room is lost.
+    pub fn reserve(&mut self, more: usize) -> Result<(), AllocError>
+        ensures space { self.new.space ≡ self.old.space }
+        ensures items { self.new.items ≡ self.old.items }
+        ensures room { OnOk result (length self.new.items + more ≤ self.new.capacity) }
+        ensures spare { OnOk result (self.new.spare ≡ true) }
+        ensures grow { self.old.capacity ≤ self.new.capacity }
+        ensures kept { self.old.spare ≡ true → self.new.spare ≡ true }
+    {
+        self.rows.reserve(more)?;
+        if self.spare.is_none() {
+            self.spare = Some(room(self.alloc)?);
+        }
+        Ok(())
+    }
+
+    /// Appends an event, for which there is room. It takes no memory; an event that is plain leaves the box that is to spare.
+    pub fn push_reserved(&mut self, event: Event)
+        requires room { length self.old.items < self.old.capacity }
+        requires spare { IsPlain self.old.space event.ask ⊎ (self.old.spare ≡ true) }
+        ensures space { self.new.space ≡ self.old.space }
+        ensures items { self.new.items ≡ self.old.items ++ event ∷ [] }
+        ensures capacity { self.old.capacity ≤ self.new.capacity }
+        ensures kept { IsPlain self.old.space event.ask → self.new.spare ≡ self.old.spare }
+    {
+        if is_plain(&self.space, &event.ask) {
+            let row = plain_row(&self.space, &event);
+            self.rows.push_reserved(row);
+        } else {
+            let row = whole_row(self.spare.take(), event);
+            self.rows.push_reserved(row);
+        }
+    }
+
+    /// Appends an event. After a refusal, which comes only for want of memory, the list is as it was, and the event is dropped.
+    pub fn push(&mut self, event: Event) -> Result<(), AllocError>
+        ensures space { self.new.space ≡ self.old.space }
+        ensures ok { OnOk result (self.new.items ≡ self.old.items ++ event ∷ []) }
+        ensures err { OnErr result (self.new.items ≡ self.old.items) }
+        ensures grow { self.old.capacity ≤ self.new.capacity }
+    {
+        self.reserve(1)?;
+        self.push_reserved(event);
+        Ok(())
+    }
+}
