@@ -1,8 +1,8 @@
 -- What is kept after one more event, and what a turn answers.
 use Rattle.std.proofs.Common.{◌≡◌, ℕ, suc, ◌+◌, ◌<◌, ◌≤◌, ◌^◌, inl, inr, List, [], ◌∷◌, ◌++◌, length, refl, ap, sym, subst, ◌∙◌, cond, map, arith, max, drop, Some, None, Ok, Err, length-append}
-use Rattle.std.specs.Prelude.{Bool, true, false, not, ◌&&◌, ◌||◌, reverse, filter, find, nat_lt, if◌then◌else◌, Option, is_none, is_some, option_map, unwrap_or}
+use Rattle.std.specs.Prelude.{Bool, true, false, not, ◌&&◌, ◌||◌, filter, find, nat_lt, if◌then◌else◌, Option, is_none, is_some, option_map, unwrap_or}
 use Rattle.std.specs.List.{list_any, AllByRecursion}
-use Rattle.std.proofs.lemmas.List.{reverse-append, map-append, drop-append-le, drop_all}
+use Rattle.std.proofs.lemmas.List.{map-append, drop-append-le, drop_all}
 use Rattle.object_ids.specs.declared.ids.ObjId.{ObjId}
 use Rattle.object_ids.specs.Same.{same_id}
 use Rattle.history.specs.declared.asks.SpaceConfig.{SpaceConfig}

@@ -1,17 +1,17 @@
 -- Objects of the table, generic in the ask: what keeps an object is in the table, new objects are nowhere before, and what leaves the table.
 use Rattle.std.proofs.Common.{◌≡◌, ℕ, ◌≤◌, inl, inr, List, [], ◌∷◌, ◌++◌, refl, ap, sym, ◌∙◌, cond, map, arith, Option, Some, None}
-use Rattle.std.specs.Prelude.{Bool, true, false, ◌&&◌, ◌||◌, filter, nat_lt, if◌then◌else◌, is_some, is_none, option_to_list, flat_map}
+use Rattle.std.specs.Prelude.{Bool, true, false, ◌&&◌, ◌||◌, filter, nat_lt, if◌then◌else◌, is_some, option_to_list, flat_map}
 use Rattle.std.specs.List.{list_any}
 use Rattle.std.proofs.lemmas.Bool.{and_parts, or_left, or_right, or_cases}
 use Rattle.std.proofs.lemmas.List.Folds.{list_any-append}
 use Rattle.object_ids.specs.declared.ids.Uid.{Uid}
 use Rattle.object_ids.specs.declared.ids.ObjId.{ObjId}
-use Rattle.object_ids.specs.Same.{same_id, same_uid, same_bytes}
+use Rattle.object_ids.specs.Same.{same_id, same_uid}
 use Rattle.object_ids.proofs.Exact.{same_id-equal, same_id-self}
 use Rattle.history.specs.declared.asks.SpaceConfig.{SpaceConfig}
 use Rattle.history.specs.declared.asks.Event.{Event}
 use Rattle.history.specs.declared.asks.Ask.{Ask}
-use Rattle.history.specs.declared.asks.Ask.TheVariants.{Finish, Bind, Rebind, Lookup}
+use Rattle.history.specs.declared.asks.Ask.TheVariants.{Finish, Lookup}
 use Rattle.history.specs.declared.places.Place.{Place}
 use Rattle.history.specs.declared.places.Exported.{Exported}
 use Rattle.history.specs.declared.places.Returned.{Returned}
@@ -19,12 +19,11 @@ use Rattle.history.specs.Awaiting.{same_returned, returns, return_uid, is_ack_of
 use Rattle.history.specs.LeaseCalls.{lease_calls}
 use Rattle.history.specs.Leases.{is_held}
 use Rattle.history.specs.Lists.{option_any}
-use Rattle.history.specs.Names.{object_bound, changes_name, is_bind_of, is_unbind_of, stands_for, names, is_name_of, is_named}
+use Rattle.history.specs.Names.{stands_for, names, is_name_of, is_named}
 use Rattle.history.specs.Places.{has, now}
-use Rattle.history.specs.Running.{running, is_running}
+use Rattle.history.specs.Running.{running}
 use Rattle.history.specs.Table.{is_pinned, is_kept, table, is_effective, exports, lists, place_of, places}
 use Rattle.history.proofs.AwaitingLaws.{returned-equality, awaits-acknowledged, awaits-passed, awaits-none, awaiting-member}
-use Rattle.history.proofs.NameLaws.{stands_for-push, stands_for-none, names-member, bytes-equality}
 use Rattle.history.proofs.TableLaws.{places-push, places-none, now-push}
 use Rattle.dgc_server.proofs.Steps.{earlier}
 use Rattle.space.proofs.Named.{any-ids}

@@ -1,8 +1,6 @@
 -- What an ask exports.
-use Rattle.std.proofs.Common.{◌≡◌, ℕ, ◌+◌, suc, List, [], ◌∷◌, ◌++◌, length, refl, ap, ◌∙◌, None}
-use Rattle.std.specs.Prelude.{Bool, true, false, not, ◌&&◌, filter, reverse, is_none, option_to_list, if◌then◌else◌}
-use Rattle.std.specs.List.{AllByRecursion}
-use Rattle.object_ids.specs.declared.ids.ObjId.{ObjId}
+use Rattle.std.proofs.Common.{◌≡◌, ℕ, ◌+◌, suc, List, [], ◌∷◌, length, refl, ap, ◌∙◌}
+use Rattle.std.specs.Prelude.{Bool, true, false, if◌then◌else◌}
 use Rattle.object_ids.specs.declared.ids.Uid.{Uid}
 use Rattle.history.specs.declared.asks.SpaceConfig.{SpaceConfig}
 use Rattle.history.specs.declared.asks.Event.{Event}
@@ -11,8 +9,7 @@ use Rattle.history.specs.declared.asks.Ask.TheVariants.{Open, Begin, Finish, Aba
 use Rattle.history.specs.declared.places.Place.{Place}
 use Rattle.history.specs.declared.places.Exported.{Exported}
 use Rattle.history.specs.Places.{exported_from, next}
-use Rattle.history.specs.Names.{name_bound, names, names_of, is_named, name_begun, unbinds}
-use Rattle.history.specs.Table.{is_effective, exports, place_of, places_back, places}
+use Rattle.history.specs.Table.{is_effective, exports, place_of}
 use Rattle.space.specs.Acts.{opens}
 
 -- The objects that an ask exports at a place, the first of them as the space's k-th.

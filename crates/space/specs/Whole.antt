@@ -11,7 +11,7 @@ use Rattle.space.specs.Kept.{Keeps}
 abbrev pub IsWholeWith : Tables → List Event → Type 0
 IsWholeWith t events =
     Keeps t.config events t.leases t.exports t.runs.items t.withdrawn.items t.told t.added t.units t.moment
-    × HasRoom events (vec_capacity t.events) t.runs.items t.withdrawn.items (vec_capacity t.withdrawn) t.exports t.scratch.items (vec_capacity t.scratch)
+    × HasRoom events t.events.capacity t.runs.items t.withdrawn.items (vec_capacity t.withdrawn) t.exports t.scratch.items (vec_capacity t.scratch)
     × AreBindings (places t.config events) t.names
 
 -- The same of the events that are there.

@@ -1,17 +1,19 @@
 //! What an ask does to the exported objects and to the withdrawals.
-ghost use Rattle.std.specs.Prelude.{◌≡◌, ◌≤◌, ◌<◌, ◌+◌, ◌^◌, ◌++◌, ◌∷◌, [], ℕ, List, Bool, true, Some, map, drop, length, IfOk, vec_len, vec_capacity};
+ghost use Rattle.std.specs.Prelude.{◌≡◌, ◌⊎◌, ◌≤◌, ◌<◌, ◌+◌, ◌^◌, ◌++◌, ◌∷◌, [], ℕ, List, Bool, true, Some, map, drop, length, IfOk, vec_len, vec_capacity};
 ghost use Rattle.std.specs.List.{AllByRecursion};
 ghost use Rattle.object_ids.specs.declared.ids.ObjId.{ObjId};
 ghost use Rattle.object_ids.specs.declared.ids.Uid.{Uid};
 ghost use Rattle.history.specs.declared.limits.TheConstants.{MAX_EXPORTS, MAX_AWAITING};
 ghost use Rattle.history.specs.declared.asks.Ask.TheVariants.{Abandon, Finish, Lookup};
 ghost use Rattle.history.specs.Names.{object_bound};
+ghost use Rattle.event_log.specs.Rows.{IsPlain};
 ghost use Rattle.history.specs.Places.{id_at};
 ghost use Rattle.export_table.specs.Rows.{is_exported, running_of, pins_of, new_row, changed, pinned_once, unpinned};
 ghost use Rattle.space.specs.Acts.{acted, awaiting_with, new_rows, opens, returned_by, returned_from, withdrawal_at};
 ghost use Rattle.export_table.specs.Stands.{waits_once, reference_of};
 ghost use Rattle.export_table.specs.Waits.{listed_each};
 
+use event_log::EventLog;
 use export_table::Exports;
 use history::{Ask, Event, Withdrawal};
 use object_ids::{ObjId, Uid};
@@ -250,10 +252,11 @@ fn put(withdrawn: &mut Vec<Withdrawal>, withdrawal: Withdrawal)
 }
 
 /// Appends an event, for which there is room.
-pub(crate) fn put_event(events: &mut Vec<Event>, event: Event)
-    requires { vec_len events.old < vec_capacity events.old }
+pub(crate) fn put_event(events: &mut EventLog, event: Event)
+    requires room { length events.old.items < events.old.capacity }
+    requires spare { IsPlain events.old.space event.ask ⊎ (events.old.spare ≡ true) }
     ensures items { events.new.items ≡ events.old.items ++ event ∷ [] }
-    ensures capacity { vec_capacity events.old ≤ vec_capacity events.new }
+    ensures capacity { events.old.capacity ≤ events.new.capacity }
 {
     events.push_reserved(event);
 }

@@ -8,7 +8,7 @@ ghost use Rattle.journal.specs.Written as written;
 ghost use Rattle.space.specs.Summary.{counts_text};
 
 use crate::turns::Space;
-use history::Event;
+use event_log::EventLog;
 use journal::Word;
 use journal::outline::{put_events_line, put_line};
 use journal::write::{put_event_line, put_first_line};
@@ -29,12 +29,13 @@ pub fn journal(alloc: Global, space: &Space) -> Result<ByteList, AllocError>
 }
 
 /// Appends the lines of events.
-fn put_events(text: &mut ByteList, space: Uid, events: &[Event]) -> Result<(), AllocError>
-    ensures text { OnOk result (text.new ≡ text.old ++ flat_map (written.event_line space) events.now) }
-    ensures fits { OnOk result (AllByRecursion (λ e. e.moment < END_OF_TIME → written.EventFits e) events.now) }
+fn put_events(text: &mut ByteList, space: Uid, events: &EventLog) -> Result<(), AllocError>
+    ensures text { OnOk result (text.new ≡ text.old ++ flat_map (written.event_line space) events.now.items) }
+    ensures fits { OnOk result (AllByRecursion (λ e. e.moment < END_OF_TIME → written.EventFits e) events.now.items) }
 {
-    for event in events {
-        put_event_line(text, space, event)?;
+    for place in 0..events.len() {
+        let view = events.event(place);
+        put_event_line(text, space, view.event())?;
     }
     Ok(())
 }

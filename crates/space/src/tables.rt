@@ -1,5 +1,5 @@
 //! What a space keeps, and what a turn does to it.
-ghost use Rattle.std.specs.Prelude.{◌≡◌, ◌<◌, ◌^◌, ◌++◌, ◌∷◌, [], Ok, Err, IfOk, IfErr, OnOk, OnErr};
+ghost use Rattle.std.specs.Prelude.{◌≡◌, ◌<◌, ◌^◌, ◌++◌, ◌∷◌, [], true, Ok, Err, IfOk, IfErr, OnOk, OnErr};
 ghost use Rattle.history.specs.Steps.{Step};
 ghost use Rattle.space.specs.Acts.{event_of};
 ghost use Rattle.space.specs.Whole.{IsWhole, IsWholeWith};
@@ -11,9 +11,10 @@ use crate::prepared::prepare;
 use crate::rooms::{room_for_event, room_for_gone, room_in_table};
 use crate::runs::{Run, act_on_runs};
 use dgc_server::Leases;
+use event_log::EventLog;
 use export_table::Exports;
 use history::plain::limits::units_of;
-use history::{Ask, Event, Refused, SpaceConfig, Turn, Withdrawal};
+use history::{Ask, Refused, SpaceConfig, Turn, Withdrawal};
 use object_ids::{ObjId, ObjIds};
 use rmi_registry::Names;
 use std::alloc::Global;
@@ -38,7 +39,7 @@ pub struct Tables {
     /// The calls that run.
     pub runs: Vec<Run>,
     /// The events.
-    pub events: Vec<Event>,
+    pub events: EventLog,
     /// The withdrawals, in their order.
     pub withdrawn: Vec<Withdrawal>,
     /// How many withdrawals were told as gone.
@@ -62,6 +63,7 @@ impl Tables {
         ensures with_event { OnOk result (IsWholeWith self.new (self.new.events.items ++ event_of by moment ask.now ∷ [])) }
         ensures whole { OnErr result (IsWhole self.new) }
         ensures events { self.new.events.items ≡ self.old.events.items }
+        ensures spare { OnOk result (self.new.events.spare ≡ true) }
         ensures config { self.new.config ≡ self.old.config }
     {
         let stood = stood_for(&self.names, ask);

@@ -11,6 +11,7 @@ use crate::acts::put_event;
 use crate::runs::count;
 use crate::tables::Tables;
 use dgc_server::Leases;
+use event_log::EventLog;
 use export_table::Exports;
 use history::{Ask, Event, Refused, SpaceConfig, Turn};
 use object_ids::ObjId;
@@ -54,7 +55,7 @@ impl Space {
                 leases: Leases::fresh(alloc, config.lease_ms),
                 exports: Exports::fresh(alloc, config.uid, config.ack_ms),
                 runs: Vec::new(alloc),
-                events: Vec::new(alloc),
+                events: EventLog::new(alloc, config.uid),
                 withdrawn: Vec::new(alloc),
                 told: 0,
                 added: 0,

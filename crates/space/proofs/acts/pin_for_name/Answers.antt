@@ -1,5 +1,4 @@
 use Rattle.std.proofs.Common.{◌≡◌, ◌<◌, true, sym, subst, ap}
-use Rattle.object_ids.specs.declared.ids.ObjId.{ObjId}
 use Rattle.export_table.specs.declared.rows.Export.{Export}
 use Rattle.std.proofs.Common.{List}
 use Rattle.export_table.specs.Rows.{is_exported, pins_of}

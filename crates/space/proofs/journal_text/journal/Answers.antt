@@ -1,19 +1,14 @@
-use Rattle.std.proofs.Common.{List, ◌<◌, ◌++◌, ap, subst, ◌∙◌, flat_map}
-use Rattle.std.specs.List.{AllByRecursion}
-use Rattle.history.specs.declared.asks.Event.{Event}
-use Rattle.history.specs.declared.limits.TheConstants.{END_OF_TIME}
-use Rattle.journal.specs.Written.{event_line, EventFits}
 use Rattle.space.proofs.SummaryLaws.{journalled, events-fit, journal_spelled}
 use Rattle.space.proofs.journal_text.journal.Goals as goal
 
 pub returns-clause-text : goal.returns-clause-text
 returns-clause-text c = journalled c.space.inside.tables.config c.space.inside.tables.events.items c.new-text.result c.put_first_line.new.out c.put_events.new.text c.args.space.now c.space.view_is
     c.new-text.ensures (c.in_ok-put_first_line.ensures {u = tt}).text
-    ((c.in_ok-put_events.ensures {u = tt}).text ∙ ap (λ (es : List Event). c.put_first_line.new.out ++ flat_map (event_line c.space.inside.tables.config.uid) es) c.deref.ensures.value)
+    (c.in_ok-put_events.ensures {u = tt}).text
 
 pub returns-clause-spelled : goal.returns-clause-spelled
 returns-clause-spelled c = journal_spelled c.space.inside.tables.config c.space.inside.tables.events.items c.put_events.new.text c.args.space.now c.space.view_is c.space.invariant.0.durations
     (c.in_ok-put_first_line.ensures {u = tt}).spelled
     (events-fit c.space.inside.tables.config c.space.inside.tables.events.items c.space.inside.tables.moment c.space.invariant.0.stands.moment_is c.space.invariant.0.early
-    (subst (AllByRecursion (λ e. e.moment < END_OF_TIME → EventFits e)) c.deref.ensures.value (c.in_ok-put_events.ensures {u = tt}).fits))
+    (c.in_ok-put_events.ensures {u = tt}).fits)
     (returns-clause-text c)

@@ -4,6 +4,6 @@ use Rattle.history.specs.declared.limits.TheConstants.{END_OF_TIME}
 use Rattle.journal.specs.Written.{event_line, EventFits}
 use Rattle.space.proofs.journal_text.put_events.Given as goal
 
-abbrev pub invariant-loop-event : goal.invariant-loop-event
-invariant-loop-event l = (l.text ≡ l.initial.text ++ flat_map (event_line l.space) (take l.event-index l.events))
-    × AllByRecursion (λ e. e.moment < END_OF_TIME → EventFits e) (take l.event-index l.events)
+abbrev pub invariant-loop-place : goal.invariant-loop-place
+invariant-loop-place l = (l.text ≡ l.initial.text ++ flat_map (event_line l.space) (take l.place l.events.items))
+    × AllByRecursion (λ e. e.moment < END_OF_TIME → EventFits e) (take l.place l.events.items)

@@ -1,4 +1,4 @@
-use Rattle.std.proofs.Common.{◌≡◌, ℕ, ◌++◌, length, refl, ap, ◌∙◌, rules}
+use Rattle.std.proofs.Common.{◌≡◌, ℕ, ◌++◌, length, ap, ◌∙◌, rules}
 use Rattle.journal.specs.Rows.{events_text}
 use Rattle.space.proofs.Bindings.{bindings-counted}
 use Rattle.space.proofs.SummaryLaws.{summarized}

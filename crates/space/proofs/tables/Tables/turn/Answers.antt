@@ -37,8 +37,8 @@ returns-in_err-room_for_event-clause-whole c =
     c.args.self.now.withdrawn.items c.args.self.now.withdrawn.items c.args.self.now.told c.args.self.now.added c.args.self.now.units c.args.self.now.moment
     c.requires.whole.0 refl c.room_for_event.ensures.events refl c.room_for_event.ensures.runs refl)
     (room-grown c.args.self.now.events.items c.room_for_event.new.events.items c.args.self.now.runs.items c.room_for_event.new.runs.items c.args.self.now.withdrawn.items c.args.self.now.withdrawn.items c.args.self.now.exports c.args.self.now.exports
-    c.args.self.now.scratch.items c.args.self.now.scratch.items (vec_capacity c.args.self.now.events) (vec_capacity c.args.self.now.withdrawn) (vec_capacity c.args.self.now.scratch)
-    (vec_capacity c.room_for_event.new.events) (vec_capacity c.args.self.now.withdrawn) (vec_capacity c.args.self.now.scratch)
+    c.args.self.now.scratch.items c.args.self.now.scratch.items c.args.self.now.events.capacity (vec_capacity c.args.self.now.withdrawn) (vec_capacity c.args.self.now.scratch)
+    c.room_for_event.new.events.capacity (vec_capacity c.args.self.now.withdrawn) (vec_capacity c.args.self.now.scratch)
     c.requires.whole.1 c.room_for_event.ensures.events c.room_for_event.ensures.runs refl refl refl
     c.room_for_event.ensures.grow (omega arith) (omega arith))
     (bindings-same c.args.self.now.config c.args.self.now.events.items c.room_for_event.new.events.items c.args.self.now.names c.args.self.now.names c.requires.whole.2 c.room_for_event.ensures.events refl)
@@ -50,8 +50,8 @@ returns-in_err-room_for_gone-clause-whole c =
     c.args.self.now.withdrawn.items c.room_for_gone.new.withdrawn.items c.args.self.now.told c.args.self.now.added c.args.self.now.units c.args.self.now.moment
     c.requires.whole.0 refl c.room_for_event.ensures.events refl c.room_for_event.ensures.runs c.room_for_gone.ensures.withdrawn)
     (room-grown c.args.self.now.events.items c.room_for_event.new.events.items c.args.self.now.runs.items c.room_for_event.new.runs.items c.args.self.now.withdrawn.items c.room_for_gone.new.withdrawn.items c.args.self.now.exports c.args.self.now.exports
-    c.args.self.now.scratch.items c.room_for_gone.new.scratch.items (vec_capacity c.args.self.now.events) (vec_capacity c.args.self.now.withdrawn) (vec_capacity c.args.self.now.scratch)
-    (vec_capacity c.room_for_event.new.events) (vec_capacity c.room_for_gone.new.withdrawn) (vec_capacity c.room_for_gone.new.scratch)
+    c.args.self.now.scratch.items c.room_for_gone.new.scratch.items c.args.self.now.events.capacity (vec_capacity c.args.self.now.withdrawn) (vec_capacity c.args.self.now.scratch)
+    c.room_for_event.new.events.capacity (vec_capacity c.room_for_gone.new.withdrawn) (vec_capacity c.room_for_gone.new.scratch)
     c.requires.whole.1 c.room_for_event.ensures.events c.room_for_event.ensures.runs c.room_for_gone.ensures.withdrawn refl c.room_for_gone.ensures.scratch
     c.room_for_event.ensures.grow c.room_for_gone.ensures.withdrawn_grow c.room_for_gone.ensures.scratch_grow)
     (bindings-same c.args.self.now.config c.args.self.now.events.items c.room_for_event.new.events.items c.args.self.now.names c.args.self.now.names c.requires.whole.2 c.room_for_event.ensures.events refl)
@@ -63,8 +63,8 @@ returns-in_err-room_in_table-clause-whole c =
     c.args.self.now.withdrawn.items c.room_for_gone.new.withdrawn.items c.args.self.now.told c.args.self.now.added c.args.self.now.units c.args.self.now.moment
     c.requires.whole.0 c.room_in_table.ensures.rest c.room_for_event.ensures.events refl c.room_for_event.ensures.runs c.room_for_gone.ensures.withdrawn)
     (room-grown c.args.self.now.events.items c.room_for_event.new.events.items c.args.self.now.runs.items c.room_for_event.new.runs.items c.args.self.now.withdrawn.items c.room_for_gone.new.withdrawn.items c.args.self.now.exports c.room_in_table.new.exports
-    c.args.self.now.scratch.items c.room_for_gone.new.scratch.items (vec_capacity c.args.self.now.events) (vec_capacity c.args.self.now.withdrawn) (vec_capacity c.args.self.now.scratch)
-    (vec_capacity c.room_for_event.new.events) (vec_capacity c.room_for_gone.new.withdrawn) (vec_capacity c.room_for_gone.new.scratch)
+    c.args.self.now.scratch.items c.room_for_gone.new.scratch.items c.args.self.now.events.capacity (vec_capacity c.args.self.now.withdrawn) (vec_capacity c.args.self.now.scratch)
+    c.room_for_event.new.events.capacity (vec_capacity c.room_for_gone.new.withdrawn) (vec_capacity c.room_for_gone.new.scratch)
     c.requires.whole.1 c.room_for_event.ensures.events c.room_for_event.ensures.runs c.room_for_gone.ensures.withdrawn c.room_in_table.ensures.rest c.room_for_gone.ensures.scratch
     c.room_for_event.ensures.grow c.room_for_gone.ensures.withdrawn_grow c.room_for_gone.ensures.scratch_grow)
     (bindings-same c.args.self.now.config c.args.self.now.events.items c.room_for_event.new.events.items c.args.self.now.names c.args.self.now.names c.requires.whole.2 c.room_for_event.ensures.events refl)
@@ -76,8 +76,8 @@ returns-in_err-settle-clause-whole c =
     c.args.self.now.withdrawn.items c.room_for_gone.new.withdrawn.items c.args.self.now.told c.args.self.now.added c.args.self.now.units c.args.self.now.moment
     c.requires.whole.0 c.room_in_table.ensures.rest c.room_for_event.ensures.events (c.in_err-settle.ensures {u = tt}).err c.room_for_event.ensures.runs c.room_for_gone.ensures.withdrawn)
     (room-grown c.args.self.now.events.items c.room_for_event.new.events.items c.args.self.now.runs.items c.room_for_event.new.runs.items c.args.self.now.withdrawn.items c.room_for_gone.new.withdrawn.items c.args.self.now.exports c.room_in_table.new.exports
-    c.args.self.now.scratch.items c.room_for_gone.new.scratch.items (vec_capacity c.args.self.now.events) (vec_capacity c.args.self.now.withdrawn) (vec_capacity c.args.self.now.scratch)
-    (vec_capacity c.room_for_event.new.events) (vec_capacity c.room_for_gone.new.withdrawn) (vec_capacity c.room_for_gone.new.scratch)
+    c.args.self.now.scratch.items c.room_for_gone.new.scratch.items c.args.self.now.events.capacity (vec_capacity c.args.self.now.withdrawn) (vec_capacity c.args.self.now.scratch)
+    c.room_for_event.new.events.capacity (vec_capacity c.room_for_gone.new.withdrawn) (vec_capacity c.room_for_gone.new.scratch)
     c.requires.whole.1 c.room_for_event.ensures.events c.room_for_event.ensures.runs c.room_for_gone.ensures.withdrawn c.room_in_table.ensures.rest c.room_for_gone.ensures.scratch
     c.room_for_event.ensures.grow c.room_for_gone.ensures.withdrawn_grow c.room_for_gone.ensures.scratch_grow)
     (bindings-same c.args.self.now.config c.args.self.now.events.items c.room_for_event.new.events.items c.args.self.now.names c.settle.new.names c.requires.whole.2 c.room_for_event.ensures.events (c.in_err-settle.ensures {u = tt}).kept)
@@ -188,17 +188,16 @@ returns-clause-with_event c =
     let events_room = (c.in_ok-room_for_event.ensures {u = tt}).event in
     let withdrawn_room = (c.in_ok-room_for_gone.ensures {u = tt}).withdrawals in let scratch_room = (c.in_ok-room_for_gone.ensures {u = tt}).objects in
     let withdrawn_grow = c.note_withdrawn.ensures.capacity in
-    let events_len : vec_len c.room_for_event.new.events ≡ length c.room_for_event.new.events.items = search rules in
     let runs_len : vec_len c.room_for_event.new.runs ≡ length c.room_for_event.new.runs.items = search rules in
     let withdrawn_len : vec_len c.room_for_gone.new.withdrawn ≡ length c.room_for_gone.new.withdrawn.items = search rules in
     let events_same = ap length c.room_for_event.ensures.events in let runs_same = ap length c.room_for_event.ensures.runs in let withdrawn_same = ap length c.room_for_gone.ensures.withdrawn in (
       kept,
       room-turned c.args.self.now.config c.args.self.now.events.items (c.room_for_event.new.events.items ++ (event_of c.args.by c.args.moment c.args.ask.now) ∷ []) (event_of c.args.by c.args.moment c.args.ask.now) c.args.self.now.leases c.withdraw.new.leases c.args.self.now.exports c.withdraw.new.self
           c.args.self.now.runs.items c.act_on_runs.new.runs.items c.args.self.now.withdrawn.items c.note_withdrawn.new.withdrawn.items c.args.self.now.told c.args.self.now.added c.args.self.now.units c.args.self.now.moment
-          c.told_after-self.result _ _ c.max-now.result c.in_ok-ready.ready.objects c.room_for_gone.new.scratch.items (vec_capacity c.room_for_event.new.events) (vec_capacity c.note_withdrawn.new.withdrawn) (vec_capacity c.room_for_gone.new.scratch)
+          c.told_after-self.result _ _ c.max-now.result c.in_ok-ready.ready.objects c.room_for_gone.new.scratch.items c.room_for_event.new.events.capacity (vec_capacity c.note_withdrawn.new.withdrawn) (vec_capacity c.room_for_gone.new.scratch)
           c.is_effective-effective.result (is-effective c.args.self.now.config c.args.self.now.events.items (event_of c.args.by c.args.moment c.args.ask.now) c.args.self.now.leases c.room_in_table.new.exports c.args.self.now.runs.items c.args.self.now.withdrawn.items
           c.args.self.now.told c.args.self.now.added c.args.self.now.units c.args.self.now.moment c.is_effective-effective.result acts.asked)
-          c.requires.whole.0 kept ended (omega (arith, objects)) (omega (arith, events_room, events_len, events_same, runs_len, runs_same)) (omega (arith, withdrawn_room, withdrawn_grow, withdrawn_len, withdrawn_same))
+          c.requires.whole.0 kept ended (omega (arith, objects)) (omega (arith, events_room, events_same, runs_len, runs_same)) (omega (arith, withdrawn_room, withdrawn_grow, withdrawn_len, withdrawn_same))
           scratch_room (c.room_for_gone.ensures.scratch ∙ c.requires.whole.1.empty),
       bindings-same c.args.self.now.config (c.args.self.now.events.items ++ (event_of c.args.by c.args.moment c.args.ask.now) ∷ []) (c.room_for_event.new.events.items ++ (event_of c.args.by c.args.moment c.args.ask.now) ∷ []) c.settle.new.names c.settle.new.names
           (names-next c.args.self.now.config c.args.self.now.events.items (event_of c.args.by c.args.moment c.args.ask.now) c.is_effective-effective.result c.args.self.now.names c.settle.new.names c.requires.whole.2

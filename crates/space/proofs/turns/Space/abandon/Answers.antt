@@ -49,7 +49,7 @@ invariant_of-self c =
       kept,
       end-room c.self.inside.tables.config c.self.inside.tables.events.items c.put_event.new.events.items c.args.by c.args.moment c.args.object c.self.inside.tables.leases c.withdraw.new.leases c.self.inside.tables.exports c.withdraw.new.self c.self.inside.tables.runs.items c.drop_first.new.runs.items
           c.self.inside.tables.withdrawn.items c.note_withdrawn.new.withdrawn.items c.self.inside.tables.told c.self.inside.tables.added c.self.inside.tables.units c.self.inside.tables.moment c.self.inside.tables.told c.self.inside.tables.added (c.self.inside.tables.units + 1) c.max-now.result c.self.inside.tables.scratch.items c.clear.new.self.items
-          (vec_capacity c.self.inside.tables.events) (vec_capacity c.self.inside.tables.withdrawn) (vec_capacity c.self.inside.tables.scratch) (vec_capacity c.put_event.new.events) (vec_capacity c.note_withdrawn.new.withdrawn) (vec_capacity c.clear.new.self)
+          c.self.inside.tables.events.capacity (vec_capacity c.self.inside.tables.withdrawn) (vec_capacity c.self.inside.tables.scratch) c.put_event.new.events.capacity (vec_capacity c.note_withdrawn.new.withdrawn) (vec_capacity c.clear.new.self)
           c.self.invariant.0 c.self.invariant.1 runs kept c.put_event.ensures.items c.drop_first.ensures c.clear.ensures.items c.put_event.ensures.capacity c.note_withdrawn.ensures.capacity scratch_room,
       bindings-same c.self.inside.tables.config (c.self.inside.tables.events.items ++ event_of c.args.by c.args.moment (Abandon c.args.object) ∷ []) c.put_event.new.events.items c.self.inside.tables.names c.self.inside.tables.names
           (names-next c.self.inside.tables.config c.self.inside.tables.events.items (event_of c.args.by c.args.moment (Abandon c.args.object)) true c.self.inside.tables.names c.self.inside.tables.names c.self.invariant.2 (sym (runs-effective c.self.inside.tables.config c.self.inside.tables.events.items c.args.by c.args.object runs)) refl)

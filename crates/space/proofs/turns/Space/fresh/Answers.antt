@@ -10,7 +10,7 @@ invariant_of-result c = (
   keeps-nothing c.args.config.now c.fresh.result c.fresh-2.result c.new-2.result.items c.new.result.items c.new-3.result.items
       (record { some_lease = c.requires.some_lease; short_lease = c.requires.short_lease; some_ack = c.requires.some_ack; short_ack = c.requires.short_ack })
       c.fresh.ensures c.fresh-2.ensures c.new.ensures.items c.new-2.ensures.items c.new-3.ensures.items,
-  room-nothing c.new-2.result.items c.new.result.items c.new-3.result.items c.fresh-2.result c.new-4.result.items (vec_capacity c.new-2.result) (vec_capacity c.new-3.result) (vec_capacity c.new-4.result)
+  room-nothing c.new-2.result.items c.new.result.items c.new-3.result.items c.fresh-2.result c.new-4.result.items c.new-2.result.capacity (vec_capacity c.new-3.result) (vec_capacity c.new-4.result)
       c.new-2.ensures.items c.new.ensures.items c.new-3.ensures.items (ap (λ (t : ExportTable). t.rows) c.fresh-2.ensures) c.new-4.ensures.items,
   no-bindings c.args.config.now c.fresh-3.result c.new-2.result.items c.fresh-3.ensures c.new-2.ensures.items,
 )

@@ -1,4 +1,4 @@
-use Rattle.std.proofs.Common.{◌≡◌, ◌∷◌, ◌++◌, [], List, length, ap, sym, subst, ◌∙◌, rules, arith, Ok, length-append, vec_len, vec_capacity}
+use Rattle.std.proofs.Common.{◌∷◌, ◌++◌, [], List, ap, sym, subst, ◌∙◌, arith, Ok, length-append, vec_capacity}
 use Rattle.history.specs.declared.asks.Event.{Event}
 use Rattle.history.specs.Steps.{Step}
 use Rattle.space.specs.Acts.{event_of}
@@ -7,12 +7,11 @@ use Rattle.space.proofs.EndLaws.{appended}
 use Rattle.space.proofs.TurnLaws.{step-viewed}
 use Rattle.space.proofs.turns.Space.turn.Goals as goal
 
-pub put_event-requires : goal.put_event-requires
-put_event-requires c =
+pub put_event-requires-clause-room : goal.put_event-requires-clause-room
+put_event-requires-clause-room c =
     let ends = (c.in_ok-turn.ensures {u = tt}).with_event.1.ends in
     let longer = length-append c.turn.new.self.events.items (event_of c.args.by c.args.moment c.args.ask ∷ []) in
-    let len : vec_len c.turn.new.self.events ≡ length c.turn.new.self.events.items = search rules in
-    omega (arith, ends, longer, len)
+    omega (arith, ends, longer)
 
 pub invariant_of-self : goal.invariant_of-self
 invariant_of-self c = (c.in_err-turn.ensures {u = tt}).whole
@@ -20,7 +19,7 @@ invariant_of-self c = (c.in_err-turn.ensures {u = tt}).whole
 pub invariant_of-self-2 : goal.invariant_of-self-2
 invariant_of-self-2 c =
     appended c.turn.new.self.config (c.turn.new.self.events.items ++ event_of c.args.by c.args.moment c.args.ask ∷ []) c.put_event.new.events.items c.turn.new.self.leases c.turn.new.self.exports c.turn.new.self.runs.items c.turn.new.self.withdrawn.items
-    c.turn.new.self.told c.turn.new.self.added c.turn.new.self.units c.turn.new.self.moment c.turn.new.self.scratch.items (vec_capacity c.turn.new.self.events) (vec_capacity c.put_event.new.events) (vec_capacity c.turn.new.self.withdrawn) (vec_capacity c.turn.new.self.scratch) c.turn.new.self.names
+    c.turn.new.self.told c.turn.new.self.added c.turn.new.self.units c.turn.new.self.moment c.turn.new.self.scratch.items c.turn.new.self.events.capacity c.put_event.new.events.capacity (vec_capacity c.turn.new.self.withdrawn) (vec_capacity c.turn.new.self.scratch) c.turn.new.self.names
     (c.in_ok-turn.ensures {u = tt}).with_event c.put_event.ensures.items c.put_event.ensures.capacity
 
 pub returns-clause-step : goal.returns-clause-step
