@@ -1,5 +1,5 @@
 //! Bytes, numbers and texts from a Pull.
-ghost use Rattle.std.specs.Prelude.{◌≡◌, ◌^◌};
+ghost use Rattle.std.specs.Prelude.{◌≡◌, ◌++◌, ◌^◌, OnOk};
 ghost use Rattle.std.specs.Int.{w16, w32, w64};
 ghost use Rattle.ser_values.specs.Reading.{byte_at, take_at, number_at, size_at, units_at, short_at, long_at};
 ghost use Rattle.ser_read.specs.declared.fault.StreamFault.TheVariants.{Bad};
@@ -9,7 +9,7 @@ ghost use Rattle.ser_read.specs.Here.{AreBytes, ReadsTaken, StopsTaken};
 use crate::fault::{StreamFault, StreamKind};
 use mod_utf::decode::{UtfFault, decode};
 use mod_utf::list::{ByteList, Units};
-use std::alloc::Global;
+use std::alloc::{AllocError, Global};
 use wire_io::pull::Pull;
 use wire_io::source::Source;
 
@@ -142,6 +142,18 @@ pub(crate) fn piece<S: Source>(
     Ok(bytes)
 }
 
+/// Appends a piece. Where nothing stands there, the piece takes the list's place, and none of its bytes is copied.
+fn add_piece(bytes: &mut ByteList, piece: ByteList) -> Result<(), AllocError>
+    ensures { OnOk result (bytes.new ≡ bytes.old ++ piece) }
+{
+    if bytes.is_empty() {
+        *bytes = piece;
+        Ok(())
+    } else {
+        bytes.append(piece.as_slice())
+    }
+}
+
 /// The next `n` bytes. There is room for at most one piece ahead of what was read.
 pub(crate) fn take<S: Source>(
     alloc: Global,
@@ -157,7 +169,7 @@ pub(crate) fn take<S: Source>(
     while left > 0 {
         let more = left.min(PIECE);
         let piece = piece(alloc, pull, more as u32)?;
-        bytes.append(piece.as_slice())?;
+        add_piece(&mut bytes, piece)?;
         left -= more;
     }
     Ok(bytes)

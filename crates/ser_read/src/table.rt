@@ -5,9 +5,9 @@ ghost use Rattle.ser_values.specs.Loose.{elements_in, elements_at};
 ghost use Rattle.ser_values.specs.Node.{has, is_desc, is_text};
 
 use crate::fault::StreamKind;
-use class_desc::{ENUM, Slot, TypeCode, check_type_text, element_code, is_primitive};
+use class_desc::{ENUM, Slot, TypeCode, is_primitive};
 use ser_values::limits::{NODES, PARTS};
-use ser_values::{Node, NodeList, Place};
+use ser_values::{Node, NodeList, Place, elements_in, fits_node, is_desc, is_text};
 use std::alloc::{AllocError, Global};
 
 /// The nodes so far. One that is still being read stands there empty, and is written over when it was read.
@@ -27,17 +27,6 @@ pub(crate) struct Table {
     ghost few_parts: { parts ≤ PARTS },
 }
 
-/// The type of the elements of the array class that a text or a description names.
-fn elements_in(node: &Node) -> Option<TypeCode>
-    ensures { result ≡ elements_in node.now }
-{
-    match node {
-        Node::Text(text) => element_code(text),
-        Node::Desc(desc) => element_code(&desc.name),
-        _ => None,
-    }
-}
-
 /// Whether a number is among some, at most 200.
 #[tactic(auto, unfolding(ser_values::specs::Node::has))]
 fn has(numbers: &[u32], number: u32) -> bool
@@ -46,38 +35,6 @@ fn has(numbers: &[u32], number: u32) -> bool
     match numbers {
         [] => false,
         [first, rest @ ..] => *first == number || has(rest, number),
-    }
-}
-
-/// Whether a node is a description.
-#[tactic(auto, unfolding(ser_values::specs::Node::is_desc))]
-fn is_desc(node: &Node) -> bool
-    ensures { result ≡ is_desc node.now }
-{
-    match node {
-        Node::Desc(_) => true,
-        Node::Proxy(_) => true,
-        Node::Text(_) => false,
-        Node::Object { .. } => false,
-        Node::Array { .. } => false,
-        Node::Class { .. } => false,
-        Node::Enum { .. } => false,
-    }
-}
-
-/// Whether a node is a text.
-#[tactic(auto, unfolding(ser_values::specs::Node::is_text))]
-fn is_text(node: &Node) -> bool
-    ensures { result ≡ is_text node.now }
-{
-    match node {
-        Node::Text(_) => true,
-        Node::Desc(_) => false,
-        Node::Proxy(_) => false,
-        Node::Object { .. } => false,
-        Node::Array { .. } => false,
-        Node::Class { .. } => false,
-        Node::Enum { .. } => false,
     }
 }
 
@@ -215,12 +172,10 @@ impl Table {
         match slot {
             Slot::Null => is_primitive(code),
             Slot::Node(number) => match self.node(number) {
-                Some(Node::Text(text)) => match code {
-                    TypeCode::Array => self.elements_at(number).is_some(),
-                    TypeCode::Object => check_type_text(code, text).is_ok(),
-                    _ => false,
-                },
-                _ => false,
+                Some(node) => {
+                    !is_primitive(code) && fits_node(code, node, self.elements_at(number))
+                }
+                None => false,
             },
         }
     }

@@ -47,4 +47,5 @@ pub mod Exact
 pub mod FrontLaws
 pub mod Bare
 pub mod ChainLaws
+pub mod Settling
 pub mod Standing

@@ -20,7 +20,7 @@ use Rattle.ser_values.specs.Node.{has, is_desc}
 use Rattle.ser_values.specs.Numbered.{IsGraph}
 use Rattle.ser_values.specs.Spelled.{IsStream}
 use Rattle.ser_values.specs.Faults.{slot_but, stream_but, ComesTo}
-use Rattle.ser_values.specs.Reading.{Fault, short, bad, bad_magic, bad_code, bad_handle, wrong_handle_kind, bad_desc, bad_utf, negative_length, reset, old_external, size_at, units_at, short_at, long_at, many_at, blocks_at, items_at, field_of, field_at, elements_at, chain_of, note_at, parts_at, values_at, value_at, text_at, desc_after, desc_at, with_class, object_after, object_at, array_of, array_at, fresh_at, handle_at, coded, slot_at, magic_at, stream_of}
+use Rattle.ser_values.specs.Reading.{Fault, short, bad, bad_magic, bad_code, bad_handle, wrong_handle_kind, bad_desc, bad_utf, negative_length, reset, inner_exception, old_external, size_at, units_at, short_at, long_at, many_at, blocks_at, items_at, field_of, field_at, elements_at, chain_of, note_at, parts_at, values_at, value_at, text_at, desc_after, desc_at, with_class, object_after, object_at, array_of, array_at, fresh_at, handle_at, coded, slot_at, magic_at, stream_of}
 
 abbrev Answer : Type 0
 Answer = Result (List Node × List Item) Fault
@@ -80,6 +80,11 @@ a_short_text : after_head (0x74 ∷ 0x00 ∷ 0x05 ∷ 0x00 ∷ []) ≡ fails sho
 unfolding stream_of magic_at items_at blocks_at slot_at coded fresh_at text_at short_at units_at
 a_short_text = refl
 
+-- with 61 behind it, it is a_text
+a_cut_text : after_head (0x74 ∷ 0x00 ∷ 0x01 ∷ []) ≡ fails short
+unfolding stream_of magic_at items_at blocks_at slot_at coded fresh_at text_at short_at units_at
+a_cut_text = refl
+
 a_zero_byte : after_head (0x74 ∷ 0x00 ∷ 0x02 ∷ 0x61 ∷ 0x00 ∷ []) ≡ fails (bad bad_utf 8)
 unfolding stream_of magic_at items_at blocks_at slot_at coded fresh_at text_at short_at units_at decoded_at front
 a_zero_byte = refl
@@ -100,6 +105,10 @@ a_reset : after_head (0x70 ∷ 0x79 ∷ []) ≡ fails (bad reset 5)
 unfolding stream_of magic_at items_at blocks_at slot_at coded
 a_reset = refl
 
+an_inner_exception : after_head (0x7B ∷ []) ≡ fails (bad inner_exception 4)
+unfolding stream_of magic_at items_at blocks_at slot_at coded
+an_inner_exception = refl
+
 an_end_of_no_annotation : after_head (0x78 ∷ []) ≡ fails (bad bad_code 4)
 unfolding stream_of magic_at items_at blocks_at slot_at coded
 an_end_of_no_annotation = refl
@@ -118,6 +127,21 @@ an_old_external = refl
 bad_flags : after_head (0x72 ∷ 0x00 ∷ 0x01 ∷ 0x4E ∷ 0x00 ∷ 0x00 ∷ 0x00 ∷ 0x00 ∷ 0x00 ∷ 0x00 ∷ 0x00 ∷ 0x00 ∷ 0x01 ∷ 0x00 ∷ 0x00 ∷ []) ≡ fails (bad bad_desc 4)
 unfolding stream_of magic_at items_at blocks_at slot_at coded fresh_at desc_at desc_after short_at units_at decoded_at front size_at many_at is_good_desc fit_flags are_ordered
 bad_flags = refl
+
+-- a reference field before a primitive one
+fields_out_of_order : after_head (0x72 ∷ 0x00 ∷ 0x01 ∷ 0x4E ∷ 0x00 ∷ 0x00 ∷ 0x00 ∷ 0x00 ∷ 0x00 ∷ 0x00 ∷ 0x00 ∷ 0x00 ∷ 0x02 ∷ 0x00 ∷ 0x02 ∷ 0x4C ∷ 0x00 ∷ 0x01 ∷ 0x61 ∷ 0x74 ∷ 0x00 ∷ 0x03 ∷ 0x4C ∷ 0x4E ∷ 0x3B ∷ 0x42 ∷ 0x00 ∷ 0x01 ∷ 0x62 ∷ []) ≡ fails (bad bad_desc 4)
+unfolding stream_of magic_at items_at blocks_at slot_at coded fresh_at desc_at desc_after text_at short_at units_at decoded_at front size_at many_at field_at field_of is_good_desc fit_flags are_ordered ends_class
+fields_out_of_order = refl
+
+-- a field of no type
+no_letter : after_head (0x72 ∷ 0x00 ∷ 0x01 ∷ 0x4E ∷ 0x00 ∷ 0x00 ∷ 0x00 ∷ 0x00 ∷ 0x00 ∷ 0x00 ∷ 0x00 ∷ 0x00 ∷ 0x02 ∷ 0x00 ∷ 0x01 ∷ 0x41 ∷ []) ≡ fails (bad bad_desc 4)
+unfolding stream_of magic_at items_at blocks_at slot_at coded fresh_at desc_at desc_after short_at units_at decoded_at front size_at many_at field_at field_of
+no_letter = refl
+
+-- an array's field with the text of a class
+a_class_for_an_array : after_head (0x72 ∷ 0x00 ∷ 0x01 ∷ 0x4E ∷ 0x00 ∷ 0x00 ∷ 0x00 ∷ 0x00 ∷ 0x00 ∷ 0x00 ∷ 0x00 ∷ 0x00 ∷ 0x02 ∷ 0x00 ∷ 0x01 ∷ 0x5B ∷ 0x00 ∷ 0x01 ∷ 0x61 ∷ 0x74 ∷ 0x00 ∷ 0x03 ∷ 0x4C ∷ 0x4E ∷ 0x3B ∷ []) ≡ fails (bad bad_desc 4)
+unfolding stream_of magic_at items_at blocks_at slot_at coded fresh_at desc_at desc_after text_at short_at units_at decoded_at front size_at many_at field_at field_of element_of is_array_text
+a_class_for_an_array = refl
 
 -- a description that is its own superclass
 a_class_in_itself : after_head (0x72 ∷ 0x00 ∷ 0x01 ∷ 0x4E ∷ 0x00 ∷ 0x00 ∷ 0x00 ∷ 0x00 ∷ 0x00 ∷ 0x00 ∷ 0x00 ∷ 0x00 ∷ 0x02 ∷ 0x00 ∷ 0x00 ∷ 0x78 ∷ 0x71 ∷ 0x00 ∷ 0x7E ∷ 0x00 ∷ 0x00 ∷ []) ≡ fails (bad bad_desc 20)

@@ -14,9 +14,14 @@ use Rattle.class_desc.specs.declared.slot.Item.TheVariants as items
 use Rattle.class_desc.specs.declared.field.TypeCode.{TypeCode}
 use Rattle.class_desc.specs.declared.field.TypeCode.TheVariants as codes
 use Rattle.class_desc.specs.declared.field.FieldDesc.{FieldDesc}
-use Rattle.class_desc.specs.TypeCode.{is_primitive}
-use Rattle.class_desc.specs.TypeText.{code_of, element_of}
-use Rattle.class_desc.specs.ClassDesc.{has_flag, lacks_flag, is_good_desc}
+use Rattle.class_desc.specs.declared.desc.ClassDesc.{ClassDesc}
+use Rattle.class_desc.specs.declared.check.DescFault.{DescFault}
+use Rattle.class_desc.specs.declared.check.DescFault.TheVariants.{BadFlags, FieldOrder}
+use Rattle.class_desc.specs.TypeCode.{is_primitive, letter}
+use Rattle.class_desc.specs.TypeText.{code_of, element_of, fits_text}
+use Rattle.class_desc.specs.ClassDesc.{has_flag, lacks_flag, is_good_desc, fit_flags, are_ordered, IsFirstFault}
+use Rattle.class_desc.proofs.TypeTexts.{fits_of}
+use Rattle.class_desc.proofs.Fields.{flags_are, flags_of}
 use Rattle.ser_values.specs.declared.value.Value.TheVariants as values
 use Rattle.ser_values.specs.declared.value.Values.TheVariants as kinds
 use Rattle.ser_values.specs.declared.node.Node.{Node}
@@ -24,14 +29,22 @@ use Rattle.ser_values.specs.declared.node.Node.TheVariants.{Text, Desc, Proxy, O
 use Rattle.ser_values.specs.declared.node.Place.{Place}
 use Rattle.ser_values.specs.declared.node.Place.TheVariants as places
 use Rattle.ser_values.specs.Node.{has, is_desc, is_text, admits, admits_null}
-use Rattle.ser_values.specs.Shape.{fits_type, is_enum}
+use Rattle.ser_values.specs.Shape.{fits_node, fits_type, is_enum}
 use Rattle.ser_values.specs.Spelled.{joined}
-use Rattle.ser_values.specs.Reading.{Kind, bad_code, bad_handle, wrong_handle_kind, bad_desc, bad_utf, negative_length, reset, inner_exception, old_external, Fault, short, bad, too_many, too_deep, ◌>>=◌, Plain, byte_at, take_at, number_at, size_at, units_of, units_at, short_at, long_at, Progress, Step, Slots, plain, mapped, many_at, push, fill, blocks_at, items_at, field_of, field_at, is_true, value_at, values_at, elements_at, Row, chain_of, rows_of, class_fault, note_at, parts_at, unless, roomy, blank, text_at, desc_after, desc_at, proxy_at, on_class, with_class, object_after, object_at, type_in, array_of, array_at, class_at, named, enum_at, gives_handle, admits_code, code_fault, fresh_at, null_at, handle_fault, handle_at, deep, coded, no_slots, slot_at, magic_at, stream_of}
-use Rattle.ser_values.specs.Faults.{Asking, slot_but, stream_but, ComesTo, HasNumber, HasByte, IsNoCode, NamesHandle, IsNegative, ReadsClass, LacksObjects, LacksArrays, LacksConstants, HasTooMany, IsBadDesc, IsPastNodes, IsPastParts, IsNotGiven, IsOfWrongKind, IsUnread, IsRefused, Shows, StandsAt, IsGiven, IsConstruct, IsOneTooMany, IsTooDeep, FaultStands}
+use Rattle.ser_values.specs.Reading.{Kind, bad_code, bad_handle, wrong_handle_kind, bad_desc, bad_utf, reset, inner_exception, old_external, Fault, short, bad, too_many, too_deep, ◌>>=◌, Plain, byte_at, take_at, number_at, size_at, units_of, units_at, short_at, long_at, Progress, Step, Slots, plain, mapped, many_at, push, fill, blocks_at, items_at, field_of, field_at, is_true, value_at, values_at, elements_at, Row, chain_of, rows_of, class_fault, note_at, parts_at, unless, roomy, blank, text_at, desc_after, desc_at, proxy_at, on_class, with_class, object_after, object_at, type_in, array_of, array_at, class_at, named, enum_at, gives_handle, admits_code, code_fault, fresh_at, null_at, handle_fault, handle_at, deep, coded, no_slots, slot_at, magic_at, stream_of}
+use Rattle.ser_values.specs.Faults.{Asking, slot_but, stream_but, ComesTo, HasNumber, HasByte, IsNoCode, NamesHandle, IsNegative, ReadsClass, LacksObjects, LacksArrays, LacksConstants, HasTooMany, DescHead, desc_head_at, IsNoLetter, NamesType, HasNoType, IsBroken, BreaksDesc, IsBadDesc, IsPastNodes, IsPastParts, IsNotGiven, IsOfWrongKind, IsUnread, IsRefused, Shows, StandsAt, IsGiven, IsConstruct, IsOneTooMany, IsTooDeep, FaultStands}
 use Rattle.ser_values.proofs.Lists.{length_push, some_same}
 use Rattle.ser_values.proofs.Spelling.{both}
-use Rattle.ser_values.proofs.PlainSound.{chosen}
+use Rattle.ser_values.proofs.PlainSound.{bind_ok, chosen}
 use Rattle.ser_values.proofs.FrontLaws.{eqb_same, ne_eqb}
+use Rattle.ser_values.proofs.Settling.{ends_early}
+
+-- what stands of a fault, but for bytes that end too early
+abbrev Stood : ℕ → List ℕ → Fault → Type 0
+Stood start whole short = Unit {0}
+Stood start whole (bad kind at) = FaultStands start whole (bad kind at)
+Stood start whole (too_many at) = FaultStands start whole (too_many at)
+Stood start whole (too_deep at) = FaultStands start whole (too_deep at)
 
 -- these bytes are the last of all
 abbrev pub Rest : List ℕ → List ℕ → Type 0
@@ -40,7 +53,7 @@ Rest whole bs = (front : List ℕ) × (whole ≡ front ++ bs)
 -- what is read of bytes alone, or the fault that stands
 abbrev pub Told : {A : Type 0} → ℕ → List ℕ → (A → Type 0) → Result A Fault → Type 0
 Told start whole Q (Ok x) = Q x
-Told start whole Q (Err f) = FaultStands start whole f
+Told start whole Q (Err f) = Stood start whole f
 
 -- a fault that answers the reference at a position
 record Stop : Type 0 where
@@ -71,7 +84,7 @@ Comes end whole bs r = (t : Stop) (e : Fault) → end - length bs ≤ t.position
 
 abbrev Ends : {A : Type 0} → ℕ → List ℕ → List ℕ → (A × Progress × List ℕ → Type 0) → Reads A → Result (A × Progress × List ℕ) Fault → Type 0
 Ends start whole bs Q r (Ok x) = Ended (start + length whole) bs Q r x
-Ends start whole bs Q r (Err f) = FaultStands start whole f
+Ends start whole bs Q r (Err f) = Stood start whole f
 
 -- a step to which reading comes: what it answers, or the fault that stands
 record Goes {A : Type 0} (start : ℕ) (whole bs : List ℕ) (Q : A × Progress × List ℕ → Type 0) (r : Reads A) : Type 0 where
@@ -100,6 +113,70 @@ record Opened (whole : List ℕ) (left : ℕ) (now : Progress) (bs : List ℕ) :
   here : Here whole left now bs
   room : length now.nodes < 65536
   space : length now.nodes + suc (length bs) ≤ length whole
+
+letter_known : (code : TypeCode) → code_of (letter code) ≡ Some code
+letter_known codes.B = refl
+letter_known codes.C = refl
+letter_known codes.D = refl
+letter_known codes.F = refl
+letter_known codes.I = refl
+letter_known codes.J = refl
+letter_known codes.S = refl
+letter_known codes.Z = refl
+letter_known codes.Array = refl
+letter_known codes.Object = refl
+
+abbrev triple : {A : Type 0} → A → Progress → List ℕ → A × Progress × List ℕ
+triple a now bs = (a, now, bs)
+
+abbrev found : {A : Type 0} → A → Result A Fault
+found a = Ok a
+
+found_same : {A : Type 0} (x y : A) → found x ≡ found y → x ≡ y
+found_same x y e = cc
+
+-- none of many
+none_read : {A : Type 0} (step : Step A) (now : Progress) (bs : List ℕ) → many_at step 0 now bs ≡ Ok ([], now, bs)
+unfolding many_at
+none_read step now bs = refl
+
+-- one more of many
+one_further : {A : Type 0} (step : Step A) (n : ℕ) (first : Progress) (begin : List ℕ) (xs : List A) (now : Progress) (bs : List ℕ) (x : A) (later : Progress) (rest : List ℕ) → many_at step n first begin ≡ Ok (xs, now, bs) → step now bs ≡ Ok (x, later, rest) → many_at step (suc n) first begin ≡ Ok (xs ++ x ∷ [], later, rest)
+unfolding many_at
+one_further {A} step zero first begin xs now bs x later rest e is =
+    let k : triple {A = List A} [] first begin ≡ triple xs now bs = found_same (triple {A = List A} [] first begin) (triple xs now bs) e in
+    let none : [] ≡ xs = ap (λ (y : List A × Progress × List ℕ). y.0) k in
+    let same : first ≡ now = ap (λ (y : List A × Progress × List ℕ). y.1) k in
+    let here : begin ≡ bs = ap (λ (y : List A × Progress × List ℕ). y.2) k in
+    let one : step first begin ≡ Ok (x, later, rest) = rw (same, here) is in
+    rw one (ap (λ (l : List A). found (triple (l ++ x ∷ []) later rest)) none)
+one_further {A} step (suc n) first begin xs now bs x later rest e is =
+    let a = bind_ok (step first begin) (λ z. many_at step n z.1 z.2 >>= λ ys. Ok (z.0 ∷ ys.0, ys.1, ys.2)) (triple xs now bs) e in
+    let z = a.0 in
+    let b = bind_ok (many_at step n z.1 z.2) (λ ys. Ok (z.0 ∷ ys.0, ys.1, ys.2)) (triple xs now bs) a.2 in
+    let t = b.0 in
+    let k : triple (z.0 ∷ t.0) t.1 t.2 ≡ triple xs now bs = found_same (triple (z.0 ∷ t.0) t.1 t.2) (triple xs now bs) b.2 in
+    let read : many_at step n z.1 z.2 ≡ Ok (t.0, now, bs) = b.1 ∙ ap (λ (q : List A × Progress × List ℕ). found (triple t.0 q.1 q.2)) k in
+    let deeper = one_further step n z.1 z.2 t.0 now bs x later rest read is in
+    let front : z.0 ∷ t.0 ≡ xs = ap (λ (q : List A × Progress × List ℕ). q.0) k in
+    ap (λ (y : Result (A × Progress × List ℕ) Fault). y >>= λ z. many_at step (suc n) z.1 z.2 >>= λ ys. Ok (z.0 ∷ ys.0, ys.1, ys.2)) a.1
+    ∙ (ap (λ (y : Result (List A × Progress × List ℕ) Fault). y >>= λ ys. Ok (z.0 ∷ ys.0, ys.1, ys.2)) deeper ∙ ap (λ (l : List A). found (triple (l ++ x ∷ []) later rest)) front)
+
+-- what stands before a description's fields
+head_read : (end : ℕ) (bs : List ℕ) (name : List ℕ × List ℕ) (suid flags count : ℕ × List ℕ) → short_at end bs ≡ Ok name → number_at w64 name.1 ≡ Ok suid → byte_at suid.1 ≡ Ok flags → size_at end w16 32768 flags.1 ≡ Ok count
+    → desc_head_at end bs ≡ Ok (record { name = name.0; suid = suid.0; flags = flags.0; count = count.0; rest = count.1 })
+unfolding desc_head_at
+head_read end bs name suid flags count a b c d = rw a (rw b (rw c (rw d refl)))
+
+-- the first rule that a description breaks
+first_fault : (d : ClassDesc) → is_good_desc d ≡ false → (fault : DescFault) × IsFirstFault d fault
+unfolding is_good_desc
+first_fault d h = by (fit_flags d) (are_ordered d.fields) refl refl h
+  where
+    by : (a b : Bool) → fit_flags d ≡ a → are_ordered d.fields ≡ b → (a && b) ≡ false → (fault : DescFault) × IsFirstFault d fault
+    by false b e f h = (BadFlags, λ good. (let both_are : true ≡ false = sym (flags_of d good) ∙ e in absurd cc))
+    by true false e f h = (FieldOrder, (flags_are d e, λ ordered. (let both_are : true ≡ false = sym ordered ∙ f in absurd cc)))
+    by true true e f h = absurd cc
 
 module _ (start : ℕ) (whole : List ℕ) where
   -- ---- one after the other
@@ -177,7 +254,7 @@ module _ (start : ℕ) (whole : List ℕ) where
   negative_64 : (here : List ℕ) (n : ℕ) → HasNumber w64 here n → 2 ^ 63 ≤ n → IsNegative here
   negative_64 here n h le = (n, inr (inr (h, le)))
 
-  bad_text : (text after bs : List ℕ) (offset : ℕ) → bs ≡ text ++ after → Rest whole bs → decoded text ≡ Err offset → FaultStands start whole (bad bad_utf ((start + length whole) - length bs + offset))
+  bad_text : (text after bs : List ℕ) (offset : ℕ) → bs ≡ text ++ after → Rest whole bs → decoded text ≡ Err offset → Stood start whole (bad bad_utf ((start + length whole) - length bs + offset))
   bad_text text after bs offset cut (front, w) e =
       let h = is_bad text offset (decoded_bad text offset e) in
       let all : bs ≡ h.front ++ (h.rest ++ after) = cut ∙ (ap (λ (l : List ℕ). l ++ after) h.parts ∙ append_assoc h.front h.rest after) in
@@ -217,7 +294,7 @@ module _ (start : ℕ) (whole : List ℕ) where
   done : {A : Type 0} (bs : List ℕ) (Q : A × Progress × List ℕ → Type 0) (x : A × Progress × List ℕ) → Q x → length x.2 ≤ length bs → Goes start whole bs Q (λ o. Ok x)
   done bs Q x q le = record { run = λ comes. record { that = q; less = le; same = λ t l. refl } }
 
-  fails : {A : Type 0} (bs : List ℕ) (Q : A × Progress × List ℕ → Type 0) (f : Fault) → FaultStands start whole f → Goes start whole bs Q (λ o. Err f)
+  fails : {A : Type 0} (bs : List ℕ) (Q : A × Progress × List ℕ → Type 0) (f : Fault) → Stood start whole f → Goes start whole bs Q (λ o. Err f)
   fails bs Q f h = record { run = λ comes. h }
 
   weaker : {A : Type 0} (bs : List ℕ) (Q R : A × Progress × List ℕ → Type 0) (r : Reads A) → ((x : A × Progress × List ℕ) → Q x → R x) → Goes start whole bs Q r → Goes start whole bs R r
@@ -238,7 +315,7 @@ module _ (start : ℕ) (whole : List ℕ) where
   cond_goes bs Q true x y h g = h refl
   cond_goes bs Q false x y h g = g refl
 
-  unless_goes : {A : Type 0} (bs : List ℕ) (Q : A × Progress × List ℕ → Type 0) (kind : Option Kind) (at : ℕ) (r : Reads A) → ((k : Kind) → kind ≡ Some k → FaultStands start whole (bad k at)) → Goes start whole bs Q r → Goes start whole bs Q (λ o. unless kind at (r o))
+  unless_goes : {A : Type 0} (bs : List ℕ) (Q : A × Progress × List ℕ → Type 0) (kind : Option Kind) (at : ℕ) (r : Reads A) → ((k : Kind) → kind ≡ Some k → Stood start whole (bad k at)) → Goes start whole bs Q r → Goes start whole bs Q (λ o. unless kind at (r o))
   unless_goes bs Q None at r h g = g
   unless_goes bs Q (Some k) at r h g = fails bs Q (bad k at) (h k refl)
 
@@ -267,6 +344,12 @@ module _ (start : ℕ) (whole : List ℕ) where
   told_goes : {A B : Type 0} (bs : List ℕ) (R : B × Progress × List ℕ → Type 0) (r : Result (A × List ℕ) Fault) (f : Option Stop → A × List ℕ → Result (B × Progress × List ℕ) Fault) → Told start whole (Left bs) r
       → ((x : A × List ℕ) → Left bs x → Goes start whole x.1 R (λ o. f o x)) → Goes start whole bs R (λ o. r >>= f o)
   told_goes bs R r f h g = told_with bs (Left bs) R r f (λ x q. q) h g
+
+  -- the same, where what was read is known
+  told_known : {A B : Type 0} (bs : List ℕ) (R : B × Progress × List ℕ → Type 0) (r : Result (A × List ℕ) Fault) (f : Option Stop → A × List ℕ → Result (B × Progress × List ℕ) Fault) → Told start whole (Left bs) r
+      → ((x : A × List ℕ) → Left bs x → r ≡ Ok x → Goes start whole x.1 R (λ o. f o x)) → Goes start whole bs R (λ o. r >>= f o)
+  told_known bs R (Ok x) f q g = longer x.1 bs R (λ o. f o x) (shorter q.0 bs x.1 q.1) (g x q refl)
+  told_known bs R (Err e) f h g = fails bs R e h
 
   -- ---- steps
 
@@ -308,7 +391,16 @@ module _ (start : ℕ) (whole : List ℕ) where
       → ((x : A × Progress × List ℕ) → Here whole left x.1 x.2 → Goes start whole x.2 (Good x.1 x.2) (λ o. f o x)) → Goes start whole bs (Good now bs) (λ o. r o >>= f o)
   step_then left now bs w r f h g = then_goes bs (Good now bs) (Good now bs) r f h (λ x q. weaker x.2 (Good x.1 x.2) (Good now bs) (λ o. f o x) (λ y p. two_steps now bs x.1 x.2 y.1 y.2 q p) (g x (next left now bs x.1 x.2 w q)))
 
+  -- the same, where what the first one gave is known
+  step_known : {A B : Type 0} (left : ℕ) (now : Progress) (bs : List ℕ) → Here whole left now bs → (r : Reads A) (f : Option Stop → A × Progress × List ℕ → Result (B × Progress × List ℕ) Fault) → Goes start whole bs (Good now bs) r
+      → ((x : A × Progress × List ℕ) → r None ≡ Ok x → Here whole left x.1 x.2 → Goes start whole x.2 (Good x.1 x.2) (λ o. f o x)) → Goes start whole bs (Good now bs) (λ o. r o >>= f o)
+  step_known left now bs w r f h g = known_goes bs (Good now bs) (Good now bs) r f h (λ x q e. weaker x.2 (Good x.1 x.2) (Good now bs) (λ o. f o x) (λ y p. two_steps now bs x.1 x.2 y.1 y.2 q p) (g x e (next left now bs x.1 x.2 w q)))
+
   -- bytes, and then a step
+  bytes_known : {A B : Type 0} (left : ℕ) (now : Progress) (bs : List ℕ) → Here whole left now bs → (r : Result (A × List ℕ) Fault) (f : Option Stop → A × List ℕ → Result (B × Progress × List ℕ) Fault) → Told start whole (Left bs) r
+      → ((x : A × List ℕ) → r ≡ Ok x → Here whole left now x.1 → Goes start whole x.1 (Good now x.1) (λ o. f o x)) → Goes start whole bs (Good now bs) (λ o. r >>= f o)
+  bytes_known left now bs w r f h g = told_known bs (Good now bs) r f h (λ x q e. weaker x.1 (Good now x.1) (Good now bs) (λ o. f o x) (λ y p. read_then now bs x.1 y.1 y.2 q p) (g x e (on left now bs x.1 w q)))
+
   bytes_then : {A B : Type 0} (left : ℕ) (now : Progress) (bs : List ℕ) → Here whole left now bs → (r : Result (A × List ℕ) Fault) (f : Option Stop → A × List ℕ → Result (B × Progress × List ℕ) Fault) → Told start whole (Left bs) r
       → ((x : A × List ℕ) → Here whole left now x.1 → Goes start whole x.1 (Good now x.1) (λ o. f o x)) → Goes start whole bs (Good now bs) (λ o. r >>= f o)
   bytes_then left now bs w r f h g = told_goes bs (Good now bs) r f h (λ x q. weaker x.1 (Good now x.1) (Good now bs) (λ o. f o x) (λ y p. read_then now bs x.1 y.1 y.2 q p) (g x (on left now bs x.1 w q)))
@@ -356,16 +448,45 @@ module _ (start : ℕ) (whole : List ℕ) where
 
   -- ---- fields, values and elements
 
-  coded_field : (left at : ℕ) (text : Steps Slot) → StepGoes left text → FaultStands start whole (bad bad_desc at) → (kind : Option TypeCode) → StepGoes left (λ o. field_of (start + length whole) at (text o) kind)
-  unfolding field_of
-  coded_field left at text h own None now bs w = fails bs (Good now bs) (bad bad_desc at) own
-  coded_field left at text h own (Some code) now bs w =
-      bytes_then left now bs w (short_at (start + length whole) bs) _ (short_goes bs w.rest) (λ name v. cond_goes name.1 (Good now name.1) (is_primitive code) _ _ (λ e. none_goes left now name.1 v) (λ e.
-      step_then left now name.1 v (λ o. text o now name.1) _ (h now name.1 v) (λ t u. cond_goes t.2 (Good t.1 t.2) (fits_type t.1.nodes code t.0) _ _ (λ e. none_goes left t.1 t.2 u) (λ e. fails t.2 (Good t.1 t.2) (bad bad_desc at) own))))
+  -- the letter of a field's type is one of ten
+  no_letter : (c : ℕ) → code_of c ≡ None → IsNoLetter c
+  no_letter c e code is = absurd (let known : None ≡ Some code = sym e ∙ (ap code_of is ∙ letter_known code) in cc)
 
-  field_goes : (left at : ℕ) (text : Steps Slot) → StepGoes left text → FaultStands start whole (bad bad_desc at) → StepGoes left (λ o. field_at (start + length whole) at (text o))
+  no_type : (nodes : List Node) (code : TypeCode) (s : Slot) → is_primitive code ≡ false → fits_type nodes code s ≡ false → NamesType nodes code s → ⊥
+  no_type nodes code s prim e h =
+      let named : (not (is_primitive code) && fits_node code (slice_get nodes h.number)) ≡ false = subst (λ (z : Slot). fits_type nodes code z ≡ false) h.is e in
+      let there : (not (is_primitive code) && fits_node code (Some (Text h.text))) ≡ false = subst (λ (o : Option Node). (not (is_primitive code) && fits_node code o) ≡ false) h.node named in
+      let unfit : fits_text code h.text ≡ false = subst (λ (b : Bool). (not b && fits_node code (Some (Text h.text))) ≡ false) prim there in
+      let fits : fits_text code h.text ≡ true = fits_of code h.text h.names in
+      absurd (let both_are : true ≡ false = sym fits ∙ unfit in cc)
+
+  coded_field : (left at : ℕ) (text : Steps Slot) → StepGoes left text → (c : ℕ) (kind : Option TypeCode) → code_of c ≡ kind → (now : Progress) (bs : List ℕ) → Here whole left now bs
+      → (HasByte IsNoLetter (c ∷ bs) ⊎ HasNoType (start + length whole) (text None) now (c ∷ bs) → Stood start whole (bad bad_desc at)) → Goes start whole bs (Good now bs) (λ o. field_of (start + length whole) at (text o) kind now bs)
+  unfolding field_of
+  coded_field left at text h c None e now bs w own = fails bs (Good now bs) (bad bad_desc at) (own (inl (record { byte = c; rest = bs; is = refl; that = no_letter c e })))
+  coded_field left at text h c (Some code) e now bs w own =
+      bytes_known left now bs w (short_at (start + length whole) bs) _ (short_goes bs w.rest) (λ name named v. cond_goes name.1 (Good now name.1) (is_primitive code) _ _ (λ p. none_goes left now name.1 v) (λ p.
+      step_known left now name.1 v (λ o. text o now name.1) _ (h now name.1 v) (λ t read u. cond_goes t.2 (Good t.1 t.2) (fits_type t.1.nodes code t.0) _ _ (λ f. none_goes left t.1 t.2 u)
+      (λ f. fails t.2 (Good t.1 t.2) (bad bad_desc at) (own (inr (record { letter = c; rest = bs; is = refl; code = code; typed = e; reference = p; name = name.0; behind = name.1; named = named; found = t.0; later = t.1; more = t.2; read = read; wrong = no_type t.1.nodes code t.0 p f })))))))
+
+  field_goes : (left at : ℕ) (text : Steps Slot) → StepGoes left text → (now : Progress) (bs : List ℕ) → Here whole left now bs → (HasByte IsNoLetter bs ⊎ HasNoType (start + length whole) (text None) now bs → Stood start whole (bad bad_desc at))
+      → Goes start whole bs (Good now bs) (λ o. field_at (start + length whole) at (text o) now bs)
   unfolding field_at
-  field_goes left at text h own now bs w = bytes_then left now bs w (byte_at bs) _ (byte_goes bs) (λ c v. coded_field left at text h own (code_of c.0) now c.1 v)
+  field_goes left at text h now [] w own = fails [] (Good now []) short tt
+  field_goes left at text h now (c ∷ bs) w own = behind_code left c now bs _ w (λ v. coded_field left at text h c (code_of c) refl now bs v own)
+
+  -- The fields of a description, of which some were read.
+  fields_go : (left at : ℕ) (text : Steps Slot) → StepGoes left text → (first : Progress) (begin : List ℕ) (count n done : ℕ) → done + n ≡ count → (fields : List FieldDesc) (now : Progress) (bs : List ℕ) → Here whole left now bs
+      → many_at (field_at (start + length whole) at (text None)) done first begin ≡ Ok (fields, now, bs)
+      → ((k : ℕ) (fs : List FieldDesc) (later : Progress) (more : List ℕ) → k < count → many_at (field_at (start + length whole) at (text None)) k first begin ≡ Ok (fs, later, more) → HasByte IsNoLetter more ⊎ HasNoType (start + length whole) (text None) later more → Stood start whole (bad bad_desc at))
+      → Goes start whole bs (Good now bs) (λ o. many_at (field_at (start + length whole) at (text o)) n now bs)
+  unfolding many_at
+  fields_go left at text h first begin count zero done sum fields now bs w e own = none_goes left now bs w
+  fields_go left at text h first begin count (suc n) done sum fields now bs w e own =
+      step_known left now bs w (λ o. field_at (start + length whole) at (text o) now bs) _ (field_goes left at text h now bs w (λ broken. own done fields now bs (omega arith) e broken)) (λ x is v.
+      step_then left x.1 x.2 v (λ o. many_at (field_at (start + length whole) at (text o)) n x.1 x.2) _
+      (fields_go left at text h first begin count n (suc done) (omega arith) (fields ++ x.0 ∷ []) x.1 x.2 v (one_further (field_at (start + length whole) at (text None)) done first begin fields now bs x.0 x.1 x.2 e is) own)
+      (λ xs u. none_goes left xs.1 xs.2 u))
 
   byte_step : (left : ℕ) → StepGoes left (λ o. plain byte_at)
   byte_step left = plain_goes left byte_at (λ bs r. byte_goes bs)
@@ -460,6 +581,13 @@ module _ (start : ℕ) (whole : List ℕ) where
       let l = shorter q.0 bs x.1 q.1 in
       weaker x.1 (NodeGood now x.1) (NodeGood now bs) (λ o. f o x) (λ y p. (within (length x.1) (length bs) (suc (length now.nodes + length x.1)) (suc (length now.nodes + length bs)) y.1 y.2 l (omega arith) p.0, p.1)) (g x (open_on left now bs x.1 o q))))
 
+  -- the same, where what was read is known
+  read_known : {A : Type 0} (left : ℕ) (now : Progress) (bs : List ℕ) → Opened whole left now bs → (r : Result (A × List ℕ) Fault) (f : Option Stop → A × List ℕ → Result (Slot × Progress × List ℕ) Fault) → Told start whole (Left bs) r
+      → ((x : A × List ℕ) → r ≡ Ok x → Opened whole left now x.1 → Goes start whole x.1 (NodeGood now x.1) (λ o. f o x)) → Goes start whole bs (NodeGood now bs) (λ o. r >>= f o)
+  read_known left now bs o r f h g = told_known bs (NodeGood now bs) r f h (λ x q e. (
+      let l = shorter q.0 bs x.1 q.1 in
+      weaker x.1 (NodeGood now x.1) (NodeGood now bs) (λ o. f o x) (λ y p. (within (length x.1) (length bs) (suc (length now.nodes + length x.1)) (suc (length now.nodes + length bs)) y.1 y.2 l (omega arith) p.0, p.1)) (g x e (open_on left now bs x.1 o q))))
+
   -- the contents of a node that stands there
   filled_then : {A : Type 0} (left : ℕ) (now : Progress) (bs : List ℕ) (mid : Progress) → Opened whole left now bs → length mid.nodes ≡ suc (length now.nodes) → (r : Reads A) (f : Option Stop → A × Progress × List ℕ → Result (Slot × Progress × List ℕ) Fault)
       → (Here whole left mid bs → Goes start whole bs (Good mid bs) r) → ((x : A × Progress × List ℕ) → Good mid bs x → Goes start whole x.2 (NodeGood now bs) (λ o. f o x)) → Goes start whole bs (NodeGood now bs) (λ o. r o >>= f o)
@@ -476,23 +604,34 @@ module _ (start : ℕ) (whole : List ℕ) where
       let r = u.room in
       node_done now t.1 (length now.nodes) (push now (Text t.0)) t.1 (record { is = u.here.rest; few = omega arith; less = omega arith; count = omega arith })))
 
-  desc_after_goes : (left at : ℕ) (inner : Option Stop → Slots) → SlotsGo left inner → FaultStands start whole (bad bad_desc at) → (unread name : List ℕ) (suid flags : ℕ) → StepGoes left (λ o. desc_after (start + length whole) at (inner o) unread name suid flags)
+  -- what refuses a description: a rule that is broken behind some fields
+  abbrev Owns : ℕ → Step Slot → Progress → List ℕ → DescHead → Type 0
+  Owns at text first begin head = (done : ℕ) (fields : List FieldDesc) (later : Progress) (more : List ℕ) → many_at (field_at (start + length whole) at text) done first begin ≡ Ok (fields, later, more) → IsBroken (start + length whole) text head done fields later more → Stood start whole (bad bad_desc at)
+
+  desc_after_goes : (left at : ℕ) (inner : Option Stop → Slots) → SlotsGo left inner → (unread name : List ℕ) (suid flags : ℕ) (now : Progress) (bs : List ℕ) → Here whole left now bs
+      → ((n : ℕ × List ℕ) → size_at (start + length whole) w16 32768 bs ≡ Ok n → Owns at (inner None places.Text unread) now n.1 (record { name = name; suid = suid; flags = flags; count = n.0; rest = n.1 }))
+      → Goes start whole bs (Good now bs) (λ o. desc_after (start + length whole) at (inner o) unread name suid flags now bs)
   unfolding desc_after
-  desc_after_goes left at inner h own unread name suid flags now bs w =
-      bytes_then left now bs w (size_at (start + length whole) w16 32768 bs) _ (size_goes w16 32768 negative_16 bs w.rest) (λ n v.
-      step_then left now n.1 v (λ o. many_at (field_at (start + length whole) at (inner o places.Text unread)) n.0 now n.1) _ (many_goes left (λ o. field_at (start + length whole) at (inner o places.Text unread)) (field_goes left at (λ o. inner o places.Text unread) (step_of left inner h places.Text unread) own) n.0 now n.1 v) (λ fs u.
+  desc_after_goes left at inner h unread name suid flags now bs w own =
+      bytes_known left now bs w (size_at (start + length whole) w16 32768 bs) _ (size_goes w16 32768 negative_16 bs w.rest) (λ n counted v.
+      step_known left now n.1 v (λ o. many_at (field_at (start + length whole) at (inner o places.Text unread)) n.0 now n.1) _
+      (fields_go left at (λ o. inner o places.Text unread) (step_of left inner h places.Text unread) now n.1 n.0 n.0 0 (omega arith) [] now n.1 v (none_read (field_at (start + length whole) at (inner None places.Text unread)) now n.1) (λ k fs later more lt read broken. own n counted k fs later more read (inr (lt, broken)))) (λ fs read u.
       cond_goes fs.2 (Good fs.1 fs.2) (is_good_desc (record { name = name; suid = cast_signed w64 suid; flags = flags; fields = fs.0; note = []; parent = slots.Null })) _ _ (λ e.
       step_then left fs.1 fs.2 u (λ o. items_at (start + length whole) (inner o places.Reference unread) true fs.1 fs.2) _ (items_goes left (λ o. inner o places.Reference unread) (step_of left inner h places.Reference unread) true fs.1 fs.2 u) (λ is t.
-      step_then left is.1 is.2 t (λ o. inner o places.Parent unread is.1 is.2) _ (step_of left inner h places.Parent unread is.1 is.2 t) (λ s z. none_goes left s.1 s.2 z))) (λ e. fails fs.2 (Good fs.1 fs.2) (bad bad_desc at) own)))
+      step_then left is.1 is.2 t (λ o. inner o places.Parent unread is.1 is.2) _ (step_of left inner h places.Parent unread is.1 is.2 t) (λ s z. none_goes left s.1 s.2 z)))
+      (λ e. fails fs.2 (Good fs.1 fs.2) (bad bad_desc at) (own n counted n.0 fs.0 fs.1 fs.2 read (inl (refl, first_fault (record { name = name; suid = cast_signed w64 suid; flags = flags; fields = fs.0; note = []; parent = slots.Null }) e))))))
 
-  desc_goes : (left at : ℕ) (inner : Option Stop → Slots) → SlotsGo left inner → FaultStands start whole (bad bad_desc at) → (unread : List ℕ) (now : Progress) (bs : List ℕ) → Opened whole left now bs → Goes start whole bs (NodeGood now bs) (λ o. desc_at (start + length whole) at (inner o) unread now bs)
+  desc_goes : (left at : ℕ) (inner : Option Stop → Slots) → SlotsGo left inner → (unread : List ℕ) (now : Progress) (bs : List ℕ) → Opened whole left now bs
+      → ((head : DescHead) → desc_head_at (start + length whole) bs ≡ Ok head → Owns at (inner None places.Text (unread ++ length now.nodes ∷ [])) (push now (Desc blank)) head.rest head)
+      → Goes start whole bs (NodeGood now bs) (λ o. desc_at (start + length whole) at (inner o) unread now bs)
   unfolding desc_at
-  desc_goes left at inner h own unread now bs o =
-      read_node left now bs o (short_at (start + length whole) bs) _ (short_goes bs o.here.rest) (λ name o.
-      read_node left now name.1 o (number_at w64 name.1) _ (number_goes w64 name.1) (λ suid o.
-      read_node left now suid.1 o (byte_at suid.1) _ (byte_goes suid.1) (λ flags o.
+  desc_goes left at inner h unread now bs o own =
+      read_known left now bs o (short_at (start + length whole) bs) _ (short_goes bs o.here.rest) (λ name named o.
+      read_known left now name.1 o (number_at w64 name.1) _ (number_goes w64 name.1) (λ suid numbered o.
+      read_known left now suid.1 o (byte_at suid.1) _ (byte_goes suid.1) (λ flags flagged o.
       filled_then left now flags.1 (push now (Desc blank)) o (length_push now.nodes (Desc blank)) (λ o. desc_after (start + length whole) at (inner o) (unread ++ length now.nodes ∷ []) name.0 suid.0 flags.0 (push now (Desc blank)) flags.1) _
-      (λ w. desc_after_goes left at inner h own (unread ++ length now.nodes ∷ []) name.0 suid.0 flags.0 (push now (Desc blank)) flags.1 w)
+      (λ w. desc_after_goes left at inner h (unread ++ length now.nodes ∷ []) name.0 suid.0 flags.0 (push now (Desc blank)) flags.1 w
+      (λ n counted. own (record { name = name.0; suid = suid.0; flags = flags.0; count = n.0; rest = n.1 }) (head_read (start + length whole) bs name suid flags n named numbered flagged counted)))
       (λ d k. node_done now flags.1 (length now.nodes) (fill d.1 (length now.nodes) (Desc d.0)) d.2 (fill_grown now flags.1 (push now (Desc blank)) d.1 d.2 (length now.nodes) (Desc d.0) (length_push now.nodes (Desc blank)) k)))))
 
   proxy_goes : (left : ℕ) (inner : Option Stop → Slots) → SlotsGo left inner → (unread : List ℕ) (now : Progress) (bs : List ℕ) → Opened whole left now bs → Goes start whole bs (NodeGood now bs) (λ o. proxy_at (start + length whole) (inner o) unread now bs)
@@ -513,7 +652,7 @@ module _ (start : ℕ) (whole : List ℕ) where
   -- ---- a class first
 
   class_first : (left : ℕ) (inner : Option Stop → Slots) → SlotsGo left inner → (unread : List ℕ) (at : ℕ) (f : Option Stop → ℕ → Step Slot) (now : Progress) (bs : List ℕ) → Opened whole left now bs
-      → ((k : ℕ) (after : Progress) (rest : List ℕ) → inner None places.Class unread now bs ≡ Ok (slots.Node k, after, rest) → 65536 ≤ length whole → 65536 ≤ length after.nodes → FaultStands start whole (too_many at))
+      → ((k : ℕ) (after : Progress) (rest : List ℕ) → inner None places.Class unread now bs ≡ Ok (slots.Node k, after, rest) → 65536 ≤ length whole → 65536 ≤ length after.nodes → Stood start whole (too_many at))
       → ((k : ℕ) (after : Progress) (rest : List ℕ) → inner None places.Class unread now bs ≡ Ok (slots.Node k, after, rest) → Opened whole left after rest → Goes start whole rest (NodeGood after rest) (λ o. f o k after rest)) → Goes start whole bs (NodeGood now bs) (λ o. with_class (inner o) unread at (f o) now bs)
   unfolding with_class
   class_first left inner h unread at f now bs o many each = known_goes bs (SlotGood places.Class now bs) (NodeGood now bs) (λ o. inner o places.Class unread now bs) (λ o. on_class at (f o)) (h places.Class unread now bs o.here) by
@@ -532,10 +671,10 @@ module _ (start : ℕ) (whole : List ℕ) where
           (λ e. fails rest (NodeGood now bs) (too_many at) (let full : 65536 ≤ length after.nodes = ltb-false (length after.nodes) 65536 e in many k after rest is (omega arith) full))
 
   -- what a kind is
-  kind_is : (k l : Kind) (at : ℕ) → Some k ≡ Some l → FaultStands start whole (bad k at) → FaultStands start whole (bad l at)
-  kind_is k l at e h = subst (λ (x : Kind). FaultStands start whole (bad x at)) (some_same k l e) h
+  kind_is : (k l : Kind) (at : ℕ) → Some k ≡ Some l → Stood start whole (bad k at) → Stood start whole (bad l at)
+  kind_is k l at e h = subst (λ (x : Kind). Stood start whole (bad x at)) (some_same k l e) h
 
-  class_kinds : (i : Option Node) (serial : Bool) (at : ℕ) → (class_fault i serial ≡ Some old_external → FaultStands start whole (bad old_external at)) → (class_fault i serial ≡ Some bad_desc → FaultStands start whole (bad bad_desc at)) → (k : Kind) → class_fault i serial ≡ Some k → FaultStands start whole (bad k at)
+  class_kinds : (i : Option Node) (serial : Bool) (at : ℕ) → (class_fault i serial ≡ Some old_external → Stood start whole (bad old_external at)) → (class_fault i serial ≡ Some bad_desc → Stood start whole (bad bad_desc at)) → (k : Kind) → class_fault i serial ≡ Some k → Stood start whole (bad k at)
   class_kinds (Some (Desc d)) serial at old own k e = elim (chosen (has_flag d.flags 4 && not (has_flag d.flags 8)) _ _ _ e) [
     | inl p ↦ kind_is old_external k at p.1 (old (e ∙ sym p.1))
     | inr p ↦ elim (chosen (lacks_flag d.flags 16 && (not (is_some (element_of d.name)) && (has_flag d.flags 4 || serial))) _ _ _ p.1) [
@@ -547,7 +686,7 @@ module _ (start : ℕ) (whole : List ℕ) where
   class_kinds (Some (Proxy p)) false at old own k e = kind_is bad_desc k at e (own refl)
   class_kinds _ serial at old own k e = kind_is bad_desc k at e (own refl)
 
-  object_goes : (left at : ℕ) (inner : Steps Slot) → StepGoes left inner → (class : ℕ) (now : Progress) (bs : List ℕ) → Opened whole left now bs → (HasTooMany class now → FaultStands start whole (too_many at)) → (LacksObjects old_external class now.nodes → FaultStands start whole (bad old_external at)) → (LacksObjects bad_desc class now.nodes → FaultStands start whole (bad bad_desc at))
+  object_goes : (left at : ℕ) (inner : Steps Slot) → StepGoes left inner → (class : ℕ) (now : Progress) (bs : List ℕ) → Opened whole left now bs → (HasTooMany class now → Stood start whole (too_many at)) → (LacksObjects old_external class now.nodes → Stood start whole (bad old_external at)) → (LacksObjects bad_desc class now.nodes → Stood start whole (bad bad_desc at))
       → Goes start whole bs (NodeGood now bs) (λ o. object_at (start + length whole) at (inner o) class now bs)
   unfolding object_at object_after
   object_goes left at inner h class now bs o many old own =
@@ -559,7 +698,7 @@ module _ (start : ℕ) (whole : List ℕ) where
       unless_goes bs (NodeGood now bs) (class_fault (slice_get now.nodes class) chain.1) at _ (class_kinds (slice_get now.nodes class) chain.1 at old own)
       (filled_then left now bs mid o l (λ o. parts_at (start + length whole) (inner o) rows mid bs) _ (λ w. parts_goes left inner h rows mid bs w) (λ ps q. node_done now bs (length now.nodes) (fill ps.1 (length now.nodes) (Object class ps.0)) ps.2 (fill_grown now bs mid ps.1 ps.2 (length now.nodes) (Object class ps.0) l q))))
 
-  array_goes : (left at : ℕ) (inner : Steps Slot) → StepGoes left inner → (class : ℕ) (kind : Option TypeCode) (now : Progress) (bs : List ℕ) → Opened whole left now bs → (kind ≡ None → FaultStands start whole (bad bad_desc at)) → Goes start whole bs (NodeGood now bs) (λ o. array_of (start + length whole) at (inner o) class kind now bs)
+  array_goes : (left at : ℕ) (inner : Steps Slot) → StepGoes left inner → (class : ℕ) (kind : Option TypeCode) (now : Progress) (bs : List ℕ) → Opened whole left now bs → (kind ≡ None → Stood start whole (bad bad_desc at)) → Goes start whole bs (NodeGood now bs) (λ o. array_of (start + length whole) at (inner o) class kind now bs)
   unfolding array_of
   array_goes left at inner h class None now bs o own = fails bs (NodeGood now bs) (bad bad_desc at) (own refl)
   array_goes left at inner h class (Some code) now bs o own =
@@ -568,7 +707,7 @@ module _ (start : ℕ) (whole : List ℕ) where
       read_node left now bs o (size_at (start + length whole) w32 (2 ^ 31) bs) _ (size_goes w32 (2 ^ 31) negative_32 bs o.here.rest) (λ n o.
       filled_then left now n.1 mid o l (λ o. elements_at (inner o) code n.0 mid n.1) _ (λ w. elements_goes left inner h code n.0 mid n.1 w) (λ vs p. node_done now n.1 (length now.nodes) (fill vs.1 (length now.nodes) (Array class vs.0)) vs.2 (fill_grown now n.1 mid vs.1 vs.2 (length now.nodes) (Array class vs.0) l p)))
 
-  typed_array : (left at : ℕ) (inner : Steps Slot) → StepGoes left inner → (class : ℕ) (now : Progress) (bs : List ℕ) → Opened whole left now bs → (LacksArrays class now.nodes → FaultStands start whole (bad bad_desc at)) → Goes start whole bs (NodeGood now bs) (λ o. array_at (start + length whole) at (inner o) class now bs)
+  typed_array : (left at : ℕ) (inner : Steps Slot) → StepGoes left inner → (class : ℕ) (now : Progress) (bs : List ℕ) → Opened whole left now bs → (LacksArrays class now.nodes → Stood start whole (bad bad_desc at)) → Goes start whole bs (NodeGood now bs) (λ o. array_at (start + length whole) at (inner o) class now bs)
   unfolding array_at
   typed_array left at inner h class now bs o own = array_goes left at inner h class (type_in (slice_get now.nodes class)) now bs o own
 
@@ -579,7 +718,7 @@ module _ (start : ℕ) (whole : List ℕ) where
       let r = o.room in
       node_done now bs (length now.nodes) (push now (Class class)) bs (record { is = o.here.rest; few = omega arith; less = omega arith; count = omega arith })
 
-  enum_goes : (left at : ℕ) (text : Steps Slot) → StepGoes left text → (class : ℕ) (now : Progress) (bs : List ℕ) → Opened whole left now bs → (LacksConstants class now.nodes → FaultStands start whole (bad bad_desc at)) → Goes start whole bs (NodeGood now bs) (λ o. enum_at at (text o) class now bs)
+  enum_goes : (left at : ℕ) (text : Steps Slot) → StepGoes left text → (class : ℕ) (now : Progress) (bs : List ℕ) → Opened whole left now bs → (LacksConstants class now.nodes → Stood start whole (bad bad_desc at)) → Goes start whole bs (NodeGood now bs) (λ o. enum_at at (text o) class now bs)
   unfolding enum_at
   enum_goes left at text h class now bs o own =
       let mid = push now (Enum class 0) in
@@ -601,7 +740,7 @@ module _ (start : ℕ) (whole : List ℕ) where
       → StandsAt start whole ((start + length whole) - length (code ∷ bs)) (λ front here. IsRefused (λ a. Known ((start + length whole) - length (code ∷ bs)) a) (λ a. HasByte (λ c. holds a c) here))
   coded_as asking holds code bs r known h = stands (λ front here. IsRefused (λ a. Known ((start + length whole) - length (code ∷ bs)) a) (λ a. HasByte (λ c. holds a c) here)) (code ∷ bs) r (λ front l. record { asking = asking; known = known; refused = record { byte = code; rest = bs; is = refl; that = h } })
 
-  desc_as : (asking : Asking) (code : ℕ) (bs : List ℕ) → Rest whole (code ∷ bs) → Known ((start + length whole) - length (code ∷ bs)) asking → IsBadDesc (start + length whole) asking (code ∷ bs) → FaultStands start whole (bad bad_desc ((start + length whole) - length (code ∷ bs)))
+  desc_as : (asking : Asking) (code : ℕ) (bs : List ℕ) → Rest whole (code ∷ bs) → Known ((start + length whole) - length (code ∷ bs)) asking → IsBadDesc (start + length whole) asking (code ∷ bs) → Stood start whole (bad bad_desc ((start + length whole) - length (code ∷ bs)))
   desc_as asking code bs r known h = stands (Shows (start + length whole) (λ a. Known ((start + length whole) - length (code ∷ bs)) a) bad_desc) (code ∷ bs) r (λ front l. record { asking = asking; known = known; refused = h })
 
   either : (a b : Bool) → (a || b) ≡ true → (a ≡ true) ⊎ (b ≡ true)
@@ -626,10 +765,10 @@ module _ (start : ℕ) (whole : List ℕ) where
 
   -- a node too many, or a part
   many_as : (asking : Asking) (code : ℕ) (bs : List ℕ) → Rest whole (code ∷ bs) → Known ((start + length whole) - length (code ∷ bs)) asking → IsConstruct asking.place code → ((front : List ℕ) → length whole ≡ length front + suc (length bs) → IsPastNodes (start + length whole) asking front (code ∷ bs) ⊎ IsPastParts (start + length whole) asking (code ∷ bs))
-      → FaultStands start whole (too_many ((start + length whole) - length (code ∷ bs)))
+      → Stood start whole (too_many ((start + length whole) - length (code ∷ bs)))
   many_as asking code bs r known gives h = stands (IsOneTooMany (start + length whole) (λ a. Known ((start + length whole) - length (code ∷ bs)) a)) (code ∷ bs) r (λ front l. record { asking = asking; known = known; refused = (record { byte = code; rest = bs; is = refl; that = gives }, h front l) })
 
-  fresh_goes : (place : Place) (left : ℕ) (inner : Option Stop → Slots) → ((p : Place) (unread : List ℕ) (now : Progress) (bs : List ℕ) → inner None p unread now bs ≡ slot_at (start + length whole) left p unread now bs) → SlotsGo left inner → (unread : List ℕ) (code : ℕ) (now : Progress) (bs : List ℕ) → IsConstruct place code → Opened whole left now bs → Rest whole (code ∷ bs)
+  fresh_goes : (place : Place) (left : ℕ) (inner : Option Stop → Slots) → inner None ≡ slot_at (start + length whole) left → SlotsGo left inner → (unread : List ℕ) (code : ℕ) (now : Progress) (bs : List ℕ) → IsConstruct place code → Opened whole left now bs → Rest whole (code ∷ bs)
       → Known ((start + length whole) - length (code ∷ bs)) (record { left = suc left; place = place; unread = unread; now = now })
       → Goes start whole bs (NodeGood now bs) (λ o. fresh_at (start + length whole) ((start + length whole) - length (code ∷ bs)) (inner o) unread code now bs)
   unfolding fresh_at
@@ -638,7 +777,7 @@ module _ (start : ℕ) (whole : List ℕ) where
       let at = end - length (code ∷ bs) in
       let asking : Asking = record { left = suc left; place = place; unread = unread; now = now } in
       let step = step_of left inner h places.Reference unread in
-      cond_goes bs (NodeGood now bs) (eqb code 0x72) _ _ (λ e. desc_goes left at inner h (desc_as asking code bs r known (inl (coded code 0x72 bs e))) unread now bs o) (λ e1.
+      cond_goes bs (NodeGood now bs) (eqb code 0x72) _ _ (λ e. desc_goes left at inner h unread now bs o (λ head begins done fields later more read broken. desc_as asking code bs r known (inl (breaks_as e head begins done fields later more read broken)))) (λ e1.
       cond_goes bs (NodeGood now bs) (eqb code 0x73) _ _ (λ e. class_first left inner h unread at (λ o. object_at end at (inner o places.Reference unread)) now bs o full_nodes (λ k after rest is u. object_goes left at (λ o. inner o places.Reference unread) step k after rest u
       (λ many. many_as asking code bs r known gives (λ front l. inr (record { class = k; later = after; read = class_as k after rest is; that = (coded code 0x73 bs e, many) })))
       (λ old. stands (Shows end (λ a. Known at a) old_external) (code ∷ bs) r (λ front l. record { asking = asking; known = known; refused = record { class = k; later = after; read = class_as k after rest is; that = (coded code 0x73 bs e, old) } }))
@@ -657,9 +796,27 @@ module _ (start : ℕ) (whole : List ℕ) where
       coded code c bs e = record { byte = code; rest = bs; is = refl; that = eqb-true code c e }
 
       class_as : (k : ℕ) (after : Progress) (rest : List ℕ) → inner None places.Class unread now bs ≡ Ok (slots.Node k, after, rest) → ReadsClass (start + length whole) (record { left = suc left; place = place; unread = unread; now = now }) (code ∷ bs) k after
-      class_as k after rest is = record { code = code; rest = bs; is = refl; left = left; level = refl; more = rest; read = sym (reads places.Class unread now bs) ∙ is }
+      class_as k after rest is = record { code = code; rest = bs; is = refl; left = left; level = refl; more = rest; read = subst (λ (s : Slots). s places.Class unread now bs ≡ Ok (slots.Node k, after, rest)) reads is }
 
-      full_nodes : (k : ℕ) (after : Progress) (rest : List ℕ) → inner None places.Class unread now bs ≡ Ok (slots.Node k, after, rest) → 65536 ≤ length whole → 65536 ≤ length after.nodes → FaultStands start whole (too_many ((start + length whole) - length (code ∷ bs)))
+      breaks_as : eqb code 0x72 ≡ true → (head : DescHead) → desc_head_at (start + length whole) bs ≡ Ok head → (done : ℕ) (fields : List FieldDesc) (later : Progress) (more : List ℕ)
+          → many_at (field_at (start + length whole) ((start + length whole) - length (code ∷ bs)) (inner None places.Text (unread ++ length now.nodes ∷ []))) done (push now (Desc blank)) head.rest ≡ Ok (fields, later, more)
+          → IsBroken (start + length whole) (inner None places.Text (unread ++ length now.nodes ∷ [])) head done fields later more → BreaksDesc (start + length whole) (record { left = suc left; place = place; unread = unread; now = now }) (code ∷ bs)
+      breaks_as e head begins done fields later more read broken = record {
+        rest = bs;
+        is = ap (λ k. k ∷ bs) (eqb-true code 0x72 e);
+        left = left;
+        level = refl;
+        head = head;
+        begins = begins;
+        done = done;
+        fields = fields;
+        later = later;
+        more = more;
+        read = subst (λ (s : Slots). many_at (field_at (start + length whole) ((start + length whole) - length (code ∷ bs)) (s places.Text (unread ++ length now.nodes ∷ []))) done (push now (Desc blank)) head.rest ≡ Ok (fields, later, more)) reads read;
+        broken = subst (λ (s : Slots). IsBroken (start + length whole) (s places.Text (unread ++ length now.nodes ∷ [])) head done fields later more) reads broken;
+      }
+
+      full_nodes : (k : ℕ) (after : Progress) (rest : List ℕ) → inner None places.Class unread now bs ≡ Ok (slots.Node k, after, rest) → 65536 ≤ length whole → 65536 ≤ length after.nodes → Stood start whole (too_many ((start + length whole) - length (code ∷ bs)))
       full_nodes k after rest is all full = many_as (record { left = suc left; place = place; unread = unread; now = now }) code bs r known gives (λ front l. inl (omega arith, inr (record { class = k; later = after; read = class_as k after rest is; that = full })))
 
   -- ---- null and handles
@@ -678,14 +835,14 @@ module _ (start : ℕ) (whole : List ℕ) where
   node_taken places.Text s h = tt
 
   -- why a description's place refuses a node
-  desc_kinds : (unread desc : Bool) (at : ℕ) → (unread ≡ true → FaultStands start whole (bad bad_desc at)) → (desc ≡ false → FaultStands start whole (bad wrong_handle_kind at)) → (k : Kind) → cond unread (Some bad_desc) (cond desc None (Some wrong_handle_kind)) ≡ Some k → FaultStands start whole (bad k at)
+  desc_kinds : (unread desc : Bool) (at : ℕ) → (unread ≡ true → Stood start whole (bad bad_desc at)) → (desc ≡ false → Stood start whole (bad wrong_handle_kind at)) → (k : Kind) → cond unread (Some bad_desc) (cond desc None (Some wrong_handle_kind)) ≡ Some k → Stood start whole (bad k at)
   desc_kinds true desc at own wrong k e = kind_is bad_desc k at e (own refl)
   desc_kinds false true at own wrong k e = absurd cc
   desc_kinds false false at own wrong k e = kind_is wrong_handle_kind k at e (wrong refl)
 
-  handle_kinds : (p : Place) (unread : Bool) (o : Option Node) (at : ℕ) → (o ≡ None → FaultStands start whole (bad bad_handle at))
-      → ((i : Node) → o ≡ Some i → unread ≡ true → (p ≡ places.Class) ⊎ (p ≡ places.Parent) → FaultStands start whole (bad bad_desc at)) → ((i : Node) → o ≡ Some i → admits p i ≡ false → FaultStands start whole (bad wrong_handle_kind at))
-      → (k : Kind) → handle_fault p unread o ≡ Some k → FaultStands start whole (bad k at)
+  handle_kinds : (p : Place) (unread : Bool) (o : Option Node) (at : ℕ) → (o ≡ None → Stood start whole (bad bad_handle at))
+      → ((i : Node) → o ≡ Some i → unread ≡ true → (p ≡ places.Class) ⊎ (p ≡ places.Parent) → Stood start whole (bad bad_desc at)) → ((i : Node) → o ≡ Some i → admits p i ≡ false → Stood start whole (bad wrong_handle_kind at))
+      → (k : Kind) → handle_fault p unread o ≡ Some k → Stood start whole (bad k at)
   unfolding admits
   handle_kinds p unread None at none own wrong k e = kind_is bad_handle k at e (none refl)
   handle_kinds places.Reference unread (Some i) at none own wrong k e = absurd cc
@@ -733,7 +890,7 @@ module _ (start : ℕ) (whole : List ℕ) where
           let c = w.count in
           (low, omega arith, omega arith)
 
-      desc_named : (asking : Asking) (code : ℕ) (bs : List ℕ) (x : ℕ × List ℕ) → Rest whole (code ∷ bs) → Known ((start + length whole) - length (code ∷ bs)) asking → eqb code 0x71 ≡ true → Numbered w32 bs x → IsUnread asking x.0 → FaultStands start whole (bad bad_desc ((start + length whole) - length (code ∷ bs)))
+      desc_named : (asking : Asking) (code : ℕ) (bs : List ℕ) (x : ℕ × List ℕ) → Rest whole (code ∷ bs) → Known ((start + length whole) - length (code ∷ bs)) asking → eqb code 0x71 ≡ true → Numbered w32 bs x → IsUnread asking x.0 → Stood start whole (bad bad_desc ((start + length whole) - length (code ∷ bs)))
       desc_named asking code bs x r known e q h = stands (Shows (start + length whole) (λ a. Known ((start + length whole) - length (code ∷ bs)) a) bad_desc) (code ∷ bs) r (λ front l. record { asking = asking; known = known; refused = inr (inr (record { rest = bs; is = ap (λ k. k ∷ bs) (eqb-true code 0x71 e); handle = x.0; number = has_number w32 bs x q; that = h })) })
 
       named : {x : ℕ × List ℕ} → Numbered w32 bs x → Grown whole (length (code ∷ bs)) (length now.nodes + length (code ∷ bs)) now x.1
@@ -756,22 +913,22 @@ module _ (start : ℕ) (whole : List ℕ) where
     | inr e ↦ subst (λ k. gives_handle k ≡ true) (sym (eqb-true c 0x7C e)) refl
   ]
 
-  refused : (asking : Asking) (code : ℕ) (bs : List ℕ) → Rest whole (code ∷ bs) → Known ((start + length whole) - length (code ∷ bs)) asking → eqb code 0x70 ≡ false → eqb code 0x71 ≡ false → admits_code asking.place code ≡ false → FaultStands start whole (bad (code_fault code) ((start + length whole) - length (code ∷ bs)))
+  refused : (asking : Asking) (code : ℕ) (bs : List ℕ) → Rest whole (code ∷ bs) → Known ((start + length whole) - length (code ∷ bs)) asking → eqb code 0x70 ≡ false → eqb code 0x71 ≡ false → admits_code asking.place code ≡ false → Stood start whole (bad (code_fault code) ((start + length whole) - length (code ∷ bs)))
   refused asking code bs r known e0 e1 other = go (eqb code 0x79) (eqb code 0x7B) refl refl
     where
-      go : (a b : Bool) → eqb code 0x79 ≡ a → eqb code 0x7B ≡ b → FaultStands start whole (bad (cond a reset (cond b inner_exception bad_code)) ((start + length whole) - length (code ∷ bs)))
+      go : (a b : Bool) → eqb code 0x79 ≡ a → eqb code 0x7B ≡ b → Stood start whole (bad (cond a reset (cond b inner_exception bad_code)) ((start + length whole) - length (code ∷ bs)))
       go true b f g = coded_as asking (λ a c. c ≡ 0x79) code bs r known (eqb-true code 0x79 f)
       go false true f g = coded_as asking (λ a c. c ≡ 0x7B) code bs r known (eqb-true code 0x7B g)
       go false false f g = coded_as asking (λ a c. IsNoCode a.place c) code bs r known (rw (e0, e1, other) refl, eqb-false code 0x79 f, eqb-false code 0x7B g)
 
-  deep_goes : {A : Type 0} (bs : List ℕ) (Q : A × Progress × List ℕ → Type 0) (left at : ℕ) (r : Reads A) → (left ≡ 0 → FaultStands start whole (too_deep at)) → ((n : ℕ) → left ≡ suc n → Goes start whole bs Q r) → Goes start whole bs Q (λ o. deep left at (r o))
+  deep_goes : {A : Type 0} (bs : List ℕ) (Q : A × Progress × List ℕ → Type 0) (left at : ℕ) (r : Reads A) → (left ≡ 0 → Stood start whole (too_deep at)) → ((n : ℕ) → left ≡ suc n → Goes start whole bs Q r) → Goes start whole bs Q (λ o. deep left at (r o))
   deep_goes bs Q zero at r h g = fails bs Q (too_deep at) (h refl)
   deep_goes bs Q (suc left) at r h g = g left refl
 
   -- inside, `inside` levels may still begin, unless none may here
   record Deeper (left inside : ℕ) (inner : Option Stop → Slots) : Type 0 where
     level : (n : ℕ) → left ≡ suc n → left ≡ suc inside
-    reads : (n : ℕ) → left ≡ suc n → (p : Place) (unread : List ℕ) (now : Progress) (bs : List ℕ) → inner None p unread now bs ≡ slot_at (start + length whole) inside p unread now bs
+    reads : (n : ℕ) → left ≡ suc n → inner None ≡ slot_at (start + length whole) inside
 
   coded_goes : (left inside : ℕ) (inner : Option Stop → Slots) → Deeper left inside inner → SlotsGo inside inner → (p : Place) (unread : List ℕ) (code : ℕ) (now : Progress) (bs : List ℕ) → Here whole left now (code ∷ bs)
       → Known ((start + length whole) - length (code ∷ bs)) (record { left = left; place = p; unread = unread; now = now })
@@ -831,7 +988,7 @@ module _ (start : ℕ) (whole : List ℕ) where
   slots_go zero p unread now [] w = record { run = λ comes. tt }
   slots_go zero p unread now (c ∷ bs) w = met_goes (record { left = zero; place = p; unread = unread; now = now }) c bs (SlotGood p now (c ∷ bs)) _ (λ o. coded (start + length whole) zero no_slots p unread ((start + length whole) - length (c ∷ bs)) c now bs) w.rest refl (λ t. refl) (λ known. coded_goes zero zero (λ o. no_slots) (record { level = λ n e. absurd (omega arith); reads = λ n e. absurd (omega arith) }) (λ p unread now bs w. fails bs (SlotGood p now bs) short tt) p unread c now bs w known)
   slots_go (suc left) p unread now [] w = record { run = λ comes. tt }
-  slots_go (suc left) p unread now (c ∷ bs) w = met_goes (record { left = suc left; place = p; unread = unread; now = now }) c bs (SlotGood p now (c ∷ bs)) _ (λ o. coded (start + length whole) (suc left) (slots_of (start + length whole) left o) p unread ((start + length whole) - length (c ∷ bs)) c now bs) w.rest refl (λ t. refl) (λ known. coded_goes (suc left) left (slots_of (start + length whole) left) (record { level = λ n e. refl; reads = λ n e p unread now bs. refl }) (slots_go left) p unread c now bs w known)
+  slots_go (suc left) p unread now (c ∷ bs) w = met_goes (record { left = suc left; place = p; unread = unread; now = now }) c bs (SlotGood p now (c ∷ bs)) _ (λ o. coded (start + length whole) (suc left) (slots_of (start + length whole) left o) p unread ((start + length whole) - length (c ∷ bs)) c now bs) w.rest refl (λ t. refl) (λ known. coded_goes (suc left) left (slots_of (start + length whole) left) (record { level = λ n e. refl; reads = λ n e. refl }) (slots_go left) p unread c now bs w known)
 
   -- ---- a whole stream
 
@@ -861,17 +1018,24 @@ module _ (start : ℕ) (whole : List ℕ) where
   unfolding stream_but
   body_comes bs e t f le is = rw (e, is) refl
 
-  -- Where reading these bytes, from a position on, answers a fault, it stands in them.
-  pub stands_from : (f : Fault) → stream_from (start + length whole) whole ≡ Err f → FaultStands start whole f
-  stands_from f = by (magic_at (start + length whole) (0xAC ∷ 0xED ∷ 0x00 ∷ 0x05 ∷ []) whole) refl (magic_told (0xAC ∷ 0xED ∷ 0x00 ∷ 0x05 ∷ []) [] whole refl refl)
+  -- where reading these bytes answers a fault, it stands in them
+  stood_from : (f : Fault) → stream_from (start + length whole) whole ≡ Err f → Stood start whole f
+  stood_from f = by (magic_at (start + length whole) (0xAC ∷ 0xED ∷ 0x00 ∷ 0x05 ∷ []) whole) refl (magic_told (0xAC ∷ 0xED ∷ 0x00 ∷ 0x05 ∷ []) [] whole refl refl)
     where
-      stood : (bs : List ℕ) (y : Result (List Item × Progress × List ℕ) Fault) → Ends start whole bs (Good (record { nodes = []; parts = 0 }) bs) (λ o. first_step o (record { nodes = []; parts = 0 }) bs) y → (y >>= of_stream) ≡ Err f → FaultStands start whole f
+      stood : (bs : List ℕ) (y : Result (List Item × Progress × List ℕ) Fault) → Ends start whole bs (Good (record { nodes = []; parts = 0 }) bs) (λ o. first_step o (record { nodes = []; parts = 0 }) bs) y → (y >>= of_stream) ≡ Err f → Stood start whole f
       stood bs (Ok x) h e = absurd cc
-      stood bs (Err g) h e = let same : g ≡ f = cc in subst (λ (x : Fault). FaultStands start whole x) same h
+      stood bs (Err g) h e = let same : g ≡ f = cc in subst (λ (x : Fault). Stood start whole x) same h
 
-      by : (m : Result (List ℕ) Fault) → magic_at (start + length whole) (0xAC ∷ 0xED ∷ 0x00 ∷ 0x05 ∷ []) whole ≡ m → Told start whole (Rest whole) m → (m >>= λ bs. first_step None (record { nodes = []; parts = 0 }) bs >>= of_stream) ≡ Err f → FaultStands start whole f
+      by : (m : Result (List ℕ) Fault) → magic_at (start + length whole) (0xAC ∷ 0xED ∷ 0x00 ∷ 0x05 ∷ []) whole ≡ m → Told start whole (Rest whole) m → (m >>= λ bs. first_step None (record { nodes = []; parts = 0 }) bs >>= of_stream) ≡ Err f → Stood start whole f
       by (Ok bs) e r is = stood bs (first_step None (record { nodes = []; parts = 0 }) bs) ((body_goes bs r).run (body_comes bs e)) is
-      by (Err g) e h is = let same : g ≡ f = cc in subst (λ (x : Fault). FaultStands start whole x) same h
+      by (Err g) e h is = let same : g ≡ f = cc in subst (λ (x : Fault). Stood start whole x) same h
+
+-- Where reading these bytes, from a position on, answers a fault, it stands in them.
+pub stands_from : (start : ℕ) (whole : List ℕ) (f : Fault) → stream_from (start + length whole) whole ≡ Err f → FaultStands start whole f
+stands_from start whole short e = ends_early (start + length whole) whole e
+stands_from start whole (bad kind at) e = stood_from start whole (bad kind at) e
+stands_from start whole (too_many at) e = stood_from start whole (too_many at) e
+stands_from start whole (too_deep at) e = stood_from start whole (too_deep at) e
 
 -- Each fault stands in the bytes.
 pub faults_stand : (bytes : List ℕ) (f : Fault) → stream_of bytes ≡ Err f → FaultStands 0 bytes f

@@ -1,16 +1,25 @@
 -- What the bytes show where reading them answers a fault (Java Object Serialization Specification, 6.4): each fault has its own place in them.
 use Rattle.std.specs.Prelude.{◌≡◌, ◌≢◌, ◌⊎◌, ◌<◌, ◌≤◌, ◌+◌, ◌-◌, ◌^◌, ℕ, zero, suc, Bool, true, false, ◌||◌, nat_eq, List, [], ◌∷◌, ◌++◌, length, Some, None, Result, Ok, Err, slice_get, if◌then◌else◌}
-use Rattle.std.specs.Int.{Width, w16, w32, w64, byte_len, from_be_bytes}
+use Rattle.std.specs.Int.{Width, w16, w32, w64, byte_len, from_be_bytes, cast_signed}
+use Rattle.std.specs.List.{AllByRecursion}
 use Rattle.mod_utf.specs.Decoding.{IsBadAt}
+use Rattle.class_desc.specs.declared.slot.Slot.{Slot}
 use Rattle.class_desc.specs.declared.slot.Slot.TheVariants as slots
+use Rattle.class_desc.specs.declared.field.TypeCode.{TypeCode}
+use Rattle.class_desc.specs.declared.field.FieldDesc.{FieldDesc}
+use Rattle.class_desc.specs.declared.check.DescFault.{DescFault}
+use Rattle.class_desc.specs.TypeCode.{is_primitive, letter}
+use Rattle.class_desc.specs.TypeText.{code_of, HasTypeText}
+use Rattle.class_desc.specs.ClassDesc.{IsFirstFault}
 use Rattle.class_desc.specs.declared.slot.Item.{Item}
 use Rattle.ser_values.specs.declared.node.Node.{Node}
+use Rattle.ser_values.specs.declared.node.Node.TheVariants.{Text, Desc}
 use Rattle.ser_values.specs.declared.node.Place.{Place}
 use Rattle.ser_values.specs.declared.node.Place.TheVariants as places
 use Rattle.ser_values.specs.declared.limits.TheConstants.{LEVELS, NODES, PARTS}
 use Rattle.ser_values.specs.Node.{has, admits, admits_null}
 use Rattle.ser_values.specs.Shape.{is_enum}
-use Rattle.ser_values.specs.Reading.{Kind, bad_magic, bad_code, bad_handle, wrong_handle_kind, bad_desc, bad_utf, negative_length, reset, inner_exception, old_external, Fault, short, bad, too_many, too_deep, ◌>>=◌, byte_at, Progress, Slots, items_at, chain_of, rows_of, class_fault, type_in, gives_handle, admits_code, coded, slot_at, no_slots, magic_at, stream_of}
+use Rattle.ser_values.specs.Reading.{Kind, bad_magic, bad_code, bad_handle, wrong_handle_kind, bad_desc, bad_utf, negative_length, reset, inner_exception, old_external, Fault, short, bad, too_many, too_deep, ◌>>=◌, byte_at, number_at, size_at, short_at, Progress, Step, Slots, many_at, push, field_at, blank, items_at, chain_of, rows_of, class_fault, type_in, gives_handle, admits_code, coded, slot_at, no_slots, magic_at, stream_of}
 
 -- ---- where reading comes to a reference
 
@@ -161,9 +170,79 @@ LacksConstants class nodes = is_enum (slice_get nodes class) ≡ false
 abbrev pub HasTooMany : ℕ → Progress → Type 0
 HasTooMany class now = PARTS < now.parts + length (rows_of (slice_get now.nodes class) (chain_of PARTS now.nodes (slots.Node class)).0)
 
--- A description; an object, an array or a constant of an enum whose class has none; or the handle of a description that is unread.
+-- ---- descriptions that break a rule
+
+-- What stands in a description before its fields: its name, its serialVersionUID, its flags and how many fields it has; and the bytes after that.
+pub record DescHead : Type 0 where
+  pub name : List ℕ
+  pub suid : ℕ
+  pub flags : ℕ
+  pub count : ℕ
+  pub rest : List ℕ
+
+unfoldable pub desc_head_at : ℕ → List ℕ → Result DescHead Fault
+desc_head_at end bs =
+    short_at end bs >>= λ name.
+    number_at w64 name.1 >>= λ suid.
+    byte_at suid.1 >>= λ flags.
+    size_at end w16 32768 flags.1 >>= λ count.
+    Ok (record { name = name.0; suid = suid.0; flags = flags.0; count = count.0; rest = count.1 })
+
+-- No type has this letter.
+abbrev pub IsNoLetter : ℕ → Type 0
+IsNoLetter c = (code : TypeCode) → c ≢ letter code
+
+-- The slot names a text, which names a type of the code.
+pub record NamesType (nodes : List Node) (code : TypeCode) (s : Slot) : Type 0 where
+  pub number : ℕ
+  pub text : List ℕ
+  pub is : s ≡ slots.Node number
+  pub node : slice_get nodes number ≡ Some (Text text)
+  pub names : HasTypeText code text
+
+-- A reference field stands here, and what stands for its type text names no type of its letter. `text` is how a text is read inside the description.
+pub record HasNoType (end : ℕ) (text : Step Slot) (now : Progress) (here : List ℕ) : Type 0 where
+  pub letter : ℕ
+  pub rest : List ℕ
+  pub is : here ≡ letter ∷ rest
+  pub code : TypeCode
+  pub typed : code_of letter ≡ Some code
+  pub reference : is_primitive code ≡ false
+  pub name : List ℕ
+  pub behind : List ℕ
+  pub named : short_at end rest ≡ Ok (name, behind)
+  pub found : Slot
+  pub later : Progress
+  pub more : List ℕ
+  pub read : text now behind ≡ Ok (found, later, more)
+  pub wrong : ¬ NamesType later.nodes code found
+
+-- The first rule on flags and fields that a description with these fields breaks.
+abbrev pub BreaksRule : DescHead → List FieldDesc → Type 0
+BreaksRule head fields = (fault : DescFault) × IsFirstFault (record { name = head.name; suid = cast_signed w64 head.suid; flags = head.flags; fields = fields; note = []; parent = slots.Null }) fault
+
+-- Behind so many fields: it has no more, and breaks a rule; or the next one has a letter of no type, or no type text of its type.
+abbrev pub IsBroken : ℕ → Step Slot → DescHead → ℕ → List FieldDesc → Progress → List ℕ → Type 0
+IsBroken end text head done fields now here = ((done ≡ head.count) × BreaksRule head fields) ⊎ ((done < head.count) × (HasByte IsNoLetter here ⊎ HasNoType end text now here))
+
+-- A description of a class begins here, and breaks a rule behind its first fields. It is unread inside itself, and is read one level down.
+pub record BreaksDesc (end : ℕ) (asking : Asking) (here : List ℕ) : Type 0 where
+  pub rest : List ℕ
+  pub is : here ≡ 0x72 ∷ rest
+  pub left : ℕ
+  pub level : asking.left ≡ suc left
+  pub head : DescHead
+  pub begins : desc_head_at end rest ≡ Ok head
+  pub done : ℕ
+  pub fields : List FieldDesc
+  pub later : Progress
+  pub more : List ℕ
+  pub read : many_at (field_at end (end - length here) (slot_at end left places.Text (asking.unread ++ length asking.now.nodes ∷ []))) done (push asking.now (Desc blank)) head.rest ≡ Ok (fields, later, more)
+  pub broken : IsBroken end (slot_at end left places.Text (asking.unread ++ length asking.now.nodes ∷ [])) head done fields later more
+
+-- A description that breaks a rule; an object, an array or a constant of an enum whose class has none; or the handle of a description that is unread.
 abbrev pub IsBadDesc : ℕ → Asking → List ℕ → Type 0
-IsBadDesc end asking here = HasByte (λ code. code ≡ 0x72) here ⊎ (OfClass end asking here (λ class later. (HasByte (λ code. code ≡ 0x73) here × LacksObjects bad_desc class later.nodes) ⊎ ((HasByte (λ code. code ≡ 0x75) here × LacksArrays class later.nodes) ⊎ (HasByte (λ code. code ≡ 0x7E) here × LacksConstants class later.nodes)))
+IsBadDesc end asking here = BreaksDesc end asking here ⊎ (OfClass end asking here (λ class later. (HasByte (λ code. code ≡ 0x73) here × LacksObjects bad_desc class later.nodes) ⊎ ((HasByte (λ code. code ≡ 0x75) here × LacksArrays class later.nodes) ⊎ (HasByte (λ code. code ≡ 0x7E) here × LacksConstants class later.nodes)))
     ⊎ NamesHandle (λ h. IsUnread asking h) here)
 
 -- ---- faults
@@ -215,9 +294,17 @@ IsOneTooMany end comes front here = IsRefused comes (λ asking. HasByte (λ code
 abbrev pub IsTooDeep : (Asking → Type 0) → List ℕ → List ℕ → Type 0
 IsTooDeep comes front here = IsRefused comes (λ asking. HasByte (λ code. IsConstruct asking.place code) here × (asking.left ≡ 0) × (LEVELS ≤ length front))
 
--- What the bytes show of a fault. Bytes that end too early show nothing wrong.
+-- The bytes end too early: no front of them is refused, and there are bytes with which reading goes on past their end. Behind them it wants no
+-- more: what stands there is a stream, or it is refused.
+pub record EndsEarly (bytes : List ℕ) : Type 0 where
+  pub unrefused : (front rest : List ℕ) (fault : Fault) → bytes ≡ front ++ rest → stream_of front ≡ Err fault → fault ≡ short
+  pub more : List ℕ
+  pub are_bytes : AllByRecursion (λ b. b < 256) more
+  pub enough : stream_of (bytes ++ more) ≢ Err short
+
+-- What the bytes show of a fault.
 abbrev pub FaultStands : ℕ → List ℕ → Fault → Type 0
-FaultStands start bytes short = Unit {0}
+FaultStands start bytes short = EndsEarly bytes
 FaultStands start bytes (bad kind at) = StandsAt start bytes at (Shows (start + length bytes) (λ asking. ComesTo (start + length bytes) bytes at asking) kind)
 FaultStands start bytes (too_many at) = StandsAt start bytes at (IsOneTooMany (start + length bytes) (λ asking. ComesTo (start + length bytes) bytes at asking))
 FaultStands start bytes (too_deep at) = StandsAt start bytes at (IsTooDeep (λ asking. ComesTo (start + length bytes) bytes at asking))

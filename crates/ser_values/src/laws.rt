@@ -26,7 +26,9 @@ pub fn streams_are_read()
 /// Where reading answers a fault, the bytes show it at its position: the byte that differs from the magic number, a number whose
 /// highest bit is set, a spelling that is none; or a reference to which reading comes, with so many handles given, which is refused:
 /// a byte that begins none of its place, a handle that was not given, that of a node that the place does not take, that of a
-/// description that is unread, or a construct whose class has none such, or past the limits.
+/// description that is unread, a construct whose class has none such, or past the limits, or a description and the first rule that it
+/// breaks: a field's letter or type text, the flags, the fields' order. Of bytes that end too early no front is refused, and with
+/// some bytes behind them reading goes on past their end.
 pub fn faults_stand_in_bytes()
     ensures { FaultsStand }
 {}

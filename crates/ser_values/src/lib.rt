@@ -28,5 +28,5 @@ pub use graph::{Graph, same_graph};
 pub use loose::elements_in;
 pub use node::{Node, NodeList, NumberList, Place};
 pub use note_bytes::NotePlace;
-pub use shape::{is_desc, is_text};
+pub use shape::{fits_node, is_desc, is_text};
 pub use value::{Part, PartList, Value, ValueList, Values};

@@ -1,8 +1,9 @@
 //! The rules on nodes.
 ghost use Rattle.std.specs.Prelude.{◌≡◌, ◌<◌, ◌^◌, Bool, Option, Some, List, length, option_map, slice_get};
 ghost use Rattle.class_desc.specs.declared.slot.Slot.{Slot};
+ghost use Rattle.ser_values.specs.Loose.{elements_in};
 ghost use Rattle.ser_values.specs.Node.{is_desc, is_text, admits, admits_null, takes};
-ghost use Rattle.ser_values.specs.Shape.{is_short, are_short, joined_from, is_joined, fits_type, are_typed, fits_value, fit_values, fits_part, fits_above, fits_next, or_above, fits_chain, is_external, fits_object, fit_elements, fits_array, is_enum, is_shaped, parts_of};
+ghost use Rattle.ser_values.specs.Shape.{is_short, are_short, joined_from, is_joined, fits_node, fits_type, are_typed, fits_value, fit_values, fits_part, fits_above, fits_next, or_above, fits_chain, is_external, fits_object, fit_elements, fits_array, is_enum, is_shaped, parts_of};
 
 use crate::loose::Loose;
 use crate::node::{Node, Place};
@@ -239,6 +240,21 @@ pub(crate) fn parts_of(node: &Node) -> usize
     }
 }
 
+/// Whether a node is a text that names a type of a code. `elements` is what the node's text says of an array's elements.
+pub fn fits_node(code: TypeCode, node: &Node, elements: Option<TypeCode>) -> bool
+    requires { elements ≡ elements_in node.now }
+    ensures { result ≡ fits_node code (Some node.now) }
+{
+    match node {
+        Node::Text(text) => match code {
+            TypeCode::Array => elements.is_some(),
+            TypeCode::Object => check_type_text(code, text).is_ok(),
+            _ => false,
+        },
+        _ => false,
+    }
+}
+
 impl Loose<'_> {
     /// Whether a field of a code may have such a type text.
     fn fits_type(&self, code: TypeCode, slot: Slot) -> bool
@@ -247,12 +263,8 @@ impl Loose<'_> {
         match slot {
             Slot::Null => is_primitive(code),
             Slot::Node(number) => match self.node(number) {
-                Some(Node::Text(text)) => match code {
-                    TypeCode::Array => self.elements(number).is_some(),
-                    TypeCode::Object => check_type_text(code, text).is_ok(),
-                    _ => false,
-                },
-                _ => false,
+                Some(node) => !is_primitive(code) && fits_node(code, node, self.elements(number)),
+                None => false,
             },
         }
     }
