@@ -1,5 +1,5 @@
 -- The nodes of a lease are a graph.
-use Rattle.std.proofs.Common.{◌≡◌, ◌<◌, ◌≤◌, ◌^◌, ℕ, ℤ, zero, suc, true, false, nat_lt, List, [], ◌∷◌, ◌++◌, length, slice_get, get_or, codes, Some, Result, Ok, Err, OnOk, refl, ap, ◌∙◌, arith, append_assoc}
+use Rattle.std.proofs.Common.{◌≡◌, ◌<◌, ◌^◌, ℕ, ℤ, zero, suc, true, false, nat_lt, List, [], ◌∷◌, ◌++◌, length, slice_get, get_or, codes, Some, Result, Ok, Err, OnOk, refl, ap, ◌∙◌, arith, append_assoc}
 use Rattle.std.specs.Prelude.{All, FitsSigned}
 use Rattle.std.specs.Int.{w16, w32, w64}
 use Rattle.std.proofs.lemmas.List.Elements.{All-nil, All-cons}

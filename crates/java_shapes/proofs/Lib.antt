@@ -17,3 +17,5 @@ pub mod NoteLaws
 pub mod Stays
 pub mod StaysMore
 pub mod LeaseGraph
+pub mod RefGraph
+pub mod TextsGraph

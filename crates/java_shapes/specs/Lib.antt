@@ -12,3 +12,5 @@ pub mod LocalRefs
 pub mod Flags
 pub mod Laws
 pub mod LeaseGraph
+pub mod RefGraph
+pub mod TextsGraph

@@ -60,7 +60,7 @@ fn add_classes(alloc: Global, nodes: &mut NodeList) -> Result<(), AllocError>
 }
 
 /// Looks at the units of a text: each is in its type's range.
-fn look(units: &[u16])
+pub(crate) fn look(units: &[u16])
     ensures { All (λ unit. unit < 2 ^ 16) units.now }
 {
     let _count = units.len();

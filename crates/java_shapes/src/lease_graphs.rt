@@ -90,7 +90,7 @@ fn add_uid(alloc: Global, nodes: &mut NodeList, uid: &Uid) -> Result<(), AllocEr
 }
 
 /// Looks at bytes: each is in its type's range.
-fn look(bytes: &[u8])
+pub(crate) fn look_at_bytes(bytes: &[u8])
     ensures { All (λ byte. byte < 2 ^ 8) bytes.now }
 {
     let _count = bytes.len();
@@ -126,7 +126,7 @@ pub fn lease_graph(alloc: Global, value: i64, vmid: &Vmid) -> Result<Graph, Allo
     ensures items { IfOk result (λ graph. graph.items ≡ lease_items) }
     ensures viewed { IfOk result (λ graph. lease_at graph.nodes (slots.Node 2) ≡ Some (record { value = value; vmid = Some vmid.now })) }
 {
-    look(vmid.addr().as_slice());
+    look_at_bytes(vmid.addr().as_slice());
     let uid = vmid.uid();
     let nodes = lease_nodes(alloc, &value, vmid)?;
     let items = lease_items(alloc)?;

@@ -51,7 +51,7 @@ fn note_with(alloc: Global, host: &[u8], tail: &[u8]) -> Result<ByteList, AllocE
 
 /// The note of a reference.
 #[tactic(auto, unfolding(crate::specs::RefNotes::ref_note))]
-fn ref_note(alloc: Global, reference: &LiveRef) -> Result<ByteList, AllocError>
+pub(crate) fn ref_note(alloc: Global, reference: &LiveRef) -> Result<ByteList, AllocError>
     requires { length (utf reference.now.host) ≤ 65535 }
     ensures note { IfOk result (λ bytes. bytes ≡ ref_note reference.now) }
     ensures viewed { IfOk result (λ bytes. ref_of bytes ≡ Some reference.now) }
@@ -62,7 +62,7 @@ fn ref_note(alloc: Global, reference: &LiveRef) -> Result<ByteList, AllocError>
 }
 
 /// The parts of the handler of a reference with this note.
-fn handler_parts(alloc: Global, bytes: ByteList) -> Result<PartList, AllocError>
+pub(crate) fn handler_parts(alloc: Global, bytes: ByteList) -> Result<PartList, AllocError>
     ensures { IfOk result (λ parts. parts ≡ noted_part bytes ∷ empty_part ∷ []) }
 {
     let mut note = Items::new(alloc);
@@ -101,7 +101,11 @@ fn interfaces(alloc: Global, interface: &Units) -> Result<NameList, AllocError>
 }
 
 /// The description of the class of a proxy with an interface.
-fn proxy_with(alloc: Global, interface: &Units, parent: Slot) -> Result<ProxyDesc, AllocError>
+pub(crate) fn proxy_with(
+    alloc: Global,
+    interface: &Units,
+    parent: Slot,
+) -> Result<ProxyDesc, AllocError>
     ensures { IfOk result (λ desc. desc ≡ proxy_with interface.now parent) }
 {
     Ok(ProxyDesc {
@@ -128,7 +132,7 @@ fn put_proxy_class(alloc: Global, b: &mut Builder, interface: &Units) -> Result<
 }
 
 /// The parts of a proxy with this handler.
-fn proxy_parts(alloc: Global, handler: Slot) -> Result<PartList, AllocError>
+pub(crate) fn proxy_parts(alloc: Global, handler: Slot) -> Result<PartList, AllocError>
     ensures { IfOk result (λ parts. parts ≡ reference handler ∷ empty_part ∷ []) }
 {
     let mut parts = PartList::new(alloc);

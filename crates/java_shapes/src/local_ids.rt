@@ -22,7 +22,7 @@ fn same_text(text: &Units, other: &Units) -> bool
 }
 
 /// Whether a reference is of this host and port.
-fn is_local(reference: &LiveRef, host: &Units, port: i32) -> bool
+pub fn is_local(reference: &LiveRef, host: &Units, port: i32) -> bool
     ensures { result ≡ is_local host.now port reference.now }
 {
     same_text(&reference.host, host) && reference.port == port

@@ -10,7 +10,7 @@ use Rattle.java_shapes.proofs.lease_graphs.lease_graph.Goals as goal
 pub from_parts-requires : goal.from_parts-requires
 from_parts-requires c =
     let client = c.args.vmid.now in
-    let bytes : All (λ x. x < 2 ^ 8) client.addr = rw (c.as_slice.ensures, c.addr.ensures.value) at c.look.ensures in
+    let bytes : All (λ x. x < 2 ^ 8) client.addr = rw (c.as_slice.ensures, c.addr.ensures.value) at c.look_at_bytes.ensures in
     let short : length client.addr ≤ 255 = rw c.addr.ensures.value at c.addr.ensures.short in
     let few : nat_lt (length client.addr) (2 ^ 31) ≡ true = grind (arith, nat_tests) in
     let value : FitsSigned w64 c.args.value = search rules in
