@@ -1,6 +1,6 @@
 //! The definitions of histories, computed: transcripts of the plain functions, which answer all events at once, and who holds an object.
 use crate::answers::put_answer;
-use crate::scripts::{config_of, must, must_be, put_script_line};
+use crate::scripts::{MEMORY, config_of, must, put_script_line};
 use history::plain::leases::is_held;
 use history::plain::places::now;
 use history::plain::table::{lease_calls, places};
@@ -9,18 +9,19 @@ use history::{EventList, Limits, Refused, SpaceConfig, Turn};
 use journal::read_event;
 use mod_utf::list::ByteList;
 use object_ids::{ObjId, Uid};
-use std::alloc::Global;
-use std::test::Fail;
+use std::alloc::{AllocError, Global};
+use std::process::Abort;
 
 /// The events that the lines of a script spell.
-fn events_of(alloc: Global, space: Uid, lines: &str) -> Result<EventList, Fail> {
+fn events_of(rt: &impl Abort, alloc: Global, space: Uid, lines: &str) -> EventList {
     let mut events = EventList::new(alloc);
     for line in lines.split('\n') {
         if is_input(line) {
-            events.push(read_event(alloc, space, line.as_bytes())?.ok_or("no event")?)?;
+            let event = read_event(alloc, space, line.as_bytes()).expect(rt, MEMORY);
+            events.push(event.expect(rt, line)).expect(rt, MEMORY);
         }
     }
-    Ok(events)
+    events
 }
 
 fn is_input(line: &str) -> bool {
@@ -29,29 +30,41 @@ fn is_input(line: &str) -> bool {
 
 /// The answers to a script's events in a space whose history has at most so many units.
 fn answered(
+    rt: &impl Abort,
     alloc: Global,
     units: u64,
     config: &SpaceConfig,
     lines: &str,
-) -> Result<Vec<Result<Turn, Refused>>, Fail> {
+) -> Vec<Result<Turn, Refused>> {
     let mut limits = Limits::of_space();
     limits.units = units;
-    let events = events_of(alloc, config.uid, lines)?;
-    Ok(answers(alloc, &limits, config, Vec::new(alloc), events.as_slice())?)
+    let events = events_of(rt, alloc, config.uid, lines);
+    answers(alloc, &limits, config, Vec::new(alloc), events.as_slice()).expect(rt, MEMORY)
 }
 
 /// A transcript's events with these answers. Its outlines stand as they are.
-pub(crate) fn defined(alloc: Global, units: u64, script: &str) -> Result<ByteList, Fail> {
-    let (first, lines) = script.split_once('\n').ok_or("no lines")?;
-    let config = config_of(first).ok_or("no configuration")?;
-    let answers = answered(alloc, units, &config, lines)?;
+pub(crate) fn defined(rt: &impl Abort, alloc: Global, units: u64, script: &str) -> ByteList {
+    let (first, lines) = script.split_once('\n').expect(rt, "lines");
+    let config = config_of(rt, first);
+    let answers = answered(rt, alloc, units, &config, lines);
     let mut text = ByteList::new(alloc);
-    put_script_line(&mut text, first)?;
-    let mut next = answers.as_slice();
+    put_script_line(&mut text, first).expect(rt, MEMORY);
+    put_answered(&mut text, config.uid, lines, answers.as_slice()).expect(rt, MEMORY);
+    text
+}
+
+/// Appends the lines of a transcript that no answers are, and after each event its answer of these.
+fn put_answered(
+    text: &mut ByteList,
+    space: Uid,
+    lines: &str,
+    answers: &[Result<Turn, Refused>],
+) -> Result<(), AllocError> {
+    let mut next = answers;
     for line in lines.split('\n') {
-        next = put_with_answer(&mut text, config.uid, line, next)?;
+        next = put_with_answer(text, space, line, next)?;
     }
-    Ok(text)
+    Ok(())
 }
 
 /// Appends a line of a transcript that no answer is, and after an event its answer, the first of some; answers the others.
@@ -60,7 +73,7 @@ fn put_with_answer<'a>(
     space: Uid,
     line: &str,
     answers: &'a [Result<Turn, Refused>],
-) -> Result<&'a [Result<Turn, Refused>], Fail> {
+) -> Result<&'a [Result<Turn, Refused>], AllocError> {
     if line.is_empty() || line.starts_with('>') {
         return Ok(answers);
     }
@@ -91,17 +104,6 @@ const LATE_DIRTY: &str = "space 600000 300000 7 9
 1 15 ack 1/0/0
 ";
 
-#[test]
-fn a_late_dirty_holds_nothing(rt: HostRuntime) -> Result<(), Fail> {
-    let alloc = rt.alloc();
-    for (units, answer) in [(11, "> done\n> gone 17\n"), (10, "> history full\n")] {
-        let script = format!(in alloc; "{LATE_DIRTY}{answer}")?;
-        let text = defined(alloc, units, &script)?;
-        must_be(&rt, &text, &script);
-    }
-    Ok(())
-}
-
 const UNACKNOWLEDGED: &str = "space 600000 300000 7 9
 0 0 open 2 pinned
 > opened 16
@@ -112,29 +114,40 @@ const UNACKNOWLEDGED: &str = "space 600000 300000 7 9
 1 299999 tick
 > done
 1 300000 tick
-> done
-> gone 17
 ";
 
+/// How many units a history may have, a script, and what is answered at its end.
+const COMPUTED: [(u64, &str, &str); 3] = [
+    (11, LATE_DIRTY, "> done\n> gone 17\n"),
+    (10, LATE_DIRTY, "> history full\n"),
+    (100, UNACKNOWLEDGED, "> done\n> gone 17\n"),
+];
+
+/// Whether a text is a script and its end.
+fn ends_so(text: &ByteList, script: &str, end: &str) -> bool {
+    text.as_slice().strip_prefix(script.as_bytes()) == Some(end.as_bytes())
+}
+
 #[test]
-fn an_unacknowledged_return_lapses(rt: HostRuntime) -> Result<(), Fail> {
-    let text = defined(rt.alloc(), 100, UNACKNOWLEDGED)?;
-    must_be(&rt, &text, UNACKNOWLEDGED);
-    Ok(())
+fn definitions_are_computed(rt: HostRuntime) {
+    for (units, script, end) in COMPUTED {
+        let text = defined(&rt, rt.alloc(), units, script);
+        must(&rt, ends_so(&text, script, end), script);
+    }
 }
 
 /// Whether a client holds object 16 after some events.
-fn is_16_held(alloc: Global, lines: &str) -> Result<bool, Fail> {
-    let config = config_of("space 600000 300000 7 9").ok_or("no configuration")?;
+fn is_16_held(rt: &impl Abort, alloc: Global, lines: &str) -> bool {
+    let config = config_of(rt, "space 600000 300000 7 9");
     let object = ObjId {
         number: 16,
         space: config.uid,
     };
-    let events = events_of(alloc, config.uid, lines)?;
-    let history = places(alloc, &config, events.as_slice())?;
-    let calls = lease_calls(alloc, history.as_slice())?;
+    let events = events_of(rt, alloc, config.uid, lines);
+    let history = places(alloc, &config, events.as_slice()).expect(rt, MEMORY);
+    let calls = lease_calls(alloc, history.as_slice()).expect(rt, MEMORY);
     let at = now(history.as_slice());
-    Ok(is_held(alloc, config.lease_ms, at, calls.as_slice(), object)?)
+    is_held(alloc, config.lease_ms, at, calls.as_slice(), object).expect(rt, MEMORY)
 }
 
 /// Calls of which each, with those before it, decides otherwise than the last whether the object is held.
@@ -163,9 +176,8 @@ const CALLS: [(&str, bool); 3] = [
 ];
 
 #[test]
-fn the_highest_number_decides(rt: HostRuntime) -> Result<(), Fail> {
-    for (lines, held) in &CALLS {
-        must(&rt, is_16_held(rt.alloc(), lines)? == *held, lines);
+fn the_highest_number_decides(rt: HostRuntime) {
+    for (lines, held) in CALLS {
+        must(&rt, is_16_held(&rt, rt.alloc(), lines) == held, lines);
     }
-    Ok(())
 }

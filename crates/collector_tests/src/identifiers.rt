@@ -1,9 +1,9 @@
 //! Identifiers: bytes that Java wrote, drawing, and copies.
-use crate::scripts::must;
+use crate::scripts::{MEMORY, must};
 use mod_utf::list::{ByteList, Same};
 use object_ids::{ObjId, ObjIds, Uid, UidDraw, Vmid, objid_bytes, objid_of, uid_bytes, uid_of};
+use std::alloc::Global;
 use std::process::Abort;
-use std::test::Fail;
 
 /// The bytes that Java 17 wrote of the object `[-5acef44f:1a21a8ded5b:-7fff, -4908260978223503560]`.
 const WRITTEN: [u8; 22] = [
@@ -55,12 +55,21 @@ fn draws_go_on_in_the_next_moment(rt: HostRuntime) {
     must_draw(&rt, &mut draw, 7, -32_768);
 }
 
+/// Whether a copy of a machine's identifier is the same.
+fn is_copied(rt: &impl Abort, alloc: Global, vmid: &Vmid) -> bool {
+    vmid.copy(alloc).expect(rt, MEMORY).is_same(vmid)
+}
+
+/// Whether a copy of a list of objects is the same.
+fn are_copied(rt: &impl Abort, alloc: Global, ids: &ObjIds) -> bool {
+    ids.copy(alloc).expect(rt, MEMORY).is_same(ids)
+}
+
 #[test]
-fn copies_succeed_with_ample_memory(rt: HostRuntime) -> Result<(), Fail> {
-    let addr = ByteList::from_slice(rt.alloc(), &[127, 0, 0, 1])?;
-    let vmid = Vmid::new(addr, OBJECT.space).ok_or("too long")?;
-    must(&rt, vmid.copy(rt.alloc())?.is_same(&vmid), "a machine");
-    let ids = ObjIds::from_slice(rt.alloc(), &[OBJECT])?;
-    must(&rt, ids.copy(rt.alloc())?.is_same(&ids), "objects");
-    Ok(())
+fn copies_succeed_with_ample_memory(rt: HostRuntime) {
+    let addr = ByteList::from_slice(rt.alloc(), &[127, 0, 0, 1]).expect(&rt, MEMORY);
+    let vmid = Vmid::new(addr, OBJECT.space).expect(&rt, "a short address");
+    must(&rt, is_copied(&rt, rt.alloc(), &vmid), "a machine");
+    let ids = ObjIds::from_slice(rt.alloc(), &[OBJECT]).expect(&rt, MEMORY);
+    must(&rt, are_copied(&rt, rt.alloc(), &ids), "objects");
 }

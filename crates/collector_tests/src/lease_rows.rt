@@ -2,16 +2,16 @@
 //! pairs, for the holders of objects 16 and 17, and for the clients with time left; `! NUMBER` drops an object.
 ghost use Rattle.std.specs.Prelude.{◌<◌, ◌^◌};
 
-use crate::scripts::{must_be, put_script_line};
+use crate::scripts::{MEMORY, must_be, put_script_line};
+use crate::transcripts::spelled_event;
 use dgc_server::Leases;
 use history::Ask;
-use history::limits::END_OF_TIME;
+use journal::Word;
 use journal::outline::{put_lease_line, put_line};
-use journal::{Word, read_event};
 use mod_utf::list::ByteList;
 use object_ids::{ObjId, Uid};
 use std::alloc::{AllocError, Global};
-use std::test::Fail;
+use std::process::Abort;
 
 const SPACE: Uid = Uid {
     unique: -1,
@@ -28,27 +28,31 @@ fn numbered(number: i64) -> ObjId {
 
 /// Appends a line, if it is an input, and what comes of it.
 fn put_line_of(
+    rt: &impl Abort,
     alloc: Global,
     leases: &mut Leases,
     line: &str,
     text: &mut ByteList,
-) -> Result<(), Fail> {
+) {
     if line.is_empty() || line.starts_with('>') {
-        return Ok(());
+        return;
     }
-    put_script_line(text, line)?;
+    put_script_line(text, line).expect(rt, MEMORY);
     if let Some(moment) = line.strip_prefix("? ") {
-        put_table(alloc, leases, moment.parse::<u64>()?, text)?;
+        let moment = moment.parse::<u64>().expect(rt, "a moment");
+        put_table(alloc, leases, moment, text).expect(rt, MEMORY);
     } else if let Some(number) = line.strip_prefix("! ") {
-        leases.drop_object(numbered(number.parse::<i64>()?));
+        let number = number.parse::<i64>().expect(rt, "a number");
+        leases.drop_object(numbered(number));
     } else {
-        let event = read_event(alloc, SPACE, line.as_bytes())?.ok_or("no event")?;
-        if event.moment >= END_OF_TIME {
-            return Err("too late".into());
-        }
-        tell(leases, event.moment, &event.ask, text)?;
+        put_told(rt, alloc, leases, line, text);
     }
-    Ok(())
+}
+
+/// Tells the table of the call that a line spells, and appends the answer.
+fn put_told(rt: &impl Abort, alloc: Global, leases: &mut Leases, line: &str, text: &mut ByteList) {
+    let event = spelled_event(rt, alloc, SPACE, line);
+    tell(leases, event.moment, &event.ask, text).expect(rt, MEMORY);
 }
 
 /// Tells the table of a call, or that time has passed, and appends the answer.
@@ -94,6 +98,16 @@ fn put_table(
     for number in [16, 17] {
         put_holders(leases, numbered(number), moment, text)?;
     }
+    put_clients(alloc, leases, moment, text)
+}
+
+/// Appends the clients with time left.
+fn put_clients(
+    alloc: Global,
+    leases: &Leases,
+    moment: u64,
+    text: &mut ByteList,
+) -> Result<(), AllocError> {
     let rows = leases.clients(alloc, moment)?;
     for row in rows.as_slice() {
         text.append(b"> ")?;
@@ -199,16 +213,21 @@ const LATE_DIRTY: &str = "1 0 dirty 01@3/4/5 1 1 16,17
 > lease 01@3/4/5 until 102
 ";
 
+/// What the lines of a script make of a table with this longest duration.
+fn told(rt: &impl Abort, alloc: Global, lease: u64, script: &str) -> ByteList {
+    assert!(rt; 1 <= lease && lease <= 100, "a duration");
+    let mut leases = Leases::fresh(alloc, lease);
+    let mut text = ByteList::new(alloc);
+    for line in script.split('\n') {
+        put_line_of(rt, alloc, &mut leases, line, &mut text);
+    }
+    text
+}
+
 #[test]
-fn lease_tables_are_told(rt: HostRuntime) -> Result<(), Fail> {
-    let alloc = rt.alloc();
+fn lease_tables_are_told(rt: HostRuntime) {
     for (lease, script) in [(100, LEASE_OF_100), (1, STRONG_CLEAN), (100, LATE_DIRTY)] {
-        let mut leases = Leases::fresh(alloc, lease);
-        let mut text = ByteList::new(alloc);
-        for line in script.split('\n') {
-            put_line_of(alloc, &mut leases, line, &mut text)?;
-        }
+        let text = told(&rt, rt.alloc(), lease, script);
         must_be(&rt, &text, script);
     }
-    Ok(())
 }

@@ -17,8 +17,6 @@ mod limits;
 #[cfg(test)]
 mod name_rows;
 #[cfg(test)]
-mod named;
-#[cfg(test)]
 mod ports;
 #[cfg(test)]
 mod scripts;

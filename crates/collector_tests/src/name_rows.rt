@@ -1,20 +1,28 @@
 //! The names of a registry.
 use crate::answers::put_names;
-use crate::scripts::{must, must_be};
+use crate::scripts::{MEMORY, must, must_be, put_script_line};
 use history::{Ask, Name};
+use journal::outline::put_line;
 use journal::put::put_object;
-use journal::read_event;
+use journal::{Word, read_event};
 use mod_utf::list::{ByteList, Units};
-use object_ids::{FullKind, ObjId, Uid};
+use object_ids::{ObjId, Uid};
 use rmi_registry::{NameFault, Names};
 use std::alloc::{AllocError, Global};
-use std::test::Fail;
+use std::process::Abort;
 
 const SPACE: Uid = Uid {
     unique: 7,
     time: 9,
     count: 0,
 };
+
+fn numbered(number: i64) -> ObjId {
+    ObjId {
+        number,
+        space: SPACE,
+    }
+}
 
 /// Asks as in a journal, each with what a registry answers. A name is the empty one, one of the unit 0, or one of surrogates that are no pair.
 const ROWS: &str = "0 0 list
@@ -47,29 +55,123 @@ const ROWS: &str = "0 0 list
 > names \"b\" \"\\u0000\" \"\\udc00\\ud800\" \"\"
 ";
 
-#[test]
-fn names_keep_their_order(rt: HostRuntime) -> Result<(), Fail> {
-    let alloc = rt.alloc();
+/// What a registry of 4,095 other names, each of one unit with its own object, makes of two long names. In a line `~` stands for 254 units.
+/// A line `? NUMBER` asks how many names stand for an object, and how many there are.
+const FULL: &str = "0 0 bind \"~\\u0001\" 16
+> bound
+0 0 bind \"~\\u0002\" 17
+> full
+0 0 bind \"~\\u0001\" 17
+> already bound
+0 0 rebind \"~\\u0002\" 17
+> full
+0 0 rebind \"~\\u0001\" 5
+> stood 16
+? 5
+> 2 of 4096
+0 0 unbind \"~\\u0001\"
+> object 5
+? 5
+> 1 of 4095
+0 0 rebind \"~\\u0002\" 17
+> new
+? 5
+> 1 of 4096
+";
+
+/// Binds so many names of one unit, each to its own object.
+fn fill(rt: &impl Abort, alloc: Global, names: &mut Names, count: u16) {
+    for unit in 0..count {
+        let units = Units::from_slice(alloc, &[unit]).expect(rt, MEMORY);
+        let name = Name::new(units).expect(rt, "a name");
+        let answer = names.bind(name, numbered(i64::from(unit)));
+        must(rt, answer == Ok(()), "bound");
+    }
+}
+
+/// What a registry of so many names of one unit makes of some lines.
+fn told(rt: &impl Abort, alloc: Global, count: u16, lines: &str) -> ByteList {
     let mut names = Names::fresh(alloc);
+    fill(rt, alloc, &mut names, count);
     let mut text = ByteList::new(alloc);
-    for line in ROWS.split('\n') {
-        put_row(alloc, &mut names, line, &mut text)?;
+    for line in lines.split('\n') {
+        put_row(rt, alloc, &mut names, line, &mut text);
     }
-    must_be(&rt, &text, ROWS);
+    text
+}
+
+#[test]
+fn registries_are_told(rt: HostRuntime) {
+    for (count, lines) in [(0, ROWS), (4_095, FULL)] {
+        let text = told(&rt, rt.alloc(), count, lines);
+        must_be(&rt, &text, lines);
+    }
+}
+
+/// Appends a line, if it is no answer, and what the registry answers.
+fn put_row(rt: &impl Abort, alloc: Global, names: &mut Names, line: &str, text: &mut ByteList) {
+    if line.is_empty() || line.starts_with('>') {
+        return;
+    }
+    put_script_line(text, line).expect(rt, MEMORY);
+    match line.strip_prefix("? ") {
+        Some(number) => {
+            let number = number.parse::<i64>().expect(rt, "a number");
+            put_counts(alloc, names, numbered(number), text).expect(rt, MEMORY);
+        }
+        None => {
+            text.append(b"> ").expect(rt, MEMORY);
+            put_answer(alloc, names, ask_of(rt, alloc, line), text).expect(rt, MEMORY);
+            text.push(b'\n').expect(rt, MEMORY);
+        }
+    }
+}
+
+/// What a line asks.
+fn ask_of(rt: &impl Abort, alloc: Global, line: &str) -> Ask {
+    let line = in_full(alloc, line).expect(rt, MEMORY);
+    let event = read_event(alloc, SPACE, line.as_slice()).expect(rt, MEMORY);
+    event.expect(rt, "an event").ask
+}
+
+/// A line with all its units.
+fn in_full(alloc: Global, line: &str) -> Result<ByteList, AllocError> {
+    let mut text = ByteList::new(alloc);
+    for (place, piece) in line.split('~').enumerate() {
+        if place > 0 {
+            put_units(&mut text)?;
+        }
+        text.append(piece.as_bytes())?;
+    }
+    Ok(text)
+}
+
+/// Appends 254 units.
+fn put_units(text: &mut ByteList) -> Result<(), AllocError> {
+    for _ in 0..254 {
+        text.append(b"\\uffff")?;
+    }
     Ok(())
 }
 
-/// Appends a line, if it spells an ask, and what the registry answers.
-fn put_row(alloc: Global, names: &mut Names, line: &str, text: &mut ByteList) -> Result<(), Fail> {
-    if let Some(event) = read_event(alloc, SPACE, line.as_bytes())? {
-        text.append(line.as_bytes())?;
-        text.append(b"\n> ")?;
-        put_answer(alloc, names, event.ask, text)?;
-        text.push(b'\n')?;
-    }
-    Ok(())
+/// Appends how many names stand for an object, and how many there are.
+fn put_counts(
+    alloc: Global,
+    names: &Names,
+    object: ObjId,
+    text: &mut ByteList,
+) -> Result<(), AllocError> {
+    let bindings = names.bindings(alloc)?.len() as u64;
+    let count = if bindings == u64::from(names.len()) {
+        Word::Number(bindings)
+    } else {
+        Word::Text(b"other")
+    };
+    let bound = Word::Number(u64::from(names.binds(object)));
+    put_line(text, &[Word::Text(b">"), bound, Word::Text(b"of"), count])
 }
 
+/// Appends what a registry answers.
 fn put_answer(
     alloc: Global,
     names: &mut Names,
@@ -122,75 +224,4 @@ fn put_found(found: Option<ObjId>, text: &mut ByteList) -> Result<(), AllocError
         }
         None => text.append(b"not bound"),
     }
-}
-
-/// The name of so many units, of which the last is this one.
-fn long_name(alloc: Global, units: usize, last: u16) -> Result<Name, Fail> {
-    let mut text = Units::new(alloc);
-    for _ in 1..units {
-        text.push(0xFFFF)?;
-    }
-    text.push(last)?;
-    Ok(Name::new(text).ok().ok_or("too long")?)
-}
-
-fn numbered(number: u16) -> ObjId {
-    ObjId {
-        number: i64::from(number),
-        space: SPACE,
-    }
-}
-
-/// A registry of so many names, each of 1 unit with its own object.
-fn registry_of(alloc: Global, count: u16) -> Result<Names, Fail> {
-    let mut names = Names::fresh(alloc);
-    for number in 0..count {
-        let name = long_name(alloc, 1, number)?;
-        names.bind(name, numbered(number)).ok().ok_or("not bound")?;
-    }
-    Ok(names)
-}
-
-#[test]
-fn one_name_more_is_full(rt: HostRuntime) -> Result<(), Fail> {
-    let alloc = rt.alloc();
-    let full = NameFault::Full(FullKind::Names);
-    let mut names = registry_of(alloc, 4_095)?;
-    let one = long_name(alloc, 255, 1)?;
-    let two = long_name(alloc, 255, 2)?;
-    must(
-        &rt,
-        names.bind(one.copy(alloc)?, numbered(16)) == Ok(()),
-        "bound",
-    );
-    must(
-        &rt,
-        names.bind(two.copy(alloc)?, numbered(17)) == Err(full),
-        "full",
-    );
-    must(
-        &rt,
-        names.bind(one.copy(alloc)?, numbered(17)) == Err(NameFault::AlreadyBound),
-        "there",
-    );
-    must(
-        &rt,
-        names.rebind(two.copy(alloc)?, numbered(17)) == Err(full),
-        "full",
-    );
-    must(
-        &rt,
-        names.rebind(one.copy(alloc)?, numbered(5)) == Ok(Some(numbered(16))),
-        "stood",
-    );
-    must(&rt, names.binds(numbered(5)) == 2, "two");
-    must(&rt, names.unbind(&one) == Ok(numbered(5)), "unbound");
-    must(&rt, names.rebind(two, numbered(17)) == Ok(None), "new");
-    must(
-        &rt,
-        names.len() == 4_096 && names.binds(numbered(5)) == 1,
-        "as many",
-    );
-    must(&rt, names.bindings(alloc)?.len() == 4_096, "bindings");
-    Ok(())
 }

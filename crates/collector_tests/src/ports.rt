@@ -1,17 +1,15 @@
 //! Ports, turns with their entries, and whole lists of events.
-ghost use Rattle.std.specs.Prelude.{◌≡◌};
-ghost use Rattle.history.specs.declared.asks.Ask.TheVariants.{Open};
-
 use crate::answers::{put_refusal, put_turn};
-use crate::scripts::{config_of, must, must_be};
+use crate::scripts::{MEMORY, config_of, must, must_be};
 use crate::transcripts::spelled_event;
+use history::Refused;
 use journal::Word;
 use journal::outline::put_line;
 use mod_utf::list::{ByteList, Same};
 use object_ids::{ObjId, Uid};
-use space::{Ask, Asked, AskedEnd, AskedList, DirectPort, Event, Port, Reply, Space};
+use space::{Ask, Asked, AskedEnd, AskedList, DirectPort, Port, Reply, Space, Turn, Turns};
 use std::alloc::{AllocError, Global};
-use std::test::Fail;
+use std::process::Abort;
 
 /// The identifier of the space.
 const SPACE: Uid = Uid {
@@ -27,26 +25,31 @@ const FIRST: ObjId = ObjId {
 };
 
 /// A space with one exported object, which is pinned.
-fn space_of_one(alloc: Global) -> Result<Space, Fail> {
-    let config = config_of("space 10 2 7 9").ok_or("no configuration")?;
+fn space_of_one(rt: &impl Abort, alloc: Global) -> Space {
+    let config = config_of(rt, "space 10 2 7 9");
     let mut space = Space::fresh(alloc, &config);
     let pinned = true;
-    let _opened = space.turn(0, 0, Ask::Open { kind: 3, pinned })?;
-    Ok(space)
+    let answer = space.turn(0, 0, Ask::Open { kind: 3, pinned });
+    must(rt, answer.is_ok(), "opened");
+    space
 }
 
 /// The entries of a port: of a call that begins and ends without an answer, of another one, and of a return that no table has room for.
-fn entries(alloc: Global, space: &mut Space) -> Result<AskedList, Fail> {
+fn entries(rt: &impl Abort, alloc: Global, space: &mut Space) -> AskedList {
+    let many = spelled_event(rt, alloc, SPACE, "2 7 finish 16 1*65536 16 1/0/1");
     let mut port = DirectPort::new(alloc, space, 2);
-    let begun = port.turn(5, Ask::Begin { object: FIRST })?;
-    match begun.reply {
-        Reply::Started(_kind) => port.abandon(4, FIRST),
-        _ => return Err("not started".into()),
+    match port.turn(5, Ask::Begin { object: FIRST }) {
+        Ok(begun) => match begun.reply {
+            Reply::Started(_kind) => port.abandon(4, FIRST),
+            _ => panic!(rt; "no call"),
+        },
+        Err(_refused) => panic!(rt; "refused"),
     }
-    let _again = port.turn(6, Ask::Begin { object: FIRST })?;
-    let many = spelled_event(alloc, SPACE, "2 7 finish 16 1*65536 16 1/0/1")?;
-    let _refused = port.turn(many.moment, many.ask);
-    Ok(port.into_asked().copy(alloc)?)
+    let again = port.turn(6, Ask::Begin { object: FIRST });
+    must(rt, again.is_ok(), "again");
+    let refused = port.turn(many.moment, many.ask);
+    must(rt, refused.is_err(), "refused");
+    port.into_asked().copy(alloc).expect(rt, MEMORY)
 }
 
 /// Appends the moment of an entry, and how it ended.
@@ -72,76 +75,60 @@ at 7
 ";
 
 #[test]
-fn a_port_enters_its_turns(rt: HostRuntime) -> Result<(), Fail> {
+fn a_port_enters_its_turns(rt: HostRuntime) {
     let alloc = rt.alloc();
-    let mut space = space_of_one(alloc)?;
-    let entries = entries(alloc, &mut space)?;
+    let mut space = space_of_one(&rt, alloc);
+    let entries = entries(&rt, alloc, &mut space);
     let mut text = ByteList::new(alloc);
     for entry in entries.as_slice() {
-        put_entry(&mut text, entry)?;
+        put_entry(&mut text, entry).expect(&rt, MEMORY);
     }
     must_be(&rt, &text, ENTRIES);
     must(&rt, space.len() == 4, "events");
     must(&rt, space.running(2, FIRST) == 1, "running");
-    Ok(())
-}
-
-#[test]
-fn a_port_has_room(rt: HostRuntime) -> Result<(), Fail> {
-    let mut space = space_of_one(rt.alloc())?;
-    let port = DirectPort::new(rt.alloc(), &mut space, 2);
+    let port = DirectPort::new(alloc, &mut space, 2);
     must(&rt, port.room() == u64::MAX, "room");
-    Ok(())
 }
 
-/// The opening of an object at the moment 1.
-fn opening(kind: u32, pinned: bool) -> Event
-    ensures moment { result.moment ≡ 1 }
-    ensures ask { result.ask ≡ Open kind pinned }
-{
-    Event {
-        by: 0,
-        moment: 1,
-        ask: Ask::Open { kind, pinned },
-    }
+/// The space of three openings, and their turns.
+fn three_turns(rt: &impl Abort, alloc: Global) -> Result<(Space, Turns), AllocError> {
+    let config = config_of(rt, "space 10 2 7 9");
+    let mut events = Vec::new(alloc);
+    events.push(spelled_event(rt, alloc, SPACE, "0 1 open 3 pinned"))?;
+    events.push(spelled_event(rt, alloc, SPACE, "0 1 open 4 free"))?;
+    events.push(spelled_event(rt, alloc, SPACE, "0 1 open 5 pinned"))?;
+    Space::of_events(alloc, &config, events)
 }
 
 #[test]
-fn lists_of_events(rt: HostRuntime) -> Result<(), Fail> {
-    let alloc = rt.alloc();
-    let config = config_of("space 10 2 7 9").ok_or("no configuration")?;
-    let mut events = Vec::new(alloc);
-    events.push(opening(3, true))?;
-    events.push(opening(4, false))?;
-    events.push(opening(5, true))?;
-    let (space, answered) = Space::of_events(alloc, &config, events)?;
+fn lists_of_events(rt: HostRuntime) {
+    let (space, answered) = three_turns(&rt, rt.alloc()).expect(&rt, MEMORY);
     must(&rt, answered.turns.len() == 3, "turns");
     must(&rt, answered.refused.is_none(), "refused");
-    let objects = space.exported()?;
-    match objects.as_slice() {
-        [_, last] => must(&rt, space.kind_of(last.id) == Some(5), "the last"),
-        _ => must(&rt, false, "objects"),
+    let objects = space.exported().expect(&rt, MEMORY);
+    must(&rt, objects.len() == 2, "objects");
+    let kind = objects.last().and_then(|last| space.kind_of(last.id));
+    must(&rt, kind == Some(5), "the last");
+}
+
+/// Whether an answer is that of an entry of the moment 4, which opens a pinned object of kind 3.
+fn is_entered(answer: &Result<Turn, Refused>, entry: &Asked) -> bool {
+    let pinned = true;
+    match (answer, &entry.end) {
+        (Ok(turn), AskedEnd::Turned(copy)) => {
+            turn.is_same(copy)
+                && entry.moment == 4
+                && entry.ask.is_same(&Ask::Open { kind: 3, pinned })
+        }
+        _ => false,
     }
-    Ok(())
 }
 
 #[test]
-fn turns_with_their_entries(rt: HostRuntime) -> Result<(), Fail> {
-    let alloc = rt.alloc();
-    let config = config_of("space 10 2 7 9").ok_or("no configuration")?;
-    let mut space = Space::fresh(alloc, &config);
+fn turns_with_their_entries(rt: HostRuntime) {
+    let mut space = space_of_one(&rt, rt.alloc());
     let pinned = true;
-    let (answer, entry) = space.turn_noted(2, 4, Ask::Open { kind: 3, pinned })?;
-    let turn = answer?;
-    must(&rt, entry.moment == 4, "moment");
-    must(
-        &rt,
-        entry.ask.is_same(&Ask::Open { kind: 3, pinned }),
-        "ask",
-    );
-    match &entry.end {
-        AskedEnd::Turned(copy) => must(&rt, turn.is_same(copy), "turn"),
-        _ => must(&rt, false, "not turned"),
-    }
-    Ok(())
+    let noted = space.turn_noted(2, 4, Ask::Open { kind: 3, pinned });
+    let (answer, entry) = noted.expect(&rt, MEMORY);
+    must(&rt, is_entered(&answer, &entry), "entered");
 }

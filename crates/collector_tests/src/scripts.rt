@@ -1,12 +1,15 @@
 //! Scripts of lines, and how they are read.
-ghost use Rattle.std.specs.Prelude.{◌≤◌, ◌^◌, IsTrue, IfSome};
+ghost use Rattle.std.specs.Prelude.{◌≤◌, ◌^◌};
 
+use history::SpaceConfig;
 use history::limits::MAX_DURATION;
-use history::{Ask, SpaceConfig};
 use journal::read_first_line;
 use mod_utf::list::ByteList;
 use std::alloc::AllocError;
 use std::process::Abort;
+
+/// What a test can't do without.
+pub(crate) const MEMORY: &str = "memory";
 
 /// Stops where this does not hold.
 pub(crate) fn must(rt: &impl Abort, holds: bool, what: &str) {
@@ -25,15 +28,13 @@ pub(crate) fn put_script_line(text: &mut ByteList, line: &str) -> Result<(), All
 }
 
 /// The configuration that a line spells, where its durations are those of a space.
-pub(crate) fn config_of(line: &str) -> Option<SpaceConfig>
-    ensures lease { IfSome result (λ config. (1 ≤ config.lease_ms) × (config.lease_ms ≤ 2 ^ 40)) }
-    ensures ack { IfSome result (λ config. (1 ≤ config.ack_ms) × (config.ack_ms ≤ 2 ^ 40)) }
+pub(crate) fn config_of(rt: &impl Abort, line: &str) -> SpaceConfig
+    ensures lease { (1 ≤ result.lease_ms) × (result.lease_ms ≤ 2 ^ 40) }
+    ensures ack { (1 ≤ result.ack_ms) × (result.ack_ms ≤ 2 ^ 40) }
 {
-    let config = read_first_line(line.as_bytes())?;
+    let config = read_first_line(line.as_bytes()).expect(rt, "a configuration");
     let durations = 1..=MAX_DURATION;
-    if durations.contains(&config.lease_ms) && durations.contains(&config.ack_ms) {
-        Some(config)
-    } else {
-        None
-    }
+    assert!(rt; durations.contains(&config.lease_ms), "a lease's duration");
+    assert!(rt; durations.contains(&config.ack_ms), "a return's duration");
+    config
 }

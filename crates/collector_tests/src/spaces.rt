@@ -1,9 +1,8 @@
 //! Transcripts of spaces that were worked out by hand, and their journals and summaries.
 use crate::definitions::defined;
 use crate::scripts::must_be;
-use crate::transcripts::{recorded, transcript};
+use crate::transcripts::transcript;
 use history::limits::MAX_UNITS;
-use std::test::Fail;
 
 /// Openings, calls and returns.
 const CALLS: [&str; 9] = [
@@ -451,25 +450,13 @@ withdrawn 17 place 4
 ];
 
 #[test]
-fn spaces_answer_as_worked_out(rt: HostRuntime) -> Result<(), Fail> {
+fn definitions_answer_as_worked_out(rt: HostRuntime) {
     for scripts in [&CALLS[..], &LEASES[..], &RETURNED[..]] {
         for script in scripts {
-            let text = transcript(rt.alloc(), script)?;
+            let text = defined(&rt, rt.alloc(), MAX_UNITS, script);
             must_be(&rt, &text, script);
         }
     }
-    Ok(())
-}
-
-#[test]
-fn definitions_answer_as_worked_out(rt: HostRuntime) -> Result<(), Fail> {
-    for scripts in [&CALLS[..], &LEASES[..], &RETURNED[..]] {
-        for script in scripts {
-            let text = defined(rt.alloc(), MAX_UNITS, script)?;
-            must_be(&rt, &text, script);
-        }
-    }
-    Ok(())
 }
 
 /// Calls that end by `abandon`.
@@ -541,21 +528,83 @@ withdrawn 17 place 5
 ",
 ];
 
-#[test]
-fn abandons_that_take_no_memory(rt: HostRuntime) -> Result<(), Fail> {
-    for script in &ABANDONS {
-        let text = transcript(rt.alloc(), script)?;
-        must_be(&rt, &text, script);
-    }
-    Ok(())
-}
+/// What asks of names are answered; a name keeps its object, and so does a lookup until it is acknowledged.
+const NAMED: &str = "space 600000 300000 7 9
+0 0 open 1 pinned
+> opened 16
+1 0 begin 16
+> started 1
+1 0 finish 16 2 - 1/0/0
+> finished 17
+0 1 bind \"b\" 17
+> bound
+0 1 bind \"b\" 99
+> no object
+0 1 bind \"b\" 16
+> already bound
+0 1 rebind \"a\" 99
+> no object
+0 1 rebind \"a\" 16
+> bound
+0 1 rebind \"b\" 17
+> bound
+0 1 list
+> names \"b\" \"a\"
+1 1 ack 1/0/0
+> done
+0 1 lookup \"c\" 2/0/0
+> not bound
+0 1 unbind \"c\"
+> not bound
+2 1 lookup \"b\" 2/0/0
+> found 17 kind 2
+0 1 unbind \"b\"
+> unbound
+?
+events 15 units 16 now 1
+object 16 kind 1 pinned running 0 awaiting 0 held 0 names 1
+object 17 kind 2 free running 0 awaiting 1 held 0 names 0
+name \"a\" 16
+2 2 ack 2/0/0
+> done
+> gone 17
+0 3 bind \"b\" 17
+> no object
+";
 
-/// Lines of journals, and behind them the journal and the summary.
+/// A return that makes more objects than can be exported, also where no call of its connection runs; one that makes one; one of more references
+/// than can await. The refusals leave the space as it was.
+const RETURNS: &str = "space 600000 300000 7 9
+0 0 open 1 pinned
+> opened 16
+1 0 begin 16
+> started 1
+1 0 begin 16
+> started 1
+1 5 finish 16 1*65536 16 1/0/1
+> exports full
+2 5 finish 16 1*65536 16 1/0/1
+> not running
+1 5 finish 16 1 16 1/0/1
+> finished 17
+1 300004 finish 16 1*65534 16 1/0/2
+> awaiting full
+?
+events 5 units 65544 now 5
+object 16 kind 1 pinned running 1 awaiting 1 held 0 names 0
+object 17 kind 1 free running 0 awaiting 1 held 0 names 0
+";
+
+/// Journals and summaries.
 const SUMMARIES: [(&str, &str); 2] = [
     (
         "space 2 10 7 9
-",
+=
+#",
         "space 2 10 7 9
+=
+space 2 10 7 9
+#
 events 0 units 0 now 0
 objects 0 clients 0 pairs 0 awaiting 0 names 0 withdrawn 0
 ",
@@ -565,12 +614,26 @@ objects 0 clients 0 pairs 0 awaiting 0 names 0 withdrawn 0
 1 12 open 2 pinned
 1 12 open 3 free
 1 1019 dirty aa@2/4/5 7 10 16:-1/-5/0,17
-0 1020 clean -@2/4/5 6 strong 16",
+0 1020 clean -@2/4/5 6 strong 16
+=
+#",
         "space 10 1000 -1 -5
+1 12 open 2 pinned
+> opened 16
+1 12 open 3 free
+> opened 17
+> gone 17
+1 1019 dirty aa@2/4/5 7 10 16:-1/-5/0,17
+> granted 10
+0 1020 clean -@2/4/5 6 strong 16
+> done
+=
+space 10 1000 -1 -5
 1 12 open 2 pinned
 1 12 open 3 free
 1 1019 dirty aa@2/4/5 7 10 16,17
 0 1020 clean -@2/4/5 6 strong 16
+#
 events 4 units 7 now 1020
 objects 1 clients 1 pairs 2 awaiting 0 names 0 withdrawn 1
 ",
@@ -578,10 +641,26 @@ objects 1 clients 1 pairs 2 awaiting 0 names 0 withdrawn 1
 ];
 
 #[test]
-fn journals_and_summaries(rt: HostRuntime) -> Result<(), Fail> {
+fn journals_and_summaries(rt: HostRuntime) {
     for (script, wanted) in SUMMARIES {
-        let text = recorded(rt.alloc(), script)?;
+        let text = transcript(&rt, rt.alloc(), script);
         must_be(&rt, &text, wanted);
     }
-    Ok(())
+}
+
+#[test]
+fn spaces_answer_as_worked_out(rt: HostRuntime) {
+    let others = [NAMED, RETURNS];
+    for scripts in [
+        &CALLS[..],
+        &LEASES[..],
+        &RETURNED[..],
+        &ABANDONS[..],
+        &others[..],
+    ] {
+        for script in scripts {
+            let text = transcript(&rt, rt.alloc(), script);
+            must_be(&rt, &text, script);
+        }
+    }
 }
