@@ -30,7 +30,7 @@ use Rattle.jrmp_frames.proofs.Heads.{some_bytes}
 
 -- ---- what the arguments' wants gave
 
-abbrev Whole : Type 0
+abbrev pub Whole : Type 0
 Whole = List Item × List Node × List Item × List ℕ
 
 pub record Given (ws : List Want) (head : List ℕ) (answers whole : List Item) : Type 0 where
@@ -62,7 +62,7 @@ parameters_given ws s head answers nodes whole long stood r = given_parts _ ws s
 
 -- ---- a head, and then arguments
 
-abbrev headed : List ℕ → Result Whole WantFault → Result Whole WantFault
+abbrev pub headed : List ℕ → Result Whole WantFault → Result Whole WantFault
 headed b read = read ▸ λ y. Ok (items.Bytes b ∷ y.0, y.1, y.2, y.3)
 
 abbrev Serving : Type 0
@@ -82,7 +82,8 @@ regroup end b (Ok x) = go (close_at (end - length x.2) x.1)
     go (Err f) = refl
     go (Ok g) = refl
 
-head_then : (end : ℕ) (ws : List Want) (bs b rest : List ℕ) (s : Stand) → head_at end bs ≡ Ok (b, s, rest) → wants_at end (wanted.Bytes 34 ∷ ws) bs ≡ headed b (serve_to_close end ws s rest)
+-- A head is read, and then what is wanted behind it.
+pub head_then : (end : ℕ) (ws : List Want) (bs b rest : List ℕ) (s : Stand) → head_at end bs ≡ Ok (b, s, rest) → wants_at end (wanted.Bytes 34 ∷ ws) bs ≡ headed b (serve_to_close end ws s rest)
 unfolding head_at wants_at serve_to_close serve want_at
 head_then end ws bs b rest s e =
     let m = lifted_ok (magic_at end (0xAC ∷ 0xED ∷ 0x00 ∷ 0x05 ∷ []) bs) (bytes_at end 34 nothing_read) (b, s, rest) e in

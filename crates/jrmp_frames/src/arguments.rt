@@ -143,8 +143,8 @@ fn without_head(alloc: Global, whole: Graph) -> Graph
     }
 }
 
-/// Reads the arguments of a call by the types of its method's parameters.
-fn read_parameters<S: Source>(
+/// Reads the arguments for parameters of these types.
+fn read_values<S: Source>(
     alloc: Global,
     pull: &mut Pull<'_, S>,
     reader: Reader,
@@ -164,9 +164,30 @@ fn read_parameters<S: Source>(
     })
 }
 
-/// Reads the arguments of a call, up to their end. The reader is the one that stands behind the call's head.
+/// Reads the arguments of a call for parameters of these types, up to their end. The reader is the one that stands behind the call's head.
 ///
 /// Each fault comes as at [`Reader::bytes`] and [`Reader::slot`], and `BlockLeft` where bytes of a block are left behind the arguments.
+pub fn read_parameters<S: Source>(
+    alloc: Global,
+    pull: &mut Pull<'_, S>,
+    reader: Reader,
+    params: &[TypeCode],
+) -> Result<Arguments, FrameFault>
+    requires ready { HasHead reader }
+    ensures reads { IfOk result (λ arguments. ReadsArguments (place S.left S.faults pull.old) (place S.left S.faults pull.new) reader.stand params.now arguments) }
+    ensures call { (before : Place) (head : CallHead) → ReadsHead before (place S.left S.faults pull.old) head reader.stand → IfOk result (λ arguments. TakesCall before (place S.left S.faults pull.new) head params.now arguments) }
+    ensures stops { IfErr result (λ fault. BreaksIn (place S.left S.faults pull.old) (place S.left S.faults pull.new) fault (λ end. serve_to_close end (wants_of params.now) reader.stand)) }
+    ensures cut { (before : Place) (head : CallHead) → ReadsHead before (place S.left S.faults pull.old) head reader.stand → IfErr result (λ fault. BreaksIn before (place S.left S.faults pull.new) fault (λ end. wants_at end (wanted.Bytes 34 ∷ wants_of params.now))) }
+    ensures cause { CausedIn (S.faults pull.old.source.now) (S.faults pull.new.source.now) result }
+    ensures lent { pull.new.source.ghost_name ≡ pull.old.source.ghost_name }
+{
+    match read_values(alloc, pull, reader, params) {
+        Ok(arguments) => Ok(arguments),
+        Err(fault) => Err(FrameFault::Stream(fault)),
+    }
+}
+
+/// Reads the arguments of a call, as [`read_parameters`] does for the types of its method's parameters.
 pub fn read_arguments<S: Source>(
     alloc: Global,
     pull: &mut Pull<'_, S>,
@@ -181,8 +202,5 @@ pub fn read_arguments<S: Source>(
     ensures cause { CausedIn (S.faults pull.old.source.now) (S.faults pull.new.source.now) result }
     ensures lent { pull.new.source.ghost_name ≡ pull.old.source.ghost_name }
 {
-    match read_parameters(alloc, pull, reader, method.params.as_slice()) {
-        Ok(arguments) => Ok(arguments),
-        Err(fault) => Err(FrameFault::Stream(fault)),
-    }
+    read_parameters(alloc, pull, reader, method.params.as_slice())
 }

@@ -11,7 +11,7 @@ pub mod laws;
 pub mod message;
 pub mod uid;
 
-pub use arguments::{Arg, ArgList, Arguments, read_arguments};
+pub use arguments::{Arg, ArgList, Arguments, read_arguments, read_parameters};
 pub use code::{Code, read_code};
 pub use endpoint::{ack_bytes, skip_endpoint};
 pub use fault::FrameFault;

@@ -1,19 +1,26 @@
 //! The hash by which a call names a method (Java RMI Specification, 8.3).
-ghost use Rattle.std.specs.Prelude.{◌≡◌, IfOk};
+ghost use Rattle.std.specs.Prelude.{◌≡◌, ◌<◌, ◌^◌, length, IfOk};
 ghost use Rattle.method_hash.specs.Hash.{folded, hash_of};
 
 use crate::method::Method;
 use sha1::Sha1;
 
-/// The hash of a method: the digest of its text's length in 16 bits and of its text, folded.
-pub fn hash(method: &Method) -> i64
-    ensures { result ≡ hash_of method.now.text }
+/// The hash of a method's text, which has at most 65,535 bytes: the digest of its length in 16 bits and of its bytes, folded.
+pub fn hash_text(text: &[u8]) -> i64
+    requires { length text.now < 2 ^ 16 }
+    ensures { result ≡ hash_of text.now }
 {
-    let text = method.text.as_slice();
     let mut hasher = Sha1::new();
     hasher.update(&(text.len() as u16).to_be_bytes());
     hasher.update(text);
     fold_hash(hasher.finalize())
+}
+
+/// The hash of a method, which is that of its text.
+pub fn hash(method: &Method) -> i64
+    ensures { result ≡ hash_of method.now.text }
+{
+    hash_text(method.text.as_slice())
 }
 
 /// The first eight bytes of a digest, as a number with its lowest byte first.

@@ -6,6 +6,6 @@ mod method;
 mod place;
 mod system;
 
-pub use digest::{fold_hash, hash};
+pub use digest::{fold_hash, hash, hash_text};
 pub use method::{CodeList, Method, MethodFault, MethodList};
 pub use system::{CollectorMethod, RegistryMethod};

@@ -1,9 +1,4 @@
-use Rattle.jrmp_frames.specs.Messages.{wants_of}
-use Rattle.jrmp_frames.proofs.Calls.{call_taken, call_breaks}
 use Rattle.jrmp_frames.proofs.arguments.read_arguments.Goals as goal
 
-pub returns-in-Ok-clause-call : goal.returns-in-Ok-clause-call
-returns-in-Ok-clause-call g c = λ before head reads. call_taken head c.args.method.now.params c.args.reader.stand c.in-Ok.arguments reads (rw c.as_slice.ensures at c.in-Ok.ensures.reads)
-
-pub returns-in-Err-clause-cut : goal.returns-in-Err-clause-cut
-returns-in-Err-clause-cut g c = λ before head reads. call_breaks head (wants_of c.args.method.now.params) c.args.reader.stand reads (rw c.as_slice.ensures at c.in-Err.ensures.stops)
+pub returns-clause-cut : goal.returns-clause-cut
+returns-clause-cut g c = rw c.as_slice.ensures at c.read_parameters.ensures.cut
