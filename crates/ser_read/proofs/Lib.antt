@@ -26,3 +26,4 @@ pub mod Heading
 pub mod Streams
 pub mod ToEnd
 pub mod Rows
+pub mod Missing

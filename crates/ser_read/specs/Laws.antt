@@ -1,5 +1,5 @@
 -- Laws of lists of wants, which functions of `laws` promise.
-use Rattle.std.specs.Prelude.{◌≡◌, ◌↔◌, ◌<◌, ℕ, List, [], ◌∷◌, ◌++◌, Ok}
+use Rattle.std.specs.Prelude.{◌≡◌, ◌≢◌, ◌↔◌, ◌<◌, ◌≤◌, ◌-◌, ℕ, List, [], ◌∷◌, ◌++◌, length, Ok, Err}
 use Rattle.class_desc.specs.declared.slot.Item.{Item}
 use Rattle.class_desc.specs.declared.slot.Item.TheVariants as items
 use Rattle.ser_values.specs.declared.node.Node.{Node}
@@ -7,7 +7,9 @@ use Rattle.ser_values.specs.Spelled.{joined, IsStream}
 use Rattle.ser_read.specs.Here.{AreBytes}
 use Rattle.ser_read.specs.declared.serving.Want.{Want}
 use Rattle.ser_read.specs.declared.serving.Want.TheVariants as wanted
-use Rattle.ser_read.specs.Wants.{◌▸◌, Stand, nothing_read, serve, serve_to_close}
+use Rattle.ser_read.specs.declared.block.Head.TheVariants.{Code}
+use Rattle.ser_read.specs.Heads.{head_at}
+use Rattle.ser_read.specs.Wants.{◌▸◌, missing_block, Stand, nothing_read, run_at, serve, serve_to_close}
 use Rattle.ser_read.specs.Asked.{IsAsked}
 use Rattle.ser_read.specs.Heading.{EndsInBlock, inside_block}
 
@@ -59,3 +61,26 @@ pub record Headed (end n : ℕ) (whole bytes : List ℕ) (wants : List Want) (an
 abbrev pub AskedIsHeaded : Type 0
 AskedIsHeaded = (end n : ℕ) (whole bytes : List ℕ) (wants : List Want) (answers : List Item) (nodes : List Node) → 0 < n → IsAsked (wanted.Bytes n ∷ wants) (items.Bytes bytes ∷ answers) nodes whole
     → Headed end n whole bytes wants answers nodes
+
+-- A code with which no block begins, but something else that a stream may hold.
+abbrev pub BeginsNoBlock : ℕ → Type 0
+BeginsNoBlock code = (0x70 ≤ code) × (code ≤ 0x7E) × (code ≢ 0x77) × (code ≢ 0x79) × (code ≢ 0x7A) × (code ≢ 0x7B)
+
+-- Of so many wanted bytes fewer are there, and with the last of them a block ends. Behind it stand empty blocks, if any, and then such a code, at this position.
+pub record MissesBlock (end n block at : ℕ) (bytes : List ℕ) : Type 0 where
+  pub count : ℕ
+  pub fewer : count < n
+  pub given : List ℕ
+  pub rest : List ℕ
+  pub read : run_at end count block bytes ≡ Ok (given, 0, rest)
+  pub code : ℕ
+  pub more : List ℕ
+  pub next : head_at end rest ≡ Ok (Code code at, more)
+  pub begins : BeginsNoBlock code
+  pub front : List ℕ
+  pub rest_is : rest ≡ front ++ code ∷ more
+  pub at_is : at ≡ end - length (code ∷ more)
+
+-- Where reading wanted bytes answers that a block is missing, it is so.
+abbrev pub MissingBlocksStand : Type 0
+MissingBlocksStand = (end n block at : ℕ) (bytes : List ℕ) → AreBytes bytes → run_at end n block bytes ≡ Err (missing_block at) → MissesBlock end n block at bytes

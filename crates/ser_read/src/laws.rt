@@ -1,5 +1,5 @@
 //! Laws of reading, for those who read contracts: these functions do nothing.
-ghost use Rattle.ser_read.specs.Laws.{WantsAreAsked, AskedIsServed, AskedIsOne, AskedAreStreams, ServedOneAfterTheOther, HeadEndsInBlock, HeadGoesOn, AskedIsHeaded};
+ghost use Rattle.ser_read.specs.Laws.{WantsAreAsked, AskedIsServed, AskedIsOne, AskedAreStreams, ServedOneAfterTheOther, HeadEndsInBlock, HeadGoesOn, AskedIsHeaded, MissingBlocksStand};
 ghost use Rattle.ser_read.specs.Whole.{FaultsStandInBytes};
 
 /// Reading want by want, from left to right, answers exactly what a front of the bytes spells.
@@ -45,4 +45,10 @@ pub fn asked_is_headed()
 /// Where reading bytes that end at a position answers a fault, as `read_to_end` does, the bytes show it at the fault's position.
 pub fn faults_stand_in_bytes()
     ensures { FaultsStandInBytes }
+{}
+
+/// Where wanted bytes answer that a block is missing, fewer are there, up to the end of a block, and a code with which none begins stands at the
+/// fault's position.
+pub fn missing_blocks_stand()
+    ensures { MissingBlocksStand }
 {}

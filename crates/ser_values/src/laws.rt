@@ -1,16 +1,11 @@
 //! Laws of streams and graphs, for those who read contracts: these functions do nothing.
 ghost use Rattle.ser_values.specs.Chain.{HavePartsByChain};
 ghost use Rattle.ser_values.specs.Faults.{ComesToOne, FaultsStand};
-ghost use Rattle.ser_values.specs.Laws.{HaveOneReading, HaveNoFronts, AreOfGraphs, AreRead};
+ghost use Rattle.ser_values.specs.Laws.{HaveOneReading, AreOfGraphs, AreRead};
 
 /// Bytes are a stream of at most one graph.
 pub fn streams_have_one_reading()
     ensures { HaveOneReading }
-{}
-
-/// No spelling of equally many blocks and references is a proper front of another.
-pub fn spellings_have_no_fronts()
-    ensures { HaveNoFronts }
 {}
 
 /// What a stream is of is a graph.
