@@ -24,13 +24,24 @@ const FIRST: ObjId = ObjId {
     space: SPACE,
 };
 
+/// A pinned object of kind 3, exported.
+fn opening() -> Ask {
+    Ask::Open {
+        kind: 3,
+        pinned: true,
+    }
+}
+
+/// Exports an object, and answers whether the turn was taken.
+fn is_opened(space: &mut Space) -> bool {
+    space.turn(0, 0, opening()).is_ok()
+}
+
 /// A space with one exported object, which is pinned.
 fn space_of_one(rt: &impl Abort, alloc: Global) -> Space {
     let config = config_of(rt, "space 10 2 7 9");
     let mut space = Space::fresh(alloc, &config);
-    let pinned = true;
-    let answer = space.turn(0, 0, Ask::Open { kind: 3, pinned });
-    must(rt, answer.is_ok(), "opened");
+    must(rt, is_opened(&mut space), "opened");
     space
 }
 
@@ -111,14 +122,16 @@ fn lists_of_events(rt: HostRuntime) {
     must(&rt, kind == Some(5), "the last");
 }
 
-/// Whether an answer is that of an entry of the moment 4, which opens a pinned object of kind 3.
+/// The answer to an opening at the moment 4, and its entry.
+fn noted(space: &mut Space) -> Result<(Result<Turn, Refused>, Asked), AllocError> {
+    space.turn_noted(2, 4, opening())
+}
+
+/// Whether an answer is that of the entry of such an opening.
 fn is_entered(answer: &Result<Turn, Refused>, entry: &Asked) -> bool {
-    let pinned = true;
     match (answer, &entry.end) {
         (Ok(turn), AskedEnd::Turned(copy)) => {
-            turn.is_same(copy)
-                && entry.moment == 4
-                && entry.ask.is_same(&Ask::Open { kind: 3, pinned })
+            turn.is_same(copy) && entry.moment == 4 && entry.ask.is_same(&opening())
         }
         _ => false,
     }
@@ -127,8 +140,6 @@ fn is_entered(answer: &Result<Turn, Refused>, entry: &Asked) -> bool {
 #[test]
 fn turns_with_their_entries(rt: HostRuntime) {
     let mut space = space_of_one(&rt, rt.alloc());
-    let pinned = true;
-    let noted = space.turn_noted(2, 4, Ask::Open { kind: 3, pinned });
-    let (answer, entry) = noted.expect(&rt, MEMORY);
+    let (answer, entry) = noted(&mut space).expect(&rt, MEMORY);
     must(&rt, is_entered(&answer, &entry), "entered");
 }

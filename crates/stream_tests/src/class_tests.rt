@@ -1,12 +1,11 @@
 //! Descriptions of classes.
 use crate::script::{code_of, desc_of};
-use crate::text::{ascii, cut, is_text, must, number_of};
+use crate::text::{MEMORY, ascii, cut, is_text, must, number_of};
 use class_desc::{
     ClassParts, DescFault, KnownClass, PartField, TypeCode, check_desc, check_type_text,
     element_code, known,
 };
 use mod_utf::{Same, TryCopy};
-use std::test::Fail;
 
 /// The known classes, in the order of their lines.
 const CLASSES: [KnownClass; 14] = [
@@ -72,12 +71,11 @@ fn is_line(parts: &ClassParts, line: &str) -> bool {
 }
 
 #[test]
-fn known_classes_are_the_tables(rt: HostRuntime) -> Result<(), Fail> {
+fn known_classes_are_the_tables(rt: HostRuntime) {
     for (class, line) in CLASSES.iter().zip(LINES.split('\n')) {
-        let parts = known(rt.alloc(), *class)?;
+        let parts = known(rt.alloc(), *class).expect(&rt, MEMORY);
         must(&rt, is_line(&parts, line), line);
     }
-    Ok(())
 }
 
 /// Descriptions, and what is wrong with them.
@@ -101,13 +99,12 @@ fn words_of(answer: Result<(), DescFault>) -> &'static str {
 }
 
 #[test]
-fn descriptions_are_checked(rt: HostRuntime) -> Result<(), Fail> {
+fn descriptions_are_checked(rt: HostRuntime) {
     for line in DESCRIPTIONS.split('\n') {
         let (words, expected) = cut(line, '=');
-        let desc = desc_of(rt.alloc(), words)?;
+        let desc = desc_of(&rt, rt.alloc(), words);
         must(&rt, words_of(check_desc(&desc)) == expected.trim(), line);
     }
-    Ok(())
 }
 
 /// A field's type, a type text, what a check of them answers; and the type of the elements of an array of that name, or `-`.
@@ -131,12 +128,12 @@ fn letter_of(code: Option<TypeCode>) -> u8 {
 }
 
 #[test]
-fn type_texts_are_checked(rt: HostRuntime) -> Result<(), Fail> {
+fn type_texts_are_checked(rt: HostRuntime) {
     for line in TYPE_TEXTS.split('\n') {
         let (code, rest) = cut(line, ' ');
         let (text, rest) = cut(rest, ' ');
         let (element, expected) = cut(rest, ' ');
-        let text = ascii(rt.alloc(), text)?;
+        let text = ascii(rt.alloc(), text).expect(&rt, MEMORY);
         must(
             &rt,
             words_of(check_type_text(code_of(code), &text)) == expected,
@@ -148,7 +145,6 @@ fn type_texts_are_checked(rt: HostRuntime) -> Result<(), Fail> {
             line,
         );
     }
-    Ok(())
 }
 
 #[test]
@@ -165,13 +161,10 @@ fn letters_of_types(rt: HostRuntime) {
 }
 
 #[test]
-fn copies_are_the_same(rt: HostRuntime) -> Result<(), Fail> {
-    let desc = desc_of(rt.alloc(), "A 1 02 null - I:a")?;
-    must(&rt, desc.try_copy(rt.alloc())?.is_same(&desc), "a copy");
-    must(
-        &rt,
-        !desc_of(rt.alloc(), "A 2 02 null -")?.is_same(&desc),
-        "another",
-    );
-    Ok(())
+fn copies_are_the_same(rt: HostRuntime) {
+    let desc = desc_of(&rt, rt.alloc(), "A 1 02 null - I:a");
+    let copy = desc.try_copy(rt.alloc()).expect(&rt, MEMORY);
+    must(&rt, copy.is_same(&desc), "a copy");
+    let other = desc_of(&rt, rt.alloc(), "A 2 02 null -");
+    must(&rt, !other.is_same(&desc), "another");
 }

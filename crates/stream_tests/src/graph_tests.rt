@@ -1,18 +1,17 @@
 //! Graphs that are built, written, read again, and shown as text.
 use crate::script::graph_of;
-use crate::text::{bytes_of, cut, decimal, must, slot_of};
+use crate::text::{MEMORY, bytes_of, cut, decimal, must, slot_of};
 use graph_text::graph_text;
-use mod_utf::Kinds;
+use mod_utf::{ByteList, Kinds};
 use ser_read::read_to_end;
-use ser_values::{BuildFault, Graph, NodeList, same_graph};
+use ser_values::{Graph, NodeList, same_graph};
 use ser_write::write_stream;
-use std::alloc::{AllocError, Global};
+use std::alloc::Global;
 use std::process::Abort;
-use std::test::Fail;
 use wire_io::mem::MemSource;
 use wire_io::pull::Pull;
 
-/// Graphs, and what follows `ACED0005`: a text that an array holds twice; an object whose field is itself; a list with its note;
+/// Graphs and their streams: a text that an array holds twice; an object whose field is itself; a list with its note;
 /// a reference to object 17 of the space 7/9/0 at 127.0.0.1 port 1099; a fault with its message; a lease of 600,000 milliseconds
 /// for the client 0102030405060708@3/4/5; a constant of an enum, its class as a value, and bytes between them; an externalizable
 /// object; a value of every type and arrays of every kind, those of a float and of a double with bits that stand for no number.
@@ -20,19 +19,19 @@ const STREAMS: &str = "text a
 desc [Ljava.lang.String; ADD256E7E91D7B47 02 null null
 array #1 #0,#0
 item #2
-= 75 72 0013 5B4C6A6176612E6C616E672E537472696E673B ADD256E7E91D7B47 02 0000 70 78 70 00000002 74 0001 61 71 007E0002
+= ACED0005 75 72 0013 5B4C6A6176612E6C616E672E537472696E673B ADD256E7E91D7B47 02 0000 70 78 70 00000002 74 0001 61 71 007E0002
 ~
 object #1 #0/-
 desc N 0 02 null null L:next:#2
 text LN;
 item #0
-= 73 72 0001 4E 0000000000000000 02 0001 4C 0004 6E657874 74 0003 4C4E3B 70 78 70 71 007E0002
+= ACED0005 73 72 0001 4E 0000000000000000 02 0001 4C 0004 6E657874 74 0003 4C4E3B 70 78 70 71 007E0002
 ~
 desc java.util.ArrayList 7881D21D99C7619D 03 null null I:size
 text a
 object #0 I1/x00000001,#1
 item #2
-= 73 72 'java.util.ArrayList' 7881D21D99C7619D 03 0001 49 'size' 70 78 70 00000001 77 04 00000001 74 0001 61 78
+= ACED0005 73 72 'java.util.ArrayList' 7881D21D99C7619D 03 0001 49 'size' 70 78 70 00000001 77 04 00000001 74 0001 61 78
 ~
 desc java.rmi.server.RemoteObject D361B4910C61331E 03 null null
 desc java.rmi.server.RemoteObjectInvocationHandler 2 02 #0 null
@@ -42,7 +41,7 @@ desc java.lang.reflect.Proxy E127DA20CC1043CB 02 null null L:h:#3
 proxy java.rmi.Remote,sample.Echo #4 null
 object #5 #2/- -/-
 item #6
-= 73 7D 00000002 'java.rmi.Remote' 'sample.Echo' 70 78
+= ACED0005 73 7D 00000002 'java.rmi.Remote' 'sample.Echo' 70 78
  72 'java.lang.reflect.Proxy' E127DA20CC1043CB 02 0001 4C 'h' 74 'Ljava/lang/reflect/InvocationHandler;' 70 78 70
  73 72 'java.rmi.server.RemoteObjectInvocationHandler' 0000000000000002 02 0000 70 78
  72 'java.rmi.server.RemoteObject' D361B4910C61331E 03 0000 70 78 70
@@ -57,7 +56,7 @@ desc java.io.IOException 6C8073646525F0AB 02 #4 null
 desc java.rmi.RemoteException B88C9D4EDEE47A22 02 #5 null L:detail:#1
 object #6 #0/- -/- -/- null/-
 item #7
-= 73 72 'java.rmi.RemoteException' B88C9D4EDEE47A22 02 0001 4C 'detail' 74 'Ljava/lang/Throwable;' 70 78
+= ACED0005 73 72 'java.rmi.RemoteException' B88C9D4EDEE47A22 02 0001 4C 'detail' 74 'Ljava/lang/Throwable;' 70 78
  72 'java.io.IOException' 6C8073646525F0AB 02 0000 70 78
  72 'java.lang.Exception' D0FD1F3E1A3B1CC4 02 0000 70 78
  72 'java.lang.Throwable' D5C635273977B8CB 03 0001 4C 'detailMessage' 74 'Ljava/lang/String;' 70 78 70
@@ -75,7 +74,7 @@ object #7 S5,J4,I3/-
 desc [B ACF317F8060854E0 02 null null
 array #9 B0102030405060708
 item #2
-= 73 72 'java.rmi.dgc.Lease' B0B5E2660C4ADC34 02 0002 4A 'value' 4C 'vmid' 74 'Ljava/rmi/dgc/VMID;' 70 78 70 00000000000927C0
+= ACED0005 73 72 'java.rmi.dgc.Lease' B0B5E2660C4ADC34 02 0002 4A 'value' 4C 'vmid' 74 'Ljava/rmi/dgc/VMID;' 70 78 70 00000000000927C0
  73 72 'java.rmi.dgc.VMID' F8865BAFA4A56DB6 02 0002 5B 'addr' 74 '[B' 4C 'uid' 74 'Ljava/rmi/server/UID;' 70 78 70
  75 72 '[B' ACF317F8060854E0 02 0000 70 78 70 00000008 0102030405060708
  73 72 'java.rmi.server.UID' 0F12700DBF364F12 02 0003 53 'count' 4A 'time' 49 'unique' 70 78 70 0005 0000000000000004 00000003
@@ -90,20 +89,20 @@ item x010203
 item #4
 item #3
 item null
-= 7E 72 'Color' 0000000000000000 12 0000 70 78 72 'java.lang.Enum' 0000000000000000 12 0000 70 78 70 74 'RED'
+= ACED0005 7E 72 'Color' 0000000000000000 12 0000 70 78 72 'java.lang.Enum' 0000000000000000 12 0000 70 78 70 74 'RED'
  77 03 010203 76 71 007E0000 71 007E0002 70
 ~
 desc External 102 0C null null
 object #0 -/#1,xFF
 item #1
-= 73 72 'External' 0000000000000102 0C 0000 70 78 70 71 007E0001 77 01 FF 78
+= ACED0005 73 72 'External' 0000000000000102 0C 0000 70 78 70 71 007E0001 77 01 FF 78
 ~
 text [I
 text LA;
 desc A 1 02 null null B:a C:b D:c F:d I:e J:f S:g Z:h [:a:#0 L:b:#1
 object #2 B80,CD800,D7FF4000000000001,F7FA00001,IFFFFFFFE,JFFFFFFFFFFFFFFFD,SFFFC,Z1,null,#1/-
 item #3
-= 73 72 'A' 0000000000000001 02 000A 42 'a' 43 'b' 44 'c' 46 'd' 49 'e' 4A 'f' 53 'g' 5A 'h' 5B 'a' 74 '[I' 4C 'b' 74 'LA;'
+= ACED0005 73 72 'A' 0000000000000001 02 000A 42 'a' 43 'b' 44 'c' 46 'd' 49 'e' 4A 'f' 53 'g' 5A 'h' 5B 'a' 74 '[I' 4C 'b' 74 'LA;'
  70 78 70 80 D800 7FF4000000000001 7FA00001 FFFFFFFE FFFFFFFFFFFFFFFD FFFC 01 70 71 007E0002
 ~
 desc [B 1 02 null null
@@ -151,7 +150,7 @@ item #22
 item #23
 item #25
 item #26
-= 75 72 '[B' 0000000000000001 02 0000 70 78 70 00000000 75 71 007E0000 00000001 80
+= ACED0005 75 72 '[B' 0000000000000001 02 0000 70 78 70 00000000 75 71 007E0000 00000001 80
  75 72 '[C' 0000000000000001 02 0000 70 78 70 00000000 75 71 007E0003 00000001 D800
  75 72 '[D' 0000000000000001 02 0000 70 78 70 00000000 75 71 007E0006 00000001 7FF4000000000001
  75 72 '[F' 0000000000000001 02 0000 70 78 70 00000000 75 71 007E0009 00000001 7FA00001
@@ -162,31 +161,27 @@ item #26
  75 72 '[[B' 0000000000000001 02 0000 70 78 70 00000000 75 71 007E0018 00000001 70";
 
 /// Whether a stream of these bytes is read as a graph.
-fn is_read_as(alloc: Global, stream: &str, graph: &Graph) -> Result<bool, AllocError> {
-    let bytes = bytes_of(alloc, stream)?;
+fn is_read_as(alloc: Global, bytes: ByteList, graph: &Graph) -> bool {
     let mut source = MemSource::new(bytes, Kinds::new(alloc), Kinds::new(alloc));
-    match read_to_end(alloc, &mut Pull::new(&mut source)) {
-        Ok(read) => Ok(same_graph(&read, graph)),
-        Err(_fault) => Ok(false),
-    }
+    read_to_end(alloc, &mut Pull::new(&mut source)).is_ok_and(|read| same_graph(&read, graph))
+}
+
+/// Whether a graph is written as these bytes and as no others.
+fn is_written(rt: &impl Abort, alloc: Global, graph: &Graph, bytes: &[u8]) -> bool {
+    let written = write_stream(alloc, graph).expect(rt, MEMORY);
+    written.as_slice() == bytes
 }
 
 #[test]
-fn graphs_are_written_and_read(rt: HostRuntime) -> Result<(), Fail> {
+fn graphs_are_written_and_read(rt: HostRuntime) {
     let alloc = rt.alloc();
     for block in STREAMS.split('~') {
-        let (script, contents) = cut(block, '=');
-        let graph = graph_of(&rt, alloc, script)?;
-        let stream = format!(in alloc; "ACED0005{contents}")?;
-        must(&rt, is_read_as(alloc, stream.as_str(), &graph)?, block);
-        let written = write_stream(alloc, &graph)?;
-        must(
-            &rt,
-            written.as_slice() == bytes_of(alloc, stream.as_str())?.as_slice(),
-            block,
-        );
+        let (script, stream) = cut(block, '=');
+        let graph = graph_of(&rt, alloc, script).expect(&rt, block);
+        let bytes = bytes_of(alloc, stream).expect(&rt, MEMORY);
+        must(&rt, is_written(&rt, alloc, &graph, bytes.as_slice()), block);
+        must(&rt, is_read_as(alloc, bytes, &graph), block);
     }
-    Ok(())
 }
 
 /// Long texts and long runs of bytes: what is written first, what last, and how many bytes in all.
@@ -199,51 +194,60 @@ block 256 = ACED0005 7A 00000100 61 = 61 = 265 ~
 block 1024 = ACED0005 7A 00000400 61 = 61 61 61 = 1033 ~
 block 1025 = ACED0005 7A 00000400 61 = 61 77 01 61 = 1036";
 
-/// Whether a stream begins with these bytes.
-fn begins(alloc: Global, stream: &[u8], notation: &str) -> Result<bool, AllocError> {
-    let bytes = bytes_of(alloc, notation)?;
-    Ok(stream.starts_with(bytes.as_slice()))
-}
-
-/// Whether a stream ends with these bytes.
-fn ends(alloc: Global, stream: &[u8], notation: &str) -> Result<bool, AllocError> {
-    let bytes = bytes_of(alloc, notation)?;
-    Ok(stream.ends_with(bytes.as_slice()))
+/// Whether a stream begins or ends with these bytes.
+fn has_end(rt: &impl Abort, alloc: Global, stream: &[u8], notation: &str, first: bool) -> bool {
+    let bytes = bytes_of(alloc, notation).expect(rt, MEMORY);
+    if first {
+        stream.starts_with(bytes.as_slice())
+    } else {
+        stream.ends_with(bytes.as_slice())
+    }
 }
 
 /// Whether what is written of a graph has its first bytes, its last ones, and its length.
-fn is_written(alloc: Global, graph: &Graph, parts: &str) -> Result<bool, AllocError> {
+fn is_long(rt: &impl Abort, alloc: Global, graph: &Graph, parts: &str) -> bool {
     let (first, rest) = cut(parts, '=');
     let (last, length) = cut(rest, '=');
-    let written = write_stream(alloc, graph)?;
-    let fits = written.len() as u64 == decimal(length);
-    Ok(fits && begins(alloc, written.as_slice(), first)? && ends(alloc, written.as_slice(), last)?)
+    let written = write_stream(alloc, graph).expect(rt, MEMORY);
+    written.len() as u64 == decimal(length)
+        && has_end(rt, alloc, written.as_slice(), first, true)
+        && has_end(rt, alloc, written.as_slice(), last, false)
 }
 
 #[test]
-fn lengths_are_written(rt: HostRuntime) -> Result<(), Fail> {
+fn lengths_are_written(rt: HostRuntime) {
     for block in LENGTHS.split('~') {
         let (script, parts) = cut(block, '=');
-        let graph = graph_of(&rt, rt.alloc(), script)?;
-        must(&rt, is_written(rt.alloc(), &graph, parts)?, block);
+        let graph = graph_of(&rt, rt.alloc(), script).expect(&rt, block);
+        must(&rt, is_long(&rt, rt.alloc(), &graph, parts), block);
     }
-    Ok(())
+}
+
+/// How many nodes and items a graph has.
+fn counts(graph: Graph) -> (usize, usize) {
+    let (nodes, items) = graph.into_parts();
+    (nodes.len(), items.len())
+}
+
+/// How many nodes and items a script's graph has, or why its nodes are none.
+fn shape_of(rt: &impl Abort, alloc: Global, script: &str) -> String {
+    let text = match graph_of(rt, alloc, script) {
+        Ok(graph) => {
+            let (nodes, items) = counts(graph);
+            format!(in alloc; "{nodes} nodes {items} items")
+        }
+        Err(fault) => format!(in alloc; "{fault}"),
+    };
+    text.expect(rt, MEMORY)
 }
 
 /// Checks graphs against how many nodes and items they have, or why nodes are none.
-fn check(rt: &impl Abort, alloc: Global, shapes: &str) -> Result<(), AllocError> {
+fn check(rt: &impl Abort, alloc: Global, shapes: &str) {
     for block in shapes.split('~') {
         let (script, expected) = cut(block, '=');
-        let answer = match graph_of(rt, alloc, script) {
-            Ok(graph) => {
-                let (nodes, items) = graph.into_parts();
-                format!(in alloc; "{} nodes {} items", nodes.len(), items.len())?
-            }
-            Err(fault) => format!(in alloc; "{fault}")?,
-        };
-        must(rt, answer.as_str() == expected.trim(), block);
+        let shape = shape_of(rt, alloc, script);
+        must(rt, shape.as_str() == expected.trim(), block);
     }
-    Ok(())
 }
 
 /// Nothing at all; superclasses that go round; an object of a class in the class's own annotation, where the class isn't written
@@ -279,13 +283,6 @@ item #3 = 5 nodes 2 items ~
 class null
 item #0 = wrong shape";
 
-#[test]
-fn shapes_are_kept(rt: HostRuntime) -> Result<(), Fail> {
-    must(&rt, NodeList::new(rt.alloc()).is_empty(), "a list of nodes");
-    check(&rt, rt.alloc(), SHAPES)?;
-    Ok(())
-}
-
 /// At most 200 levels. A broken rule comes first, however deep it lies, and what was written before is no deeper.
 const LEVELS: &str = "desc [LA; 1 02 null -
 nest 200 null
@@ -300,12 +297,6 @@ desc [LA; 1 02 null -
 nest 200 #1
 item #1 = 201 nodes 1 items";
 
-#[test]
-fn depth_is_at_most_200(rt: HostRuntime) -> Result<(), Fail> {
-    check(&rt, rt.alloc(), LEVELS)?;
-    Ok(())
-}
-
 /// A full builder, which shares the texts that it has.
 const NODES: &str = "desc [LA; 1 02 null -
 row 65534
@@ -314,22 +305,10 @@ too many nodes ! class #0
 #1 ! share a
 item #65535 = 65536 nodes 1 items";
 
-#[test]
-fn nodes_are_at_most_65536(rt: HostRuntime) -> Result<(), Fail> {
-    check(&rt, rt.alloc(), NODES)?;
-    Ok(())
-}
-
 /// As many parts as there may be, and one more that nothing names.
 const MOST_PARTS: &str = "chain 1024
 fill 1024 #1023
 object #0 -/- = 2048 nodes 2048 items";
-
-#[test]
-fn parts_are_as_many_as_1048576(rt: HostRuntime) -> Result<(), Fail> {
-    check(&rt, rt.alloc(), MOST_PARTS)?;
-    Ok(())
-}
 
 /// The same with an item that names the one more.
 const ONE_PART_MORE: &str = "item #2048
@@ -338,18 +317,33 @@ fill 1024 #1023
 object #0 -/- = wrong shape";
 
 #[test]
-fn parts_are_no_more_than_1048576(rt: HostRuntime) -> Result<(), Fail> {
-    check(&rt, rt.alloc(), ONE_PART_MORE)?;
-    Ok(())
+fn shapes_are_kept(rt: HostRuntime) {
+    check(&rt, rt.alloc(), SHAPES);
+    check(&rt, rt.alloc(), LEVELS);
+}
+
+#[test]
+fn nodes_are_at_most_65536(rt: HostRuntime) {
+    check(&rt, rt.alloc(), NODES);
+}
+
+#[test]
+fn parts_are_as_many_as_1048576(rt: HostRuntime) {
+    check(&rt, rt.alloc(), MOST_PARTS);
+}
+
+#[test]
+fn parts_are_no_more_than_1048576(rt: HostRuntime) {
+    check(&rt, rt.alloc(), ONE_PART_MORE);
 }
 
 /// Whether a graph's text is this one and the end of its last line.
-fn is_shown_as(alloc: Global, graph: &Graph, text: &str) -> Result<bool, AllocError> {
-    let shown = graph_text(alloc, graph)?;
-    Ok(match shown.as_slice() {
-        [lines @ .., b'\n'] => lines == text.trim().as_bytes(),
-        _ => false,
-    })
+fn is_shown_as(rt: &impl Abort, alloc: Global, graph: &Graph, text: &str) -> bool {
+    let shown = graph_text(alloc, graph).expect(rt, MEMORY);
+    shown
+        .as_slice()
+        .strip_suffix(b"\n")
+        .is_some_and(|lines| lines == text.trim().as_bytes())
 }
 
 /// An object of a class with a `double` and a reference, an array of bytes, and null.
@@ -372,13 +366,6 @@ const POINT_LINES: &str = r#"
 item #2
 item #4
 item null"#;
-
-#[test]
-fn each_node_and_item_has_its_line(rt: HostRuntime) -> Result<(), Fail> {
-    let graph = graph_of(&rt, rt.alloc(), POINT)?;
-    must(&rt, is_shown_as(rt.alloc(), &graph, POINT_LINES)?, "lines");
-    Ok(())
-}
 
 /// An object of a class `N` whose one field, of the type `N`, is the object itself. Before them stands a text that nothing names.
 const KNOT: &str = "text unused
@@ -408,17 +395,16 @@ null =
 item null"#;
 
 /// Whether a reference of a graph reaches what a row says, which is all of the graph for `#2` alone.
-fn is_part(alloc: Global, graph: &Graph, row: &str) -> Result<bool, BuildFault> {
+fn is_part(rt: &impl Abort, alloc: Global, graph: &Graph, row: &str) -> bool {
     let (slot, lines) = cut(row, '=');
-    let part = graph.part(alloc, slot_of(slot))?;
-    let is_whole = slot == "#2 ";
-    Ok(is_shown_as(alloc, &part, lines)? && same_graph(graph, &part) == is_whole)
+    let part = graph.part(alloc, slot_of(slot)).expect(rt, row);
+    is_shown_as(rt, alloc, &part, lines) && same_graph(graph, &part) == (slot == "#2 ")
 }
 
 /// Whether a copy of a graph is the same.
-fn is_copied(alloc: Global, graph: &Graph) -> Result<bool, AllocError> {
-    let copy = graph.copy(alloc)?;
-    Ok(same_graph(graph, &copy))
+fn is_copied(rt: &impl Abort, alloc: Global, graph: &Graph) -> bool {
+    let copy = graph.copy(alloc).expect(rt, MEMORY);
+    same_graph(graph, &copy)
 }
 
 /// Whether a graph has three nodes and one item.
@@ -429,14 +415,31 @@ fn is_of_three(graph: &Graph) -> bool {
         && graph.node(3).is_none()
 }
 
-#[test]
-fn parts_are_what_a_reference_reaches(rt: HostRuntime) -> Result<(), Fail> {
-    let graph = graph_of(&rt, rt.alloc(), KNOT)?;
-    must(&rt, is_shown_as(rt.alloc(), &graph, KNOT_LINES)?, "lines");
-    must(&rt, is_of_three(&graph), "counts");
-    must(&rt, is_copied(rt.alloc(), &graph)?, "a copy");
-    for row in PARTS.split('~') {
-        must(&rt, is_part(rt.alloc(), &graph, row.trim_start())?, row);
+/// Whether the graph of a script is shown in these lines, and what its references reach in these.
+fn is_shown(rt: &impl Abort, alloc: Global, script: &str, lines: &str, parts: &str) -> bool {
+    let graph = graph_of(rt, alloc, script).expect(rt, script);
+    for row in parts.split('~') {
+        must(
+            rt,
+            row.is_empty() || is_part(rt, alloc, &graph, row.trim_start()),
+            row,
+        );
     }
-    Ok(())
+    must(rt, is_of_three(&graph) != parts.is_empty(), "counts");
+    is_copied(rt, alloc, &graph) && is_shown_as(rt, alloc, &graph, lines)
+}
+
+#[test]
+fn graphs_and_their_parts_are_shown(rt: HostRuntime) {
+    must(&rt, NodeList::new(rt.alloc()).is_empty(), "a list of nodes");
+    must(
+        &rt,
+        is_shown(&rt, rt.alloc(), POINT, POINT_LINES, ""),
+        POINT,
+    );
+    must(
+        &rt,
+        is_shown(&rt, rt.alloc(), KNOT, KNOT_LINES, PARTS),
+        KNOT,
+    );
 }

@@ -1,10 +1,9 @@
 //! Streams that are read want by want and whole, from sources that give all at once or single bytes.
-use crate::text::{bytes_of, cut, decimal, must, repeated};
+use crate::text::{MEMORY, bytes_of, cut, decimal, must, repeated};
 use mod_utf::Kinds;
 use ser_read::{Reader, StreamFault, Want, read_to_end, read_wants};
-use std::alloc::{AllocError, Global};
+use std::alloc::Global;
 use std::process::Abort;
-use std::test::Fail;
 use wire_io::mem::MemSource;
 use wire_io::pull::Pull;
 
@@ -164,86 +163,85 @@ fn read(alloc: Global, pull: &mut Pull<'_, MemSource>, wants: &str) -> Result<()
 }
 
 /// A source of these bytes, of which it gives so many one by one.
-fn source_of(alloc: Global, notation: &str, single: u64) -> Result<MemSource, AllocError> {
-    let cuts = repeated(alloc, 1, single)?;
-    let bytes = bytes_of(alloc, notation)?;
-    Ok(MemSource::new(bytes, cuts, Kinds::new(alloc)))
+fn source_of(rt: &impl Abort, alloc: Global, notation: &str, single: u64) -> MemSource {
+    let cuts = repeated(alloc, 1, single).expect(rt, MEMORY);
+    let bytes = bytes_of(alloc, notation).expect(rt, MEMORY);
+    MemSource::new(bytes, cuts, Kinds::new(alloc))
 }
 
-/// The words of what reading answers.
-fn words_of(alloc: Global, answer: Result<(), StreamFault>) -> Result<String, AllocError> {
-    match answer {
+/// The words of what reading these wants answers, where the message may have so many bytes.
+fn answer_of(
+    rt: &impl Abort,
+    alloc: Global,
+    source: &mut MemSource,
+    limit: u64,
+    wants: &str,
+) -> String {
+    let mut pull = Pull::new(source);
+    pull.mark(limit);
+    let words = match read(alloc, &mut pull, wants) {
         Ok(()) => format!(in alloc; "read"),
         Err(fault) => format!(in alloc; "{fault}"),
-    }
+    };
+    words.expect(rt, MEMORY)
 }
 
 /// Whether reading answers what a line says, of a source that gives so many bytes one by one.
-fn is_answered(alloc: Global, line: &str, single: u64) -> Result<bool, AllocError> {
+fn is_answered(rt: &impl Abort, alloc: Global, line: &str, single: u64) -> bool {
     let (wants, rest) = cut(line, ':');
     let (bytes, rest) = cut(rest, ':');
     let (limit, expected) = cut(rest, ':');
-    let mut source = source_of(alloc, bytes, single)?;
-    let mut pull = Pull::new(&mut source);
-    pull.mark(decimal(limit));
-    let answer = read(alloc, &mut pull, wants.trim());
-    Ok(words_of(alloc, answer)?.as_str() == expected.trim())
+    let mut source = source_of(rt, alloc, bytes, single);
+    let answer = answer_of(rt, alloc, &mut source, decimal(limit), wants.trim());
+    answer.as_str() == expected.trim()
 }
 
 /// Checks each line of a table, whole and with so many bytes one by one.
-fn check(rt: &impl Abort, alloc: Global, table: &str, single: u64) -> Result<(), AllocError> {
+fn check(rt: &impl Abort, alloc: Global, table: &str, single: u64) {
     for line in table.split('\n') {
-        must(rt, is_answered(alloc, line, 0)?, line);
-        must(rt, is_answered(alloc, line, single)?, line);
+        must(rt, is_answered(rt, alloc, line, 0), line);
+        must(rt, is_answered(rt, alloc, line, single), line);
     }
-    Ok(())
 }
 
 #[test]
-fn wants_are_served(rt: HostRuntime) -> Result<(), Fail> {
-    check(&rt, rt.alloc(), CASES, 4000)?;
-    Ok(())
+fn wants_are_served(rt: HostRuntime) {
+    check(&rt, rt.alloc(), CASES, 4000);
 }
 
 #[test]
-fn each_kind_of_fault_is_answered(rt: HostRuntime) -> Result<(), Fail> {
-    check(&rt, rt.alloc(), FAULTS, 4000)?;
-    Ok(())
+fn each_kind_of_fault_is_answered(rt: HostRuntime) {
+    check(&rt, rt.alloc(), FAULTS, 4000);
 }
 
 #[test]
-fn nodes_are_at_most_65536(rt: HostRuntime) -> Result<(), Fail> {
-    check(&rt, rt.alloc(), NODES, 1000)?;
-    Ok(())
+fn nodes_are_at_most_65536(rt: HostRuntime) {
+    check(&rt, rt.alloc(), NODES, 1000);
 }
 
 #[test]
-fn classes_and_their_objects_are_at_most_65536(rt: HostRuntime) -> Result<(), Fail> {
-    check(&rt, rt.alloc(), NODES_OF_CLASSES, 1000)?;
-    Ok(())
+fn classes_and_their_objects_are_at_most_65536(rt: HostRuntime) {
+    check(&rt, rt.alloc(), NODES_OF_CLASSES, 1000);
+}
+
+/// How many answers a list of wants has, how many items and nodes its graph, and how many bytes were taken.
+fn counts_of_wants(
+    rt: &impl Abort,
+    alloc: Global,
+    source: &mut MemSource,
+    wants: &[Want],
+) -> (usize, usize, u32, u64) {
+    let mut pull = Pull::new(source);
+    let (answers, graph) = read_wants(alloc, &mut pull, wants).expect(rt, "wants");
+    (answers.len(), graph.items().len(), graph.count(), pull.at())
 }
 
 #[test]
-fn a_list_of_wants_is_read(rt: HostRuntime) -> Result<(), Fail> {
+fn a_list_of_wants_is_read(rt: HostRuntime) {
     let alloc = rt.alloc();
-    let bytes = bytes_of(
-        alloc,
-        "ACED0005 770109 7A000000020807 7700 74000161 71007E0000 70",
-    )?;
-    let mut source = MemSource::new(bytes, Kinds::new(alloc), Kinds::new(alloc));
-    let mut pull = Pull::new(&mut source);
+    let stream = "ACED0005 770109 7A000000020807 7700 74000161 71007E0000 70";
+    let mut source = source_of(&rt, alloc, stream, 0);
     let wants = [Want::Bytes(3), Want::Slot, Want::Slot];
-    match read_wants(alloc, &mut pull, &wants) {
-        Ok((answers, graph)) => {
-            must(&rt, answers.len() == 3, "answers");
-            must(
-                &rt,
-                graph.items().len() == 3 && graph.count() == 1,
-                "the graph",
-            );
-        }
-        Err(_fault) => must(&rt, false, "read"),
-    }
-    must(&rt, pull.at() == 25, "all is taken");
-    Ok(())
+    let counts = counts_of_wants(&rt, alloc, &mut source, &wants);
+    must(&rt, counts == (3, 3, 1, 25), stream);
 }

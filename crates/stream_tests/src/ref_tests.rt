@@ -1,14 +1,14 @@
 //! References to remote objects: the bytes of what is built, and what is done with all references of a graph.
 use crate::shape_tests::{graph_at, is_written, read};
-use crate::text::{ascii, bytes_of, must};
+use crate::text::{MEMORY, ascii, bytes_of, must};
 use java_shapes::{LiveRef, local_refs, put_live_ref, with_result_flag};
 use mod_utf::ByteList;
 use mod_utf::utf::encoded_len;
-use object_ids::{ObjId, ObjIds, Uid};
-use ser_values::{BuildFault, Builder, Graph};
+use object_ids::{ObjId, Uid};
+use ser_values::{Builder, Graph};
 use ser_write::write_stream;
-use std::alloc::{AllocError, Global};
-use std::test::Fail;
+use std::alloc::Global;
+use std::process::Abort;
 
 /// A reference to object 16 of the space 7/9/0 at 127.0.0.1 port 1099, with the interface `sample.Echo`.
 const ECHO: &str = "ACED0005 73 7D 00000002 'java.rmi.Remote' 'sample.Echo' 70 78
@@ -34,32 +34,29 @@ fn id_of(number: i64) -> ObjId {
     ObjId { number, space }
 }
 
-/// The reference of object 16, put with an interface.
-fn built(alloc: Global, interface: &str) -> Result<Graph, BuildFault> {
-    let host = ascii(alloc, "127.0.0.1")?;
-    if encoded_len(&host) > 65_535 {
-        return Err(BuildFault::WrongShape);
-    }
+/// The graph of the reference of object 16, put with an interface.
+fn built(rt: &impl Abort, alloc: Global, interface: &str) -> Graph {
+    let host = ascii(alloc, "127.0.0.1").expect(rt, MEMORY);
+    assert!(rt; encoded_len(&host) <= 65_535, "a short host");
     let reference = LiveRef {
         host,
         port: 1099,
         id: id_of(16),
         result: true,
     };
-    let interface = ascii(alloc, interface)?;
+    let interface = ascii(alloc, interface).expect(rt, MEMORY);
     let mut builder = Builder::new(alloc);
-    let slot = put_live_ref(alloc, &mut builder, &interface, &reference)?;
-    graph_at(alloc, builder, slot)
+    let slot = put_live_ref(alloc, &mut builder, &interface, &reference).expect(rt, "a reference");
+    graph_at(rt, alloc, builder, slot)
 }
 
 #[test]
-fn references_are_built(rt: HostRuntime) -> Result<(), Fail> {
+fn references_are_built(rt: HostRuntime) {
     let alloc = rt.alloc();
-    let echo = built(alloc, "sample.Echo")?;
-    must(&rt, is_written(alloc, &echo, ECHO)?, "a proxy");
-    let remote = built(alloc, "java.rmi.Remote")?;
-    must(&rt, is_written(alloc, &remote, REMOTE)?, "one interface");
-    Ok(())
+    for (interface, stream) in [("sample.Echo", ECHO), ("java.rmi.Remote", REMOTE)] {
+        let graph = built(&rt, alloc, interface);
+        must(&rt, is_written(&rt, alloc, &graph, stream), interface);
+    }
 }
 
 /// An array of stubs of the objects 17, 16 and 17, of object 18 at another port, and of object 19 at another host; `^` stands
@@ -74,34 +71,41 @@ const STUBS: &str = "ACED0005 75 72 '[La.B;' 0000000000000001 02 0000 70 78 70 0
  73 71 007E0002 77 32 'UnicastRef' '127.0.0.2' 0000044B 0000000000000013 00000007 0000000000000009 0000 ^ 78";
 
 /// The stubs, with this flag in each.
-fn stubs(alloc: Global, flag: u8) -> Result<ByteList, AllocError> {
+fn stubs(rt: &impl Abort, alloc: Global, flag: u8) -> ByteList {
     let mut bytes = ByteList::new(alloc);
     for (place, piece) in STUBS.split('^').enumerate() {
         if place > 0 {
-            bytes.push(flag)?;
+            bytes.push(flag).expect(rt, MEMORY);
         }
-        bytes.append(bytes_of(alloc, piece)?.as_slice())?;
+        let piece = bytes_of(alloc, piece).expect(rt, MEMORY);
+        bytes.append(piece.as_slice()).expect(rt, MEMORY);
     }
-    Ok(bytes)
+    bytes
+}
+
+/// Whether the local references of a graph are those of the objects 17 and 16, each once.
+fn has_two(rt: &impl Abort, alloc: Global, graph: &Graph) -> bool {
+    let host = ascii(alloc, "127.0.0.1").expect(rt, MEMORY);
+    let ids = local_refs(alloc, graph, &host, 1099).expect(rt, MEMORY);
+    ids.as_slice() == [id_of(17), id_of(16)].as_slice()
+}
+
+/// The stream of a graph with the flag of each reference set.
+fn flagged(rt: &impl Abort, alloc: Global, graph: Graph) -> ByteList {
+    let flagged = with_result_flag(alloc, graph).expect(rt, MEMORY);
+    write_stream(alloc, &flagged).expect(rt, MEMORY)
 }
 
 #[test]
-fn references_are_listed_and_flagged(rt: HostRuntime) -> Result<(), Fail> {
+fn references_are_listed_and_flagged(rt: HostRuntime) {
     let alloc = rt.alloc();
-    let graph = read(alloc, stubs(alloc, 0)?)?;
-    let host = ascii(alloc, "127.0.0.1")?;
-    let ids = local_refs(alloc, &graph, &host, 1099)?;
-    let expected = ObjIds::from_slice(alloc, &[id_of(17), id_of(16)])?;
+    let graph = read(&rt, alloc, stubs(&rt, alloc, 0));
+    must(&rt, has_two(&rt, alloc, &graph), "each local object once");
+    let written = flagged(&rt, alloc, graph);
+    let wanted = stubs(&rt, alloc, 1);
     must(
         &rt,
-        ids.as_slice() == expected.as_slice(),
-        "each local object once",
-    );
-    let flagged = with_result_flag(alloc, graph)?;
-    must(
-        &rt,
-        write_stream(alloc, &flagged)?.as_slice() == stubs(alloc, 1)?.as_slice(),
+        written.as_slice() == wanted.as_slice(),
         "each flag is set",
     );
-    Ok(())
 }

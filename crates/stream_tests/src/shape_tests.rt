@@ -1,17 +1,18 @@
 //! Java's own objects: what views tell of streams, three of which Java 17 wrote, and the bytes of what is built.
-use crate::text::{ascii, bytes_of, cut, decimal, is_text, must, number_of, slot_of};
+use crate::script::names_of;
+use crate::text::{MEMORY, ascii, bytes_of, cut, decimal, is_text, must, number_of, slot_of};
 use class_desc::{Item, Items, Slot};
 use java_shapes::{
-    LiveRef, as_fault_text, as_lease, as_live_ref, as_objids, as_text, as_texts, as_vmid,
-    fault_graph, put_fault, put_lease, put_texts,
+    LeaseView, LiveRef, as_fault_text, as_lease, as_live_ref, as_objids, as_text, as_texts,
+    as_vmid, fault_graph, put_fault, put_lease, put_texts,
 };
-use mod_utf::{ByteList, Kinds, NameList};
-use object_ids::{Uid, Vmid};
+use mod_utf::{ByteList, Kinds};
+use object_ids::{ObjIds, Uid, Vmid};
 use ser_read::read_to_end;
-use ser_values::{BuildFault, Builder, Graph};
+use ser_values::{Builder, Graph};
 use ser_write::write_stream;
-use std::alloc::{AllocError, Global};
-use std::test::Fail;
+use std::alloc::Global;
+use std::process::Abort;
 use wire_io::mem::MemSource;
 use wire_io::pull::Pull;
 
@@ -88,12 +89,9 @@ ACED0005 73 7D 00000002 'java.lang.Runnable' 'java.lang.Comparable' 78
 = ref #5 wrong";
 
 /// The graph of a stream.
-pub fn read(alloc: Global, bytes: ByteList) -> Result<Graph, AllocError> {
+pub fn read(rt: &impl Abort, alloc: Global, bytes: ByteList) -> Graph {
     let mut source = MemSource::new(bytes, Kinds::new(alloc), Kinds::new(alloc));
-    match read_to_end(alloc, &mut Pull::new(&mut source)) {
-        Ok(graph) => Ok(graph),
-        Err(_fault) => Err(AllocError),
-    }
+    read_to_end(alloc, &mut Pull::new(&mut source)).expect(rt, "a stream")
 }
 
 /// Whether a reference is that of a host, a port, an object's number and a truth value.
@@ -108,89 +106,79 @@ fn is_ref(reference: &LiveRef, words: &str) -> bool {
 }
 
 /// Whether a client is that of an address and a unique number.
-fn is_client(alloc: Global, vmid: &Vmid, words: &str) -> Result<bool, AllocError> {
+fn is_client(rt: &impl Abort, alloc: Global, vmid: &Vmid, words: &str) -> bool {
     let (addr, unique) = cut(words, ' ');
     let unique = number_of(unique.as_bytes());
-    Ok(
-        vmid.addr().as_slice() == bytes_of(alloc, addr)?.as_slice()
-            && u64::from(u32::from_be_bytes(vmid.uid().unique.to_be_bytes())) == unique,
-    )
+    let addr = bytes_of(alloc, addr).expect(rt, MEMORY);
+    vmid.addr().as_slice() == addr.as_slice()
+        && u64::from(u32::from_be_bytes(vmid.uid().unique.to_be_bytes())) == unique
 }
 
-/// Whether a text, a list of texts or a fault is told so.
-fn tells_text(alloc: Global, graph: &Graph, view: &str, slot: Slot, words: &str) -> bool {
+/// Whether the first of some identifiers has a number.
+fn is_first(ids: &ObjIds, number: &str) -> bool {
+    let number = number_of(number.as_bytes()).to_be_bytes();
+    ids.first()
+        .is_some_and(|id| id.number.to_be_bytes() == number)
+}
+
+/// Whether a lease has a value and a client or none.
+fn is_lease(lease: &LeaseView, words: &str) -> bool {
+    let (value, client) = cut(words, ' ');
+    lease.value.to_be_bytes() == decimal(value).to_be_bytes()
+        && lease.vmid.is_some() == (client == "client")
+}
+
+/// Whether a text, a list of texts or a fault is told so; nothing where a slot has another shape.
+fn tells_text(alloc: Global, graph: &Graph, view: &str, slot: Slot, words: &str) -> Option<bool> {
     match view {
-        "text" => as_text(alloc, graph, slot).is_ok_and(|text| is_text(&text, words)),
-        "fault" => as_fault_text(alloc, graph, slot).is_ok_and(|text| is_text(&text, words)),
-        _ => as_texts(alloc, graph, slot).is_ok_and(|texts| texts.len() as u64 == decimal(words)),
+        "text" => Some(is_text(&as_text(alloc, graph, slot).ok()?, words)),
+        "fault" => Some(is_text(&as_fault_text(alloc, graph, slot).ok()?, words)),
+        _ => Some(as_texts(alloc, graph, slot).ok()?.len() as u64 == decimal(words)),
     }
 }
 
-/// Whether identifiers, a client, a lease or a reference is told so.
+/// Whether identifiers, a client, a lease or a reference is told so; nothing where a slot has another shape.
 fn tells_id(
+    rt: &impl Abort,
     alloc: Global,
     graph: &Graph,
     view: &str,
     slot: Slot,
     words: &str,
-) -> Result<bool, AllocError> {
+) -> Option<bool> {
     match view {
-        "ids" => Ok(as_objids(alloc, graph, slot).is_ok_and(|ids| {
-            ids.first().is_some_and(|id| {
-                id.number.to_be_bytes() == number_of(words.as_bytes()).to_be_bytes()
-            })
-        })),
-        "vmid" => match as_vmid(alloc, graph, slot) {
-            Ok(vmid) => is_client(alloc, &vmid, words),
-            Err(_fault) => Ok(false),
-        },
-        "lease" => Ok(as_lease(alloc, graph, slot).is_ok_and(|lease| {
-            let (value, client) = cut(words, ' ');
-            lease.value.to_be_bytes() == decimal(value).to_be_bytes()
-                && lease.vmid.is_some() == (client == "client")
-        })),
-        _ => Ok(as_live_ref(alloc, graph, slot).is_ok_and(|reference| is_ref(&reference, words))),
+        "ids" => Some(is_first(&as_objids(alloc, graph, slot).ok()?, words)),
+        "vmid" => Some(is_client(rt, alloc, &as_vmid(alloc, graph, slot).ok()?, words)),
+        "lease" => Some(is_lease(&as_lease(alloc, graph, slot).ok()?, words)),
+        _ => Some(is_ref(&as_live_ref(alloc, graph, slot).ok()?, words)),
     }
 }
 
 /// Whether a view tells these words of a slot: that it has another shape where they are `wrong`.
-fn tells(alloc: Global, graph: &Graph, line: &str) -> Result<bool, AllocError> {
+fn tells(rt: &impl Abort, alloc: Global, graph: &Graph, line: &str) -> bool {
     let (view, rest) = cut(line.trim(), ' ');
     let (slot, words) = cut(rest, ' ');
     let slot = slot_of(slot);
-    if words == "wrong" {
-        return Ok(is_wrong(alloc, graph, view, slot));
-    }
-    match view {
-        "text" | "fault" | "texts" => Ok(tells_text(alloc, graph, view, slot, words)),
-        _ => tells_id(alloc, graph, view, slot, words),
-    }
-}
-
-/// Whether a view answers that a slot has another shape.
-fn is_wrong(alloc: Global, graph: &Graph, view: &str, slot: Slot) -> bool {
-    match view {
-        "text" => as_text(alloc, graph, slot).is_err(),
-        "texts" => as_texts(alloc, graph, slot).is_err(),
-        "fault" => as_fault_text(alloc, graph, slot).is_err(),
-        "ids" => as_objids(alloc, graph, slot).is_err(),
-        "vmid" => as_vmid(alloc, graph, slot).is_err(),
-        "lease" => as_lease(alloc, graph, slot).is_err(),
-        _ => as_live_ref(alloc, graph, slot).is_err(),
+    let told = match view {
+        "text" | "fault" | "texts" => tells_text(alloc, graph, view, slot, words),
+        _ => tells_id(rt, alloc, graph, view, slot, words),
+    };
+    match told {
+        Some(told) => told && words != "wrong",
+        None => words == "wrong",
     }
 }
 
 #[test]
-fn views_tell_javas_objects(rt: HostRuntime) -> Result<(), Fail> {
+fn views_tell_javas_objects(rt: HostRuntime) {
     let alloc = rt.alloc();
     for block in VIEWS.split('~') {
         let (stream, lines) = cut(block, '=');
-        let graph = read(alloc, bytes_of(alloc, stream)?)?;
+        let graph = read(&rt, alloc, bytes_of(alloc, stream).expect(&rt, MEMORY));
         for line in lines.split('=') {
-            must(&rt, tells(alloc, &graph, line)?, line);
+            must(&rt, tells(&rt, alloc, &graph, line), line);
         }
     }
-    Ok(())
 }
 
 /// A fault with the message `no such object`.
@@ -213,63 +201,60 @@ const TEXTS: &str =
     "ACED0005 75 72 '[Ljava.lang.String;' ADD256E7E91D7B47 02 0000 70 78 70 00000002 74 'a' 74 'b'";
 
 /// Whether a graph is written as these bytes.
-pub fn is_written(alloc: Global, graph: &Graph, notation: &str) -> Result<bool, AllocError> {
-    Ok(write_stream(alloc, graph)?.as_slice() == bytes_of(alloc, notation)?.as_slice())
+pub fn is_written(rt: &impl Abort, alloc: Global, graph: &Graph, notation: &str) -> bool {
+    let bytes = bytes_of(alloc, notation).expect(rt, MEMORY);
+    let written = write_stream(alloc, graph).expect(rt, MEMORY);
+    written.as_slice() == bytes.as_slice()
 }
 
 /// The graph of what a builder's slot reaches.
-pub fn graph_at(alloc: Global, builder: Builder, slot: Slot) -> Result<Graph, BuildFault> {
-    let mut items = Items::new(alloc);
-    items.push(Item::Ref(slot))?;
-    builder.finish(items)
+pub fn graph_at(rt: &impl Abort, alloc: Global, builder: Builder, slot: Slot) -> Graph {
+    let items = Items::from_vec(vec![in alloc; Item::Ref(slot)].expect(rt, MEMORY));
+    builder.finish(items).expect(rt, "a graph")
 }
 
 /// A client's address and identifier.
-fn client(alloc: Global) -> Result<Vmid, BuildFault> {
-    let addr = ByteList::from_slice(alloc, &[1, 2, 3, 4, 5, 6, 7, 8])?;
+fn client(rt: &impl Abort, alloc: Global) -> Vmid {
+    let addr = ByteList::from_slice(alloc, &[1, 2, 3, 4, 5, 6, 7, 8]).expect(rt, MEMORY);
     let uid = Uid {
         unique: 3,
         time: 4,
         count: 5,
     };
-    Vmid::new(addr, uid).ok_or(BuildFault::WrongShape)
+    Vmid::new(addr, uid).expect(rt, "a client")
+}
+
+/// Puts what a word names into a builder: a fault, a lease, or texts.
+fn put(rt: &impl Abort, alloc: Global, builder: &mut Builder, word: &str) -> Slot {
+    let slot = match word {
+        "fault" => {
+            let message = ascii(alloc, "no such object").expect(rt, MEMORY);
+            put_fault(alloc, builder, &message)
+        }
+        "lease" => put_lease(alloc, builder, 600_000, &client(rt, alloc)),
+        _ => put_texts(alloc, builder, &names_of(rt, alloc, "a,b")),
+    };
+    slot.expect(rt, word)
+}
+
+/// What is put into a builder, and how the graph of it is written.
+const BUILT: [(&str, &str); 3] = [("fault", FAULT), ("lease", LEASE), ("texts", TEXTS)];
+
+#[test]
+fn what_is_put_is_written(rt: HostRuntime) {
+    let alloc = rt.alloc();
+    for (word, stream) in BUILT {
+        let mut builder = Builder::new(alloc);
+        let slot = put(&rt, alloc, &mut builder, word);
+        let graph = graph_at(&rt, alloc, builder, slot);
+        must(&rt, is_written(&rt, alloc, &graph, stream), word);
+    }
 }
 
 #[test]
-fn faults_are_built(rt: HostRuntime) -> Result<(), Fail> {
+fn a_fault_has_its_graph(rt: HostRuntime) {
     let alloc = rt.alloc();
-    let message = ascii(alloc, "no such object")?;
-    let whole = fault_graph(alloc, &message)?;
-    must(
-        &rt,
-        is_written(alloc, &whole, FAULT)?,
-        "the graph of a fault",
-    );
-    let mut builder = Builder::new(alloc);
-    let slot = put_fault(alloc, &mut builder, &message)?;
-    let built = graph_at(alloc, builder, slot)?;
-    must(
-        &rt,
-        is_written(alloc, &built, FAULT)?,
-        "a fault that was put",
-    );
-    Ok(())
-}
-
-#[test]
-fn leases_and_texts_are_built(rt: HostRuntime) -> Result<(), Fail> {
-    let alloc = rt.alloc();
-    let vmid = client(alloc)?;
-    let mut builder = Builder::new(alloc);
-    let slot = put_lease(alloc, &mut builder, 600_000, &vmid)?;
-    let graph = graph_at(alloc, builder, slot)?;
-    must(&rt, is_written(alloc, &graph, LEASE)?, "a lease");
-    let mut names = NameList::new(alloc);
-    names.push(ascii(alloc, "a")?)?;
-    names.push(ascii(alloc, "b")?)?;
-    let mut builder = Builder::new(alloc);
-    let slot = put_texts(alloc, &mut builder, &names)?;
-    let graph = graph_at(alloc, builder, slot)?;
-    must(&rt, is_written(alloc, &graph, TEXTS)?, "a list of texts");
-    Ok(())
+    let message = ascii(alloc, "no such object").expect(&rt, MEMORY);
+    let graph = fault_graph(alloc, &message).expect(&rt, "a graph");
+    must(&rt, is_written(&rt, alloc, &graph, FAULT), "a fault");
 }

@@ -4,6 +4,9 @@ use mod_utf::{ByteList, Sequence, Units};
 use std::alloc::{AllocError, Global};
 use std::process::Abort;
 
+/// What a test can't do without.
+pub const MEMORY: &str = "memory";
+
 /// Stops where this does not hold, and says what it is.
 pub fn must(rt: &impl Abort, holds: bool, what: &str) {
     assert!(rt; holds, "{what}");
