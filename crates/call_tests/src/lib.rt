@@ -11,3 +11,5 @@ mod message_tests;
 mod method_tests;
 #[cfg(test)]
 mod served_tests;
+#[cfg(test)]
+mod texts;

@@ -1,22 +1,18 @@
 //! Calls that are read and written, and returns that are written.
+use crate::texts::{cut, must, put, put_digits};
+use class_desc::{Item, Items, Slot};
 use jrmp_frames::{
-    Body, FrameFault, call_bytes, read_arguments, read_head, read_uid, return_bytes,
+    Body, CallHead, FrameFault, call_bytes, read_arguments, read_head, read_uid, return_bytes,
 };
 use method_hash::Method;
 use mod_utf::Kinds;
 use mod_utf::list::ByteList;
 use object_ids::Uid;
-use ser_values::{Graph, Value};
-use std::alloc::{AllocError, Global};
+use ser_values::{Builder, Graph, Value};
+use std::alloc::Global;
 use std::process::Abort;
-use std::test::Fail;
 use wire_io::mem::MemSource;
 use wire_io::pull::Pull;
-
-/// Stops where this does not hold, and says what it is.
-fn must(rt: &impl Abort, holds: bool, what: &str) {
-    assert!(rt; holds, "{what}");
-}
 
 /// What a call begins with after its code, up to its head: the stream's magic number and version.
 const MAGIC: &str = "ACED0005";
@@ -53,86 +49,104 @@ echo(LA;)LA; : 77 22 H 74 0002 61 : truncated at 44
 m(ZLA;[BI)V : 77 23 H 02 74 0001 61 71 007E0000 77 04 00000007 : 77 23 H 02 74 0001 61 71 007E0000 77 04 00000007
 m(BCSIFDZ)V : 77 38 H 01 0002 0003 00000004 00000005 0000000000000006 07 : 77 38 H 01 0002 0003 00000004 00000005 0000000000000006 07";
 
-/// The value of a hex digit in capitals.
-fn digit_of(character: u8) -> Option<u8> {
-    match character {
-        b'0'..=b'9' => Some(character - b'0'),
-        b'A'..=b'F' => Some(character - b'A' + 10),
-        _ => None,
-    }
-}
-
-/// Appends the bytes that hex digits spell, two for each. Any other character counts for nothing.
-fn put_digits(bytes: &mut ByteList, digits: &str) -> Result<(), AllocError> {
-    let mut half = None;
-    for character in digits.as_bytes() {
-        match (half, digit_of(*character)) {
-            (None, low) => half = low,
-            (Some(high), Some(low)) => {
-                bytes.push((high << 4) | low)?;
-                half = None;
-            }
-            (Some(_), None) => {}
-        }
-    }
-    Ok(())
-}
-
 /// The bytes that hex digits spell, in which `H` once stands for the head, after these.
-fn bytes_of(alloc: Global, front: &str, digits: &str) -> Result<ByteList, AllocError> {
+fn bytes_of(rt: &impl Abort, alloc: Global, front: &str, digits: &str) -> ByteList {
     let mut bytes = ByteList::new(alloc);
-    put_digits(&mut bytes, front)?;
-    let (before, after) = digits.split_once('H').unwrap_or((digits, ""));
-    put_digits(&mut bytes, before)?;
+    put_digits(rt, &mut bytes, front);
+    let (before, after) = cut(digits, 'H');
+    put_digits(rt, &mut bytes, before);
     if digits.contains('H') {
-        put_digits(&mut bytes, HEAD)?;
+        put_digits(rt, &mut bytes, HEAD);
     }
-    put_digits(&mut bytes, after)?;
-    Ok(bytes)
+    put_digits(rt, &mut bytes, after);
+    bytes
 }
 
-/// What is written of a call that is read.
-fn rewritten(
+/// A source of the bytes that hex digits spell.
+fn source_of(rt: &impl Abort, alloc: Global, front: &str, digits: &str) -> MemSource {
+    MemSource::new(
+        bytes_of(rt, alloc, front, digits),
+        Kinds::new(alloc),
+        Kinds::new(alloc),
+    )
+}
+
+/// What a line says of a call: its bytes, or the text of a fault, which begins with a small letter.
+fn wanted_of(rt: &impl Abort, alloc: Global, wanted: &str) -> ByteList {
+    match wanted.as_bytes().first() {
+        Some(b'a'..=b'z') => {
+            let mut text = ByteList::new(alloc);
+            put(rt, &mut text, wanted.as_bytes());
+            text
+        }
+        _ => bytes_of(rt, alloc, "50ACED0005", wanted),
+    }
+}
+
+/// Appends the text of a fault.
+fn put_fault(rt: &impl Abort, alloc: Global, out: &mut ByteList, fault: FrameFault) {
+    match fault {
+        FrameFault::Stream(fault) => match format!(in alloc; "{fault}") {
+            Ok(text) => put(rt, out, text.as_bytes()),
+            Err(_) => must(rt, false, "memory"),
+        },
+        _ => must(rt, false, "a fault of a stream"),
+    }
+}
+
+/// Appends what is written of a call.
+fn put_call(rt: &impl Abort, alloc: Global, out: &mut ByteList, head: CallHead, graph: &Graph) {
+    match call_bytes(alloc, head, graph) {
+        Ok(bytes) => put(rt, out, bytes.as_slice()),
+        Err(_) => must(rt, false, "memory"),
+    }
+}
+
+/// Appends what is written of a call that is read, or the text of its fault.
+fn put_again(
+    rt: &impl Abort,
     alloc: Global,
+    out: &mut ByteList,
     pull: &mut Pull<'_, MemSource>,
     method: &Method,
-) -> Result<ByteList, FrameFault> {
-    let (head, reader) = read_head(alloc, pull)?;
-    let arguments = read_arguments(alloc, pull, reader, method)?;
-    match call_bytes(alloc, head, &arguments.graph) {
-        Ok(bytes) => Ok(bytes),
-        Err(_refusal) => Err(FrameFault::Stream(ser_read::StreamFault::OutOfMemory)),
+) {
+    match read_head(alloc, pull) {
+        Ok((head, reader)) => match read_arguments(alloc, pull, reader, method) {
+            Ok(arguments) => put_call(rt, alloc, out, head, &arguments.graph),
+            Err(fault) => put_fault(rt, alloc, out, fault),
+        },
+        Err(fault) => put_fault(rt, alloc, out, fault),
     }
 }
 
-/// Whether reading a call answers what a line says.
-fn is_answered(alloc: Global, line: &str) -> Result<bool, AllocError> {
-    let (text, rest) = line.split_once(':').unwrap_or((line, ""));
-    let (digits, expected) = rest.split_once(':').unwrap_or((rest, ""));
-    let Ok(method) = Method::parse(alloc, text.trim().as_bytes()) else {
-        return Ok(false);
-    };
-    let bytes = bytes_of(alloc, MAGIC, digits)?;
-    let mut source = MemSource::new(bytes, Kinds::new(alloc), Kinds::new(alloc));
+/// Reads the call that digits spell, of a method, and writes it again.
+fn rewritten(rt: &impl Abort, alloc: Global, digits: &str, method: &Method) -> ByteList {
+    let mut out = ByteList::new(alloc);
+    let mut source = source_of(rt, alloc, MAGIC, digits);
     let mut pull = Pull::new(&mut source);
-    match rewritten(alloc, &mut pull, &method) {
-        Ok(message) => {
-            Ok(message.as_slice() == bytes_of(alloc, "50ACED0005", expected)?.as_slice())
+    put_again(rt, alloc, &mut out, &mut pull, method);
+    out
+}
+
+/// Looks whether reading a call answers what a line says.
+fn check_call(rt: &impl Abort, alloc: Global, line: &str) {
+    let (text, rest) = cut(line, ':');
+    let (digits, wanted) = cut(rest, ':');
+    match Method::parse(alloc, text.as_bytes()) {
+        Ok(method) => {
+            let found = rewritten(rt, alloc, digits, &method);
+            let wanted = wanted_of(rt, alloc, wanted);
+            must(rt, found.as_slice() == wanted.as_slice(), line);
         }
-        Err(FrameFault::Stream(fault)) => {
-            Ok(format!(in alloc; "{fault}")?.as_str() == expected.trim())
-        }
-        Err(_) => Ok(false),
+        Err(_) => must(rt, false, line),
     }
 }
 
 #[test]
-fn calls_are_read_and_written(rt: HostRuntime) -> Result<(), Fail> {
-    let alloc = rt.alloc();
+fn calls_are_read_and_written(rt: HostRuntime) {
     for line in CALLS.split('\n') {
-        must(&rt, is_answered(alloc, line)?, line);
+        check_call(&rt, rt.alloc(), line);
     }
-    Ok(())
 }
 
 /// An identifier, and its bytes.
@@ -144,63 +158,68 @@ const UID: Uid = Uid {
 
 const UID_BYTES: &str = "00000006 0000000000000006 8000";
 
-/// Checks what is written of a return.
-fn check_return(
-    rt: &impl Abort,
-    alloc: Global,
-    normal: bool,
-    body: Body,
-    front: &str,
-    back: &str,
-) -> Result<(), AllocError> {
-    let mut wanted = bytes_of(alloc, "51ACED0005", front)?;
-    put_digits(&mut wanted, UID_BYTES)?;
-    put_digits(&mut wanted, back)?;
-    let bytes = return_bytes(alloc, normal, UID, &body)?;
-    must(rt, bytes.as_slice() == wanted.as_slice(), back);
-    Ok(())
+/// The graph of null.
+fn null_graph(rt: &impl Abort, alloc: Global) -> Option<Graph> {
+    let mut items = Items::new(alloc);
+    must(rt, items.push(Item::Ref(Slot::Null)).is_ok(), "memory");
+    Builder::new(alloc).finish(items).ok()
 }
 
-/// The graph of null, from the arguments of a call.
-fn null_graph(alloc: Global) -> Result<Option<Graph>, AllocError> {
-    let Ok(method) = Method::parse(alloc, b"echo(LA;)V") else {
-        return Ok(None);
-    };
-    let bytes = bytes_of(alloc, MAGIC, "77 22 H 70")?;
-    let mut source = MemSource::new(bytes, Kinds::new(alloc), Kinds::new(alloc));
-    let mut pull = Pull::new(&mut source);
-    let Ok((_head, reader)) = read_head(alloc, &mut pull) else {
-        return Ok(None);
-    };
-    match read_arguments(alloc, &mut pull, reader, &method) {
-        Ok(arguments) => Ok(Some(arguments.graph)),
-        Err(_fault) => Ok(None),
+/// What a return holds, by its name.
+fn body_of(rt: &impl Abort, alloc: Global, name: &str) -> Option<Body> {
+    match name {
+        "void" => Some(Body::Void),
+        "five" => Some(Body::Prim(Value::J(5))),
+        "truth" => Some(Body::Prim(Value::Z(true))),
+        _ => null_graph(rt, alloc).map(Body::Tree),
+    }
+}
+
+/// What a return holds, whether it is a normal one, and what stands before and after its identifier.
+const RETURNS: &str = "void | normal | 77 0F 01 |
+five | normal | 77 17 01 | 0000000000000005
+truth | normal | 77 10 01 | 01
+null | exceptional | 77 0F 02 | 70";
+
+/// Whether these bytes are written of a return.
+fn is_written(alloc: Global, normal: bool, body: &Body, wanted: &[u8]) -> bool {
+    match return_bytes(alloc, normal, UID, body) {
+        Ok(bytes) => bytes.as_slice() == wanted,
+        Err(_) => false,
+    }
+}
+
+/// Looks at what is written of a return.
+fn check_return(rt: &impl Abort, alloc: Global, line: &str) {
+    let (name, rest) = cut(line, '|');
+    let (kind, rest) = cut(rest, '|');
+    let (front, back) = cut(rest, '|');
+    let mut wanted = bytes_of(rt, alloc, "51ACED0005", front);
+    put_digits(rt, &mut wanted, UID_BYTES);
+    put_digits(rt, &mut wanted, back);
+    let normal = kind == "normal";
+    match body_of(rt, alloc, name) {
+        Some(body) => must(
+            rt,
+            is_written(alloc, normal, &body, wanted.as_slice()),
+            line,
+        ),
+        None => must(rt, false, line),
     }
 }
 
 #[test]
-fn returns_are_written(rt: HostRuntime) -> Result<(), Fail> {
-    let alloc = rt.alloc();
-    check_return(&rt, alloc, true, Body::Void, "77 0F 01", "")?;
-    let five = Body::Prim(Value::J(5));
-    check_return(&rt, alloc, true, five, "77 17 01", "0000000000000005")?;
-    let truth = Body::Prim(Value::Z(true));
-    check_return(&rt, alloc, true, truth, "77 10 01", "01")?;
-    match null_graph(alloc)? {
-        Some(graph) => check_return(&rt, alloc, false, Body::Tree(graph), "77 0F 02", "70")?,
-        None => must(&rt, false, "null"),
+fn returns_are_written(rt: HostRuntime) {
+    for line in RETURNS.split('\n') {
+        check_return(&rt, rt.alloc(), line);
     }
-    Ok(())
 }
 
 #[test]
-fn identifiers_are_read(rt: HostRuntime) -> Result<(), Fail> {
-    let alloc = rt.alloc();
-    let bytes = bytes_of(alloc, UID_BYTES, "0102")?;
-    let mut source = MemSource::new(bytes, Kinds::new(alloc), Kinds::new(alloc));
+fn identifiers_are_read(rt: HostRuntime) {
+    let mut source = source_of(&rt, rt.alloc(), UID_BYTES, "0102");
     let mut pull = Pull::new(&mut source);
     must(&rt, read_uid(&mut pull) == Ok(UID), "an identifier");
     let short = FrameFault::Stream(ser_read::StreamFault::Truncated { at: 16 });
     must(&rt, read_uid(&mut pull) == Err(short), "the end");
-    Ok(())
 }

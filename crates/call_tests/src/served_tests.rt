@@ -1,7 +1,8 @@
 //! Calls of an exported object: what is written, what the space is asked, what is invoked, and how the connection ends.
-ghost use Rattle.std.specs.Prelude.{◌≡◌, ◌≤◌, pos, length, IfOk};
+ghost use Rattle.std.specs.Prelude.{◌≡◌, ◌≤◌, pos, length, IfSome};
 ghost use Rattle.mod_utf.specs.Utf.{utf};
 
+use crate::texts::{cut, listed, must, put_digits, units_of};
 use call_dispatch::{
     Book, ConnEnd, Kind, KindList, Outcome, OutcomeList, Recorded, RecordingWorker, Setup,
     serve_connection,
@@ -11,17 +12,11 @@ use method_hash::{Method, MethodList};
 use mod_utf::list::{ByteList, Kinds, MomentList, Units};
 use mod_utf::utf::encoded_len;
 use object_ids::{Uid, UidDraw};
-use ser_values::{Builder, Graph, Value};
-use space::{Ask, Asked, AskedEnd, AskedList, DirectPort, Space, SpaceConfig};
-use std::alloc::{AllocError, Global};
+use ser_values::{Builder, Value};
+use space::{Ask, Asked, AskedEnd, DirectPort, Space, SpaceConfig};
+use std::alloc::Global;
 use std::process::Abort;
-use std::test::Fail;
 use wire_io::mem::{MemClock, MemSink, MemSource};
-
-/// Stops where this does not hold, and says what it is.
-fn must(rt: &impl Abort, holds: bool, what: &str) {
-    assert!(rt; holds, "{what}");
-}
 
 /// What the space keeps to. Its one object has the number 16 and the kind 0.
 const CONFIG: SpaceConfig = SpaceConfig {
@@ -73,126 +68,108 @@ call done call echo 70 ping | void null | return 0F 01 uid 8000 return 0F 01 uid
 call done ping call done | fault void | return 0F 02 uid 8000 exception 0001 78 78 70 pong return 0F 01 uid 8001 | begin abandon begin finish | 2 2 | Ended
 call add 77 08 0000000000000005 call add 77 08 0000000000000005 call done | 6 7 | return 17 01 uid 8000 0000000000000006 return 17 01 uid 8001 0000000000000007 return 0F 01 uid 8002 | begin finish begin finish begin finish | 1 1 2 | Ended";
 
-/// What stands before the separator, and what after it.
-fn cut(text: &str, separator: char) -> (&str, &str) {
-    let (front, rest) = text.split_once(separator).unwrap_or((text, ""));
-    (front.trim(), rest.trim())
-}
-
-/// The value of a hex digit in capitals.
-fn digit_of(character: u8) -> Option<u8> {
-    match character {
-        b'0'..=b'9' => Some(character - b'0'),
-        b'A'..=b'F' => Some(character - b'A' + 10),
-        _ => None,
-    }
-}
-
-/// Appends the bytes that hex digits spell, two for each. Any other character counts for nothing.
-fn put_digits(bytes: &mut ByteList, digits: &str) -> Result<(), AllocError> {
-    let mut half = None;
-    for character in digits.as_bytes() {
-        match (half, digit_of(*character)) {
-            (None, low) => half = low,
-            (Some(high), Some(low)) => {
-                bytes.push((high << 4) | low)?;
-                half = None;
-            }
-            (Some(_), None) => {}
-        }
-    }
-    Ok(())
-}
-
 /// Appends the bytes of a word, or of hex digits.
-fn put_word(bytes: &mut ByteList, word: &str) -> Result<(), AllocError> {
-    put_digits(bytes, word)?;
+fn put_word(rt: &impl Abort, bytes: &mut ByteList, word: &str) {
+    put_digits(rt, bytes, word);
     for line in WORDS.split('\n') {
         let (name, digits) = cut(line, ' ');
         if name == word {
-            put_digits(bytes, digits)?;
+            put_digits(rt, bytes, digits);
         }
     }
-    Ok(())
 }
 
 /// The bytes of words, after those of one.
-fn bytes_of(alloc: Global, front: &str, words: &str) -> Result<ByteList, AllocError> {
+fn bytes_of(rt: &impl Abort, alloc: Global, front: &str, words: &str) -> ByteList {
     let mut bytes = ByteList::new(alloc);
-    put_word(&mut bytes, front)?;
+    put_word(rt, &mut bytes, front);
     for word in words.split(' ') {
-        put_word(&mut bytes, word)?;
+        put_word(rt, &mut bytes, word);
     }
-    Ok(bytes)
+    bytes
 }
 
-/// The graph of null.
-fn null_graph(alloc: Global) -> Result<Graph, Fail> {
+/// The outcome of a null.
+fn null_outcome(rt: &impl Abort, alloc: Global) -> Option<Outcome> {
     let mut items = Items::new(alloc);
-    items.push(Item::Ref(Slot::Null))?;
-    Ok(Builder::new(alloc).finish(items)?)
+    must(rt, items.push(Item::Ref(Slot::Null)).is_ok(), "memory");
+    Builder::new(alloc).finish(items).ok().map(Outcome::Tree)
 }
 
 /// How an invocation comes out: a number where it is no word.
-fn outcome_of(alloc: Global, word: &str) -> Result<Outcome, Fail> {
+fn outcome_of(rt: &impl Abort, alloc: Global, word: &str) -> Option<Outcome> {
     match word {
-        "void" => Ok(Outcome::Void),
-        "null" => Ok(Outcome::Tree(null_graph(alloc)?)),
-        "new" => Ok(Outcome::NewRemote(0)),
-        "fault" => Ok(Outcome::Fault(Units::from_ascii(alloc, b"x")?)),
-        "memory" => Ok(Outcome::OutOfMemory),
-        _ => Ok(Outcome::Prim(Value::J(word.parse::<i64>()?))),
+        "void" => Some(Outcome::Void),
+        "null" => null_outcome(rt, alloc),
+        "new" => Some(Outcome::NewRemote(0)),
+        "fault" => Some(Outcome::Fault(units_of(rt, alloc, "x"))),
+        "memory" => Some(Outcome::OutOfMemory),
+        _ => {
+            let number = word.parse::<i64>().ok()?;
+            Some(Outcome::Prim(Value::J(number)))
+        }
     }
 }
 
 /// How invocations come out.
-fn outcomes_of(alloc: Global, words: &str) -> Result<OutcomeList, Fail> {
+fn outcomes_of(rt: &impl Abort, alloc: Global, words: &str) -> OutcomeList {
     let mut outcomes = OutcomeList::new(alloc);
     for word in words.split(' ') {
-        outcomes.push(outcome_of(alloc, word)?)?;
+        match outcome_of(rt, alloc, word) {
+            Some(outcome) => must(rt, outcomes.push(outcome).is_ok(), "memory"),
+            None => must(rt, false, word),
+        }
     }
-    Ok(outcomes)
+    outcomes
 }
 
 /// The kind of the object.
-fn kind(alloc: Global) -> Result<Kind, Fail> {
+fn kind(rt: &impl Abort, alloc: Global) -> Kind {
     let mut methods = MethodList::new(alloc);
     for line in METHODS.split('\n') {
-        methods.push(Method::parse(alloc, line.as_bytes())?)?;
+        match Method::parse(alloc, line.as_bytes()) {
+            Ok(method) => must(rt, methods.push(method).is_ok(), "memory"),
+            Err(_) => must(rt, false, line),
+        }
     }
-    let interface = Units::from_ascii(alloc, b"a.B")?;
-    Ok(Kind { interface, methods })
+    Kind {
+        interface: units_of(rt, alloc, "a.B"),
+        methods,
+    }
 }
 
 /// The book of the one kind.
-fn book(alloc: Global) -> Result<Book, Fail> {
-    let mut kinds = KindList::new(alloc);
-    let kind = kind(alloc)?;
+fn book(rt: &impl Abort, alloc: Global) -> Option<Book> {
+    let kind = kind(rt, alloc);
     if encoded_len(&kind.interface) > 65535 || kind.methods.len() != 3 {
-        return Err(Fail::from("kind"));
+        return None;
     }
-    kinds.push(kind)?;
-    match Book::new(alloc, kinds) {
-        Ok(book) => Ok(book),
-        Err(_fault) => Err(Fail::from("book")),
+    let mut kinds = KindList::new(alloc);
+    must(rt, kinds.push(kind).is_ok(), "memory");
+    Book::new(alloc, kinds).ok()
+}
+
+/// The host of both sides.
+fn host(rt: &impl Abort, alloc: Global) -> Option<Units>
+    ensures { IfSome result (λ host. length (utf host) ≤ 255) }
+{
+    let host = units_of(rt, alloc, "127.0.0.1");
+    if encoded_len(&host) > 255 {
+        return None;
     }
+    Some(host)
 }
 
 /// What a connection is told beforehand.
-fn setup(alloc: Global) -> Result<Setup, Fail>
-    ensures hosts { IfOk result (λ s. (length (utf s.peer_host) ≤ 255) × (length (utf s.host) ≤ 255)) }
-    ensures draw { IfOk result (λ s. s.draw ≡ record { unique = pos 2; time = pos 2; drawn = 0 }) }
+fn setup(rt: &impl Abort, alloc: Global) -> Option<Setup>
+    ensures hosts { IfSome result (λ s. (length (utf s.peer_host) ≤ 255) × (length (utf s.host) ≤ 255)) }
+    ensures draw { IfSome result (λ s. s.draw ≡ record { unique = pos 2; time = pos 2; drawn = 0 }) }
 {
-    let peer_host = Units::from_ascii(alloc, b"127.0.0.1")?;
-    let host = Units::from_ascii(alloc, b"127.0.0.1")?;
-    if encoded_len(&peer_host) > 255 || encoded_len(&host) > 255 {
-        return Err(Fail::from("host"));
-    }
-    Ok(Setup {
+    Some(Setup {
         by: 1,
-        peer_host,
+        peer_host: host(rt, alloc)?,
         peer_port: 1234,
-        host,
+        host: host(rt, alloc)?,
         port: 1099,
         binding: false,
         draw: UidDraw::new(2, 2),
@@ -201,39 +178,54 @@ fn setup(alloc: Global) -> Result<Setup, Fail>
 }
 
 /// The space of one object, which is pinned.
-fn space_of_one(alloc: Global) -> Result<Space, Fail> {
+fn space_of_one(rt: &impl Abort, alloc: Global) -> Space {
     let mut space = Space::fresh(alloc, &CONFIG);
     let pinned = true;
-    let _opened = space.turn(0, 0, Ask::Open { kind: 0, pinned })?;
-    Ok(space)
+    let opened = space.turn(0, 0, Ask::Open { kind: 0, pinned });
+    must(rt, opened.is_ok(), "opened");
+    space
 }
 
-/// Serves a connection that sends these bytes, and answers what the space was asked and how the connection ended.
+/// What a line says of a connection.
+#[derive(Clone, Copy)]
+struct Wanted<'a> {
+    output: &'a [u8],
+    entries: &'a str,
+    places: &'a str,
+}
+
+/// Serves a connection that sends these bytes, and answers how it ended, where all else is as it is wanted.
 fn serve(
+    rt: &impl Abort,
     alloc: Global,
-    input: ByteList,
-    sink: &mut MemSink,
-    worker: &mut RecordingWorker,
     book: &Book,
-) -> Result<(AskedList, ConnEnd), Fail>
-    requires { worker.old.calls ≡ 0 }
-{
-    let mut setup = setup(alloc)?;
-    let mut space = space_of_one(alloc)?;
-    let mut source = MemSource::new(input, Kinds::new(alloc), Kinds::new(alloc));
+    input: &[u8],
+    outcomes: OutcomeList,
+    wanted: Wanted,
+) -> Option<ConnEnd> {
+    let mut setup = setup(rt, alloc)?;
+    let bytes = listed(rt, alloc, input);
+    let mut source = MemSource::new(bytes, Kinds::new(alloc), Kinds::new(alloc));
+    let mut sink = MemSink::new(alloc, Kinds::new(alloc));
     let mut clock = MemClock::new(MomentList::new(alloc));
+    let mut space = space_of_one(rt, alloc);
     let mut port = DirectPort::new(alloc, &mut space, 1);
+    let mut worker = RecordingWorker::new(alloc, outcomes);
     let end = serve_connection(
         alloc,
         &mut source,
-        sink,
+        &mut sink,
         &mut clock,
         &mut port,
-        worker,
+        &mut worker,
         book,
         &mut setup,
     );
-    Ok((port.into_asked(), end))
+    let asked = port.into_asked();
+    must(rt, are_entries(asked.as_slice(), wanted.entries), "asked");
+    must(rt, are_invoked(worker.recorded(), wanted.places), "invoked");
+    must(rt, sink.held() == wanted.output, "written");
+    Some(end)
 }
 
 /// What was asked, in a word.
@@ -280,31 +272,44 @@ fn are_invoked(calls: &[Recorded], places: &str) -> bool {
     left.is_empty()
 }
 
+/// Whether an end is told by this text.
+fn is_told(alloc: Global, end: Option<ConnEnd>, text: &str) -> bool {
+    match end {
+        Some(end) => match format!(in alloc; "{end:?}") {
+            Ok(told) => told.as_str() == text,
+            Err(_) => false,
+        },
+        None => false,
+    }
+}
+
 /// Serves what a line says, and checks the rest of it.
-fn check_line(rt: &impl Abort, alloc: Global, book: &Book, line: &str) -> Result<(), Fail> {
+fn check_line(rt: &impl Abort, alloc: Global, book: &Book, line: &str) {
     let (input, rest) = cut(line, '|');
     let (outcomes, rest) = cut(rest, '|');
     let (output, rest) = cut(rest, '|');
     let (entries, rest) = cut(rest, '|');
-    let (places, end_text) = cut(rest, '|');
-    let mut sink = MemSink::new(alloc, Kinds::new(alloc));
-    let mut worker = RecordingWorker::new(alloc, outcomes_of(alloc, outcomes)?);
-    let input = bytes_of(alloc, "opening", input)?;
-    let (asked, end) = serve(alloc, input, &mut sink, &mut worker, book)?;
-    must(rt, are_entries(asked.as_slice(), entries), line);
-    must(rt, are_invoked(worker.recorded(), places), line);
-    must(rt, format!(in alloc; "{end:?}")?.as_str() == end_text, line);
-    let wanted = bytes_of(alloc, "ack", output)?;
-    must(rt, sink.held() == wanted.as_slice(), line);
-    Ok(())
+    let (places, end) = cut(rest, '|');
+    let input = bytes_of(rt, alloc, "opening", input);
+    let output = bytes_of(rt, alloc, "ack", output);
+    let outcomes = outcomes_of(rt, alloc, outcomes);
+    let wanted = Wanted {
+        output: output.as_slice(),
+        entries,
+        places,
+    };
+    let found = serve(rt, alloc, book, input.as_slice(), outcomes, wanted);
+    must(rt, is_told(alloc, found, end), line);
 }
 
 #[test]
-fn calls_are_served(rt: HostRuntime) -> Result<(), Fail> {
-    let alloc = rt.alloc();
-    let book = book(alloc)?;
-    for line in LINES.split('\n') {
-        check_line(&rt, alloc, &book, line)?;
+fn calls_are_served(rt: HostRuntime) {
+    match book(&rt, rt.alloc()) {
+        Some(book) => {
+            for line in LINES.split('\n') {
+                check_line(&rt, rt.alloc(), &book, line);
+            }
+        }
+        None => must(&rt, false, "book"),
     }
-    Ok(())
 }

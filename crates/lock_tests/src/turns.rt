@@ -11,7 +11,6 @@ use space::{Ask, Space};
 use std::alloc::Global;
 use std::process::Abort;
 use std::sync::Wait;
-use std::test::Fail;
 use std::thread::{Threads, join};
 use turn_lock::{Pass, Root, TurnLock};
 
@@ -33,6 +32,38 @@ fn branch(root: &mut Root, lock: &TurnLock) -> Option<Pass>
     }
 }
 
+/// Two passes with a thread each make so many ticks each; answers how many of them were refused.
+fn tick_by_two<R: Threads + Wait + Sync>(
+    rt: &R,
+    alloc: Global,
+    lock: &TurnLock,
+    root: &mut Root,
+    turns: u64,
+) -> Option<u64>
+    requires own { IsRootOf lock.now root.old }
+    requires none { root.old.out ≡ 0 }
+    requires few { turns ≤ 1000 }
+    ensures root { IsRootOf lock.now root.new }
+    ensures joined { IfSome result (λ _. root.new.out ≡ 0) }
+{
+    let one = branch(root, lock)?;
+    let two = branch(root, lock)?;
+    let ((one, first), (two, second)) = join(
+        rt,
+        move || -> (Pass, u64)
+            requires { IsBranchOf lock.now one × (turns ≤ one.room) }
+            ensures { IsBranchOf lock.entry.now result.0 }
+        { ticked(rt, alloc, lock, one, turns) },
+        move || -> (Pass, u64)
+            requires { IsBranchOf lock.now two × (turns ≤ two.room) }
+            ensures { IsBranchOf lock.entry.now result.0 }
+        { ticked(rt, alloc, lock, two, turns) },
+    );
+    root.join(lock, two);
+    root.join(lock, one);
+    Some(first.wrapping_add(second))
+}
+
 /// The space after two passes with a thread each made so many ticks each, and how many of them were refused.
 fn by_two<R: Threads + Wait + Sync>(
     rt: &R,
@@ -45,69 +76,79 @@ fn by_two<R: Threads + Wait + Sync>(
     let Ok((lock, mut root)) = TurnLock::around(alloc, space) else {
         return None;
     };
-    let one = branch(&mut root, &lock)?;
-    let two = branch(&mut root, &lock)?;
-    let top = &lock;
-    let ((one, first), (two, second)) = join(
+    match tick_by_two(rt, alloc, &lock, &mut root, turns) {
+        Some(refused) => Some((lock.close(root), refused)),
+        None => None,
+    }
+}
+
+/// Looks whether a space has so many events, and so many of each number in the order of their moments.
+fn check_counts(rt: &impl Abort, alloc: Global, space: &Space, len: u64, wanted: [u64; 10]) {
+    must(rt, space.len() == len, "as many events");
+    must(
         rt,
-        move || -> (Pass, u64)
-            requires { IsBranchOf top.now one × (turns ≤ one.room) }
-            ensures { IsBranchOf top.entry.now result.0 }
-        { ticked(rt, alloc, top, one, turns) },
-        move || -> (Pass, u64)
-            requires { IsBranchOf top.now two × (turns ≤ two.room) }
-            ensures { IsBranchOf top.entry.now result.0 }
-        { ticked(rt, alloc, top, two, turns) },
+        counts(alloc, space) == Some(wanted),
+        "each in its order",
     );
-    root.join(&lock, two);
-    root.join(&lock, one);
-    Some((lock.close(root), first.wrapping_add(second)))
 }
 
 #[test]
-fn two_passes(rt: HostRuntime) -> Result<(), Fail> {
+fn two_passes(rt: HostRuntime) {
     let alloc = rt.alloc();
-    let (space, refused) = by_two(&rt, alloc, fresh(alloc), 100).ok_or("no memory")?;
-    must(&rt, refused == 0, "none is refused");
-    must(&rt, space.len() == 200, "200 events");
-    let counts = counts(alloc, &space)?;
-    must(
-        &rt,
-        counts == Some([0, 100, 100, 0, 0, 0, 0, 0, 0, 0]),
-        "each in its order",
-    );
-    Ok(())
+    match by_two(&rt, alloc, fresh(alloc), 100) {
+        Some((space, refused)) => {
+            must(&rt, refused == 0, "none is refused");
+            let wanted = [0, 100, 100, 0, 0, 0, 0, 0, 0, 0];
+            check_counts(&rt, alloc, &space, 200, wanted);
+        }
+        None => must(&rt, false, "no memory"),
+    }
 }
 
-/// The space with 13 units left: a return with many kinds was noted, of a call that nobody ran.
-fn nearly_full(alloc: Global) -> Option<Space> {
-    let mut space = fresh(alloc);
-    let made = vec![in alloc; 1u32; 4_194_290].ok()?;
+/// Notes a return with many kinds, of a call that nobody ran, and answers whether there was memory.
+fn note_many(alloc: Global, space: &mut Space) -> bool {
+    let Ok(made) = vec![in alloc; 1u32; 4_194_290] else {
+        return false;
+    };
     let ask = Ask::Finish {
         object: FIRST,
         made: Kinds::from_vec(made),
         listed: ObjIds::new(alloc),
         uid: FIRST.space,
     };
-    let _noted = space.turn(0, 0, ask).ok()?;
-    Some(space)
+    space.turn(0, 0, ask).is_ok()
+}
+
+/// The space with 13 units left.
+fn nearly_full(rt: &impl Abort, alloc: Global) -> Space {
+    let mut space = fresh(alloc);
+    must(rt, note_many(alloc, &mut space), "noted");
+    space
 }
 
 #[test]
-fn a_full_history_refuses_while_others_wait(rt: HostRuntime) -> Result<(), Fail> {
+fn a_full_history_refuses_while_others_wait(rt: HostRuntime) {
     let alloc = rt.alloc();
-    let space = nearly_full(alloc).ok_or("no memory")?;
-    let (space, refused) = by_two(&rt, alloc, space, 10).ok_or("no memory")?;
-    must(&rt, refused == 7, "seven are refused");
-    must(&rt, space.len() == 14, "and 13 are taken");
-    Ok(())
+    match by_two(&rt, alloc, nearly_full(&rt, alloc), 10) {
+        Some((space, refused)) => {
+            must(&rt, refused == 7, "seven are refused");
+            must(&rt, space.len() == 14, "and 13 are taken");
+        }
+        None => must(&rt, false, "no memory"),
+    }
+}
+
+/// The space of one object, which is pinned.
+fn space_of_one(rt: &impl Abort, alloc: Global) -> Space {
+    let mut space = fresh(alloc);
+    let pinned = true;
+    let opened = space.turn(0, 0, Ask::Open { kind: 3, pinned });
+    must(rt, opened.is_ok(), "opened");
+    space
 }
 
 /// The space after eight passes with a thread each made 500 calls of its first object.
-fn by_eight<R: Threads + Wait + Sync>(rt: &R, alloc: Global) -> Option<Space> {
-    let mut space = fresh(alloc);
-    let pinned = true;
-    let _opened = space.turn(0, 0, Ask::Open { kind: 3, pinned }).ok()?;
+fn by_eight<R: Threads + Wait + Sync>(rt: &R, alloc: Global, space: Space) -> Option<Space> {
     let Ok((lock, root)) = TurnLock::around(alloc, space) else {
         return None;
     };
@@ -115,21 +156,27 @@ fn by_eight<R: Threads + Wait + Sync>(rt: &R, alloc: Global) -> Option<Space> {
     Some(lock.close(root))
 }
 
-#[test]
-fn eight_passes(rt: HostRuntime) -> Result<(), Fail> {
-    let alloc = rt.alloc();
-    let space = by_eight(&rt, alloc).ok_or("no memory")?;
-    must(&rt, space.len() == 8001, "8001 events");
-    let counts = counts(alloc, &space)?;
-    must(
-        &rt,
-        counts == Some([1, 1000, 1000, 1000, 1000, 1000, 1000, 1000, 1000, 0]),
-        "each in its order",
-    );
+/// Whether no call of the first object runs.
+fn is_idle(space: &Space) -> bool {
     for by in 1..9u32 {
-        must(&rt, space.running(by, FIRST) == 0, "no call runs");
+        if space.running(by, FIRST) != 0 {
+            return false;
+        }
     }
-    Ok(())
+    true
+}
+
+#[test]
+fn eight_passes(rt: HostRuntime) {
+    let alloc = rt.alloc();
+    match by_eight(&rt, alloc, space_of_one(&rt, alloc)) {
+        Some(space) => {
+            let wanted = [1, 1000, 1000, 1000, 1000, 1000, 1000, 1000, 1000, 0];
+            check_counts(&rt, alloc, &space, 8001, wanted);
+            must(&rt, is_idle(&space), "no call runs");
+        }
+        None => must(&rt, false, "no memory"),
+    }
 }
 
 /// A further pass after so many ticks.
@@ -176,20 +223,20 @@ fn in_other_order<R: Wait>(rt: &R, alloc: Global) -> Option<Space> {
     let Ok((lock, mut root)) = TurnLock::around(alloc, fresh(alloc)) else {
         return None;
     };
-    join_in_other_order(rt, alloc, &lock, &mut root)?;
-    let (_answer, _asked) = root.turn(rt, alloc, &lock, 0, Ask::Tick);
-    Some(lock.close(root))
+    match join_in_other_order(rt, alloc, &lock, &mut root) {
+        Some(()) => {
+            let (_answer, _asked) = root.turn(rt, alloc, &lock, 0, Ask::Tick);
+            Some(lock.close(root))
+        }
+        None => None,
+    }
 }
 
 #[test]
-fn passes_are_joined_in_another_order(rt: HostRuntime) -> Result<(), Fail> {
+fn passes_are_joined_in_another_order(rt: HostRuntime) {
     let alloc = rt.alloc();
-    let space = in_other_order(&rt, alloc).ok_or("no memory")?;
-    let counts = counts(alloc, &space)?;
-    must(
-        &rt,
-        counts == Some([1, 1, 2, 3, 0, 0, 0, 0, 0, 0]),
-        "each in its order",
-    );
-    Ok(())
+    match in_other_order(&rt, alloc) {
+        Some(space) => check_counts(&rt, alloc, &space, 7, [1, 1, 2, 3, 0, 0, 0, 0, 0, 0]),
+        None => must(&rt, false, "no memory"),
+    }
 }

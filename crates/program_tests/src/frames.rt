@@ -1,64 +1,79 @@
 //! Messages that are read and written.
-use crate::hosts::{cut_by, joined, must, repeated, source_of};
+use crate::hosts::{cut_by, must, source_of};
+use crate::texts::{bytes_of, cut, number_of};
 use jrmp_frames::code::{Code, read_code};
 use jrmp_frames::endpoint::{ack_bytes, skip_endpoint};
 use jrmp_frames::fault::FrameFault;
 use jrmp_frames::header::{Protocol, read_header};
 use mod_utf::list::Units;
 use mod_utf::utf::encoded_len;
-use std::alloc::{AllocError, Global};
+use std::alloc::Global;
 use std::process::Abort;
-use std::test::Fail;
+use wire_io::mem::MemSource;
 use wire_io::pull::Pull;
 
-fn check_ack(
-    rt: &impl Abort,
-    alloc: Global,
-    host: &[u16],
-    port: i32,
-    wanted: &[u8],
-) -> Result<(), AllocError> {
-    let host = Units::from_slice(alloc, host)?;
-    assert!(rt; encoded_len(&host) <= 255);
-    let bytes = ack_bytes(alloc, &host, port)?;
-    must(rt, bytes.as_slice() == wanted, "acknowledgement");
-    Ok(())
+/// The host of one acknowledgement.
+fn host_of(rt: &impl Abort, alloc: Global) -> Units {
+    let mut units = Units::new(alloc);
+    must(rt, units.append(&[0x61, 0xE9, 0]).is_ok(), "memory");
+    units
 }
 
-#[test]
-fn acknowledgement_tells_host_and_port(rt: HostRuntime) -> Result<(), Fail> {
-    let named = b"N\x00\x05a\xC3\xA9\xC0\x80\x00\x00\x04\xD2";
-    check_ack(&rt, rt.alloc(), &[0x61, 0xE9, 0], 1234, named)?;
-    check_ack(&rt, rt.alloc(), &[], -2, b"N\x00\x00\xFF\xFF\xFF\xFE")?;
-    Ok(())
-}
-
-#[test]
-fn parts_are_read_in_turn(rt: HostRuntime) -> Result<(), Fail> {
-    let endpoint = repeated(rt.alloc(), b"\xFF", 258 + 4)?;
-    let head = joined(rt.alloc(), b"JRMI\x00\x02K\x01\x02", endpoint.as_slice())?;
-    let bytes = joined(rt.alloc(), head.as_slice(), b"RTPQ")?;
-    let mut source = source_of(rt.alloc(), bytes.as_slice(), cut_by(None))?;
-    let mut pull = Pull::new(&mut source);
-    must(
-        &rt,
-        read_header(&mut pull) == Ok(Protocol::Stream),
-        "header",
-    );
-    must(&rt, skip_endpoint(&mut pull) == Ok(()), "endpoint");
-    let bad = FrameFault::BadMessage {
-        byte: 0x51,
-        at: 274,
-    };
-    let codes: [Result<Option<Code>, FrameFault>; 5] = [
-        Ok(Some(Code::Ping)),
-        Ok(Some(Code::DgcAck)),
-        Ok(Some(Code::Call)),
-        Err(bad),
-        Ok(None),
-    ];
-    for code in codes {
-        must(&rt, read_code(&mut pull) == code, "code");
+/// Looks whether these words are the acknowledgement to a host and a port.
+fn check_ack(rt: &impl Abort, alloc: Global, host: &Units, port: i32, words: &str) {
+    let wanted = bytes_of(rt, alloc, words);
+    if encoded_len(host) > 255 {
+        must(rt, false, words);
+        return;
     }
-    Ok(())
+    match ack_bytes(alloc, host, port) {
+        Ok(bytes) => must(rt, bytes.as_slice() == wanted.as_slice(), words),
+        Err(_) => must(rt, false, "memory"),
+    }
+}
+
+#[test]
+fn acknowledgement_tells_host_and_port(rt: HostRuntime) {
+    let host = host_of(&rt, rt.alloc());
+    let named = "4E 0005 61 C3A9 C080 000004D2";
+    check_ack(&rt, rt.alloc(), &host, 1234, named);
+    let host = Units::new(rt.alloc());
+    check_ack(&rt, rt.alloc(), &host, -2, "4E 0000 FFFFFFFE");
+}
+
+/// What reading a code answers: the code, or 0 at the end of input; and the position of a byte that is none.
+fn told(code: Result<Option<Code>, FrameFault>) -> (u8, u64) {
+    match code {
+        Ok(Some(Code::Ping)) => (0x52, 0),
+        Ok(Some(Code::DgcAck)) => (0x54, 0),
+        Ok(Some(Code::Call)) => (0x50, 0),
+        Ok(None) => (0, 0),
+        Err(FrameFault::BadMessage { byte, at }) => (byte, at),
+        Err(_) => (0xFF, 0),
+    }
+}
+
+/// The codes that are read one after the other, where the first stands at 271.
+const CODES: &str = "82 0|84 0|80 0|81 274|0 0";
+
+/// Reads codes, one after the other.
+fn check_codes(rt: &impl Abort, pull: &mut Pull<'_, MemSource>) {
+    for row in CODES.split('|') {
+        let (code, at) = cut(row, ' ');
+        let found = told(read_code(pull));
+        must(rt, u32::from(found.0) == number_of(rt, code), row);
+        must(rt, found.1 == u64::from(number_of(rt, at)), row);
+    }
+}
+
+#[test]
+fn parts_are_read_in_turn(rt: HostRuntime) {
+    let words = "header 4B 0102 258*FF 4*FF 52 54 50 51";
+    let bytes = bytes_of(&rt, rt.alloc(), words);
+    let mut source = source_of(&rt, rt.alloc(), bytes.as_slice(), cut_by("-"));
+    let mut pull = Pull::new(&mut source);
+    let header = read_header(&mut pull);
+    must(&rt, header == Ok(Protocol::Stream), "header");
+    must(&rt, skip_endpoint(&mut pull).is_ok(), "endpoint");
+    check_codes(&rt, &mut pull);
 }

@@ -1,7 +1,8 @@
-//! What the tests run the program on.
+//! What the tests run the program on. A test stops where there is no memory: no helper answers an error, and none has an early end.
+use crate::texts::{bytes_of, cut, number_of, numbers_of};
 use mod_utf::list::{ByteList, Kinds, MomentList};
 use rmi_cli::{Host, Words, run};
-use std::alloc::{AllocError, Global};
+use std::alloc::Global;
 use std::process::Abort;
 use wire_io::mem::{MemClock, MemSink, MemSource};
 
@@ -16,133 +17,217 @@ pub(crate) fn must(rt: &impl Abort, holds: bool, what: &str) {
     assert!(rt; holds, "{what}");
 }
 
-/// Two pieces, one after the other.
-pub(crate) fn joined(alloc: Global, front: &[u8], rest: &[u8]) -> Result<ByteList, AllocError> {
-    let mut bytes = ByteList::from_slice(alloc, front)?;
-    bytes.append(rest)?;
-    Ok(bytes)
+/// Appends a piece.
+pub(crate) fn put(rt: &impl Abort, bytes: &mut ByteList, piece: &[u8]) {
+    must(rt, bytes.append(piece).is_ok(), "memory");
 }
 
-/// A piece so many times.
-pub(crate) fn repeated(alloc: Global, piece: &[u8], count: u32) -> Result<ByteList, AllocError> {
+/// A list of these bytes.
+pub(crate) fn copied(rt: &impl Abort, alloc: Global, piece: &[u8]) -> ByteList {
     let mut bytes = ByteList::new(alloc);
-    for _ in 0..count {
-        bytes.append(piece)?;
-    }
-    Ok(bytes)
+    put(rt, &mut bytes, piece);
+    bytes
 }
 
-/// How a source is cut into pieces, and which of its reads and of the sink's writes fail, by their indices.
+/// How a source is cut into pieces, a length or `-`, and which of its reads and of the sink's writes fail, by their indices.
 #[derive(Clone, Copy)]
 pub(crate) struct Outside<'a> {
-    pub cut: Option<u32>,
-    pub failing_reads: &'a [u32],
-    pub failing_writes: &'a [u32],
+    pub cut: &'a str,
+    pub failing_reads: &'a str,
+    pub failing_writes: &'a str,
 }
 
 /// Nothing fails, and pieces have this length, or any.
-pub(crate) fn cut_by(cut: Option<u32>) -> Outside<'static> {
+pub(crate) fn cut_by(cut: &str) -> Outside<'_> {
     Outside {
         cut,
-        failing_reads: &[],
-        failing_writes: &[],
+        failing_reads: "",
+        failing_writes: "",
     }
 }
 
 /// The lengths of so many pieces.
-fn cuts_of(alloc: Global, cut: Option<u32>, count: usize) -> Result<Kinds, AllocError> {
+fn cuts_of(rt: &impl Abort, alloc: Global, cut: &str, count: usize) -> Kinds {
     let mut cuts = Kinds::new(alloc);
-    if let Some(cut) = cut {
+    if cut != "-" {
+        let len = number_of(rt, cut);
         for _ in 0..count {
-            cuts.push(cut)?;
+            must(rt, cuts.push(len).is_ok(), "memory");
         }
     }
-    Ok(cuts)
+    cuts
 }
 
 /// A source of these bytes.
 pub(crate) fn source_of(
+    rt: &impl Abort,
     alloc: Global,
     input: &[u8],
     outside: Outside,
-) -> Result<MemSource, AllocError> {
-    let cuts = cuts_of(alloc, outside.cut, input.len() + 1)?;
-    let bytes = ByteList::from_slice(alloc, input)?;
-    let failing = Kinds::from_slice(alloc, outside.failing_reads)?;
-    Ok(MemSource::new(bytes, cuts, failing))
+) -> MemSource {
+    let count = input.len().saturating_add(1);
+    MemSource::new(
+        copied(rt, alloc, input),
+        cuts_of(rt, alloc, outside.cut, count),
+        numbers_of(rt, alloc, outside.failing_reads),
+    )
 }
 
 /// A sink whose writes of these indices fail.
-pub(crate) fn sink_of(alloc: Global, failing: &[u32]) -> Result<MemSink, AllocError> {
-    Ok(MemSink::new(alloc, Kinds::from_slice(alloc, failing)?))
+pub(crate) fn sink_of(rt: &impl Abort, alloc: Global, failing: &str) -> MemSink {
+    MemSink::new(alloc, numbers_of(rt, alloc, failing))
 }
 
 /// A host of this input.
-pub(crate) fn host_of(
-    alloc: Global,
-    input: &[u8],
-    outside: Outside,
-) -> Result<MemHost, AllocError> {
-    let output = sink_of(alloc, outside.failing_writes)?;
-    let errors = sink_of(alloc, &[])?;
-    Ok(Host {
-        input: source_of(alloc, input, outside)?,
-        output,
-        errors,
+pub(crate) fn host_of(rt: &impl Abort, alloc: Global, input: &[u8], outside: Outside) -> MemHost {
+    Host {
+        input: source_of(rt, alloc, input, outside),
+        output: sink_of(rt, alloc, outside.failing_writes),
+        errors: sink_of(rt, alloc, ""),
         ticks: MemClock::new(MomentList::new(alloc)),
         seed: SEED,
-    })
+    }
+}
+
+/// Appends a word.
+fn put_word(rt: &impl Abort, alloc: Global, words: &mut Vec<String>, word: &str) {
+    match word.to_string(alloc) {
+        Ok(word) => must(rt, words.push(word).is_ok(), "memory"),
+        Err(_) => must(rt, false, "memory"),
+    }
 }
 
 /// The words of a command line, between blanks.
-pub(crate) fn words_of(alloc: Global, line: &str) -> Result<Words, AllocError> {
+pub(crate) fn words_of(rt: &impl Abort, alloc: Global, line: &str) -> Words {
     let mut words = Vec::new(alloc);
     if !line.is_empty() {
         for word in line.split(' ') {
-            words.push(word.to_string(alloc)?)?;
+            put_word(rt, alloc, &mut words, word);
         }
     }
-    Ok(Words::from_vec(words))
+    Words::from_vec(words)
 }
 
-/// What a run must give: the output, the line on the errors' sink with its LF, and the status.
-#[derive(Clone, Copy)]
-pub(crate) struct Wanted<'a> {
-    pub output: &'a [u8],
-    pub line: &'a str,
-    pub status: u8,
+/// Runs the program with the words of a line over this host, and answers its status.
+pub(crate) fn run_line(rt: &impl Abort, alloc: Global, line: &str, host: &mut MemHost) -> u8 {
+    let words = words_of(rt, alloc, line);
+    run(alloc, &words, host)
 }
 
-/// Runs the program with one word over this host, and compares all that it wrote and answered.
-pub(crate) fn check_host(
-    rt: &impl Abort,
-    alloc: Global,
-    host: &mut MemHost,
-    command: &str,
-    wanted: Wanted,
-) -> Result<(), AllocError> {
-    let words = words_of(alloc, command)?;
-    let status = run(alloc, &words, host);
-    must(rt, status == wanted.status, wanted.line);
-    must(rt, host.output.held() == wanted.output, "output");
-    must(
-        rt,
-        host.errors.held() == wanted.line.as_bytes(),
-        wanted.line,
-    );
-    Ok(())
+/// Whether these bytes are a line, or nothing where the line is empty.
+pub(crate) fn is_line(bytes: &[u8], line: &str) -> bool {
+    match bytes.strip_suffix(b"\n") {
+        Some(front) => front == line.as_bytes(),
+        None => bytes.is_empty() && line.is_empty(),
+    }
 }
 
-/// Runs the program with one word over this input, compares all that it wrote and answered, and answers how many bytes are left.
+/// Looks whether a host got this output and this line of errors.
+fn check_host(rt: &impl Abort, host: &MemHost, output: &[u8], line: &str) {
+    must(rt, host.output.held() == output, "output");
+    must(rt, is_line(host.errors.held(), line), line);
+}
+
+/// Runs the program with one word over this input, and looks whether it wrote this output and ended as told, by a status and a line.
+/// It answers how many bytes are left.
 pub(crate) fn check(
     rt: &impl Abort,
     alloc: Global,
     command: &str,
     input: &[u8],
     outside: Outside,
-    wanted: Wanted,
-) -> Result<usize, AllocError> {
-    let mut host = host_of(alloc, input, outside)?;
-    check_host(rt, alloc, &mut host, command, wanted)?;
-    Ok(host.input.left().len())
+    output: &[u8],
+    told: &str,
+) -> usize {
+    let (status, line) = cut(told, ' ');
+    let mut host = host_of(rt, alloc, input, outside);
+    let ended = run_line(rt, alloc, command, &mut host);
+    must(rt, u32::from(ended) == number_of(rt, status), line);
+    check_host(rt, &host, output, line);
+    host.input.left().len()
+}
+
+/// Looks whether so many bytes are left, where a text says how many.
+fn check_left(rt: &impl Abort, left: usize, wanted: &str) {
+    if !wanted.is_empty() {
+        must(rt, left == number_of(rt, wanted) as usize, "left");
+    }
+}
+
+/// Runs a line of a table, cut in one way: the input; the output; how many bytes are left, where that is told; the status and the line on
+/// the errors' sink; and the indices of the reads and of the writes that fail.
+fn check_line(rt: &impl Abort, alloc: Global, command: &str, pieces: &str, line: &str) {
+    let (input, rest) = cut(line, '|');
+    let (output, rest) = cut(rest, '|');
+    let (left, rest) = cut(rest, '|');
+    let (told, rest) = cut(rest, '|');
+    let (failing_reads, failing_writes) = cut(rest, '|');
+    let outside = Outside {
+        cut: pieces,
+        failing_reads,
+        failing_writes,
+    };
+    let found = check_words(rt, alloc, command, input, outside, output, told);
+    check_left(rt, found, left);
+}
+
+/// Runs the program over the bytes that words spell.
+pub(crate) fn check_words(
+    rt: &impl Abort,
+    alloc: Global,
+    command: &str,
+    input: &str,
+    outside: Outside,
+    output: &str,
+    told: &str,
+) -> usize {
+    let input = bytes_of(rt, alloc, input);
+    let output = bytes_of(rt, alloc, output);
+    check(
+        rt,
+        alloc,
+        command,
+        input.as_slice(),
+        outside,
+        output.as_slice(),
+        told,
+    )
+}
+
+/// Runs each line of a table, cut in each of these ways.
+pub(crate) fn check_table(rt: &impl Abort, alloc: Global, command: &str, cuts: &str, table: &str) {
+    for line in table.split('\n') {
+        for pieces in cuts.split(' ') {
+            check_line(rt, alloc, command, pieces, line);
+        }
+    }
+}
+
+/// Runs `answer` over the first so many bytes, which is cut short.
+fn check_front(rt: &impl Abort, alloc: Global, front: &[u8], cut: &str, output: &[u8]) {
+    let len = front.len();
+    match format!(in alloc; "2 truncated at {len}") {
+        Ok(told) => {
+            let outside = cut_by(cut);
+            let _left = check(rt, alloc, "answer", front, outside, output, told.as_str());
+        }
+        Err(_) => must(rt, false, "memory"),
+    }
+}
+
+/// Runs `answer` over each front of some words, from a length on, which is cut short.
+pub(crate) fn check_fronts(
+    rt: &impl Abort,
+    alloc: Global,
+    words: &str,
+    from: usize,
+    cut: &str,
+    output: &str,
+) {
+    let whole = bytes_of(rt, alloc, words);
+    let output = bytes_of(rt, alloc, output);
+    for len in from..whole.len() {
+        let front = whole.as_slice().get(..len).unwrap_or(&[]);
+        check_front(rt, alloc, front, cut, output.as_slice());
+    }
 }

@@ -1,5 +1,5 @@
 //! Lines of journals, written by hand: which are read, and how they are written.
-use crate::hosts::must;
+use crate::hosts::{must, put};
 use history::{Name, SpaceConfig};
 use journal::outline::{
     put_events_line, put_lease_line, put_name_line, put_object_line, put_withdrawal_line,
@@ -9,7 +9,6 @@ use mod_utf::list::{ByteList, Units};
 use object_ids::{ObjId, Uid, Vmid};
 use std::alloc::{AllocError, Global};
 use std::process::Abort;
-use std::test::Fail;
 
 const SPACE: Uid = Uid {
     unique: 7,
@@ -90,8 +89,9 @@ space 1 1 7
 space 1 1 7 9 0
 Space 1 1 7 9";
 
-/// Lines of an outline.
-const OUTLINE: &str = r#"events 7 units 11 now 4611686018427387903
+/// A first line, and lines of an outline.
+const OUTLINE: &str = r#"space 600000 300000 7 9
+events 7 units 11 now 4611686018427387903
 object 17 kind 4294967295 free running 1 awaiting 10 held 200 names 0
 lease aa@7/9/5 until 600014
 name "\ud800\u0022a" -16:7/9/1
@@ -99,71 +99,57 @@ withdrawn 17 place 6
 "#;
 
 /// Reads a line, which spells an event or none.
-fn check_event(
-    rt: &impl Abort,
-    alloc: Global,
-    line: &str,
-    spelled: bool,
-) -> Result<(), AllocError> {
-    let event = read_event(alloc, SPACE, line.as_bytes())?;
-    must(rt, event.is_some() == spelled, line);
-    Ok(())
+fn check_event(rt: &impl Abort, alloc: Global, line: &str, spelled: bool) {
+    match read_event(alloc, SPACE, line.as_bytes()) {
+        Ok(event) => must(rt, event.is_some() == spelled, line),
+        Err(_) => must(rt, false, "memory"),
+    }
+}
+
+/// Reads lines, each of which spells an event or none.
+fn check_events(rt: &impl Abort, alloc: Global, lines: &str, spelled: bool) {
+    for line in lines.split('\n') {
+        check_event(rt, alloc, line, spelled);
+    }
 }
 
 #[test]
-fn events_are_read(rt: HostRuntime) -> Result<(), Fail> {
-    for (lines, spelled) in [(EVENTS, true), (IN_FULL, true), (NO_EVENTS, false)] {
-        for line in lines.split('\n') {
-            check_event(&rt, rt.alloc(), line, spelled)?;
-        }
-    }
-    Ok(())
+fn events_are_read(rt: HostRuntime) {
+    check_events(&rt, rt.alloc(), EVENTS, true);
+    check_events(&rt, rt.alloc(), IN_FULL, true);
+    check_events(&rt, rt.alloc(), NO_EVENTS, false);
 }
 
 /// Writes the event of a line again.
-fn written_again(alloc: Global, line: &str) -> Result<ByteList, Fail> {
-    let event = read_event(alloc, SPACE, line.as_bytes())?.ok_or("no event")?;
-    let mut written = ByteList::new(alloc);
-    put_event_line(&mut written, SPACE, &event)?;
-    Ok(written)
-}
-
-#[test]
-fn events_are_written(rt: HostRuntime) -> Result<(), Fail> {
-    for line in EVENTS.split('\n') {
-        let written = written_again(rt.alloc(), line)?;
-        must(
-            &rt,
-            written.as_slice().strip_suffix(b"\n") == Some(line.as_bytes()),
-            line,
-        );
+fn put_again(alloc: Global, written: &mut ByteList, line: &str) -> bool {
+    match read_event(alloc, SPACE, line.as_bytes()) {
+        Ok(Some(event)) => put_event_line(written, SPACE, &event).is_ok(),
+        _ => false,
     }
-    Ok(())
 }
 
 #[test]
-fn first_lines_are_written(rt: HostRuntime) -> Result<(), Fail> {
-    let mut out = ByteList::new(rt.alloc());
-    put_first_line(&mut out, &CONFIG)?;
-    must(
-        &rt,
-        out.as_slice() == b"space 600000 300000 7 9\n".as_slice(),
-        "first line",
-    );
-    Ok(())
+fn events_are_written(rt: HostRuntime) {
+    let mut written = ByteList::new(rt.alloc());
+    for line in EVENTS.split('\n') {
+        must(&rt, put_again(rt.alloc(), &mut written, line), line);
+    }
+    let lines = written.as_slice().strip_suffix(b"\n");
+    must(&rt, lines == Some(EVENTS.as_bytes()), "events");
+}
+
+/// Reads first lines, each of which spells a configuration or none.
+fn check_first_lines(rt: &impl Abort, lines: &str, spelled: bool) {
+    for line in lines.split('\n') {
+        let config = read_first_line(line.as_bytes());
+        must(rt, config.is_some() == spelled, line);
+    }
 }
 
 #[test]
 fn first_lines_are_read(rt: HostRuntime) {
-    for (lines, spelled) in [(FIRST_LINES, true), (NO_FIRST_LINES, false)] {
-        for line in lines.split('\n') {
-            must(
-                &rt,
-                read_first_line(line.as_bytes()).is_some() == spelled,
-                line,
-            );
-        }
-    }
+    check_first_lines(&rt, FIRST_LINES, true);
+    check_first_lines(&rt, NO_FIRST_LINES, false);
 }
 
 fn object(number: i64, count: i16) -> ObjId {
@@ -191,7 +177,9 @@ const ROW: ObjectRow = ObjectRow {
     names: 0,
 };
 
+/// Appends a first line, and lines of an outline.
 fn put_outline(out: &mut ByteList, client: &Vmid, name: &Name) -> Result<(), AllocError> {
+    put_first_line(out, &CONFIG)?;
     put_events_line(out, 7, 11, 4_611_686_018_427_387_903)?;
     put_object_line(out, CONFIG, &ROW)?;
     put_lease_line(out, client, 600_014)?;
@@ -199,18 +187,31 @@ fn put_outline(out: &mut ByteList, client: &Vmid, name: &Name) -> Result<(), All
     put_withdrawal_line(out, CONFIG, object(17, 0), 6)
 }
 
+/// The client of the outline.
+fn client(rt: &impl Abort, alloc: Global) -> Option<Vmid> {
+    let mut addr = ByteList::new(alloc);
+    put(rt, &mut addr, &[0xAA]);
+    Vmid::new(addr, object(1, 5).space)
+}
+
+/// The name of the outline.
+fn name(rt: &impl Abort, alloc: Global) -> Option<Name> {
+    let mut units = Units::new(alloc);
+    must(rt, units.append(&[0xD800, 0x22, 0x61]).is_ok(), "memory");
+    Name::new(units).ok()
+}
+
+/// Appends a first line, and lines of an outline, and answers whether there was memory.
+fn is_put(rt: &impl Abort, alloc: Global, out: &mut ByteList) -> bool {
+    match (client(rt, alloc), name(rt, alloc)) {
+        (Some(client), Some(name)) => put_outline(out, &client, &name).is_ok(),
+        _ => false,
+    }
+}
+
 #[test]
-fn lines_are_written(rt: HostRuntime) -> Result<(), Fail> {
-    let addr = ByteList::from_slice(rt.alloc(), &[0xAA])?;
-    let client = Vmid::new(addr, object(1, 5).space).ok_or("too long")?;
-    let units = Units::from_slice(rt.alloc(), &[0xD800, 0x22, 0x61])?;
-    let name = Name::new(units).ok().ok_or("too long")?;
+fn lines_are_written(rt: HostRuntime) {
     let mut out = ByteList::new(rt.alloc());
-    put_outline(&mut out, &client, &name)?;
-    must(
-        &rt,
-        out.as_slice() == OUTLINE.as_bytes(),
-        "lines of an outline",
-    );
-    Ok(())
+    must(&rt, is_put(&rt, rt.alloc(), &mut out), "memory");
+    must(&rt, out.as_slice() == OUTLINE.as_bytes(), "lines");
 }

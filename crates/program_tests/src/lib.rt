@@ -26,6 +26,6 @@ mod served;
 #[cfg(test)]
 mod shows;
 #[cfg(test)]
-mod wires;
+mod texts;
 #[cfg(test)]
-mod workers;
+mod wires;

@@ -4,8 +4,9 @@ ghost use Rattle.std.specs.Prelude.{None};
 use crate::hosts::{SEED, must, sink_of, words_of};
 use mod_utf::list::MomentList;
 use rmi_cli::{Host, run};
+use std::alloc::Global;
 use std::cell::Cell;
-use std::test::Fail;
+use std::process::Abort;
 use wire_io::mem::MemClock;
 use wire_io::sink::Sink;
 use wire_io::source::{Failed, Source};
@@ -77,26 +78,39 @@ impl Sink for Counting<'_> {
     fn shut(&mut self) {}
 }
 
-#[test]
-fn answers_are_written_before_more_is_read(rt: HostRuntime) -> Result<(), Fail> {
-    let written = Cell::new(0);
-    let early = Cell::new(0);
-    let words = words_of(rt.alloc(), "answer")?;
+/// Serves the input, and answers the status and how many bytes were read.
+fn serve(
+    rt: &impl Abort,
+    alloc: Global,
+    written: &Cell<usize>,
+    early: &Cell<usize>,
+) -> (u8, usize) {
+    let words = words_of(rt, alloc, "answer");
     let mut host = Host {
         input: Asking {
             at: 0,
-            written: &written,
-            early: &early,
+            written,
+            early,
         },
-        output: Counting { written: &written },
-        errors: sink_of(rt.alloc(), &[])?,
-        ticks: MemClock::new(MomentList::new(rt.alloc())),
+        output: Counting { written },
+        errors: sink_of(rt, alloc, ""),
+        ticks: MemClock::new(MomentList::new(alloc)),
         seed: SEED,
     };
-    let status = run(rt.alloc(), &words, &mut host);
-    must(&rt, status == 0, "status");
-    must(&rt, host.input.at == INPUT.len(), "all was read");
+    let status = run(alloc, &words, &mut host);
+    (status, host.input.at)
+}
+
+#[test]
+fn answers_are_written_before_more_is_read(rt: HostRuntime) {
+    let written = Cell::new(0);
+    let early = Cell::new(0);
+    let ended = serve(&rt, rt.alloc(), &written, &early);
+    must(
+        &rt,
+        ended == (0, INPUT.len()),
+        "the status, and all was read",
+    );
     must(&rt, early.get() == 0, "reads before what was due");
     must(&rt, written.get() == 48, "all was written");
-    Ok(())
 }

@@ -1,8 +1,7 @@
 //! What `replay` prints, and how it ends.
-use crate::hosts::{Wanted, check, cut_by, joined, repeated};
-use std::alloc::{AllocError, Global};
+use crate::hosts::{check, check_table, copied, cut_by, must, put};
+use std::alloc::Global;
 use std::process::Abort;
-use std::test::Fail;
 
 /// Journals, each with its outline: the lines after `=`.
 const JOURNALS: &str = "space 1 1 0 0
@@ -427,116 +426,52 @@ events 8 units 9 now 5
 object 16 kind 1 pinned running 0 awaiting 0 held 0 names 0
 withdrawn 17 place 7";
 
-/// Replays a journal, whole and in pieces of 7 bytes.
-fn check_replay(
-    rt: &impl Abort,
-    alloc: Global,
-    journal: &[u8],
-    wanted: Wanted,
-) -> Result<(), AllocError> {
-    let _ = check(rt, alloc, "replay", journal, cut_by(None), wanted)?;
-    let _ = check(rt, alloc, "replay", journal, cut_by(Some(7)), wanted)?;
-    Ok(())
-}
-
-/// Replays a journal that has an outline, of which the last LF was left out here.
-fn check_outline(
-    rt: &impl Abort,
-    alloc: Global,
-    journal: &str,
-    outline: &str,
-) -> Result<(), AllocError> {
-    let output = joined(alloc, outline.as_bytes(), b"\n")?;
-    let wanted = Wanted {
-        output: output.as_slice(),
-        line: "",
-        status: 0,
-    };
-    check_replay(rt, alloc, journal.as_bytes(), wanted)
+/// Replays a journal that has an outline, of which the last LF was left out here, whole and in pieces of 7 bytes.
+fn check_outline(rt: &impl Abort, alloc: Global, journal: &str, outline: &str) {
+    let mut output = copied(rt, alloc, outline.as_bytes());
+    put(rt, &mut output, b"\n");
+    for cut in "- 7".split(' ') {
+        let input = journal.as_bytes();
+        let outside = cut_by(cut);
+        let _left = check(rt, alloc, "replay", input, outside, output.as_slice(), "0");
+    }
 }
 
 #[test]
-fn each_journal_has_its_outline(rt: HostRuntime) -> Result<(), Fail> {
+fn each_journal_has_its_outline(rt: HostRuntime) {
     for row in JOURNALS.split("\n\n") {
-        let (journal, outline) = row.split_once("=\n").ok_or("no outline")?;
-        check_outline(&rt, rt.alloc(), journal, outline)?;
+        match row.split_once("=\n") {
+            Some((journal, outline)) => check_outline(&rt, rt.alloc(), journal, outline),
+            None => must(&rt, false, row),
+        }
     }
-    Ok(())
 }
 
-/// Journals with a bad line, each with the line that tells it.
-const BAD_LINES: [(&str, &str); 12] = [
-    ("", "bad line 1\n"),
-    ("space 600000 300000 7 9", "bad line 1\n"),
-    ("space 0 300000 7 9\n", "bad line 1\n"),
-    ("space 1 1099511627777 7 9\n", "bad line 1\n"),
-    ("tick\n", "bad line 1\n"),
-    ("space 1 1 7 9\n0 0 tick", "bad line 2\n"),
-    (
-        "space 1 1 7 9\n0 0 tick\n0 0 open 1 free\n0 0 tock\n0 0 tack\n",
-        "bad line 4\n",
-    ),
-    ("space 1 1 7 9\n0 0 tick\n\n", "bad line 3\n"),
-    (
-        "space 1 1 7 9\n0 4611686018427387904 tick\n",
-        "bad line 2\n",
-    ),
-    ("space 1 1 7 9\n0 00 tick\n", "bad line 2\n"),
-    ("space 1 1 7 9\n0 0 list\n0 0 list 16\n", "bad line 3\n"),
-    ("space 1 1 7 9\n0 0 lookup a 1/0/0\n", "bad line 2\n"),
-];
+/// Journals with a bad line, and what tells it. The first one is empty.
+const BAD_LINES: &str = " | | | 2 bad line 1
+=space_600000_300000_7_9 | | | 2 bad line 1
+=space_0_300000_7_9~ | | | 2 bad line 1
+=space_1_1099511627777_7_9~ | | | 2 bad line 1
+=tick~ | | | 2 bad line 1
+=space_1_1_7_9~0_0_tick | | | 2 bad line 2
+=space_1_1_7_9~0_0_tick~0_0_open_1_free~0_0_tock~0_0_tack~ | | | 2 bad line 4
+=space_1_1_7_9~0_0_tick~~ | | | 2 bad line 3
+=space_1_1_7_9~0_4611686018427387904_tick~ | | | 2 bad line 2
+=space_1_1_7_9~0_00_tick~ | | | 2 bad line 2
+=space_1_1_7_9~0_0_list~0_0_list_16~ | | | 2 bad line 3
+=space_1_1_7_9~0_0_lookup_a_1/0/0~ | | | 2 bad line 2";
 
 #[test]
-fn each_bad_line_has_its_number(rt: HostRuntime) -> Result<(), Fail> {
-    for (journal, line) in BAD_LINES {
-        let wanted = Wanted {
-            output: &[],
-            line,
-            status: 2,
-        };
-        check_replay(&rt, rt.alloc(), journal.as_bytes(), wanted)?;
-    }
-    Ok(())
+fn each_bad_line_has_its_number(rt: HostRuntime) {
+    check_table(&rt, rt.alloc(), "replay", "- 7", BAD_LINES);
 }
 
-/// Replays a journal with lines before the refused turn, the turn, and lines after it.
-fn check_refused(
-    rt: &impl Abort,
-    alloc: Global,
-    before: &[u8],
-    after: &[u8],
-    line: &str,
-    status: u8,
-) -> Result<(), AllocError> {
-    let kinds = repeated(alloc, b",1", 65_535)?;
-    let mut journal = joined(
-        alloc,
-        b"space 600000 300000 7 9\n0 0 open 1 pinned\n1 0 begin 16\n",
-        before,
-    )?;
-    journal.append(b"1 0 finish 16 1")?;
-    journal.append(kinds.as_slice())?;
-    journal.append(b" - 1/0/0\n")?;
-    journal.append(after)?;
-    let wanted = Wanted {
-        output: &[],
-        line,
-        status,
-    };
-    let _ = check(
-        rt,
-        alloc,
-        "replay",
-        journal.as_slice(),
-        cut_by(None),
-        wanted,
-    )?;
-    Ok(())
-}
+/// A turn that is refused before a bad line, and a bad line before it.
+const REFUSED: &str =
+    "=space_600000_300000_7_9~0_0_open_1_pinned~1_0_begin_16~1_0_finish_16_1 65535*=,1 =_-_1/0/0~0_0_tack~ | | | 6 refused
+=space_600000_300000_7_9~0_0_open_1_pinned~1_0_begin_16~0_0_tack~1_0_finish_16_1 65535*=,1 =_-_1/0/0~ | | | 2 bad line 4";
 
 #[test]
-fn the_first_of_a_bad_line_and_a_refused_turn_is_told(rt: HostRuntime) -> Result<(), Fail> {
-    check_refused(&rt, rt.alloc(), b"", b"0 0 tack\n", "refused\n", 6)?;
-    check_refused(&rt, rt.alloc(), b"0 0 tack\n", b"", "bad line 4\n", 2)?;
-    Ok(())
+fn the_first_of_a_bad_line_and_a_refused_turn_is_told(rt: HostRuntime) {
+    check_table(&rt, rt.alloc(), "replay", "-", REFUSED);
 }

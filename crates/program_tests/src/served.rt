@@ -1,284 +1,97 @@
 //! Calls of the sample's objects, from their bytes to those that answer them.
-use crate::calls::{ACK, FAULT, FIRST, NO_OBJECT, OPENING, Row, bytes_of, check_row};
-use crate::hosts::{Wanted, check, cut_by};
+use crate::hosts::{check, check_fronts, check_table, cut_by, put};
+use crate::texts::{bytes_of, cut, number_of, push};
 use mod_utf::list::ByteList;
-use std::alloc::{AllocError, Global};
+use std::alloc::Global;
 use std::process::Abort;
-use std::test::Fail;
 
-/// The identifiers of the second and the third Return.
-const SECOND: &str = "00000002 0000000000000002 8001";
-
-const THIRD: &str = "00000002 0000000000000002 8002";
-
-/// Heads of `echo(Ljava/lang/Object;)Ljava/lang/Object;` on object 16, and of `add(J)J` and `get()J` on object 17.
-const ECHO: &str =
-    "50 ACED0005 77 22 0000000000000010 00000003 0000000000000004 0000 FFFFFFFF 90BEF25F467880C4";
-
-const ADD: &str =
-    "50 ACED0005 77 22 0000000000000011 00000003 0000000000000004 0000 FFFFFFFF DE3EC51A3025A10E";
-
-const GET: &str =
-    "50 ACED0005 77 22 0000000000000011 00000003 0000000000000004 0000 FFFFFFFF E2CA1A08EBC02A8D";
-/// Heads of calls that are none: of `get()J` with another operation, and on the object of `echo`; of a hash that no method has.
-const OTHER_OPERATION: &str =
-    "50 ACED0005 77 22 0000000000000011 00000003 0000000000000004 0000 00000000 E2CA1A08EBC02A8D";
-
-const OTHER_KIND: &str =
-    "50 ACED0005 77 22 0000000000000010 00000003 0000000000000004 0000 FFFFFFFF E2CA1A08EBC02A8D";
-
-const OTHER_HASH: &str =
-    "50 ACED0005 77 22 0000000000000011 00000003 0000000000000004 0000 FFFFFFFF 0000000000000000";
-/// A head of `get()J` on an object of another space.
-const OTHER_SPACE: &str =
-    "50 ACED0005 77 22 0000000000000011 00000003 0000000000000005 0000 FFFFFFFF E2CA1A08EBC02A8D";
-
-/// What a Return holds before its identifier: of a reference, of a number, of an exception.
-const REFERENCE: &str = "51 ACED0005 77 0F 01";
-
-const NUMBER: &str = "51 ACED0005 77 17 01";
-
-const EXCEPTION: &str = "51 ACED0005 77 0F 02";
-/// Messages of exceptions, and what comes after them.
-const NO_METHOD: &str =
-    "002B 6A6176612E726D692E556E6D61727368616C457863657074696F6E3A206E6F2073756368206D6574686F64 78 70";
-
-const OVERFLOW: &str =
-    "0027 6A6176612E6C616E672E41726974686D65746963457863657074696F6E3A206F766572666C6F77 78 70";
-
-/// An array of two references to one text, an object whose field is itself, and a list of one text.
-pub(crate) const TEXTS: &str =
-    "75 72 0013 5B4C6A6176612E6C616E672E537472696E673B ADD256E7E91D7B47 02 0000 70 78 70 00000002 74 0001 61 71 007E0002";
-
-pub(crate) const ITSELF: &str =
-    "73 72 0001 4E 0000000000000000 02 0001 4C 0004 6E657874 74 0003 4C4E3B 70 78 70 71 007E0002";
-
-const LISTED: &str =
-    "73 72 0013 6A6176612E7574696C2E41727261794C697374 7881D21D99C7619D 03 0001 49 0004 73697A65 70 78 70 00000001 \
-    77 04 00000001 74 0001 61 78";
-
-/// What a call of a sample object is answered.
-const ROWS: [Row; 14] = [
-    (&[ECHO, TEXTS], &[REFERENCE, FIRST, TEXTS], 0, "ended\n", 0),
-    (
-        &[ECHO, ITSELF],
-        &[REFERENCE, FIRST, ITSELF],
-        0,
-        "ended\n",
-        0,
-    ),
-    (
-        &[ECHO, LISTED],
-        &[REFERENCE, FIRST, LISTED],
-        0,
-        "ended\n",
-        0,
-    ),
-    (
-        &[ECHO, "70 52"],
-        &[REFERENCE, FIRST, "70 53"],
-        0,
-        "ended\n",
-        0,
-    ),
-    (
-        &[ECHO, "71 007E0000"],
-        &[],
-        0,
-        "bad stream bad handle at 54\n",
-        2,
-    ),
-    (
-        &[ADD, "77 03 000000 77 00 77 05 0000000005"],
-        &[NUMBER, FIRST, "0000000000000005"],
-        0,
-        "ended\n",
-        0,
-    ),
-    (
-        &[ADD, "77 03 000000 77 00 77 06 000000000500"],
-        &[],
-        1,
-        "bad stream block left at 68\n",
-        2,
-    ),
-    (
-        &[
-            ADD,
-            "77 08 0000000000000005",
-            ADD,
-            "77 08 FFFFFFFFFFFFFFF9",
-            GET,
-        ],
-        &[
-            NUMBER,
-            FIRST,
-            "0000000000000005",
-            NUMBER,
-            SECOND,
-            "FFFFFFFFFFFFFFFE",
-            NUMBER,
-            THIRD,
-            "FFFFFFFFFFFFFFFE",
-        ],
-        0,
-        "ended\n",
-        0,
-    ),
-    (
-        &[
-            ADD,
-            "77 08 7FFFFFFFFFFFFFFF",
-            ADD,
-            "77 08 0000000000000001",
-            GET,
-        ],
-        &[
-            NUMBER,
-            FIRST,
-            "7FFFFFFFFFFFFFFF",
-            EXCEPTION,
-            SECOND,
-            FAULT,
-            OVERFLOW,
-            NUMBER,
-            THIRD,
-            "7FFFFFFFFFFFFFFF",
-        ],
-        0,
-        "ended\n",
-        0,
-    ),
-    (
-        &[GET, "52"],
-        &[NUMBER, FIRST, "0000000000000000 53"],
-        0,
-        "ended\n",
-        0,
-    ),
-    (
-        &[OTHER_OPERATION, "52"],
-        &[EXCEPTION, FIRST, FAULT, NO_METHOD],
-        1,
-        "no such method\n",
-        7,
-    ),
-    (
-        &[OTHER_KIND],
-        &[EXCEPTION, FIRST, FAULT, NO_METHOD],
-        0,
-        "no such method\n",
-        7,
-    ),
-    (
-        &[OTHER_HASH, "52"],
-        &[EXCEPTION, FIRST, FAULT, NO_METHOD],
-        1,
-        "no such method\n",
-        7,
-    ),
-    (
-        &[OTHER_SPACE],
-        &[EXCEPTION, FIRST, FAULT, NO_OBJECT],
-        0,
-        "no such object\n",
-        7,
-    ),
-];
+/// What calls of the sample are answered: of `echo` on object 16, and of `add(J)J` and `get()J` on object 17. The last ones are none: of
+/// `get()J` with another operation, and on the object of `echo`; of a hash that no method has; on an object of another space.
+const CALLS: &str = "opening echo texts | ack reference first texts | 0 | 0 ended
+opening echo itself | ack reference first itself | 0 | 0 ended
+opening echo listed | ack reference first listed | 0 | 0 ended
+opening echo 70 ping | ack reference first 70 pong | 0 | 0 ended
+opening echo 71 007E0000 | ack | 0 | 2 bad stream bad handle at 54
+opening add 77 03 000000 77 00 77 05 0000000005 | ack number first 0000000000000005 | 0 | 0 ended
+opening add 77 03 000000 77 00 77 06 000000000500 | ack | 1 | 2 bad stream block left at 68
+opening add 77 08 0000000000000005 add 77 08 FFFFFFFFFFFFFFF9 get | ack number first 0000000000000005 number second FFFFFFFFFFFFFFFE number third FFFFFFFFFFFFFFFE | 0 | 0 ended
+opening add 77 08 7FFFFFFFFFFFFFFF add 77 08 0000000000000001 get | ack number first 7FFFFFFFFFFFFFFF exception second fault overflow number third 7FFFFFFFFFFFFFFF | 0 | 0 ended
+opening get ping | ack number first 0000000000000000 pong | 0 | 0 ended
+opening other_operation ping | ack exception first fault no_method | 1 | 7 no such method
+opening head E2CA1A08EBC02A8D | ack exception first fault no_method | 0 | 7 no such method
+opening counter 0000000000000000 ping | ack exception first fault no_method | 1 | 7 no such method
+opening other_space | ack exception first fault no_object | 0 | 7 no such object";
 
 #[test]
-fn each_call_of_the_sample_is_answered(rt: HostRuntime) -> Result<(), Fail> {
-    for row in ROWS {
-        for cut in [None, Some(1), Some(7)] {
-            check_row(&rt, rt.alloc(), row, cut)?;
-        }
-    }
-    Ok(())
+fn each_call_of_the_sample_is_answered(rt: HostRuntime) {
+    check_table(&rt, rt.alloc(), "answer", "- 1 7", CALLS);
 }
 
 /// The opening and a call of `add(J)J`.
-fn adding(alloc: Global) -> Result<ByteList, AllocError> {
-    bytes_of(alloc, OPENING, &[ADD, "77 08 0000000000000005"])
+const ADDING: &str = "opening add 77 08 0000000000000005";
+
+#[test]
+fn each_front_of_a_served_call_is_truncated(rt: HostRuntime) {
+    check_fronts(&rt, rt.alloc(), ADDING, 14, "-", "ack");
 }
 
-/// Serves the first so many bytes of the opening and the call, of which the opening has 13.
-fn check_front(rt: &impl Abort, alloc: Global, whole: &[u8], len: usize) -> Result<(), AllocError> {
-    let line = format!(in alloc; "truncated at {len}\n")?;
-    let ack = bytes_of(alloc, ACK, &[])?;
-    let wanted = Wanted {
-        output: ack.as_slice(),
-        line: line.as_str(),
-        status: 2,
-    };
-    let front = whole.get(..len).unwrap_or(&[]);
-    let _ = check(rt, alloc, "answer", front, cut_by(None), wanted)?;
-    Ok(())
+/// How the connections end in which the byte at one of these places is another, from a place to a last one: what is written, but for a
+/// number, and the status and the line.
+const CHANGED: &str = "13 13 | ack | 2 bad message af at 13
+14 14 | ack | 2 bad stream bad magic at 14
+15 15 | ack | 2 bad stream bad magic at 15
+16 16 | ack | 2 bad stream bad magic at 16
+17 17 | ack | 2 bad stream bad magic at 17
+18 18 | ack | 2 bad stream bad code at 18
+19 19 | ack | 2 bad stream block left at 62
+20 41 | ack exception first fault no_object | 7 no such object
+42 53 | ack exception first fault no_method | 7 no such method
+54 54 | ack | 2 bad stream bad code at 54
+55 55 | ack | 2 bad stream block left at 64
+56 63 | ack number first | 0 ended";
+
+/// The opening and the call, where every bit of the byte at this place is turned.
+fn changed(rt: &impl Abort, alloc: Global, at: usize) -> ByteList {
+    let whole = bytes_of(rt, alloc, ADDING);
+    let mut input = ByteList::new(alloc);
+    for (place, byte) in whole.as_slice().iter().enumerate() {
+        push(rt, &mut input, if place == at { !*byte } else { *byte });
+    }
+    input
+}
+
+/// Serves a changed call byte by byte. A changed number comes back.
+fn check_changed(rt: &impl Abort, alloc: Global, input: &[u8], written: &str, told: &str) {
+    let mut output = bytes_of(rt, alloc, written);
+    if told == "0 ended" {
+        put(rt, &mut output, input.get(56..).unwrap_or(&[]));
+    }
+    let outside = cut_by("1");
+    let _left = check(rt, alloc, "answer", input, outside, output.as_slice(), told);
+}
+
+/// Serves the calls of a line, and answers the place after them, where they begin at this one.
+fn check_places(rt: &impl Abort, alloc: Global, line: &str, from: u32) -> u32 {
+    let (places, rest) = cut(line, '|');
+    let (written, told) = cut(rest, '|');
+    let (first, last) = cut(places, ' ');
+    let end = number_of(rt, last).saturating_add(1);
+    if number_of(rt, first) != from {
+        return 0;
+    }
+    for at in from..end {
+        let input = changed(rt, alloc, at as usize);
+        check_changed(rt, alloc, input.as_slice(), written, told);
+    }
+    end
 }
 
 #[test]
-fn each_front_of_a_served_call_is_truncated(rt: HostRuntime) -> Result<(), Fail> {
-    let whole = adding(rt.alloc())?;
-    for len in 14..whole.len() {
-        check_front(&rt, rt.alloc(), whole.as_slice(), len)?;
+fn each_changed_byte_has_its_end(rt: HostRuntime) {
+    let mut at = 13;
+    for line in CHANGED.split('\n') {
+        at = check_places(&rt, rt.alloc(), line, at);
     }
-    Ok(())
-}
-
-/// How the connection ends in which the byte at this place is another: the line, the status, and what is written behind the
-/// acknowledgement, but for a number.
-fn ended_at(at: usize) -> (&'static str, u8, &'static [&'static str]) {
-    match at {
-        13 => ("bad message af at 13\n", 2, &[]),
-        14 => ("bad stream bad magic at 14\n", 2, &[]),
-        15 => ("bad stream bad magic at 15\n", 2, &[]),
-        16 => ("bad stream bad magic at 16\n", 2, &[]),
-        17 => ("bad stream bad magic at 17\n", 2, &[]),
-        18 => ("bad stream bad code at 18\n", 2, &[]),
-        19 => ("bad stream block left at 62\n", 2, &[]),
-        20..=41 => ("no such object\n", 7, &[EXCEPTION, FIRST, FAULT, NO_OBJECT]),
-        42..=53 => ("no such method\n", 7, &[EXCEPTION, FIRST, FAULT, NO_METHOD]),
-        54 => ("bad stream bad code at 54\n", 2, &[]),
-        55 => ("bad stream block left at 64\n", 2, &[]),
-        _ => ("ended\n", 0, &[NUMBER, FIRST]),
-    }
-}
-
-/// Serves the opening and the call byte by byte, where every bit of the byte at this place is turned. A changed number comes back.
-fn check_changed(
-    rt: &impl Abort,
-    alloc: Global,
-    whole: &[u8],
-    at: usize,
-) -> Result<(), AllocError> {
-    let mut input = ByteList::from_slice(alloc, whole.get(..at).unwrap_or(&[]))?;
-    input.push(!whole.get(at).copied().unwrap_or(0))?;
-    input.append(whole.get(at.saturating_add(1)..).unwrap_or(&[]))?;
-    let (line, status, written) = ended_at(at);
-    let mut output = bytes_of(alloc, ACK, written)?;
-    if status == 0 {
-        output.append(input.as_slice().get(56..).unwrap_or(&[]))?;
-    }
-    let wanted = Wanted {
-        output: output.as_slice(),
-        line,
-        status,
-    };
-    let _ = check(
-        rt,
-        alloc,
-        "answer",
-        input.as_slice(),
-        cut_by(Some(1)),
-        wanted,
-    )?;
-    Ok(())
-}
-
-#[test]
-fn each_changed_byte_has_its_end(rt: HostRuntime) -> Result<(), Fail> {
-    let whole = adding(rt.alloc())?;
-    for at in 13..whole.len() {
-        check_changed(&rt, rt.alloc(), whole.as_slice(), at)?;
-    }
-    Ok(())
+    let whole = bytes_of(&rt, rt.alloc(), ADDING);
+    crate::hosts::must(&rt, at as usize == whole.len(), "all places");
 }

@@ -1,86 +1,23 @@
 //! What `show` prints, and how it ends.
-use crate::hosts::{Wanted, check, cut_by, joined};
-use std::alloc::{AllocError, Global};
-use std::process::Abort;
-use std::test::Fail;
+use crate::hosts::check_table;
 
-/// An array of two references to one text, whose class has a null in its note.
-const NOTED: &[u8] =
-    b"ur\x00\x13[Ljava.lang.String;\xAD\xD2V\xE7\xE9\x1D{G\x02\x00\x00pxp\x00\x00\x00\x02t\x00\x01zq\x00~\x00\x02";
-/// The same of another text.
-const NOTED_A: &[u8] =
-    b"ur\x00\x13[Ljava.lang.String;\xAD\xD2V\xE7\xE9\x1D{G\x02\x00\x00pxp\x00\x00\x00\x02t\x00\x01aq\x00~\x00\x02";
-/// The same of a class with an empty note.
-const SHARED: &[u8] =
-    b"ur\x00\x13[Ljava.lang.String;\xAD\xD2V\xE7\xE9\x1D{G\x02\x00\x00xp\x00\x00\x00\x02t\x00\x01aq\x00~\x00\x02";
-
-/// The stream after its magic number, what is printed, the line, and the status.
-type Row = (&'static [u8], &'static str, &'static str, u8);
-
-const ROWS: [Row; 13] = [
-    (b"", "", "", 0),
-    (
-        NOTED,
-        "#0 desc \"[Ljava.lang.String;\" add256e7e91d7b47 02 - note null super null\n#1 array #0 2 #2,#2\n#2 text \"z\"\nitem #1\n",
-        "",
-        0,
-    ),
-    (
-        NOTED_A,
-        "#0 desc \"[Ljava.lang.String;\" add256e7e91d7b47 02 - note null super null\n#1 array #0 2 #2,#2\n#2 text \"a\"\nitem #1\n",
-        "",
-        0,
-    ),
-    (
-        SHARED,
-        "#0 desc \"[Ljava.lang.String;\" add256e7e91d7b47 02 - note - super null\n#1 array #0 2 #2,#2\n#2 text \"a\"\nitem #1\n",
-        "",
-        0,
-    ),
-    (b"t\x00\x01a", "#0 text \"a\"\nitem #0\n", "", 0),
-    (
-        b"p\x77\x02\x02\x01\x7A\x00\x00\x00\x01\x03q\x00\x7E\x00\x00",
-        "",
-        "bad stream bad handle at 15\n",
-        2,
-    ),
-    (
-        b"\x77\x02\x02\x01\x7A\x00\x00\x00\x01\x03p",
-        "item x:020103\nitem null\n",
-        "",
-        0,
-    ),
-    (
-        b"\x7C\xFF\xFF\xFF\xFF\xFF\xFF\xFF\xFF",
-        "",
-        "bad stream negative length at 5\n",
-        2,
-    ),
-    (b"\x79", "", "bad stream reset at 4\n", 2),
-    (b"up", "", "bad stream bad code at 5\n", 2),
-    (b"t\x00\x01\x00", "", "bad stream bad utf at 7\n", 2),
-    (b"q\x00\x7E\x00\x00", "", "bad stream bad handle at 4\n", 2),
-    (b"t\x00", "", "truncated at 6\n", 2),
-];
-
-fn check_row(rt: &impl Abort, alloc: Global, row: Row, cut: Option<u32>) -> Result<(), AllocError> {
-    let (more, output, line, status) = row;
-    let input = joined(alloc, b"\xAC\xED\x00\x05", more)?;
-    let wanted = Wanted {
-        output: output.as_bytes(),
-        line,
-        status,
-    };
-    let _ = check(rt, alloc, "show", input.as_slice(), cut_by(cut), wanted)?;
-    Ok(())
-}
+/// A stream, what is printed, how many bytes are left where that is told, and the status and the line. The first ones are an array of two
+/// references to one text, whose class has a null in its note, the same of another text, and the same of a class with an empty note.
+const STREAMS: &str = "magic | | 0 | 0
+magic strings 70 78 70 00000002 74 0001 =z 71 007E0002 | =#0_desc_\"[Ljava.lang.String;\"_add256e7e91d7b47_02_-_note_null_super_null~#1_array_#0_2_#2,#2~#2_text_\"z\"~item_#1~ | 0 | 0
+magic strings 70 78 70 00000002 74 0001 =a 71 007E0002 | =#0_desc_\"[Ljava.lang.String;\"_add256e7e91d7b47_02_-_note_null_super_null~#1_array_#0_2_#2,#2~#2_text_\"a\"~item_#1~ | 0 | 0
+magic strings 78 70 00000002 74 0001 =a 71 007E0002 | =#0_desc_\"[Ljava.lang.String;\"_add256e7e91d7b47_02_-_note_-_super_null~#1_array_#0_2_#2,#2~#2_text_\"a\"~item_#1~ | 0 | 0
+magic 74 0001 =a | =#0_text_\"a\"~item_#0~ | 0 | 0
+magic 70 77 02 0201 7A 00000001 03 71 007E0000 | | | 2 bad stream bad handle at 15
+magic 77 02 0201 7A 00000001 03 70 | =item_x:020103~item_null~ | 0 | 0
+magic 7C FFFFFFFFFFFFFFFF | | | 2 bad stream negative length at 5
+magic 79 | | | 2 bad stream reset at 4
+magic 75 70 | | | 2 bad stream bad code at 5
+magic 74 0001 00 | | | 2 bad stream bad utf at 7
+magic 71 007E0000 | | | 2 bad stream bad handle at 4
+magic 74 00 | | | 2 truncated at 6";
 
 #[test]
-fn each_stream_has_its_text_or_its_fault(rt: HostRuntime) -> Result<(), Fail> {
-    for row in ROWS {
-        for cut in [None, Some(1)] {
-            check_row(&rt, rt.alloc(), row, cut)?;
-        }
-    }
-    Ok(())
+fn each_stream_has_its_text_or_its_fault(rt: HostRuntime) {
+    check_table(&rt, rt.alloc(), "show", "- 1", STREAMS);
 }

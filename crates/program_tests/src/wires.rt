@@ -2,177 +2,240 @@
 //! do over a reader, a writer and a clock.
 ghost use Rattle.std.specs.Prelude.{None};
 
-use crate::hosts::must;
-use mod_utf::list::{ByteList, Kinds, MomentList};
-use std::alloc::{AllocError, Global};
+use crate::hosts::{copied, must, sink_of};
+use crate::texts::{bytes_of, cut, number_of, numbers_of, push};
+use mod_utf::list::{ByteList, MomentList};
+use std::alloc::Global;
 use std::cell::Cell;
 use std::io::{Error, ErrorKind, Read, Write};
 use std::process::Abort;
-use std::test::Fail;
 use std::time::Duration;
 use std::{io, time};
 use wire_io::clock::Clock;
 use wire_io::edge::{StdClock, StdSink, StdSource};
 use wire_io::mem::{MemClock, MemSink, MemSource};
 use wire_io::pull::{Pull, PullEnd};
-use wire_io::put::{PutFault, put_all};
+use wire_io::put::put_all;
 use wire_io::sink::Sink;
 use wire_io::source::{Failed, Source};
 use wire_io::whole::take_whole;
 
 /// A source of these bytes, cut as said, whose reads of these indices fail.
-fn source_of(
-    alloc: Global,
-    bytes: &[u8],
-    cuts: &[u32],
-    failing: &[u32],
-) -> Result<MemSource, Fail> {
-    Ok(MemSource::new(
-        ByteList::from_slice(alloc, bytes)?,
-        Kinds::from_slice(alloc, cuts)?,
-        Kinds::from_slice(alloc, failing)?,
-    ))
+fn source_of(rt: &impl Abort, alloc: Global, bytes: &[u8], cuts: &str, failing: &str) -> MemSource {
+    MemSource::new(
+        copied(rt, alloc, bytes),
+        numbers_of(rt, alloc, cuts),
+        numbers_of(rt, alloc, failing),
+    )
+}
+
+/// What a read or a write answers, as a number: 99 stands for a failure.
+fn count_of(answer: Result<usize, Failed>) -> usize {
+    match answer {
+        Ok(count) => count,
+        Err(_) => 99,
+    }
 }
 
 /// What one read into a buffer of 1 byte answers, through the trait.
-fn read_one<S: Source>(source: &mut S) -> Result<usize, Failed> {
+fn read_one<S: Source>(source: &mut S) -> usize {
     let mut buf = [0; 1];
-    source.read(&mut buf)
+    count_of(source.read(&mut buf))
 }
 
 /// What one read into a buffer of 4 bytes answers, through the trait.
-fn read_four<S: Source>(source: &mut S) -> Result<usize, Failed> {
+fn read_four<S: Source>(source: &mut S) -> usize {
     let mut buf = [0; 4];
-    source.read(&mut buf)
+    count_of(source.read(&mut buf))
 }
 
-#[test]
-fn reads_are_cut_and_fail_as_told(rt: HostRuntime) -> Result<(), Fail> {
-    let mut source = source_of(rt.alloc(), b"abcdefgh", &[2, 3, 0, 9], &[1])?;
-    let table = [
-        (Ok(2), 6),
-        (Err(Failed), 6),
-        (Ok(1), 5),
-        (Ok(4), 1),
-        (Ok(1), 0),
-        (Ok(0), 0),
-    ];
-    for (answer, left) in table {
-        must(&rt, read_four(&mut source) == answer, "read");
-        must(&rt, source.left().len() == left, "left");
+/// What reads into buffers of 4 bytes answer, one after the other, and how many bytes are left after each.
+const READS: &str = "2 6|99 6|1 5|4 1|1 0|0 0";
+
+/// Looks at one read.
+fn check_read(rt: &impl Abort, source: &mut MemSource, row: &str) {
+    let (count, left) = cut(row, ' ');
+    let found = read_four(source);
+    must(rt, found == number_of(rt, count) as usize, row);
+    must(rt, source.left().len() == number_of(rt, left) as usize, row);
+}
+
+/// Looks at all reads.
+fn check_reads(rt: &impl Abort, source: &mut MemSource) {
+    for row in READS.split('|') {
+        check_read(rt, source, row);
     }
     source.shut();
-    must(&rt, source.reads() == 6, "reads");
-    must(&rt, source.faults() == 1, "faults");
-    Ok(())
 }
 
 #[test]
-fn writes_are_kept_and_fail_as_told(rt: HostRuntime) -> Result<(), Fail> {
-    let mut sink = MemSink::new(rt.alloc(), Kinds::from_slice(rt.alloc(), &[1])?);
-    must(&rt, sink.write(b"abc") == Ok(3), "write");
-    must(&rt, sink.write(b"def") == Err(Failed), "write");
-    must(&rt, put_all(&mut sink, b"ghi") == Ok(()), "put");
+fn reads_are_cut_and_fail_as_told(rt: HostRuntime) {
+    let mut source = source_of(&rt, rt.alloc(), b"abcdefgh", "2 3 0 9", "1");
+    check_reads(&rt, &mut source);
+    must(&rt, source.reads() == 6, "reads");
+    must(&rt, source.faults() == 1, "faults");
+}
+
+/// Writes a piece, whole or with one call, and answers how many bytes were taken.
+fn write<K: Sink>(sink: &mut K, piece: &[u8], whole: bool) -> usize {
+    if !whole {
+        return count_of(sink.write(piece));
+    }
+    match put_all(sink, piece) {
+        Ok(()) => piece.len(),
+        Err(fault) => fault.sent,
+    }
+}
+
+/// Pieces, whether they are put whole, and how many bytes that sends: 99 where it fails.
+fn write_three(rt: &impl Abort, sink: &mut MemSink) {
+    must(rt, write(sink, b"abc", false) == 3, "write");
+    must(rt, write(sink, b"def", false) == 99, "write");
+    must(rt, write(sink, b"ghi", true) == 3, "put");
     sink.shut();
+}
+
+#[test]
+fn writes_are_kept_and_fail_as_told(rt: HostRuntime) {
+    let mut sink = sink_of(&rt, rt.alloc(), "1");
+    write_three(&rt, &mut sink);
     must(&rt, sink.held() == b"abcghi".as_slice(), "held");
     must(&rt, sink.writes() == 3, "writes");
     must(&rt, sink.faults() == 1, "faults");
-    Ok(())
 }
 
-#[test]
-fn moments_are_capped_and_the_last_repeated(rt: HostRuntime) -> Result<(), Fail> {
-    let greatest = (1 << 62) - 1;
-    let mut clock = MemClock::new(MomentList::from_slice(rt.alloc(), &[7, 1 << 62, 3])?);
-    for moment in [7, greatest, 3, 3] {
-        must(&rt, clock.now() == moment, "moment");
+/// Reads a clock once for each of these moments.
+fn check_clock(rt: &impl Abort, clock: &mut MemClock, wanted: &[u64]) {
+    for moment in wanted {
+        must(rt, clock.now() == *moment, "moment");
     }
-    must(&rt, clock.calls() == 4, "calls");
-    must(
-        &rt,
-        MemClock::new(MomentList::new(rt.alloc())).now() == 0,
-        "moment",
-    );
-    Ok(())
+    must(rt, clock.calls() == wanted.len() as u64, "calls");
+}
+
+/// No moment is past the greatest one, and the last one is repeated; without one there is 0.
+#[test]
+fn moments_are_capped_and_the_last_repeated(rt: HostRuntime) {
+    let mut moments = MomentList::new(rt.alloc());
+    must(&rt, moments.append(&[7, 1 << 62, 3]).is_ok(), "memory");
+    let mut clock = MemClock::new(moments);
+    check_clock(&rt, &mut clock, &[7, (1 << 62) - 1, 3, 3]);
+    let mut clock = MemClock::new(MomentList::new(rt.alloc()));
+    check_clock(&rt, &mut clock, &[0, 0]);
+}
+
+/// Takes so many bytes, and answers whether they are these, and whether memory was taken for just as many.
+fn is_taken<S: Source>(alloc: Global, pull: &mut Pull<'_, S>, count: u32, bytes: &[u8]) -> bool {
+    match pull.take(alloc, count) {
+        Ok(taken) => taken.as_slice() == bytes && taken.into_vec().capacity() == bytes.len(),
+        Err(_) => false,
+    }
 }
 
 /// So many bytes, which count up.
-fn counted(alloc: Global, count: u32) -> Result<ByteList, Fail> {
+fn counted(rt: &impl Abort, alloc: Global, count: u32) -> ByteList {
     let mut bytes = ByteList::new(alloc);
     for i in 0..count {
-        bytes.push((i & 0xff) as u8)?;
+        push(rt, &mut bytes, (i & 0xff) as u8);
     }
-    Ok(bytes)
+    bytes
+}
+
+/// Takes all of 10,000 bytes, which come in pieces whose first ones have these lengths.
+fn check_taken(rt: &impl Abort, alloc: Global, bytes: &[u8], cuts: &str) {
+    let mut source = source_of(rt, alloc, bytes, cuts, "");
+    let mut pull = Pull::new(&mut source);
+    must(rt, is_taken(alloc, &mut pull, 10_000, bytes), cuts);
+    must(rt, pull.at() == 10_000, cuts);
 }
 
 #[test]
-fn many_bytes_are_taken_however_they_are_cut(rt: HostRuntime) -> Result<(), Fail> {
-    let bytes = counted(rt.alloc(), 10_000)?;
-    for cuts in [
-        [9999, 9999, 9999],
-        [4096, 4096, 1],
-        [0, 1, 2],
-        [4095, 4097, 1],
-    ] {
-        let mut source = source_of(rt.alloc(), bytes.as_slice(), &cuts, &[])?;
-        let mut pull = Pull::new(&mut source);
-        let Ok(taken) = pull.take(rt.alloc(), 10_000) else {
-            return Err(Fail::from("no bytes"));
-        };
-        must(&rt, pull.at() == 10_000, "position");
-        must(&rt, taken.as_slice() == bytes.as_slice(), "bytes");
-        must(&rt, taken.into_vec().capacity() == 10_000, "capacity");
+fn many_bytes_are_taken_however_they_are_cut(rt: HostRuntime) {
+    let bytes = counted(&rt, rt.alloc(), 10_000);
+    for cuts in "9999 9999 9999|4096 4096 1|0 1 2|4095 4097 1".split('|') {
+        check_taken(&rt, rt.alloc(), bytes.as_slice(), cuts);
     }
-    Ok(())
+}
+
+/// The limit, how many bytes are wanted, how many are taken, or where there was an end or the limit; the position then, and how many bytes
+/// are left.
+const ENDS: &str = "9 5 | took 5 | 5 0
+5 5 | took 5 | 5 0
+5 6 | end 5 | 5 0
+9 6 | end 5 | 5 0
+4 5 | limit 4 | 4 0
+2 5 | limit 2 | 2 2
+0 1 | limit 0 | 0 4
+0 0 | took 0 | 0 5";
+
+/// Whether taking so many bytes answers what a text tells.
+fn is_told(
+    rt: &impl Abort,
+    alloc: Global,
+    pull: &mut Pull<'_, MemSource>,
+    wanted: u32,
+    told: &str,
+) -> bool {
+    let (word, number) = cut(told, ' ');
+    let number = u64::from(number_of(rt, number));
+    match pull.take(alloc, wanted) {
+        Ok(bytes) => word == "took" && bytes.len() as u64 == number,
+        Err(PullEnd::End { at }) => word == "end" && at == number,
+        Err(PullEnd::Limit { at }) => word == "limit" && at == number,
+        Err(_) => false,
+    }
+}
+
+/// Takes bytes as a line says.
+fn check_end(rt: &impl Abort, alloc: Global, line: &str) {
+    let (asked, rest) = cut(line, '|');
+    let (told, places) = cut(rest, '|');
+    let (limit, wanted) = cut(asked, ' ');
+    let (at, left) = cut(places, ' ');
+    let mut source = source_of(rt, alloc, b"abcde", "2", "");
+    let mut pull = Pull::new(&mut source);
+    pull.mark(u64::from(number_of(rt, limit)));
+    let wanted = number_of(rt, wanted);
+    must(rt, is_told(rt, alloc, &mut pull, wanted, told), line);
+    must(rt, pull.at() == u64::from(number_of(rt, at)), line);
+    must(
+        rt,
+        source.left().len() == number_of(rt, left) as usize,
+        line,
+    );
 }
 
 #[test]
-fn ends_come_where_they_stand(rt: HostRuntime) -> Result<(), Fail> {
-    let five = Ok(5);
-    let table = [
-        (9, 5, five, 5, 0),
-        (5, 5, five, 5, 0),
-        (5, 6, Err(PullEnd::End { at: 5 }), 5, 0),
-        (9, 6, Err(PullEnd::End { at: 5 }), 5, 0),
-        (4, 5, Err(PullEnd::Limit { at: 4 }), 4, 0),
-        (2, 5, Err(PullEnd::Limit { at: 2 }), 2, 2),
-        (0, 1, Err(PullEnd::Limit { at: 0 }), 0, 4),
-        (0, 0, Ok(0), 0, 5),
-    ];
-    for (limit, wanted, answer, at, left) in table {
-        let mut source = source_of(rt.alloc(), b"abcde", &[2], &[])?;
-        {
-            let mut pull = Pull::new(&mut source);
-            pull.mark(limit);
-            let taken = match pull.take(rt.alloc(), wanted) {
-                Ok(bytes) => Ok(bytes.len()),
-                Err(end) => Err(end),
-            };
-            must(&rt, taken == answer, "taken");
-            must(&rt, pull.at() == at, "position");
-        }
-        must(&rt, source.left().len() == left, "left");
+fn ends_come_where_they_stand(rt: HostRuntime) {
+    for line in ENDS.split('\n') {
+        check_end(&rt, rt.alloc(), line);
     }
-    Ok(())
 }
 
+/// What reading a byte answers, in a word.
+fn word_of(byte: Result<u8, PullEnd>) -> &'static str {
+    match byte {
+        Ok(b'a') => "a",
+        Ok(b'b') => "b",
+        Ok(_) => "byte",
+        Err(PullEnd::ReadFault) => "fault",
+        Err(PullEnd::Limit { at }) => if at == 1 << 62 {
+            "limit"
+        } else {
+            "other limit"
+        },
+        Err(PullEnd::End { at }) => if at == 1 << 62 { "end" } else { "other end" },
+        Err(_) => "memory",
+    }
+}
+
+/// The first byte stands two before the last position.
 #[test]
-fn bytes_come_one_after_the_other(rt: HostRuntime) -> Result<(), Fail> {
-    let mut source = source_of(rt.alloc(), b"abcd", &[], &[1])?;
+fn bytes_come_one_after_the_other(rt: HostRuntime) {
+    let mut source = source_of(&rt, rt.alloc(), b"abcd", "", "1");
     let mut pull = Pull::resume(&mut source, (1 << 62) - 2);
-    let last = 1 << 62;
-    let table = [
-        Ok(b'a'),
-        Err(PullEnd::ReadFault),
-        Ok(b'b'),
-        Err(PullEnd::Limit { at: last }),
-        Err(PullEnd::Limit { at: last }),
-        Err(PullEnd::End { at: last }),
-    ];
-    for answer in table {
-        must(&rt, pull.byte() == answer, "byte");
+    for word in "a fault b limit limit end".split(' ') {
+        must(&rt, word_of(pull.byte()) == word, word);
     }
-    Ok(())
 }
 
 /// A source without end, which keeps the length of the longest buffer that it was handed.
@@ -194,25 +257,30 @@ impl Source for Asked {
     fn shut(&mut self) {}
 }
 
+/// The longest buffer that is asked for where so many bytes are wanted, up to a limit.
+fn most_asked(alloc: Global, limit: u64, wanted: u32) -> usize {
+    let mut source = Asked { most: 0 };
+    let mut pull = Pull::new(&mut source);
+    pull.mark(limit);
+    let _taken = pull.take(alloc, wanted);
+    source.most
+}
+
+/// Looks at the longest buffer that is asked for.
+fn check_most(rt: &impl Abort, alloc: Global, limit: u64, row: &str) {
+    let (wanted, most) = cut(row, ' ');
+    let found = most_asked(alloc, limit, number_of(rt, wanted));
+    must(rt, found == number_of(rt, most) as usize, row);
+}
+
+/// The limit, how many bytes are wanted, and the longest buffer.
 #[test]
-fn no_more_is_asked_for_than_is_wanted(rt: HostRuntime) -> Result<(), Fail> {
-    let table = [
-        (9, 1, 1),
-        (1 << 62, 4096, 4096),
-        (1 << 62, 100_000, 4096),
-        (9, 100, 9),
-        (0, 100, 1),
-    ];
-    for (limit, wanted, most) in table {
-        let mut source = Asked { most: 0 };
-        {
-            let mut pull = Pull::new(&mut source);
-            pull.mark(limit);
-            let _taken = pull.take(rt.alloc(), wanted);
-        }
-        must(&rt, source.most == most, "most");
-    }
-    Ok(())
+fn no_more_is_asked_for_than_is_wanted(rt: HostRuntime) {
+    check_most(&rt, rt.alloc(), 9, "1 1");
+    check_most(&rt, rt.alloc(), 1 << 62, "4096 4096");
+    check_most(&rt, rt.alloc(), 1 << 62, "100000 4096");
+    check_most(&rt, rt.alloc(), 9, "100 9");
+    check_most(&rt, rt.alloc(), 0, "100 1");
 }
 
 /// A sink that takes two bytes at each write, and fails at the third.
@@ -239,20 +307,21 @@ impl Sink for Slow {
     fn shut(&mut self) {}
 }
 
+/// Puts a piece, of which so many bytes are sent in so many writes.
+fn check_put(rt: &impl Abort, piece: &[u8], sent: usize, writes: u64) {
+    let mut sink = Slow {
+        writes: 0,
+        faults: 0,
+    };
+    must(rt, write(&mut sink, piece, true) == sent, "put");
+    must(rt, sink.writes == writes, "writes");
+}
+
 #[test]
 fn what_was_sent_is_told(rt: HostRuntime) {
-    for (bytes, answer, writes) in [
-        (b"".as_slice(), Ok(()), 0),
-        (b"abc".as_slice(), Ok(()), 2),
-        (b"abcde".as_slice(), Err(PutFault { sent: 4 }), 3),
-    ] {
-        let mut sink = Slow {
-            writes: 0,
-            faults: 0,
-        };
-        must(&rt, put_all(&mut sink, bytes) == answer, "put");
-        must(&rt, sink.writes == writes, "writes");
-    }
+    check_put(&rt, b"", 0, 0);
+    check_put(&rt, b"abc", 3, 2);
+    check_put(&rt, b"abcde", 4, 3);
 }
 
 /// A reader of so many zeros, which fails at its second call, and counts its calls.
@@ -275,27 +344,32 @@ impl Read for Zeros<'_> {
     }
 }
 
-#[test]
-fn a_reader_is_read_ahead(rt: HostRuntime) -> Result<(), Fail> {
-    let calls = Cell::new(0);
-    let mut source = StdSource::new(
-        rt.alloc(),
-        Zeros {
-            left: 10_000,
-            calls: &calls,
-        },
-    )?;
+/// How many bytes come of 10,000 reads and two more of single bytes, and how many faults.
+fn read_ahead(alloc: Global, calls: &Cell<u32>) -> (u32, u64) {
+    let zeros = Zeros {
+        left: 10_000,
+        calls,
+    };
+    let Ok(mut source) = StdSource::new(alloc, zeros) else {
+        return (0, 0);
+    };
     let mut given = 0u32;
     for _ in 0..10_002 {
-        if read_one(&mut source) == Ok(1) {
+        if read_one(&mut source) == 1 {
             given = given.saturating_add(1);
         }
     }
     source.shut();
+    (given, source.faults())
+}
+
+#[test]
+fn a_reader_is_read_ahead(rt: HostRuntime) {
+    let calls = Cell::new(0);
+    let (given, faults) = read_ahead(rt.alloc(), &calls);
     must(&rt, given == 10_000, "given");
-    must(&rt, source.faults() == 1, "faults");
+    must(&rt, faults == 1, "faults");
     must(&rt, calls.get() == 4, "calls");
-    Ok(())
 }
 
 /// A writer that takes two bytes, then none, and then fails.
@@ -319,19 +393,21 @@ impl Write for Grudging {
     }
 }
 
+/// Writes three bytes, of which so many are taken, with so many faults then.
+fn check_grudging(rt: &impl Abort, sink: &mut StdSink<Grudging>, count: usize, faults: u64) {
+    must(rt, write(sink, b"abc", false) == count, "write");
+    must(rt, sink.faults() == faults, "faults");
+}
+
 #[test]
 fn a_write_of_nothing_is_a_fault(rt: HostRuntime) {
     let mut sink = StdSink::new(Grudging { calls: 0 });
-    for (answer, faults) in [(Ok(2), 0), (Err(Failed), 1), (Err(Failed), 2)] {
-        must(&rt, sink.write(b"abc") == answer, "write");
-        must(&rt, sink.faults() == faults, "faults");
-    }
+    check_grudging(&rt, &mut sink, 2, 0);
+    check_grudging(&rt, &mut sink, 99, 1);
+    check_grudging(&rt, &mut sink, 99, 2);
     sink.shut();
-    must(
-        &rt,
-        StdSink::new(Vec::new(rt.alloc())).write(b"") == Ok(0),
-        "write",
-    );
+    let mut sink = StdSink::new(Vec::new(rt.alloc()));
+    must(&rt, write(&mut sink, b"", false) == 0, "nothing");
 }
 
 /// A clock that reads 5.007 seconds, then fails, and then reads a time past every moment.
@@ -356,47 +432,38 @@ impl time::Clock for Moody {
     }
 }
 
+/// Reads a clock, which gives this moment, with so many faults then.
+fn check_moody(rt: &impl Abort, clock: &mut StdClock<Moody>, moment: u64, faults: u64) {
+    must(rt, clock.now() == moment, "moment");
+    must(rt, clock.faults() == faults, "faults");
+}
+
 #[test]
 fn a_clock_that_fails_gives_its_last_moment(rt: HostRuntime) {
     let mut clock = StdClock::new(Moody {
         calls: Cell::new(0),
     });
-    for (moment, faults) in [(5007, 0), (5007, 1), ((1 << 62) - 1, 1)] {
-        must(&rt, clock.now() == moment, "moment");
-        must(&rt, clock.faults() == faults, "faults");
-    }
+    check_moody(&rt, &mut clock, 5007, 0);
+    check_moody(&rt, &mut clock, 5007, 1);
+    check_moody(&rt, &mut clock, (1 << 62) - 1, 1);
     let start_of_2020 = 1_577_836_800_000;
     must(&rt, StdClock::new(&rt).now() > start_of_2020, "clock");
 }
 
 /// Takes all of so many bytes, or passes the limit.
-fn check_whole(
-    rt: &impl Abort,
-    alloc: Global,
-    len: usize,
-    limit: u32,
-    whole: bool,
-) -> Result<(), AllocError> {
-    let bytes = ByteList::from_vec(vec![in alloc; 7; len]?);
-    let cuts = Kinds::from_slice(alloc, &[3, 0, 4096])?;
-    let mut source = MemSource::new(bytes, cuts, Kinds::new(alloc));
-    match take_whole(alloc, &mut source, limit as usize) {
-        Ok(taken) => must(rt, whole && taken.len() == len, "taken"),
-        Err(_) => must(rt, !whole, "too large"),
+fn check_whole(rt: &impl Abort, alloc: Global, words: &str, limit: u16, whole: bool) {
+    let bytes = bytes_of(rt, alloc, words);
+    let mut source = source_of(rt, alloc, bytes.as_slice(), "3 0 4096", "");
+    match take_whole(alloc, &mut source, usize::from(limit)) {
+        Ok(taken) => must(rt, whole && taken.len() == bytes.len(), words),
+        Err(_) => must(rt, !whole, words),
     }
-    Ok(())
 }
 
 #[test]
-fn takes_all_or_passes_the_limit(rt: HostRuntime) -> Result<(), Fail> {
-    // how many bytes there are, the limit, and whether they are taken
-    for (len, limit, whole) in [
-        (0usize, 0u32, true),
-        (1, 0, false),
-        (5000, 5000, true),
-        (5001, 5000, false),
-    ] {
-        check_whole(&rt, rt.alloc(), len, limit, whole)?;
-    }
-    Ok(())
+fn takes_all_or_passes_the_limit(rt: HostRuntime) {
+    check_whole(&rt, rt.alloc(), "", 0, true);
+    check_whole(&rt, rt.alloc(), "07", 0, false);
+    check_whole(&rt, rt.alloc(), "5000*07", 5000, true);
+    check_whole(&rt, rt.alloc(), "5001*07", 5000, false);
 }

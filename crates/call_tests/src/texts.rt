@@ -1,0 +1,60 @@
+//! Bytes and lists from text. A test stops where there is no memory: no helper answers an error, and none has an early end.
+use mod_utf::list::{ByteList, Units};
+use std::alloc::Global;
+use std::process::Abort;
+
+/// Stops where this does not hold, and says what it is.
+pub(crate) fn must(rt: &impl Abort, holds: bool, what: &str) {
+    assert!(rt; holds, "{what}");
+}
+
+/// Appends a piece.
+pub(crate) fn put(rt: &impl Abort, bytes: &mut ByteList, piece: &[u8]) {
+    must(rt, bytes.append(piece).is_ok(), "memory");
+}
+
+/// A list of these bytes.
+pub(crate) fn listed(rt: &impl Abort, alloc: Global, piece: &[u8]) -> ByteList {
+    let mut bytes = ByteList::new(alloc);
+    put(rt, &mut bytes, piece);
+    bytes
+}
+
+/// The units of a text of ASCII.
+pub(crate) fn units_of(rt: &impl Abort, alloc: Global, text: &str) -> Units {
+    let mut units = Units::new(alloc);
+    for byte in text.as_bytes() {
+        must(rt, units.push(u16::from(*byte)).is_ok(), "memory");
+    }
+    units
+}
+
+/// What stands before the separator, and what after it.
+pub(crate) fn cut(text: &str, separator: char) -> (&str, &str) {
+    let (front, rest) = text.split_once(separator).unwrap_or((text, ""));
+    (front.trim(), rest.trim())
+}
+
+/// The value of a hex digit in capitals.
+fn digit_of(character: u8) -> Option<u8> {
+    match character {
+        b'0'..=b'9' => Some(character - b'0'),
+        b'A'..=b'F' => Some(character - b'A' + 10),
+        _ => None,
+    }
+}
+
+/// Appends the bytes that hex digits spell, two for each. Any other character counts for nothing.
+pub(crate) fn put_digits(rt: &impl Abort, bytes: &mut ByteList, digits: &str) {
+    let mut half = None;
+    for character in digits.as_bytes() {
+        match (half, digit_of(*character)) {
+            (None, low) => half = low,
+            (Some(high), Some(low)) => {
+                put(rt, bytes, &[(high << 4) | low]);
+                half = None;
+            }
+            (Some(_), None) => {}
+        }
+    }
+}
