@@ -221,7 +221,7 @@ fn serve(
         book,
         &mut setup,
     );
-    let asked = port.into_asked();
+    let asked = port.into_asked().to_list(alloc).ok()?;
     must(rt, are_entries(asked.as_slice(), wanted.entries), "asked");
     must(rt, are_invoked(worker.recorded(), wanted.places), "invoked");
     must(rt, sink.held() == wanted.output, "written");

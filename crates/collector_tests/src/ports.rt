@@ -60,7 +60,7 @@ fn entries(rt: &impl Abort, alloc: Global, space: &mut Space) -> AskedList {
     must(rt, again.is_ok(), "again");
     let refused = port.turn(many.moment, many.ask);
     must(rt, refused.is_err(), "refused");
-    port.into_asked().copy(alloc).expect(rt, MEMORY)
+    port.into_asked().to_list(alloc).expect(rt, MEMORY)
 }
 
 /// Appends the moment of an entry, and how it ended.

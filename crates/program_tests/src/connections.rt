@@ -120,7 +120,9 @@ fn serve(
         &mut setup,
     );
     let (values, nodes) = first_of(worker.recorded());
-    let asked = port.into_asked();
+    let Ok(asked) = port.into_asked().to_list(alloc) else {
+        return NOTHING;
+    };
     Seen {
         end,
         writes: sink.writes(),

@@ -1,5 +1,8 @@
 pub mod Acts
 pub mod Ahead
+pub mod AskedLog
+pub mod AskedRows
+pub mod AskedViews
 pub mod Balance
 pub mod Built
 pub mod Entries

@@ -1,10 +1,11 @@
 //! A port that holds its space.
-ghost use Rattle.std.specs.Prelude.{◌≡◌, ◌^◌, ◌-◌, ℕ, [], refl, vec_capacity};
+ghost use Rattle.std.specs.Prelude.{◌≡◌, ◌^◌, ◌-◌, ℕ, [], refl};
 ghost use Rattle.object_ids.specs.declared.ids.ObjId.{ObjId};
 ghost use Rattle.space.specs.Ties.{IsTied, Leads};
 ghost use Rattle.space.specs.TieLaws.{leads_self, leads_on};
 
-use crate::asked::{Asked, AskedEnd, AskedList};
+use crate::asked::{Asked, AskedEnd};
+use crate::asked_log::{AskedLog, PortEntries};
 use crate::port::Port;
 use crate::turns::Space;
 use history::{Ask, Refused, Turn};
@@ -24,24 +25,24 @@ pub struct PortOver<'a, L> {
 }
 
 /// A port that hands each call to its space at once.
-pub type DirectPort<'a> = PortOver<'a, Vec<Asked>>;
+pub type DirectPort<'a> = PortOver<'a, AskedLog>;
 
-impl<'a> PortOver<'a, Vec<Asked>> {
+impl<'a> PortOver<'a, AskedLog> {
     /// The port of a connection. Its entries begin with the next turn.
     pub fn new(alloc: Global, space: &'a mut Space, by: u32) -> DirectPort<'a>
         ensures same_reference { result.space.ghost_name ≡ space.entry.ghost_name }
         ensures values { (result.space.now ≡ space.old) × (result.by ≡ by) × (result.asked.items ≡ []) }
-        ensures ready { IsTied result.by result.space.now result.asked.items (vec_capacity result.asked) }
+        ensures ready { IsTied result.by result.space.now result.asked.items result.asked.capacity }
     {
         PortOver {
             space,
             by,
-            asked: Vec::new(alloc),
+            asked: AskedLog::new(alloc),
         }
     }
 
     /// The port's entries.
-    pub fn into_asked(self) -> AskedList
+    pub fn into_asked(self) -> PortEntries
         ensures { result ≡ self.entry.asked.items }
     {
         let PortOver {
@@ -49,16 +50,16 @@ impl<'a> PortOver<'a, Vec<Asked>> {
             by: _,
             asked,
         } = self;
-        AskedList::from_vec(asked)
+        PortEntries::of(asked)
     }
 }
 
-impl<'a> Port for PortOver<'a, Vec<Asked>> {
+impl<'a> Port for PortOver<'a, AskedLog> {
     ghost asked = { λ p. p.asked.items };
 
     ghost room_of = { λ p. 2 ^ 64 - 1 };
 
-    ghost ready = { λ p. IsTied p.by p.space.now p.asked.items (vec_capacity p.asked) };
+    ghost ready = { λ p. IsTied p.by p.space.now p.asked.items p.asked.capacity };
 
     ghost leads = { λ p q. (q.space.ghost_name ≡ p.space.ghost_name) × (q.by ≡ p.by) × Leads p.by p.space.now p.asked.items q.space.now q.asked.items };
 

@@ -5,6 +5,9 @@
 mod abandons;
 mod acts;
 pub mod asked;
+pub mod asked_log;
+mod asked_rows;
+pub mod asked_view;
 mod asks;
 mod calls;
 pub mod direct_port;
@@ -23,6 +26,8 @@ pub mod texts;
 pub mod turns;
 
 pub use asked::{Asked, AskedEnd, AskedList};
+pub use asked_log::{AskedLog, PortEntries};
+pub use asked_view::AskedView;
 pub use direct_port::{DirectPort, PortOver};
 pub use history::{Ask, Event, Refused, Reply, SpaceConfig, Turn};
 pub use journal_text::{journal, summary};

@@ -1,5 +1,5 @@
 //! A port over a pass of a lock.
-ghost use Rattle.std.specs.Prelude.{◌≡◌, ℕ, [], refl, vec_capacity};
+ghost use Rattle.std.specs.Prelude.{◌≡◌, ℕ, [], refl};
 ghost use mathlib.Core.Path.{◌∙◌};
 ghost use Rattle.space.specs.Ties.{IsTied};
 ghost use Rattle.turn_lock.specs.Handles.{IsPassOf, seen_space, view_of};
@@ -9,7 +9,7 @@ ghost use Rattle.turn_lock.specs.PortLaws.{went_self, went_on};
 use crate::handles::{Pass, TurnLock};
 use history::{Ask, Refused, Turn};
 use object_ids::ObjId;
-use space::{Asked, AskedEnd, AskedList, Port};
+use space::{Asked, AskedEnd, AskedLog, Port, PortEntries};
 use std::alloc::Global;
 use std::sync::Wait;
 
@@ -22,26 +22,26 @@ pub struct PortOver<'a, R: Wait, L> {
 }
 
 /// A port whose turns wait for their ticket: those of one connection, whose number is its pass's.
-pub type SeatPort<'a, R> = PortOver<'a, R, Vec<Asked>>;
+pub type SeatPort<'a, R> = PortOver<'a, R, AskedLog>;
 
-impl<'a, R: Wait> PortOver<'a, R, Vec<Asked>> {
+impl<'a, R: Wait> PortOver<'a, R, AskedLog> {
     /// The port of a pass of this lock. Its entries begin with the next turn. A pass has room for 2^31 turns.
     pub fn new(rt: &'a R, alloc: Global, lock: &'a TurnLock, pass: &'a mut Pass) -> SeatPort<'a, R>
         requires own { IsPassOf lock.now pass.old }
         ensures same_reference { result.pass.ghost_name ≡ pass.entry.ghost_name }
         ensures values { (result.pass.now ≡ pass.old) × (result.lock.now ≡ lock.now) × (result.asked.items ≡ []) }
-        ensures ready { IsTied (view_of result.pass.now).number (seen_space (view_of result.pass.now)) result.asked.items (vec_capacity result.asked) }
+        ensures ready { IsTied (view_of result.pass.now).number (seen_space (view_of result.pass.now)) result.asked.items result.asked.capacity }
     {
         PortOver {
             rt,
             lock,
             pass,
-            asked: Vec::new(alloc),
+            asked: AskedLog::new(alloc),
         }
     }
 
     /// The port's entries.
-    pub fn into_asked(self) -> AskedList
+    pub fn into_asked(self) -> PortEntries
         ensures items { result ≡ self.entry.asked.items }
 
         // The pass that the port was made with, the third of its fields, is as the port left it.
@@ -53,16 +53,16 @@ impl<'a, R: Wait> PortOver<'a, R, Vec<Asked>> {
             pass: _,
             asked,
         } = self;
-        AskedList::from_vec(asked)
+        PortEntries::of(asked)
     }
 }
 
-impl<'a, R: Wait> Port for PortOver<'a, R, Vec<Asked>> {
+impl<'a, R: Wait> Port for PortOver<'a, R, AskedLog> {
     ghost asked = { λ p. p.asked.items };
 
     ghost room_of = { λ p. p.pass.now.room };
 
-    ghost ready = { λ p. IsPassOf p.lock.now p.pass.now × IsTied (view_of p.pass.now).number (seen_space (view_of p.pass.now)) p.asked.items (vec_capacity p.asked) };
+    ghost ready = { λ p. IsPassOf p.lock.now p.pass.now × IsTied (view_of p.pass.now).number (seen_space (view_of p.pass.now)) p.asked.items p.asked.capacity };
 
     ghost leads = { λ p q. (q.pass.ghost_name ≡ p.pass.ghost_name) × (q.lock.now ≡ p.lock.now) × Went p.pass.now p.asked.items q.pass.now q.asked.items };
 

@@ -1,5 +1,5 @@
 //! The root's own pass.
-ghost use Rattle.std.specs.Prelude.{◌≡◌, ◌+◌, ◌<◌, ◌≤◌, ◌^◌, [], vec_capacity};
+ghost use Rattle.std.specs.Prelude.{◌≡◌, ◌+◌, ◌<◌, ◌≤◌, ◌^◌, []};
 ghost use Rattle.std.specs.Borrow.{sem};
 ghost use Rattle.space.specs.Ties.{IsTied};
 ghost use Rattle.space.specs.Ports.{entries_of};
@@ -11,7 +11,7 @@ ghost use Rattle.turn_lock.specs.Rule.{InOrder};
 use crate::handles::{Pass, Root, TurnLock};
 use crate::port::{PortOver, SeatPort};
 use history::{Ask, Refused, Turn};
-use space::{AskedList, Port};
+use space::{Port, PortEntries};
 use std::alloc::Global;
 use std::sync::Wait;
 
@@ -26,7 +26,7 @@ impl Root {
         requires own { IsRootOf lock.now self.old }
         ensures* writes_back { sem 𝓛 (LendsPass self.entry result.pass) }
         ensures values { (result.pass.now ≡ self.old.pass) × (result.lock.now ≡ lock.now) × (result.asked.items ≡ []) }
-        ensures ready { IsTied (view_of result.pass.now).number (seen_space (view_of result.pass.now)) result.asked.items (vec_capacity result.asked) }
+        ensures ready { IsTied (view_of result.pass.now).number (seen_space (view_of result.pass.now)) result.asked.items result.asked.capacity }
     {
         let pass = &mut self.pass;
         PortOver::new(rt, alloc, lock, pass)
@@ -48,7 +48,7 @@ impl Root {
         lock: &TurnLock,
         moment: u64,
         ask: Ask,
-    ) -> (Result<Turn, Refused>, AskedList)
+    ) -> (Result<Turn, Refused>, PortEntries)
         requires own { IsRootOf lock.now self.old }
         requires room { 0 < self.old.pass.room }
         requires moment { moment < 2 ^ 62 }
@@ -71,7 +71,7 @@ fn turned<R: Wait>(
     pass: &mut Pass,
     moment: u64,
     ask: Ask,
-) -> (Result<Turn, Refused>, AskedList)
+) -> (Result<Turn, Refused>, PortEntries)
     requires own { IsPassOf lock.now pass.old }
     requires room { 0 < pass.old.room }
     requires moment { moment < 2 ^ 62 }

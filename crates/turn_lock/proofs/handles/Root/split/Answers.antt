@@ -1,9 +1,7 @@
-use Rattle.std.proofs.Common.{◌≢◌, ◌≡◌, ◌∙◌, [], ap, refl, rules, arith}
-use Rattle.turn_lock.specs.Handles.{view_of}
-use Rattle.turn_lock.specs.Rule.{Sat, longer, right_of}
+use Rattle.std.proofs.Common.{◌≢◌, ◌∙◌, ap, rules, arith}
+use Rattle.turn_lock.specs.Rule.{Sat}
 use Rattle.turn_lock.proofs.At.{absorbs_at}
 use Rattle.turn_lock.proofs.Keeps.{splits}
-use Rattle.turn_lock.proofs.Passes.{branch_split, root_split, split_sees}
 use Rattle.turn_lock.proofs.handles.Root.split.Goals as goal
 
 pub split_seat-seat-requires : goal.split_seat-seat-requires

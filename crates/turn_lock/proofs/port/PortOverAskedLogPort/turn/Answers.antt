@@ -1,31 +1,30 @@
-use Rattle.std.proofs.Common.{◌≡◌, ◌≤◌, ◌<◌, ◌+◌, ◌++◌, ◌∷◌, [], length, ap, ◌∙◌, refl, rules, arith, vec_len, vec_capacity}
+use Rattle.std.proofs.Common.{◌≡◌, ◌≤◌, ◌<◌, ◌+◌, ◌++◌, ◌∷◌, [], length, ap, ◌∙◌, refl, rules, arith}
 use Rattle.history.specs.Running.{running}
 use Rattle.history.specs.Table.{places}
 use Rattle.space.specs.Ports.{Shows}
 use Rattle.space.proofs.AnswerLaws.{answer-as}
 use Rattle.turn_lock.specs.Handles.{view_of}
 use Rattle.turn_lock.proofs.PortSteps.{tied_entered, tied_unentered, shown_there, went_entered, went_same, went_unentered}
-use Rattle.turn_lock.proofs.port.PortOverVecAskedPort.turn.Goals as goal
+use Rattle.turn_lock.proofs.port.PortOverAskedLogPort.turn.Goals as goal
 
 pub returns-in-Ok-clause-answer : goal.returns-in-Ok-clause-answer
 returns-in-Ok-clause-answer g c =
     let p = c.args.self.now.pass.now in
     let t = c.in-Ok.ensures.turned in
     answer-as (λ o. 0 < running (places (view_of p).config t.0) p.number o) (Shows c.args.self.now.asked.items) c.args.ask c.in-Ok.answer
-    (λ o h. shown_there (view_of p) t.0 p.number c.args.self.now.asked.items (vec_capacity c.args.self.now.asked) o c.requires.ready.0.numbered t.1.came c.requires.ready.1 h) t.2
+    (λ o h. shown_there (view_of p) t.0 p.number c.args.self.now.asked.items c.args.self.now.asked.capacity o c.requires.ready.0.numbered t.1.came c.requires.ready.1 h) t.2
 
 pub returns-in-Ok-clause-ready : goal.returns-in-Ok-clause-ready
 returns-in-Ok-clause-ready g c =
     let p = c.args.self.now.pass.now in
     let t = c.in-Ok.ensures.turned in
-    let room : vec_len c.reserve.new.self + (c.len.result + 2) ≤ vec_capacity c.reserve.new.self = search rules in
-    let len : vec_len c.reserve.new.self ≡ length c.reserve.new.self.items = search rules in
+    let room : length c.reserve.new.self.items + (c.len.result + 2) ≤ c.reserve.new.self.capacity = search rules in
     let before : c.len.result ≡ length c.args.self.now.asked.items = search rules in
     let same = ap length c.reserve.ensures.items in
     let capacity = c.push_reserved.ensures.capacity in (
       c.turn.ensures.pass.0,
-      tied_entered (view_of p) (view_of c.turn.new.self) t.0 p.number c.args.moment c.args.ask c.in-Ok.answer c.args.self.now.asked.items c.push_reserved.new.self.items c.in-Ok.entry (vec_capacity c.args.self.now.asked) (vec_capacity c.push_reserved.new.self)
-          c.requires.ready.0.numbered t.1 c.requires.ready.1 c.in-Ok.ensures.noted (c.push_reserved.ensures.items ∙ ap (λ l. l ++ c.in-Ok.entry ∷ []) c.reserve.ensures.items) (omega (arith, room, len, before, same, capacity)),
+      tied_entered (view_of p) (view_of c.turn.new.self) t.0 p.number c.args.moment c.args.ask c.in-Ok.answer c.args.self.now.asked.items c.push_reserved.new.self.items c.in-Ok.entry c.args.self.now.asked.capacity c.push_reserved.new.self.capacity
+          c.requires.ready.0.numbered t.1 c.requires.ready.1 c.in-Ok.ensures.noted (c.push_reserved.ensures.items ∙ ap (λ l. l ++ c.in-Ok.entry ∷ []) c.reserve.ensures.items) (omega (arith, room, before, same, capacity)),
     )
 
 pub returns-in-Ok-clause-leads : goal.returns-in-Ok-clause-leads
@@ -43,9 +42,9 @@ pub returns-in-Err-clause-ready : goal.returns-in-Err-clause-ready
 returns-in-Err-clause-ready g c =
     let p = c.args.self.now.pass.now in
     let t = c.in-Err.ensures.turned in
-    let grows : vec_capacity c.args.self.now.asked ≤ vec_capacity c.reserve.new.self = search rules in (
+    let grows : c.args.self.now.asked.capacity ≤ c.reserve.new.self.capacity = search rules in (
       c.turn.ensures.pass.0,
-      tied_unentered (view_of p) (view_of c.turn.new.self) t.0 p.number c.args.moment c.args.ask c.args.self.now.asked.items c.reserve.new.self.items (vec_capacity c.args.self.now.asked) (vec_capacity c.reserve.new.self)
+      tied_unentered (view_of p) (view_of c.turn.new.self) t.0 p.number c.args.moment c.args.ask c.args.self.now.asked.items c.reserve.new.self.items c.args.self.now.asked.capacity c.reserve.new.self.capacity
           t.1 c.requires.ready.1 c.reserve.ensures.items grows,
     )
 

@@ -1,6 +1,0 @@
-use Rattle.std.proofs.Common.{arith}
-use Rattle.java_shapes.proofs.LeaseGraph.{looked}
-use Rattle.java_shapes.proofs.lease_graphs.look.Goals as goal
-
-pub returns : goal.returns
-returns c = looked c.args.bytes.now (λ i. omega (arith, c.type_inv.bytes i))

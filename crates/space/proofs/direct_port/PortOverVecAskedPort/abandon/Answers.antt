@@ -1,9 +1,0 @@
-use Rattle.std.proofs.Common.{arith, vec_capacity}
-use Rattle.space.proofs.TieSteps.{tied-as, tied-abandoned}
-use Rattle.space.proofs.direct_port.PortOverVecAskedPort.abandon.Goals as goal
-
-pub returns-clause-ready : goal.returns-clause-ready
-returns-clause-ready c =
-    let capacity = c.push_reserved.ensures.capacity in
-    tied-as c.args.self.now.by c.abandon.new.self _ c.push_reserved.new.self.items (vec_capacity c.args.self.now.asked) (vec_capacity c.push_reserved.new.self) c.push_reserved.ensures.items (omega (arith, capacity))
-    (tied-abandoned c.args.self.now.by c.args.moment c.args.object c.args.self.now.space.now c.abandon.new.self c.args.self.now.asked.items (vec_capacity c.args.self.now.asked) c.len-place.result c.requires.ready c.requires.runs c.abandon.ensures.events c.abandon.ensures.config)

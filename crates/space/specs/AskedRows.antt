@@ -1,0 +1,55 @@
+-- The entries of a log's rows.
+use Rattle.std.specs.Prelude.{◌≡◌, ℕ, []}
+use Rattle.history.specs.declared.asks.Ask.{Ask}
+use Rattle.history.specs.declared.asks.Ask.TheVariants.{Begin, Finish, Abandon, Ack}
+use Rattle.history.specs.declared.replies.Reply.{Reply}
+use Rattle.history.specs.declared.replies.Reply.TheVariants.{Started, Finished, Done}
+use Rattle.history.specs.declared.replies.Turn.{Turn}
+use Rattle.event_log.specs.Ids.{id_of, uid_of}
+use Rattle.space.specs.declared.asked.Asked.{Asked}
+use Rattle.space.specs.declared.asked.AskedEnd.{AskedEnd}
+use Rattle.space.specs.declared.asked.AskedEnd.TheVariants.{Turned, Abandoned, Refused as Denied}
+use Rattle.space.specs.declared.asked_rows.AskedRow.{AskedRow}
+use Rattle.space.specs.declared.asked_rows.AskedWhat.{AskedWhat}
+use Rattle.space.specs.declared.asked_rows.AskedWhat.TheVariants.{Began, Returned, GivenUp, Acked, Whole}
+
+-- ---- plain entries
+
+abbrev pub IsStarted : Reply → Type 0
+IsStarted (Started kind) = Unit {0}
+IsStarted _ = ⊥
+
+abbrev pub IsAbandon : Ask → Type 0
+IsAbandon (Abandon object) = Unit {0}
+IsAbandon _ = ⊥
+
+-- A reply that starts a call, one to a Finish that makes and lists nothing and ends a call, or the reply to an Ack.
+abbrev pub IsPlainReply : Ask → Reply → Type 0
+IsPlainReply (Begin object) reply = IsStarted reply
+IsPlainReply (Finish object made listed uid) reply = (made ≡ []) × (listed ≡ []) × (reply ≡ Finished [])
+IsPlainReply (Ack uid) reply = reply ≡ Done
+IsPlainReply _ reply = ⊥
+
+-- An entry with such a reply and nothing told as gone, or of a call that was ended without an answer.
+abbrev pub IsPlainEnd : Ask → AskedEnd → Type 0
+IsPlainEnd ask (Turned turn) = (turn.gone ≡ []) × IsPlainReply ask turn.reply
+IsPlainEnd ask (Abandoned place) = IsAbandon ask
+IsPlainEnd ask (Denied refused) = ⊥
+
+-- ---- rows
+
+-- A turn with nothing told as gone.
+abbrev pub plain_turn : ℕ → Reply → Turn
+plain_turn place reply = record { place = place; reply = reply; gone = [] }
+
+-- The entry of a moment that says this.
+abbrev pub entry_with : ℕ → AskedWhat → Asked
+entry_with moment (Began place object kind) = record { moment = moment; ask = Begin (id_of object); end = Turned (plain_turn place (Started kind)) }
+entry_with moment (Returned place object uid) = record { moment = moment; ask = Finish (id_of object) [] [] (uid_of uid); end = Turned (plain_turn place (Finished [])) }
+entry_with moment (GivenUp place object) = record { moment = moment; ask = Abandon (id_of object); end = Abandoned place }
+entry_with moment (Acked place uid) = record { moment = moment; ask = Ack (uid_of uid); end = Turned (plain_turn place Done) }
+entry_with moment (Whole entry) = entry.value
+
+-- The entry of a row.
+abbrev pub entry_of_row : AskedRow → Asked
+entry_of_row row = entry_with row.moment row.what

@@ -1,0 +1,287 @@
+//! Entries of turns as a port keeps them.
+ghost use Rattle.std.specs.Prelude.{◌≡◌, ◌↔◌, ℕ, [], IsTrue, IsSome};
+ghost use Rattle.history.specs.declared.asks.Ask.TheVariants.{Finish as FinishAsk};
+ghost use Rattle.event_log.specs.Ids.{id_of, uid_of};
+ghost use Rattle.history.specs.declared.replies.Reply.TheVariants.{Started, Finished, Done};
+ghost use Rattle.history.specs.declared.replies.Turn.{Turn};
+ghost use Rattle.space.specs.declared.asked.AskedEnd.TheVariants.{Turned, Abandoned};
+ghost use Rattle.space.specs.AskedRows.{IsStarted, IsPlainReply, IsPlainEnd, IsAbandon, entry_of_row, entry_with, plain_turn};
+ghost use Rattle.space.specs.AskedViews.{viewed};
+
+use crate::asked::{Asked, AskedEnd};
+use crate::asked_view::AskedView;
+use event_log::ids::{RowId, RowUid};
+use history::{Ask, Reply, Turn};
+use mod_utf::list::Kinds;
+use object_ids::ObjIds;
+use std::alloc::Global;
+
+/// What a row says beside its moment: an ask, its answer, and the place of its event. Nothing is told as gone.
+#[derive(Debug, Drop)]
+pub enum AskedWhat {
+    /// A Begin that started a call of an object of this kind.
+    Began {
+        place: u64,
+        object: RowId,
+        kind: u32,
+    },
+    /// A Finish that makes and lists nothing, and ended a call.
+    Returned {
+        place: u64,
+        object: RowId,
+        uid: RowUid,
+    },
+    /// A call that was ended without an answer.
+    GivenUp {
+        place: u64,
+        object: RowId,
+    },
+    /// An Ack.
+    Acked {
+        place: u64,
+        uid: RowUid,
+    },
+    /// Any other entry, whole. What it says of its moment is what counts.
+    Whole(Box<Asked>),
+}
+
+/// An entry as a port keeps it.
+#[derive(Debug, Drop)]
+pub struct AskedRow {
+    pub moment: u64,
+    pub what: AskedWhat,
+}
+
+// ---- plain entries
+
+fn is_started(reply: &Reply) -> bool
+    ensures { IsTrue result ↔ IsStarted reply.now }
+{
+    matches!(reply, Reply::Started(_))
+}
+
+fn is_done(reply: &Reply) -> bool
+    ensures { IsTrue result ↔ (reply.now ≡ Done) }
+{
+    matches!(reply, Reply::Done)
+}
+
+/// Whether a Finish made nothing.
+fn is_finished(reply: &Reply) -> bool
+    ensures { IsTrue result ↔ (reply.now ≡ Finished []) }
+{
+    match reply {
+        Reply::Finished(objects) => objects.is_empty(),
+        _ => false,
+    }
+}
+
+fn is_plain_reply(ask: &Ask, reply: &Reply) -> bool
+    ensures { IsTrue result ↔ IsPlainReply ask.now reply.now }
+{
+    match ask {
+        Ask::Begin { .. } => is_started(reply),
+        Ask::Finish { made, listed, .. } => {
+            made.is_empty() && listed.is_empty() && is_finished(reply)
+        }
+        Ask::Ack { .. } => is_done(reply),
+        Ask::Open { .. }
+        | Ask::Abandon { .. }
+        | Ask::Dirty { .. }
+        | Ask::Clean { .. }
+        | Ask::Bind { .. }
+        | Ask::Rebind { .. }
+        | Ask::Unbind { .. }
+        | Ask::Lookup { .. }
+        | Ask::List
+        | Ask::Tick => false,
+    }
+}
+
+fn is_abandon(ask: &Ask) -> bool
+    ensures { IsTrue result ↔ IsAbandon ask.now }
+{
+    matches!(ask, Ask::Abandon { .. })
+}
+
+/// Whether an entry is kept in its row alone.
+pub(crate) fn is_plain(ask: &Ask, end: &AskedEnd) -> bool
+    ensures { IsTrue result ↔ IsPlainEnd ask.now end.now }
+{
+    match end {
+        AskedEnd::Turned(turn) => turn.gone.is_empty() && is_plain_reply(ask, &turn.reply),
+        AskedEnd::Abandoned(_) => is_abandon(ask),
+        AskedEnd::Refused(_) => false,
+    }
+}
+
+// ---- rows
+
+fn kind_of(reply: &Reply) -> u32
+    requires { IsStarted reply.now }
+    ensures { reply.now ≡ Started result }
+{
+    match reply {
+        Reply::Started(kind) => *kind,
+        _ => 0,
+    }
+}
+
+/// What the row of a plain reply says.
+fn turned(place: u64, ask: &Ask, reply: &Reply) -> AskedWhat
+    requires { IsPlainReply ask.now reply.now }
+    ensures { (moment : ℕ) → entry_with moment result ≡ record { moment = moment; ask = ask.now; end = Turned (plain_turn place reply.now) } }
+{
+    match ask {
+        Ask::Begin { object } => AskedWhat::Began {
+            place,
+            object: RowId::of(object),
+            kind: kind_of(reply),
+        },
+        Ask::Finish { object, uid, .. } => AskedWhat::Returned {
+            place,
+            object: RowId::of(object),
+            uid: RowUid::of(uid),
+        },
+        Ask::Ack { uid } => AskedWhat::Acked {
+            place,
+            uid: RowUid::of(uid),
+        },
+        // no other reply is plain
+        _ => AskedWhat::Acked {
+            place,
+            uid: RowUid {
+                time: 0,
+                unique: 0,
+                count: 0,
+            },
+        },
+    }
+}
+
+/// What the row of a call says that was ended without an answer.
+fn given_up(place: u64, ask: &Ask) -> AskedWhat
+    requires { IsAbandon ask.now }
+    ensures { (moment : ℕ) → entry_with moment result ≡ record { moment = moment; ask = ask.now; end = Abandoned place } }
+{
+    let mut row = RowId {
+        number: 0,
+        space: RowUid {
+            time: 0,
+            unique: 0,
+            count: 0,
+        },
+    };
+    if let Ask::Abandon { object } = ask {
+        row = RowId::of(object);
+    }
+    AskedWhat::GivenUp { place, object: row }
+}
+
+fn plain_what(ask: &Ask, end: &AskedEnd) -> AskedWhat
+    requires { IsPlainEnd ask.now end.now }
+    ensures { (moment : ℕ) → entry_with moment result ≡ record { moment = moment; ask = ask.now; end = end.now } }
+{
+    match end {
+        AskedEnd::Turned(turn) => turned(turn.place, ask, &turn.reply),
+        AskedEnd::Abandoned(place) => given_up(*place, ask),
+        AskedEnd::Refused(_) => given_up(0, ask),
+    }
+}
+
+/// The row of an entry that is kept in it alone.
+pub(crate) fn plain_row(entry: &Asked) -> AskedRow
+    requires { IsPlainEnd entry.now.ask entry.now.end }
+    ensures { entry_of_row result ≡ entry.now }
+{
+    AskedRow {
+        moment: entry.moment,
+        what: plain_what(&entry.ask, &entry.end),
+    }
+}
+
+/// The row of an entry that is kept whole, in a box that is there.
+pub(crate) fn whole_row(room: Option<Box<Asked>>, entry: Asked) -> AskedRow
+    requires { IsSome room }
+    ensures { entry_of_row result ≡ entry }
+{
+    let moment = entry.moment;
+    match room {
+        Some(mut room) => {
+            *room = entry;
+            let what = AskedWhat::Whole(room);
+            AskedRow { moment, what }
+        }
+        None => {
+            let uid = RowUid {
+                time: 0,
+                unique: 0,
+                count: 0,
+            };
+            let what = AskedWhat::Acked { place: 0, uid };
+            AskedRow { moment, what }
+        }
+    }
+}
+
+// ---- reading
+
+fn turn(alloc: Global, place: u64, reply: Reply) -> AskedEnd
+    ensures { result ≡ Turned (plain_turn place reply) }
+{
+    AskedEnd::Turned(Turn {
+        place,
+        reply,
+        gone: ObjIds::new(alloc),
+    })
+}
+
+/// A Finish that makes and lists nothing.
+fn finish(alloc: Global, object: &RowId, uid: &RowUid) -> Ask
+    ensures { result ≡ FinishAsk (id_of object.now) [] [] (uid_of uid.now) }
+{
+    Ask::Finish {
+        object: object.id(),
+        made: Kinds::new(alloc),
+        listed: ObjIds::new(alloc),
+        uid: uid.uid(),
+    }
+}
+
+/// The entry of a row.
+pub(crate) fn view_of(alloc: Global, row: &AskedRow) -> AskedView<'_>
+    ensures { viewed result ≡ entry_of_row row.now }
+{
+    let (ask, end) = match &row.what {
+        AskedWhat::Whole(entry) => return AskedView::Kept(entry),
+        AskedWhat::Began {
+            place,
+            object,
+            kind,
+        } => (
+            Ask::Begin {
+                object: object.id(),
+            },
+            turn(alloc, *place, Reply::Started(*kind)),
+        ),
+        AskedWhat::Returned { place, object, uid } => (
+            finish(alloc, object, uid),
+            turn(alloc, *place, Reply::Finished(ObjIds::new(alloc))),
+        ),
+        AskedWhat::GivenUp { place, object } => (
+            Ask::Abandon {
+                object: object.id(),
+            },
+            AskedEnd::Abandoned(*place),
+        ),
+        AskedWhat::Acked { place, uid } => (
+            Ask::Ack { uid: uid.uid() },
+            turn(alloc, *place, Reply::Done),
+        ),
+    };
+    AskedView::Made(Asked {
+        moment: row.moment,
+        ask,
+        end,
+    })
+}
