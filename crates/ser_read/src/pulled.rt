@@ -13,8 +13,8 @@ use std::alloc::{AllocError, Global};
 use wire_io::pull::Pull;
 use wire_io::source::Source;
 
-/// How many bytes are asked for at once at most.
-const PIECE: u64 = 0x1_0000;
+/// How many bytes are asked for at once at most: for as many a Pull makes room at once, so a piece is not moved while it grows.
+const PIECE: u64 = 0x1000;
 
 /// The next byte.
 pub(crate) fn byte<S: Source>(pull: &mut Pull<'_, S>) -> Result<u8, StreamFault>
@@ -154,7 +154,7 @@ fn add_piece(bytes: &mut ByteList, piece: ByteList) -> Result<(), AllocError>
     }
 }
 
-/// The next `n` bytes. There is room for at most one piece ahead of what was read.
+/// The next `n` bytes. They are taken piece by piece, so that memory grows with what was read and not with `n`.
 pub(crate) fn take<S: Source>(
     alloc: Global,
     pull: &mut Pull<'_, S>,
