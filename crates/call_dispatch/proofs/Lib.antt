@@ -22,3 +22,4 @@ pub mod CallsOne
 pub mod OpeningReading
 pub mod OneReading
 pub mod Books
+pub mod SystemRows

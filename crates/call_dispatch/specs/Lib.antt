@@ -16,3 +16,5 @@ pub mod Inside
 pub mod Progress
 pub mod Serving
 pub mod Words
+pub mod Demands
+pub mod SystemReturns

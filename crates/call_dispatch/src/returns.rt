@@ -16,7 +16,7 @@ use ser_values::Value;
 use std::alloc::{AllocError, Global};
 
 /// How many bytes a Return has at most.
-const RETURN_BYTES: usize = 1 << 30;
+pub(crate) const RETURN_BYTES: usize = 1 << 30;
 
 /// An answer that is yet to be written.
 #[derive(Drop)]
@@ -50,7 +50,7 @@ pub fn next_uid(setup: &mut Setup) -> Uid
 }
 
 /// The exceptional Return with a message.
-fn exceptional(alloc: Global, uid: Uid, message: &Units) -> Result<ByteList, AllocError>
+pub(crate) fn exceptional(alloc: Global, uid: Uid, message: &Units) -> Result<ByteList, AllocError>
     ensures { IfOk result (λ bytes. bytes ≡ fault_return uid message.now) }
 {
     let graph = fault_graph(alloc, message)?;

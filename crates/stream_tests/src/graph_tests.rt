@@ -1,15 +1,12 @@
 //! Graphs that are built, written, read again, and shown as text.
 use crate::script::graph_of;
+use crate::shape_tests::{is_written, read};
 use crate::text::{MEMORY, bytes_of, cut, decimal, must, slot_of};
 use graph_text::graph_text;
-use mod_utf::{ByteList, Kinds};
-use ser_read::read_to_end;
 use ser_values::{Graph, NodeList, same_graph};
 use ser_write::write_stream;
 use std::alloc::Global;
 use std::process::Abort;
-use wire_io::mem::MemSource;
-use wire_io::pull::Pull;
 
 /// Graphs and their streams: a text that an array holds twice; an object whose field is itself; a list with its note;
 /// a reference to object 17 of the space 7/9/0 at 127.0.0.1 port 1099; a fault with its message; a lease of 600,000 milliseconds
@@ -160,16 +157,10 @@ item #26
  75 72 '[Z' 0000000000000001 02 0000 70 78 70 00000000 75 71 007E0015 00000001 01
  75 72 '[[B' 0000000000000001 02 0000 70 78 70 00000000 75 71 007E0018 00000001 70";
 
-/// Whether a stream of these bytes is read as a graph.
-fn is_read_as(alloc: Global, bytes: ByteList, graph: &Graph) -> bool {
-    let mut source = MemSource::new(bytes, Kinds::new(alloc), Kinds::new(alloc));
-    read_to_end(alloc, &mut Pull::new(&mut source)).is_ok_and(|read| same_graph(&read, graph))
-}
-
-/// Whether a graph is written as these bytes and as no others.
-fn is_written(rt: &impl Abort, alloc: Global, graph: &Graph, bytes: &[u8]) -> bool {
-    let written = write_stream(alloc, graph).expect(rt, MEMORY);
-    written.as_slice() == bytes
+/// Whether a graph is read of these bytes.
+fn is_read(rt: &impl Abort, alloc: Global, notation: &str, graph: &Graph) -> bool {
+    let bytes = bytes_of(alloc, notation).expect(rt, MEMORY);
+    same_graph(&read(rt, alloc, bytes), graph)
 }
 
 #[test]
@@ -178,9 +169,8 @@ fn graphs_are_written_and_read(rt: HostRuntime) {
     for block in STREAMS.split('~') {
         let (script, stream) = cut(block, '=');
         let graph = graph_of(&rt, alloc, script).expect(&rt, block);
-        let bytes = bytes_of(alloc, stream).expect(&rt, MEMORY);
-        must(&rt, is_written(&rt, alloc, &graph, bytes.as_slice()), block);
-        must(&rt, is_read_as(alloc, bytes, &graph), block);
+        must(&rt, is_written(&rt, alloc, &graph, stream), block);
+        must(&rt, is_read(&rt, alloc, stream, &graph), block);
     }
 }
 
@@ -340,10 +330,7 @@ fn parts_are_no_more_than_1048576(rt: HostRuntime) {
 /// Whether a graph's text is this one and the end of its last line.
 fn is_shown_as(rt: &impl Abort, alloc: Global, graph: &Graph, text: &str) -> bool {
     let shown = graph_text(alloc, graph).expect(rt, MEMORY);
-    shown
-        .as_slice()
-        .strip_suffix(b"\n")
-        .is_some_and(|lines| lines == text.trim().as_bytes())
+    shown.as_slice().strip_suffix(b"\n") == Some(text.trim().as_bytes())
 }
 
 /// An object of a class with a `double` and a reference, an array of bytes, and null.

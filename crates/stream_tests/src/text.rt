@@ -44,8 +44,8 @@ fn put_digits(bytes: &mut ByteList, digits: &str) -> Result<(), AllocError> {
 
 /// Appends a text's length in 16 bits, and its bytes.
 fn put_text(bytes: &mut ByteList, text: &[u8]) -> Result<(), AllocError> {
-    let [.., high, low] = text.len().to_be_bytes();
-    bytes.append(&[high, low])?;
+    let length = u16::try_from(text.len()).unwrap_or(0);
+    bytes.append(&length.to_be_bytes())?;
     bytes.append(text)
 }
 
@@ -150,9 +150,5 @@ pub fn repeated<T: Copy + Drop>(
     item: T,
     count: u64,
 ) -> Result<Sequence<T>, AllocError> {
-    let mut items = Sequence::new(alloc);
-    for _ in 0..count {
-        items.push(item)?;
-    }
-    Ok(items)
+    Ok(Sequence::from_vec(vec![in alloc; item; count as usize]?))
 }

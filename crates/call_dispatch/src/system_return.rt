@@ -1,0 +1,222 @@
+//! What calls of the registry and the collector are answered.
+ghost use Rattle.std.specs.Prelude.{◌≡◌, ◌≤◌, ◌^◌, length, [], Some, slice_get, IfOk};
+ghost use Rattle.mod_utf.specs.Utf.{utf};
+ghost use Rattle.history.specs.declared.asks.Ask.{Ask as Asks};
+ghost use Rattle.java_shapes.specs.TextsGraph.{texts_items, texts_nodes};
+ghost use Rattle.call_dispatch.specs.Demands.{kept_of};
+ghost use Rattle.call_dispatch.specs.Returns.{fault_return, full, no_object, wrong_outcome};
+ghost use Rattle.call_dispatch.specs.SystemReturns.{answer_written, bound_return, found_return, graph_return, kept_return, lease_return, named_fault, own_ref, reply_return, unbound_return, void_return};
+ghost use Rattle.call_dispatch.specs.Terms.{terms_of};
+
+use crate::book::{Book, Kind};
+use crate::demand::Kept;
+use crate::returns::{RETURN_BYTES, exceptional, exceptional_ascii, full_message};
+use crate::setup::Setup;
+use history::{Name, Refused, Reply, Turn};
+use java_shapes::{LiveRef, lease_graph, ref_graph, texts_graph};
+use jrmp_frames::{Body, return_bytes};
+use mod_utf::list::{ByteList, NameList, Units};
+use object_ids::{ObjId, Uid, Vmid};
+use ser_values::Graph;
+use std::alloc::{AllocError, Global};
+
+// ---- exceptional Returns
+
+/// The exceptional Return with a message in ASCII that goes on with a name.
+fn named_fault(alloc: Global, uid: Uid, front: &[u8], name: &Name) -> Result<ByteList, AllocError>
+    ensures { IfOk result (λ bytes. bytes ≡ named_fault uid front.now name.now) }
+{
+    let mut message = Units::from_ascii(alloc, front)?;
+    message.append(name.units().as_slice())?;
+    exceptional(alloc, uid, &message)
+}
+
+/// The Return that a name is bound already.
+fn bound_return(alloc: Global, uid: Uid, kept: &Kept) -> Result<ByteList, AllocError>
+    ensures { IfOk result (λ bytes. bytes ≡ bound_return uid kept.now) }
+{
+    match kept {
+        Kept::Name(name) => named_fault(alloc, uid, b"java.rmi.AlreadyBoundException: ", name),
+        _ => Err(AllocError),
+    }
+}
+
+/// The Return that a name is not bound.
+fn unbound_return(alloc: Global, uid: Uid, kept: &Kept) -> Result<ByteList, AllocError>
+    ensures { IfOk result (λ bytes. bytes ≡ unbound_return uid kept.now) }
+{
+    match kept {
+        Kept::Name(name) => named_fault(alloc, uid, b"java.rmi.NotBoundException: ", name),
+        _ => Err(AllocError),
+    }
+}
+
+/// The Return where a turn is refused.
+fn refused_return(alloc: Global, uid: Uid, refused: Refused) -> Result<ByteList, AllocError>
+    ensures { IfOk result (λ bytes. bytes ≡ fault_return uid (full refused)) }
+{
+    match refused {
+        Refused::Full(kind) => exceptional_ascii(alloc, uid, full_message(kind)),
+        Refused::HistoryFull => {
+            exceptional_ascii(alloc, uid, b"java.rmi.ServerException: full: history")
+        }
+        Refused::OutOfMemory => Err(AllocError),
+    }
+}
+
+// ---- normal Returns
+
+/// The Return of nothing.
+#[tactic(auto, unfolding(crate::specs::SystemReturns::void_return))]
+fn void_return(alloc: Global, uid: Uid) -> Result<ByteList, AllocError>
+    ensures { IfOk result (λ bytes. bytes ≡ void_return uid) }
+{
+    return_bytes(alloc, true, uid, &Body::Void)
+}
+
+/// The Return of a graph.
+#[tactic(auto, unfolding(crate::specs::SystemReturns::graph_return))]
+fn graph_return(alloc: Global, uid: Uid, graph: Graph) -> Result<ByteList, AllocError>
+    ensures { IfOk result (λ bytes. bytes ≡ graph_return uid graph.nodes graph.items) }
+{
+    return_bytes(alloc, true, uid, &Body::Tree(graph))
+}
+
+/// The Return of a lease of this many milliseconds to the client that is kept.
+fn lease_return(alloc: Global, uid: Uid, duration: u64, kept: &Kept) -> Result<ByteList, AllocError>
+    ensures { IfOk result (λ bytes. bytes ≡ lease_return uid duration kept.now) }
+{
+    let Ok(duration) = i64::try_from(duration) else {
+        return Err(AllocError);
+    };
+    match kept {
+        Kept::Client(client) => graph_return(alloc, uid, lease_graph(alloc, duration, client)?),
+        _ => Err(AllocError),
+    }
+}
+
+/// The Return of a list of names.
+fn names_return(alloc: Global, uid: Uid, names: &NameList) -> Result<ByteList, AllocError>
+    ensures { IfOk result (λ bytes. bytes ≡ graph_return uid (texts_nodes names.now) texts_items) }
+{
+    graph_return(alloc, uid, texts_graph(alloc, names)?)
+}
+
+/// The reference to an object of the server, in a result.
+fn own_ref(alloc: Global, setup: &Setup, object: ObjId) -> Result<LiveRef, AllocError>
+    ensures { IfOk result (λ reference. reference ≡ own_ref (terms_of [] setup.now) object) }
+{
+    Ok(LiveRef {
+        host: setup.host.copy(alloc)?,
+        port: setup.port,
+        id: object,
+        result: true,
+    })
+}
+
+/// The Return of an object of a kind.
+fn object_return(
+    alloc: Global,
+    setup: &Setup,
+    uid: Uid,
+    object: ObjId,
+    kind: &Kind,
+) -> Result<ByteList, AllocError>
+    requires { length (utf setup.now.host) ≤ 255 }
+    ensures { IfOk result (λ bytes. bytes ≡ found_return (terms_of [] setup.now) uid object (Some kind.now)) }
+{
+    let reference = own_ref(alloc, setup, object)?;
+    graph_return(alloc, uid, ref_graph(alloc, &kind.interface, &reference)?)
+}
+
+/// The Return of an object that was found, of a kind of the book.
+fn found_return(
+    alloc: Global,
+    setup: &Setup,
+    book: &Book,
+    uid: Uid,
+    object: ObjId,
+    kind: u32,
+) -> Result<ByteList, AllocError>
+    requires { length (utf setup.now.host) ≤ 255 }
+    ensures { IfOk result (λ bytes. bytes ≡ found_return (terms_of book.now setup.now) uid object (slice_get book.now kind)) }
+{
+    match book.kind(kind) {
+        Some(kind) => object_return(alloc, setup, uid, object, kind),
+        None => exceptional_ascii(alloc, uid, b"java.rmi.ServerException: wrong outcome"),
+    }
+}
+
+// ---- any Return
+
+/// The Return of a reply. It is refused for want of memory, and where the reply answers no such call.
+fn reply_return(
+    alloc: Global,
+    setup: &Setup,
+    book: &Book,
+    uid: Uid,
+    kept: &Kept,
+    reply: &Reply,
+) -> Result<ByteList, AllocError>
+    requires { length (utf setup.now.host) ≤ 255 }
+    ensures { IfOk result (λ bytes. bytes ≡ reply_return (terms_of book.now setup.now) uid kept.now reply.now) }
+{
+    match reply {
+        Reply::Granted(duration) => lease_return(alloc, uid, *duration, kept),
+        Reply::Done => void_return(alloc, uid),
+        Reply::Bound => void_return(alloc, uid),
+        Reply::Unbound => void_return(alloc, uid),
+        Reply::Found(object, kind) => found_return(alloc, setup, book, uid, *object, *kind),
+        Reply::Names(names) => names_return(alloc, uid, names),
+        Reply::AlreadyBound => bound_return(alloc, uid, kept),
+        Reply::NotBound => unbound_return(alloc, uid, kept),
+        Reply::NoObject => {
+            exceptional_ascii(
+                alloc,
+                uid,
+                b"java.rmi.NoSuchObjectException: no such object",
+            )
+        }
+        _ => Err(AllocError),
+    }
+}
+
+/// The Return of a turn's answer, of which so much was kept of what was asked.
+fn kept_return(
+    alloc: Global,
+    setup: &Setup,
+    book: &Book,
+    uid: Uid,
+    kept: &Kept,
+    answer: &Result<Turn, Refused>,
+) -> Result<ByteList, AllocError>
+    requires { length (utf setup.now.host) ≤ 255 }
+    ensures { IfOk result (λ bytes. bytes ≡ kept_return (terms_of book.now setup.now) uid kept.now answer.now) }
+{
+    match answer {
+        Ok(turn) => reply_return(alloc, setup, book, uid, kept, &turn.reply),
+        Err(refused) => refused_return(alloc, uid, *refused),
+    }
+}
+
+/// The Return of what was asked in a turn and is answered so, where this was kept of it. There is no memory for one of more than
+/// 2^30 bytes. It is refused, too, where the answer is none of a call of the registry or the collector.
+#[tactic(auto, unfolding(crate::specs::SystemReturns::answer_written))]
+pub fn system_return(
+    alloc: Global,
+    setup: &Setup,
+    book: &Book,
+    uid: Uid,
+    kept: &Kept,
+    answer: &Result<Turn, Refused>,
+) -> Result<ByteList, AllocError>
+    requires host { length (utf setup.now.host) ≤ 255 }
+    ensures written { (ask : Asks) → kept.now ≡ kept_of ask → IfOk result (λ bytes. bytes ≡ answer_written (terms_of book.now setup.now) uid ask answer.now) }
+    ensures short { IfOk result (λ bytes. length bytes ≤ 2 ^ 30) }
+{
+    let bytes = kept_return(alloc, setup, book, uid, kept, answer)?;
+    if bytes.len() > RETURN_BYTES {
+        return Err(AllocError);
+    }
+    Ok(bytes)
+}
