@@ -18,7 +18,7 @@ use Rattle.space.specs.Entries.{entry_of}
 use Rattle.space.specs.Ports.{begins, ends, Shows, is_finished, is_started, IsReplyTo, abandoned_at}
 use Rattle.space.specs.Balance.{calls_begun, calls_ended, Balanced}
 use Rattle.call_dispatch.specs.Acts.{entries, acts_of, tells_of, abandoned}
-use Rattle.call_dispatch.specs.Served.{finish_of}
+use Rattle.call_dispatch.specs.Served.{IsFinished}
 use Rattle.call_dispatch.specs.Serving.{RunsOne}
 
 abbrev one : Bool → ℕ
@@ -81,13 +81,28 @@ runs_begun object xs ys even begun ended o = omega (arith, even o, begun o, ende
 pub even_on : (xs ys : List Asked) → Balanced xs → ((o : ObjId) → calls_begun ys o ≡ 0) → ((o : ObjId) → calls_ended ys o ≡ 0) → Balanced (xs ++ ys)
 even_on xs ys even begun ended o = omega (arith, even o, begun o, ended o, begun_more xs ys o, ended_more xs ys o)
 
+finished_is : (made : List ℕ) (reply : Reply) → IsFinished made reply → is_finished reply ≡ true
+finished_is made (Finished objects) h = refl
+finished_is made NotRunning h = absurd h
+finished_is made (Opened o) h = absurd h
+finished_is made (Started kind) h = absurd h
+finished_is made NoObject h = absurd h
+finished_is made (Granted duration) h = absurd h
+finished_is made Done h = absurd h
+finished_is made Bound h = absurd h
+finished_is made AlreadyBound h = absurd h
+finished_is made Unbound h = absurd h
+finished_is made NotBound h = absurd h
+finished_is made (Found o kind) h = absurd h
+finished_is made (Names names) h = absurd h
+
 -- A Finish was answered: no call runs then.
-pub finish_balances : (object : ObjId) (uid : Uid) (moment : ℕ) (turn : Turn) (xs : List Asked) → RunsOne object xs → is_finished turn.reply ≡ true
-    → Balanced (xs ++ flat_map entries (acts_of moment (finish_of object uid) (Ok turn)))
-finish_balances object uid moment turn xs runs is =
+pub finish_balances : (object : ObjId) (made : List ℕ) (listed : List ObjId) (uid : Uid) (moment : ℕ) (turn : Turn) (xs : List Asked) → RunsOne object xs → IsFinished made turn.reply
+    → Balanced (xs ++ flat_map entries (acts_of moment (Finish object made listed uid) (Ok turn)))
+finish_balances object made listed uid moment turn xs runs is =
     let P : List Asked → Type 0 = λ ys. Balanced (xs ++ ys) in
-    subst P (sym (turn_entries moment (finish_of object uid) turn)) (even_more object xs (entry_of moment (finish_of object uid) (Ok turn) ∷ []) runs (λ o. refl)
-    (λ o. filter_one (ends o) (entry_of moment (finish_of object uid) (Ok turn)) (same_id object o) (and-true (same_id object o) (is_finished turn.reply) is)))
+    subst P (sym (turn_entries moment (Finish object made listed uid) turn)) (even_more object xs (entry_of moment (Finish object made listed uid) (Ok turn) ∷ []) runs (λ o. refl)
+    (λ o. filter_one (ends o) (entry_of moment (Finish object made listed uid) (Ok turn)) (same_id object o) (and-true (same_id object o) (is_finished turn.reply) (finished_is made turn.reply is))))
 
 -- A call was given up: none runs then.
 pub give_up_balances : (object : ObjId) (moment place : ℕ) (xs : List Asked) → RunsOne object xs → Balanced (xs ++ flat_map entries (abandoned moment object place ∷ []))
@@ -95,20 +110,20 @@ give_up_balances object moment place xs runs =
     even_more object xs (abandoned_at moment object place ∷ []) runs (λ o. refl) (λ o. filter_one (ends o) (abandoned_at moment object place) (same_id object o) refl)
 
 -- A Finish that is refused begins and ends no call.
-finish_begins : (object : ObjId) (uid : Uid) (moment : ℕ) (refused : Refused) (o : ObjId) → calls_begun (flat_map entries (acts_of moment (finish_of object uid) (Err refused))) o ≡ 0
-finish_begins object uid moment HistoryFull o = refl
-finish_begins object uid moment (Full kind) o = refl
-finish_begins object uid moment OutOfMemory o = refl
+finish_begins : (object : ObjId) (made : List ℕ) (listed : List ObjId) (uid : Uid) (moment : ℕ) (refused : Refused) (o : ObjId) → calls_begun (flat_map entries (acts_of moment (Finish object made listed uid) (Err refused))) o ≡ 0
+finish_begins object made listed uid moment HistoryFull o = refl
+finish_begins object made listed uid moment (Full kind) o = refl
+finish_begins object made listed uid moment OutOfMemory o = refl
 
-finish_ends : (object : ObjId) (uid : Uid) (moment : ℕ) (refused : Refused) (o : ObjId) → calls_ended (flat_map entries (acts_of moment (finish_of object uid) (Err refused))) o ≡ 0
-finish_ends object uid moment HistoryFull o = refl
-finish_ends object uid moment (Full kind) o = refl
-finish_ends object uid moment OutOfMemory o = refl
+finish_ends : (object : ObjId) (made : List ℕ) (listed : List ObjId) (uid : Uid) (moment : ℕ) (refused : Refused) (o : ObjId) → calls_ended (flat_map entries (acts_of moment (Finish object made listed uid) (Err refused))) o ≡ 0
+finish_ends object made listed uid moment HistoryFull o = refl
+finish_ends object made listed uid moment (Full kind) o = refl
+finish_ends object made listed uid moment OutOfMemory o = refl
 
-pub finish_refused : (object : ObjId) (uid : Uid) (moment : ℕ) (refused : Refused) (xs : List Asked) → RunsOne object xs
-    → RunsOne object (xs ++ flat_map entries (acts_of moment (finish_of object uid) (Err refused)))
-finish_refused object uid moment refused xs runs =
-    runs_more object xs (flat_map entries (acts_of moment (finish_of object uid) (Err refused))) runs (finish_begins object uid moment refused) (finish_ends object uid moment refused)
+pub finish_refused : (object : ObjId) (made : List ℕ) (listed : List ObjId) (uid : Uid) (moment : ℕ) (refused : Refused) (xs : List Asked) → RunsOne object xs
+    → RunsOne object (xs ++ flat_map entries (acts_of moment (Finish object made listed uid) (Err refused)))
+finish_refused object made listed uid moment refused xs runs =
+    runs_more object xs (flat_map entries (acts_of moment (Finish object made listed uid) (Err refused))) runs (finish_begins object made listed uid moment refused) (finish_ends object made listed uid moment refused)
 
 -- A Begin was answered Started: the call runs.
 pub begin_runs : (object : ObjId) (moment kind : ℕ) (turn : Turn) (xs : List Asked) → Balanced xs → turn.reply ≡ Started kind
@@ -144,8 +159,8 @@ begin_refused object moment refused xs even =
     even_on xs (flat_map entries (acts_of moment (Begin object) (Err refused))) even (begin_begins object moment refused) (begin_ends object moment refused)
 
 -- A Finish of a call that runs is answered Finished.
-pub finish_answered : (object : ObjId) (made : List ℕ) (listed : List ObjId) (uid : Uid) (xs : List Asked) (reply : Reply) → RunsOne object xs → IsReplyTo (Shows xs) (Finish object made listed uid) reply → is_finished reply ≡ true
-finish_answered object made listed uid xs (Finished objects) runs h = refl
+pub finish_answered : (object : ObjId) (made : List ℕ) (listed : List ObjId) (uid : Uid) (xs : List Asked) (reply : Reply) → RunsOne object xs → IsReplyTo (Shows xs) (Finish object made listed uid) reply → IsFinished made reply
+finish_answered object made listed uid xs (Finished objects) runs h = h
 finish_answered object made listed uid xs NotRunning runs h = absurd (h (runs_shows object xs runs))
 finish_answered object made listed uid xs (Opened o) runs h = absurd h
 finish_answered object made listed uid xs (Started kind) runs h = absurd h

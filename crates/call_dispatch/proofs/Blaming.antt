@@ -11,7 +11,6 @@ use Rattle.jrmp_frames.specs.declared.fault.FrameFault.TheVariants.{BadHeader, U
 use Rattle.jrmp_frames.specs.declared.head.CallHead.{CallHead}
 use Rattle.jrmp_frames.specs.Messages.{wants_of}
 use Rattle.jrmp_frames.specs.Calls.{BreaksIn}
-use Rattle.call_dispatch.specs.declared.book.Kind.{Kind}
 use Rattle.call_dispatch.specs.declared.end.ConnEnd.{ConnEnd}
 use Rattle.call_dispatch.specs.declared.end.ConnEnd.TheVariants as ends
 use Rattle.call_dispatch.specs.declared.outcome.Invocation.{Invocation}
@@ -22,6 +21,7 @@ use Rattle.call_dispatch.specs.End.{IsWriteFault}
 use Rattle.call_dispatch.specs.Faults.{Counts, Blames, BlamesIn}
 use Rattle.call_dispatch.specs.Served.{Served, absent, refused, begun, unknown, ran, served_closes}
 use Rattle.call_dispatch.specs.Progress.{Writes, end_from}
+use Rattle.call_dispatch.specs.Terms.{Terms}
 use Rattle.call_dispatch.specs.Serving.{Answers, closing, Sends}
 
 -- the counts of a source and a sink
@@ -67,9 +67,9 @@ memory_blames f f2 k end le memory =
     subst P (sym memory) (blameless f f2 k ends.OutOfMemory le ((λ same. cc), (λ w. w)))
 
 -- The connection ended in a Call whose head was read behind these counts.
-pub ended_blames : (may : Invocation → Outcome → Type 0) (moves : States → Call → States → Type 0) (kinds : List Kind) (uid : Uid) (head : CallHead) (first now : Place) (a b : Side) (drawn drew k : ℕ) (end : ConnEnd)
-    → Answers may moves kinds uid head first now a b drawn drew (Err end) → Blames (counts first.faults k) (counts now.faults k) end
-ended_blames may moves kinds uid head first now a b drawn drew k end how = elim how [
+pub ended_blames : (may : Invocation → Outcome → Type 0) (moves : States → Call → States → Type 0) (terms : Terms) (uid : Uid) (head : CallHead) (first now : Place) (a b : Side) (drawn drew k : ℕ) (end : ConnEnd)
+    → Answers may moves terms uid head first now a b drawn drew (Err end) → Blames (counts first.faults k) (counts now.faults k) end
+ended_blames may moves terms uid head first now a b drawn drew k end how = elim how [
   | inl (memory, (s, bytes, takes, is, (acts, led, cut))) ↦ memory_blames first.faults now.faults k end takes.faults memory
   | inr (moment, turn, kind, moment2, place, started, undrawn, (mid, stand, spot, method, fault, reads, known, method_is, broken, is), led) ↦
       (let P : ConnEnd → Type 0 = λ e. Blames (counts first.faults k) (counts now.faults k) e in
@@ -106,9 +106,9 @@ sends_blame f g k l sent held held2 head s answer result le closes sends =
     subst P (sym sends.is) (sent_blames f g k l sent held held2 answer.bytes sends.written answer.close le (subst (λ (c : Option ConnEnd). AreBlameless c) (sym closes) (closes_blameless head s)) sends.writes sends.rose sends.kept)
 
 -- A Call was answered, and its answer sent.
-pub call_blames : (may : Invocation → Outcome → Type 0) (moves : States → Call → States → Type 0) (kinds : List Kind) (uid : Uid) (head : CallHead) (first now : Place) (a b : Side) (drawn drew k l sent : ℕ) (held held2 : Option (List ℕ)) (answer : Answer) (result : Result ℕ ConnEnd)
-    → Answers may moves kinds uid head first now a b drawn drew (Ok answer) → Sends held held2 k l sent answer result → BlamesIn (counts first.faults k) (counts now.faults l) result
-call_blames may moves kinds uid head first now a b drawn drew k l sent held held2 answer result (s, bytes, takes, is, led, bytes_are, closes) sends =
+pub call_blames : (may : Invocation → Outcome → Type 0) (moves : States → Call → States → Type 0) (terms : Terms) (uid : Uid) (head : CallHead) (first now : Place) (a b : Side) (drawn drew k l sent : ℕ) (held held2 : Option (List ℕ)) (answer : Answer) (result : Result ℕ ConnEnd)
+    → Answers may moves terms uid head first now a b drawn drew (Ok answer) → Sends held held2 k l sent answer result → BlamesIn (counts first.faults k) (counts now.faults l) result
+call_blames may moves terms uid head first now a b drawn drew k l sent held held2 answer result (s, bytes, takes, is, led, bytes_are, closes) sends =
     sends_blame first.faults now.faults k l sent held held2 head s answer result takes.faults closes sends
 
 -- The same from before, where the source's count didn't fall.

@@ -161,7 +161,7 @@ closed_ends terms drawn w rest head (begun moment turn kind (ran place arguments
 
 -- The exchange may come where so many were drawn since the beginning.
 may_come : (may : Invocation → Outcome → Type 0) (moves : States → Call → States → Type 0) (terms : Terms) (start first : Spot) (p q : Place) (held : Option (List ℕ)) (side : Side) (drawn sent : ℕ) (opening : Opening) (exchanges : List Exchange) (bytes : List ℕ) (head : CallHead) (uid : Uid) (s : Served)
-    → IsCoded may moves terms start first (spot_at p held side drawn) p.at p.stop sent opening exchanges → FitsHead head → q.at ≤ q.stop → uid ≡ uid_drawn terms.unique terms.time drawn → Takes p q bytes → IsServed terms.kinds head bytes uid s
+    → IsCoded may moves terms start first (spot_at p held side drawn) p.at p.stop sent opening exchanges → FitsHead head → q.at ≤ q.stop → uid ≡ uid_drawn terms.unique terms.time drawn → Takes p q bytes → IsServed terms head bytes uid s
     → IsExchange terms (start.drawn + draws_in exchanges) (served bytes head uid s)
 may_come may moves terms start first p q held side drawn sent opening exchanges bytes head uid s h fits within is takes legal =
     (is ∙ ap (uid_drawn terms.unique terms.time) (h.drawn ∙ h.stands.goes.drawn), fits, omega (arith, within, takes.at, takes.stop, h.position, h.limit), legal)
@@ -175,7 +175,7 @@ few_more (suc a) (suc b) low high =
 -- There was no memory for all of the Call's row.
 pub call_cut : (may : Invocation → Outcome → Type 0) (moves : States → Call → States → Type 0) (terms : Terms) (start first : Spot) (p q : Place) (held : Option (List ℕ)) (side side2 : Side) (drawn drew sent : ℕ) (opening : Opening) (exchanges : List Exchange)
     (bytes : List ℕ) (head : CallHead) (uid : Uid) (s : Served) (acts : List Act) (end : ConnEnd)
-    → IsCoded may moves terms start first (spot_at p held side drawn) p.at p.stop sent opening exchanges → FitsHead head → q.at ≤ q.stop → uid ≡ uid_drawn terms.unique terms.time drawn → Takes p q bytes → IsServed terms.kinds head bytes uid s
+    → IsCoded may moves terms start first (spot_at p held side drawn) p.at p.stop sent opening exchanges → FitsHead head → q.at ≤ q.stop → uid ≡ uid_drawn terms.unique terms.time drawn → Takes p q bytes → IsServed terms head bytes uid s
     → Led may moves side side2 acts → IsCut [] (served_acts head uid s) acts → drawn ≤ drew → drew ≤ drawn + 1 → end ≡ ends.OutOfMemory → Talked may moves terms start (spot_at q held side2 drew) end
 call_cut may moves terms start first p q held side side2 drawn drew sent opening exchanges bytes head uid s acts end h fits within is takes legal led cut low high memory =
     let (d, drawn_is, few) = few_more drawn drew low high in
@@ -199,7 +199,7 @@ call_cut may moves terms start first p q held side side2 drawn drew sent opening
 -- A Call was answered, and its answer written or cut.
 call_sent : (may : Invocation → Outcome → Type 0) (moves : States → Call → States → Type 0) (terms : Terms) (start first : Spot) (p q : Place) (held held2 : Option (List ℕ)) (side side2 : Side) (drawn drew sent : ℕ) (opening : Opening) (exchanges : List Exchange)
     (bytes : List ℕ) (head : CallHead) (uid : Uid) (s : Served) (close : Option ConnEnd) (written : Result ℕ ConnEnd)
-    → IsCoded may moves terms start first (spot_at p held side drawn) p.at p.stop sent opening exchanges → FitsHead head → q.at ≤ q.stop → uid ≡ uid_drawn terms.unique terms.time drawn → Takes p q bytes → IsServed terms.kinds head bytes uid s
+    → IsCoded may moves terms start first (spot_at p held side drawn) p.at p.stop sent opening exchanges → FitsHead head → q.at ≤ q.stop → uid ≡ uid_drawn terms.unique terms.time drawn → Takes p q bytes → IsServed terms head bytes uid s
     → Led may moves side side2 (served_acts head uid s) → drew ≡ drawn + 1 → close ≡ served_closes head s → Writes held held2 sent (served_written uid s) written
     → StepsTo may moves terms start (spot_at q held2 side2 drew) q.at opening exchanges (closing written close)
 call_sent may moves terms start first p q held held2 side side2 drawn drew sent opening exchanges bytes head uid s None (Ok sent2) h fits within is takes legal led drew_is closes writes =
@@ -233,7 +233,7 @@ call_sent may moves terms start first p q held held2 side side2 drawn drew sent 
 -- A Call was answered, and its answer sent.
 pub call_answered : (may : Invocation → Outcome → Type 0) (moves : States → Call → States → Type 0) (terms : Terms) (start first : Spot) (p q : Place) (held held2 : Option (List ℕ)) (side side2 : Side) (drawn drew sent faults faults2 : ℕ) (opening : Opening) (exchanges : List Exchange)
     (bytes : List ℕ) (head : CallHead) (uid : Uid) (s : Served) (answer : Answer) (result : Result ℕ ConnEnd)
-    → IsCoded may moves terms start first (spot_at p held side drawn) p.at p.stop sent opening exchanges → FitsHead head → q.at ≤ q.stop → uid ≡ uid_drawn terms.unique terms.time drawn → Takes p q bytes → IsServed terms.kinds head bytes uid s
+    → IsCoded may moves terms start first (spot_at p held side drawn) p.at p.stop sent opening exchanges → FitsHead head → q.at ≤ q.stop → uid ≡ uid_drawn terms.unique terms.time drawn → Takes p q bytes → IsServed terms head bytes uid s
     → Led may moves side side2 (served_acts head uid s) → drew ≡ drawn + 1 → answer.bytes ≡ served_written uid s → answer.close ≡ served_closes head s → Sends held held2 faults faults2 sent answer result
     → StepsTo may moves terms start (spot_at q held2 side2 drew) q.at opening exchanges result
 call_answered may moves terms start first p q held held2 side side2 drawn drew sent faults faults2 opening exchanges bytes head uid s answer result h fits within is takes legal led drew_is bytes_are closes sends =
@@ -245,7 +245,7 @@ call_answered may moves terms start first p q held held2 side side2 drawn drew s
 pub call_done : (may : Invocation → Outcome → Type 0) (moves : States → Call → States → Type 0) (terms : Terms) (start first : Spot) (p q : Place) (held held2 : Option (List ℕ)) (side side2 : Side) (drawn drew sent faults faults2 : ℕ) (opening : Opening) (exchanges : List Exchange)
     (head : CallHead) (answer : Answer) (result : Result ℕ ConnEnd)
     → IsCoded may moves terms start first (spot_at p held side drawn) p.at p.stop sent opening exchanges → FitsHead head → q.at ≤ q.stop
-    → Answers may moves terms.kinds (uid_drawn terms.unique terms.time drawn) head p q side side2 drawn drew (Ok answer) → drew ≡ drawn + 1 → Sends held held2 faults faults2 sent answer result
+    → Answers may moves terms (uid_drawn terms.unique terms.time drawn) head p q side side2 drawn drew (Ok answer) → drew ≡ drawn + 1 → Sends held held2 faults faults2 sent answer result
     → StepsTo may moves terms start (spot_at q held2 side2 drew) q.at opening exchanges result
 call_done may moves terms start first p q held held2 side side2 drawn drew sent faults faults2 opening exchanges head answer result h fits within (s, bytes, takes, is, led, bytes_are, closes) drew_is sends =
     call_answered may moves terms start first p q held held2 side side2 drawn drew sent faults faults2 opening exchanges bytes head (uid_drawn terms.unique terms.time drawn) s answer result
@@ -255,7 +255,7 @@ call_done may moves terms start first p q held held2 side side2 drawn drew sent 
 pub call_ended : (may : Invocation → Outcome → Type 0) (moves : States → Call → States → Type 0) (terms : Terms) (start first : Spot) (p q : Place) (held : Option (List ℕ)) (side side2 : Side) (drawn drew sent : ℕ) (opening : Opening) (exchanges : List Exchange)
     (head : CallHead) (end : ConnEnd)
     → IsCoded may moves terms start first (spot_at p held side drawn) p.at p.stop sent opening exchanges → FitsHead head → q.at ≤ q.stop
-    → Answers may moves terms.kinds (uid_drawn terms.unique terms.time drawn) head p q side side2 drawn drew (Err end) → drawn ≤ drew → drew ≤ drawn + 1
+    → Answers may moves terms (uid_drawn terms.unique terms.time drawn) head p q side side2 drawn drew (Err end) → drawn ≤ drew → drew ≤ drawn + 1
     → Talked may moves terms start (spot_at q held side2 drew) end
 call_ended may moves terms start first p q held side side2 drawn drew sent opening exchanges head end h fits within how low high = elim how [
   | inl (memory, (s, bytes, takes, is, (acts, led, cut))) ↦
@@ -265,9 +265,9 @@ call_ended may moves terms start first p q held side side2 drawn drew sent openi
 ]
 
 -- What was taken of a Call that was answered stays within its limit.
-pub answered_within : (may : Invocation → Outcome → Type 0) (moves : States → Call → States → Type 0) (kinds : List Kind) (uid : Uid) (head : CallHead) (p q : Place) (a b : Side) (drawn drew : ℕ) (answer : Answer)
-    → q.at ≤ q.stop → Answers may moves kinds uid head p q a b drawn drew (Ok answer) → q.at ≤ p.stop
-answered_within may moves kinds uid head p q a b drawn drew answer within (s, bytes, takes, is, led, bytes_are, closes) = omega (arith, within, takes.stop)
+pub answered_within : (may : Invocation → Outcome → Type 0) (moves : States → Call → States → Type 0) (terms : Terms) (uid : Uid) (head : CallHead) (p q : Place) (a b : Side) (drawn drew : ℕ) (answer : Answer)
+    → q.at ≤ q.stop → Answers may moves terms uid head p q a b drawn drew (Ok answer) → q.at ≤ p.stop
+answered_within may moves terms uid head p q a b drawn drew answer within (s, bytes, takes, is, led, bytes_are, closes) = omega (arith, within, takes.stop)
 
 -- ---- sending
 

@@ -15,7 +15,6 @@ use Rattle.ser_read.specs.Wants.{Stand}
 use Rattle.jrmp_frames.specs.declared.arguments.Arguments.{Arguments}
 use Rattle.jrmp_frames.specs.declared.head.CallHead.{CallHead}
 use Rattle.jrmp_frames.specs.Calls.{ReadsHead, TakesCall}
-use Rattle.call_dispatch.specs.declared.book.Kind.{Kind}
 use Rattle.call_dispatch.specs.declared.end.ConnEnd.{ConnEnd}
 use Rattle.call_dispatch.specs.declared.end.ConnEnd.TheVariants as ends
 use Rattle.call_dispatch.specs.declared.outcome.Invocation.{Invocation}
@@ -26,6 +25,7 @@ use Rattle.call_dispatch.specs.Acts.{Act, Call, States, Side, Led, called, invok
 use Rattle.call_dispatch.specs.Book.{methods_of}
 use Rattle.call_dispatch.specs.Returns.{fault_return, fits, no_method}
 use Rattle.call_dispatch.specs.Served.{IsHeadOf, faulted, conclusion_acts, unknown, ran, invocation_of, running_acts, IsMethodOf, HasNoMethod, Served, refused, begun, served_acts, served_written, served_closes, IsServed}
+use Rattle.call_dispatch.specs.Terms.{Terms}
 use Rattle.call_dispatch.specs.Serving.{RunsOne, Concludes, IsPrepared, RunsOn, Answers}
 use Rattle.call_dispatch.proofs.Going.{led_more}
 use Rattle.call_dispatch.proofs.Balancing.{balanced_quiet, give_up_balances, begin_runs}
@@ -39,13 +39,13 @@ head_ends first now head stand reads = let (left, ends, is) = head_stands first 
 -- ---- running calls
 
 -- The kind has no such method: the call was given up, and the client told so.
-pub unknown_runs : (may : Invocation → Outcome → Type 0) (moves : States → Call → States → Type 0) (kinds : List Kind) (uid : Uid) (head : CallHead) (kind : ℕ) (first now : Place) (stand : Stand) (a b : Side) (drawn drew : ℕ) (moment place : ℕ) (result : Result Answer ConnEnd)
-    → HasNoMethod kinds kind head → ReadsHead first now head stand → Led may moves a b (abandoned moment head.id place ∷ [])
-    → IsPrepared (fault_return uid no_method) (Some (ends.NoSuchMethod head.operation head.hash)) result → RunsOn may moves kinds uid head kind first now a b drawn drew result
-unknown_runs may moves kinds uid head kind first now stand a b drawn drew moment place (Ok answer) none reads led prepared =
+pub unknown_runs : (may : Invocation → Outcome → Type 0) (moves : States → Call → States → Type 0) (terms : Terms) (uid : Uid) (head : CallHead) (kind : ℕ) (first now : Place) (stand : Stand) (a b : Side) (drawn drew : ℕ) (moment place : ℕ) (result : Result Answer ConnEnd)
+    → HasNoMethod terms.kinds kind head → ReadsHead first now head stand → Led may moves a b (abandoned moment head.id place ∷ [])
+    → IsPrepared (fault_return uid no_method) (Some (ends.NoSuchMethod head.operation head.hash)) result → RunsOn may moves terms uid head kind first now a b drawn drew result
+unknown_runs may moves terms uid head kind first now stand a b drawn drew moment place (Ok answer) none reads led prepared =
     let (bytes, takes, whole) = head_ends first now head stand reads in
     (unknown moment place, bytes, takes, (whole, none), led, prepared.0, prepared.1)
-unknown_runs may moves kinds uid head kind first now stand a b drawn drew moment place (Err end) none reads led prepared =
+unknown_runs may moves terms uid head kind first now stand a b drawn drew moment place (Err end) none reads led prepared =
     let (bytes, takes, whole) = head_ends first now head stand reads in
     inl (
       prepared,
@@ -62,25 +62,25 @@ unknown_runs may moves kinds uid head kind first now stand a b drawn drew moment
       ),
     )
 
-no_fault : (uid : Uid) (returned : Option TypeCode) (message : List ℕ) → fits uid returned (Fault message) ≡ false
-no_fault uid None message = refl
-no_fault uid (Some code) message = refl
+no_fault : (terms : Terms) (uid : Uid) (returned : Option TypeCode) (message : List ℕ) → fits terms uid returned (Fault message) ≡ false
+no_fault terms uid None message = refl
+no_fault terms uid (Some code) message = refl
 
 -- The worker was invoked, and then the call was concluded.
-pub ran_runs : (may : Invocation → Outcome → Type 0) (moves : States → Call → States → Type 0) (kinds : List Kind) (uid : Uid) (head : CallHead) (kind place : ℕ) (method : Method) (arguments : Arguments) (outcome : Outcome) (first now : Place) (a b c : Side) (drawn drew : ℕ) (result : Result Answer ConnEnd)
-    → IsMethodOf kinds kind head place → slice_get (methods_of kinds kind) place ≡ Some method → TakesCall first now head method.params arguments
-    → Led may moves a b (called (invokes (invocation_of head.id kind place arguments) outcome) ∷ []) → Concludes may moves head.id uid method.result outcome b c result
-    → RunsOn may moves kinds uid head kind first now a c drawn drew result
-ran_runs may moves kinds uid head kind place method arguments outcome first now a b c drawn drew (Ok answer) known here takes invoked (con, is, led, bytes, close) = (
+pub ran_runs : (may : Invocation → Outcome → Type 0) (moves : States → Call → States → Type 0) (terms : Terms) (uid : Uid) (head : CallHead) (kind place : ℕ) (method : Method) (arguments : Arguments) (outcome : Outcome) (first now : Place) (a b c : Side) (drawn drew : ℕ) (result : Result Answer ConnEnd)
+    → IsMethodOf terms.kinds kind head place → slice_get (methods_of terms.kinds kind) place ≡ Some method → TakesCall first now head method.params arguments
+    → Led may moves a b (called (invokes (invocation_of head.id kind place arguments) outcome) ∷ []) → Concludes may moves terms head.id uid method.result outcome b c result
+    → RunsOn may moves terms uid head kind first now a c drawn drew result
+ran_runs may moves terms uid head kind place method arguments outcome first now a b c drawn drew (Ok answer) known here takes invoked (con, is, led, bytes, close) = (
   ran place arguments outcome con,
   takes.message,
   takes.takes,
   (known, (method, here, takes.call, is)),
-  led_more may moves a b c (called (invokes (invocation_of head.id kind place arguments) outcome) ∷ []) (conclusion_acts head.id uid con) invoked led,
+  led_more may moves a b c (called (invokes (invocation_of head.id kind place arguments) outcome) ∷ []) (conclusion_acts head.id uid outcome con) invoked led,
   bytes,
   close,
 )
-ran_runs may moves kinds uid head kind place method arguments outcome first now a b c drawn drew (Err end) known here takes invoked (memory, how) = inl (
+ran_runs may moves terms uid head kind place method arguments outcome first now a b c drawn drew (Err end) known here takes invoked (memory, how) = inl (
   memory,
   elim how [
     | inl (none, (moment, at, up)) ↦ (let inv : Invocation = invocation_of head.id kind place arguments in
@@ -88,7 +88,7 @@ ran_runs may moves kinds uid head kind place method arguments outcome first now 
           ran place arguments (Fault []) (faulted moment at),
           takes.message,
           takes.takes,
-          (known, (method, here, takes.call, (no_fault uid method.result [], (λ same. cc)))),
+          (known, (method, here, takes.call, (no_fault terms uid method.result [], (λ same. cc)))),
           record {
             acts = called (invokes inv OutOfMemory) ∷ abandoned moment head.id at ∷ [];
             led = led_more may moves a b c (called (invokes inv OutOfMemory) ∷ []) (abandoned moment head.id at ∷ []) led up;
@@ -105,7 +105,7 @@ ran_runs may moves kinds uid head kind place method arguments outcome first now 
         led = led_more may moves a b c (call ∷ []) short.acts invoked short.led;
         cut = (λ shown runs.
             let P : List Asked → Type 0 = λ xs. RunsOne head.id xs in
-            cut_after shown (call ∷ []) (conclusion_acts head.id uid con) short.acts (short.cut (shown ++ []) (subst P (sym (append-nil shown)) runs)));
+            cut_after shown (call ∷ []) (conclusion_acts head.id uid outcome con) short.acts (short.cut (shown ++ []) (subst P (sym (append-nil shown)) runs)));
       },
     ))
   ],
@@ -114,9 +114,9 @@ ran_runs may moves kinds uid head kind place method arguments outcome first now 
 -- ---- calls
 
 -- A Begin was answered Started, and then the call went on.
-pub begun_answers : (may : Invocation → Outcome → Type 0) (moves : States → Call → States → Type 0) (kinds : List Kind) (uid : Uid) (head : CallHead) (kind moment : ℕ) (turn : Turn) (first now : Place) (a b c : Side) (drawn drew : ℕ) (result : Result Answer ConnEnd)
-    → turn.reply ≡ Started kind → Led may moves a b (acts_of moment (Begin head.id) (Ok turn)) → RunsOn may moves kinds uid head kind first now b c drawn drew result → Answers may moves kinds uid head first now a c drawn drew result
-begun_answers may moves kinds uid head kind moment turn first now a b c drawn drew (Ok answer) started begins (r, bytes, takes, is, led, bytes_are, closes) = (
+pub begun_answers : (may : Invocation → Outcome → Type 0) (moves : States → Call → States → Type 0) (terms : Terms) (uid : Uid) (head : CallHead) (kind moment : ℕ) (turn : Turn) (first now : Place) (a b c : Side) (drawn drew : ℕ) (result : Result Answer ConnEnd)
+    → turn.reply ≡ Started kind → Led may moves a b (acts_of moment (Begin head.id) (Ok turn)) → RunsOn may moves terms uid head kind first now b c drawn drew result → Answers may moves terms uid head first now a c drawn drew result
+begun_answers may moves terms uid head kind moment turn first now a b c drawn drew (Ok answer) started begins (r, bytes, takes, is, led, bytes_are, closes) = (
   begun moment turn kind r,
   bytes,
   takes,
@@ -125,7 +125,7 @@ begun_answers may moves kinds uid head kind moment turn first now a b c drawn dr
   bytes_are,
   closes,
 )
-begun_answers may moves kinds uid head kind moment turn first now a b c drawn drew (Err end) started begins how = elim how [
+begun_answers may moves terms uid head kind moment turn first now a b c drawn drew (Err end) started begins how = elim how [
   | inl (memory, (r, bytes, takes, is, short)) ↦ inl (
     memory,
     (
@@ -146,17 +146,17 @@ begun_answers may moves kinds uid head kind moment turn first now a b c drawn dr
 ]
 
 -- The call was answered at once.
-pub closing_answers : (may : Invocation → Outcome → Type 0) (moves : States → Call → States → Type 0) (kinds : List Kind) (uid : Uid) (head : CallHead) (s : Served) (bytes : List ℕ) (first now : Place) (a b : Side) (drawn drew : ℕ) (result : Result Answer ConnEnd)
-    → Takes first now bytes → IsServed kinds head bytes uid s → Led may moves a b (served_acts head uid s) → Balanced (flat_map entries (served_acts head uid s))
-    → IsPrepared (served_written uid s) (served_closes head s) result → Answers may moves kinds uid head first now a b drawn drew result
-closing_answers may moves kinds uid head s bytes first now a b drawn drew (Ok answer) takes is led even prepared = (s, bytes, takes, is, led, prepared.0, prepared.1)
-closing_answers may moves kinds uid head s bytes first now a b drawn drew (Err end) takes is led even prepared =
+pub closing_answers : (may : Invocation → Outcome → Type 0) (moves : States → Call → States → Type 0) (terms : Terms) (uid : Uid) (head : CallHead) (s : Served) (bytes : List ℕ) (first now : Place) (a b : Side) (drawn drew : ℕ) (result : Result Answer ConnEnd)
+    → Takes first now bytes → IsServed terms head bytes uid s → Led may moves a b (served_acts head uid s) → Balanced (flat_map entries (served_acts head uid s))
+    → IsPrepared (served_written uid s) (served_closes head s) result → Answers may moves terms uid head first now a b drawn drew result
+closing_answers may moves terms uid head s bytes first now a b drawn drew (Ok answer) takes is led even prepared = (s, bytes, takes, is, led, prepared.0, prepared.1)
+closing_answers may moves terms uid head s bytes first now a b drawn drew (Err end) takes is led even prepared =
     inl (prepared, (s, bytes, takes, is, (served_acts head uid s, led, cut_whole [] (served_acts head uid s) even)))
 
 -- There was no memory for Begin.
-pub lost_answers : (may : Invocation → Outcome → Type 0) (moves : States → Call → States → Type 0) (kinds : List Kind) (uid : Uid) (head : CallHead) (moment : ℕ) (first now : Place) (stand : Stand) (a b : Side) (drawn drew : ℕ)
-    → ReadsHead first now head stand → Led may moves a b (acts_of moment (Begin head.id) (Err refusals.OutOfMemory)) → Answers may moves kinds uid head first now a b drawn drew (Err ends.OutOfMemory)
-lost_answers may moves kinds uid head moment first now stand a b drawn drew reads led =
+pub lost_answers : (may : Invocation → Outcome → Type 0) (moves : States → Call → States → Type 0) (terms : Terms) (uid : Uid) (head : CallHead) (moment : ℕ) (first now : Place) (stand : Stand) (a b : Side) (drawn drew : ℕ)
+    → ReadsHead first now head stand → Led may moves a b (acts_of moment (Begin head.id) (Err refusals.OutOfMemory)) → Answers may moves terms uid head first now a b drawn drew (Err ends.OutOfMemory)
+lost_answers may moves terms uid head moment first now stand a b drawn drew reads led =
     let (bytes, takes, whole) = head_ends first now head stand reads in
     inl (
       refl,

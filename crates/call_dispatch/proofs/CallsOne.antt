@@ -1,6 +1,7 @@
 -- A Call is served in one way: its bytes and what the outside hands in decide how; and where it ends, it isn't served.
 use Rattle.std.proofs.Common.{◌≡◌, ℕ, ◌+◌, ◌≤◌, ◌⊎◌, inl, inr, List, [], ◌∷◌, ◌++◌, length, drop, slice_get, Option, None, Some, Ok, refl, ap, sym, subst, ◌∙◌, arith, append_assoc, append-nil, length-append}
 use Rattle.class_desc.specs.declared.slot.Item.{Item}
+use Rattle.class_desc.specs.declared.field.TypeCode.{TypeCode}
 use Rattle.ser_values.specs.declared.node.Node.{Node}
 use Rattle.ser_values.specs.declared.graph.Graph.{Graph}
 use Rattle.ser_values.specs.Numbered.{IsGraph}
@@ -28,10 +29,12 @@ use Rattle.call_dispatch.specs.End.{IsSettled}
 use Rattle.call_dispatch.specs.Acts.{acts_of, abandoned}
 use Rattle.call_dispatch.specs.Book.{methods_of}
 use Rattle.call_dispatch.specs.Inside.{BreaksAt}
-use Rattle.call_dispatch.specs.Served.{EndsWithHead, FitsHead, Conclusion, finished, denied, faulted, Running, unknown, ran, IsMethodOf, HasNoMethod, IsRunning, Served, absent, refused, begun, served_acts, IsServed}
+use Rattle.call_dispatch.specs.Results.{listed_by, normal_return}
+use Rattle.call_dispatch.specs.Served.{EndsWithHead, FitsHead, Conclusion, finished, denied, faulted, IsConclusion, Running, unknown, ran, IsMethodOf, HasNoMethod, IsRunning, Served, absent, refused, begun, served_acts, IsServed}
 use Rattle.call_dispatch.specs.Spot.{Course, took}
 use Rattle.call_dispatch.specs.Rows.{most_bytes}
 use Rattle.call_dispatch.specs.Dialogue.{EndsInHead, EndsInArguments}
+use Rattle.call_dispatch.specs.Terms.{Terms}
 use Rattle.call_dispatch.specs.Tape.{Tick, answered, tape}
 use Rattle.call_dispatch.proofs.HeadReads.{head_given, one_front, same_head, Begins, call_begins}
 use Rattle.call_dispatch.proofs.Breaks.{same_behind, breaks_one, breaks_read, breaks_within}
@@ -39,12 +42,12 @@ use Rattle.call_dispatch.proofs.Tapes.{turn_tape, conclusion_ticks, running_tick
 
 -- ---- what a Call begins with
 
-pub served_begins : (kinds : List Kind) (head : CallHead) (bytes : List ℕ) (uid : Uid) (s : Served) → IsServed kinds head bytes uid s → Begins head bytes
-served_begins kinds head bytes uid (absent moment turn) ((left, heading), none) = record { front = bytes; left = left; more = []; is = sym (append-nil bytes); heading = heading }
-served_begins kinds head bytes uid (refused moment) (left, heading) = record { front = bytes; left = left; more = []; is = sym (append-nil bytes); heading = heading }
-served_begins kinds head bytes uid (begun moment turn kind (unknown moment2 place)) (started, ((left, heading), none)) =
+pub served_begins : (terms : Terms) (head : CallHead) (bytes : List ℕ) (uid : Uid) (s : Served) → IsServed terms head bytes uid s → Begins head bytes
+served_begins terms head bytes uid (absent moment turn) ((left, heading), none) = record { front = bytes; left = left; more = []; is = sym (append-nil bytes); heading = heading }
+served_begins terms head bytes uid (refused moment) (left, heading) = record { front = bytes; left = left; more = []; is = sym (append-nil bytes); heading = heading }
+served_begins terms head bytes uid (begun moment turn kind (unknown moment2 place)) (started, ((left, heading), none)) =
     record { front = bytes; left = left; more = []; is = sym (append-nil bytes); heading = heading }
-served_begins kinds head bytes uid (begun moment turn kind (ran place arguments outcome conclusion)) (started, (known, (method, method_is, call, concluded))) =
+served_begins terms head bytes uid (begun moment turn kind (ran place arguments outcome conclusion)) (started, (known, (method, method_is, call, concluded))) =
     call_begins head method.params arguments bytes call
 
 -- Fronts of one list that begin with heads begin with one head.
@@ -79,16 +82,28 @@ arguments_with graph values = record { graph = graph; values = values }
 arguments_same : (a b : Arguments) → a.graph.nodes ≡ b.graph.nodes → a.graph.items ≡ b.graph.items → a.values ≡ b.values → a ≡ b
 arguments_same a b n i v = ap (λ (g : Graph). arguments_with g a.values) (graph_same a.graph b.graph n i) ∙ ap (λ (l : List Arg). arguments_with b.graph l) v
 
-conclusion_one : (c c2 : Conclusion) (t t2 : List Tick) → conclusion_ticks c ++ t ≡ conclusion_ticks c2 ++ t2 → (c ≡ c2) × (t ≡ t2)
-conclusion_one (finished moment turn) (finished moment2 turn2) t t2 e = ((cc), (cc))
-conclusion_one (finished moment turn) (denied moment2 refusal at place) t t2 e = absurd (cc)
-conclusion_one (finished moment turn) (faulted moment2 place) t t2 e = absurd (cc)
-conclusion_one (denied moment refusal at place) (finished moment2 turn) t t2 e = absurd (cc)
-conclusion_one (denied moment refusal at place) (denied moment2 refusal2 at2 place2) t t2 e = ((cc), (cc))
-conclusion_one (denied moment refusal at place) (faulted moment2 place2) t t2 e = absurd (cc)
-conclusion_one (faulted moment place) (finished moment2 turn) t t2 e = absurd (cc)
-conclusion_one (faulted moment place) (denied moment2 refusal at place2) t t2 e = absurd (cc)
-conclusion_one (faulted moment place) (faulted moment2 place2) t t2 e = ((cc), (cc))
+-- An outcome of a call comes to one conclusion.
+conclusion_one : (terms : Terms) (uid : Uid) (returned returned2 : Option TypeCode) (outcome outcome2 : Outcome) (c c2 : Conclusion) (t t2 : List Tick) → outcome ≡ outcome2
+    → IsConclusion terms uid returned outcome c → IsConclusion terms uid returned2 outcome2 c2 → conclusion_ticks c ++ t ≡ conclusion_ticks c2 ++ t2 → (c ≡ c2) × (t ≡ t2)
+conclusion_one terms uid returned returned2 outcome outcome2 (finished listed moment turn bytes) (finished listed2 moment2 turn2 bytes2) t t2 same (fit, (lists, over, is)) (fit2, (lists2, over2, is2)) e =
+    let moments : moment ≡ moment2 = cc in
+    let turns : turn ≡ turn2 = cc in
+    let lists_same : listed ≡ listed2 = lists ∙ ap (listed_by terms) same ∙ sym lists2 in
+    let bytes_same : bytes ≡ bytes2 = is ∙ ap (λ o. normal_return terms uid o turn.reply) same ∙ ap (λ (x : Turn). normal_return terms uid outcome2 x.reply) turns ∙ sym is2 in (
+      ap (λ x. finished x moment turn bytes) lists_same ∙ ap (λ x. finished listed2 x turn bytes) moments ∙ ap (λ x. finished listed2 moment2 x bytes) turns ∙ ap (λ x. finished listed2 moment2 turn2 x) bytes_same,
+      ap (drop 1) e,
+    )
+conclusion_one terms uid returned returned2 outcome outcome2 (finished listed moment turn bytes) (denied listed2 moment2 refusal at place) t t2 same is is2 e = absurd (cc)
+conclusion_one terms uid returned returned2 outcome outcome2 (finished listed moment turn bytes) (faulted moment2 place) t t2 same is is2 e = absurd (cc)
+conclusion_one terms uid returned returned2 outcome outcome2 (denied listed moment refusal at place) (finished listed2 moment2 turn bytes) t t2 same is is2 e = absurd (cc)
+conclusion_one terms uid returned returned2 outcome outcome2 (denied listed moment refusal at place) (denied listed2 moment2 refusal2 at2 place2) t t2 same (fit, (lists, other)) (fit2, (lists2, other2)) e =
+    let lists_same : listed ≡ listed2 = lists ∙ ap (listed_by terms) same ∙ sym lists2 in
+    let ticked : denied listed2 moment refusal at place ≡ denied listed2 moment2 refusal2 at2 place2 = cc in
+    (ap (λ x. denied x moment refusal at place) lists_same ∙ ticked, ap (drop 2) e)
+conclusion_one terms uid returned returned2 outcome outcome2 (denied listed moment refusal at place) (faulted moment2 place2) t t2 same is is2 e = absurd (cc)
+conclusion_one terms uid returned returned2 outcome outcome2 (faulted moment place) (finished listed2 moment2 turn bytes) t t2 same is is2 e = absurd (cc)
+conclusion_one terms uid returned returned2 outcome outcome2 (faulted moment place) (denied listed2 moment2 refusal at place2) t t2 same is is2 e = absurd (cc)
+conclusion_one terms uid returned returned2 outcome outcome2 (faulted moment place) (faulted moment2 place2) t t2 same is is2 e = ((cc), (cc))
 
 abbrev some_place : ℕ → Option ℕ
 some_place place = Some place
@@ -121,30 +136,30 @@ abbrev OneRunning : Running → Running → List ℕ → List ℕ → List Tick 
 OneRunning r r2 bytes bytes2 t t2 = (r ≡ r2) × (bytes ≡ bytes2) × (t ≡ t2)
 
 -- A Call that was read whole is invoked with one list of arguments.
-ran_same : (head : CallHead) (method method2 : Method) (place place2 : ℕ) (a a2 : Arguments) (o o2 : Outcome) (c c2 : Conclusion) (bytes bytes2 rest rest2 : List ℕ) (t t2 : List Tick)
+ran_same : (terms : Terms) (uid : Uid) (head : CallHead) (method method2 : Method) (place place2 : ℕ) (a a2 : Arguments) (o o2 : Outcome) (c c2 : Conclusion) (bytes bytes2 rest rest2 : List ℕ) (t t2 : List Tick)
     → place ≡ place2 → method ≡ method2 → CallBytes head method.params a (0x50 ∷ bytes) → CallBytes head method2.params a2 (0x50 ∷ bytes2)
-    → bytes ++ rest ≡ bytes2 ++ rest2 → running_ticks (ran place a o c) ++ t ≡ running_ticks (ran place2 a2 o2 c2) ++ t2 → OneRunning (ran place a o c) (ran place2 a2 o2 c2) bytes bytes2 t t2
-ran_same head method method2 place place2 a a2 o o2 c c2 bytes bytes2 rest rest2 t t2 places methods call call2 input e =
+    → IsConclusion terms uid method.result o c → IsConclusion terms uid method2.result o2 c2 → bytes ++ rest ≡ bytes2 ++ rest2 → running_ticks (ran place a o c) ++ t ≡ running_ticks (ran place2 a2 o2 c2) ++ t2 → OneRunning (ran place a o c) (ran place2 a2 o2 c2) bytes bytes2 t t2
+ran_same terms uid head method method2 place place2 a a2 o o2 c c2 bytes bytes2 rest rest2 t t2 places methods call call2 is is2 input e =
     let P : Method → Type 0 = λ m. CallBytes head m.params a2 (0x50 ∷ bytes2) in
     let same = call_is_one method.params head head a a2 (0x50 ∷ bytes) (0x50 ∷ bytes2) rest rest2 call (subst P (sym methods) call2) (ap (λ (l : List ℕ). 0x50 ∷ l) input) in
     let arguments : a ≡ a2 = arguments_same a a2 same.2 same.3 same.4 in
     let outcomes : o ≡ o2 = cc in
     let later : conclusion_ticks c ++ t ≡ conclusion_ticks c2 ++ t2 = ap (drop 1) e in
-    let one = conclusion_one c c2 t t2 later in (
+    let one = conclusion_one terms uid method.result method2.result o o2 c c2 t t2 outcomes is is2 later in (
       ap (λ x. ran x a o c) places ∙ ap (λ x. ran place2 x o c) arguments ∙ ap (λ x. ran place2 a2 x c) outcomes ∙ ap (λ x. ran place2 a2 o2 x) one.0,
       ap (drop 1) same.0,
       one.1,
     )
 
-running_one : (kinds : List Kind) (head : CallHead) (kind : ℕ) (bytes bytes2 : List ℕ) (uid : Uid) (r r2 : Running) (rest rest2 : List ℕ) (t t2 : List Tick) → IsRunning kinds head kind bytes uid r → IsRunning kinds head kind bytes2 uid r2
+running_one : (terms : Terms) (head : CallHead) (kind : ℕ) (bytes bytes2 : List ℕ) (uid : Uid) (r r2 : Running) (rest rest2 : List ℕ) (t t2 : List Tick) → IsRunning terms head kind bytes uid r → IsRunning terms head kind bytes2 uid r2
     → bytes ++ rest ≡ bytes2 ++ rest2 → running_ticks r ++ t ≡ running_ticks r2 ++ t2 → OneRunning r r2 bytes bytes2 t t2
-running_one kinds head kind bytes bytes2 uid (unknown moment place) (unknown moment2 place2) rest rest2 t t2 ((left, a), none) ((left2, b), none2) input e =
+running_one terms head kind bytes bytes2 uid (unknown moment place) (unknown moment2 place2) rest rest2 t t2 ((left, a), none) ((left2, b), none2) input e =
     ((cc), front_same head bytes bytes2 rest rest2 left left2 a b input, (cc))
-running_one kinds head kind bytes bytes2 uid (unknown moment place) (ran place2 arguments outcome conclusion) rest rest2 t t2 a b input e = absurd (none_known kinds kind head place2 b.0 a.1)
-running_one kinds head kind bytes bytes2 uid (ran place arguments outcome conclusion) (unknown moment2 place2) rest rest2 t t2 a b input e = absurd (none_known kinds kind head place a.0 b.1)
-running_one kinds head kind bytes bytes2 uid (ran place arguments outcome conclusion) (ran place2 arguments2 outcome2 conclusion2) rest rest2 t t2 (known, (method, is, call, concluded)) (known2, (method2, is2, call2, concluded2)) input e =
-    let same = known_same kinds kind head place place2 method method2 known known2 is is2 in
-    ran_same head method method2 place place2 arguments arguments2 outcome outcome2 conclusion conclusion2 bytes bytes2 rest rest2 t t2 same.0 same.1 call call2 input e
+running_one terms head kind bytes bytes2 uid (unknown moment place) (ran place2 arguments outcome conclusion) rest rest2 t t2 a b input e = absurd (none_known terms.kinds kind head place2 b.0 a.1)
+running_one terms head kind bytes bytes2 uid (ran place arguments outcome conclusion) (unknown moment2 place2) rest rest2 t t2 a b input e = absurd (none_known terms.kinds kind head place a.0 b.1)
+running_one terms head kind bytes bytes2 uid (ran place arguments outcome conclusion) (ran place2 arguments2 outcome2 conclusion2) rest rest2 t t2 (known, (method, is, call, concluded)) (known2, (method2, is2, call2, concluded2)) input e =
+    let same = known_same terms.kinds kind head place place2 method method2 known known2 is is2 in
+    ran_same terms uid head method method2 place place2 arguments arguments2 outcome outcome2 conclusion conclusion2 bytes bytes2 rest rest2 t t2 same.0 same.1 call call2 concluded concluded2 input e
 
 started_same : (turn turn2 : Turn) (kind kind2 : ℕ) → turn ≡ turn2 → turn.reply ≡ Started kind → turn2.reply ≡ Started kind2 → kind ≡ kind2
 started_same turn turn2 kind kind2 same is is2 =
@@ -160,27 +175,27 @@ abbrev OneServed : Served → Served → List ℕ → List ℕ → List Tick →
 OneServed s s2 bytes bytes2 t t2 = (s ≡ s2) × (bytes ≡ bytes2) × (t ≡ t2)
 
 -- A Call of one head is served in one way.
-pub served_one : (kinds : List Kind) (head : CallHead) (bytes bytes2 : List ℕ) (uid : Uid) (s s2 : Served) (rest rest2 : List ℕ) (t t2 : List Tick) → IsServed kinds head bytes uid s → IsServed kinds head bytes2 uid s2
+pub served_one : (terms : Terms) (head : CallHead) (bytes bytes2 : List ℕ) (uid : Uid) (s s2 : Served) (rest rest2 : List ℕ) (t t2 : List Tick) → IsServed terms head bytes uid s → IsServed terms head bytes2 uid s2
     → bytes ++ rest ≡ bytes2 ++ rest2 → served_ticks s ++ t ≡ served_ticks s2 ++ t2 → OneServed s s2 bytes bytes2 t t2
-served_one kinds head bytes bytes2 uid (absent moment turn) (absent moment2 turn2) rest rest2 t t2 ((left, a), none) ((left2, b), none2) input e =
+served_one terms head bytes bytes2 uid (absent moment turn) (absent moment2 turn2) rest rest2 t t2 ((left, a), none) ((left2, b), none2) input e =
     ((cc), front_same head bytes bytes2 rest rest2 left left2 a b input, (cc))
-served_one kinds head bytes bytes2 uid (absent moment turn) (refused moment2) rest rest2 t t2 a b input e = absurd (cc)
-served_one kinds head bytes bytes2 uid (absent moment turn) (begun moment2 turn2 kind2 r2) rest rest2 t t2 a b input e =
+served_one terms head bytes bytes2 uid (absent moment turn) (refused moment2) rest rest2 t t2 a b input e = absurd (cc)
+served_one terms head bytes bytes2 uid (absent moment turn) (begun moment2 turn2 kind2 r2) rest rest2 t t2 a b input e =
     let turns : turn ≡ turn2 = cc in absurd (not_started turn turn2 kind2 turns a.1 b.0)
-served_one kinds head bytes bytes2 uid (refused moment) (absent moment2 turn2) rest rest2 t t2 a b input e = absurd (cc)
-served_one kinds head bytes bytes2 uid (refused moment) (refused moment2) rest rest2 t t2 (left, a) (left2, b) input e =
+served_one terms head bytes bytes2 uid (refused moment) (absent moment2 turn2) rest rest2 t t2 a b input e = absurd (cc)
+served_one terms head bytes bytes2 uid (refused moment) (refused moment2) rest rest2 t t2 (left, a) (left2, b) input e =
     ((cc), front_same head bytes bytes2 rest rest2 left left2 a b input, (cc))
-served_one kinds head bytes bytes2 uid (refused moment) (begun moment2 turn2 kind2 r2) rest rest2 t t2 a b input e = absurd (cc)
-served_one kinds head bytes bytes2 uid (begun moment turn kind r) (absent moment2 turn2) rest rest2 t t2 a b input e =
+served_one terms head bytes bytes2 uid (refused moment) (begun moment2 turn2 kind2 r2) rest rest2 t t2 a b input e = absurd (cc)
+served_one terms head bytes bytes2 uid (begun moment turn kind r) (absent moment2 turn2) rest rest2 t t2 a b input e =
     let turns : turn2 ≡ turn = cc in absurd (not_started turn2 turn kind turns b.1 a.0)
-served_one kinds head bytes bytes2 uid (begun moment turn kind r) (refused moment2) rest rest2 t t2 a b input e = absurd (cc)
-served_one kinds head bytes bytes2 uid (begun moment turn kind r) (begun moment2 turn2 kind2 r2) rest rest2 t t2 (started, a) (started2, b) input e =
+served_one terms head bytes bytes2 uid (begun moment turn kind r) (refused moment2) rest rest2 t t2 a b input e = absurd (cc)
+served_one terms head bytes bytes2 uid (begun moment turn kind r) (begun moment2 turn2 kind2 r2) rest rest2 t t2 (started, a) (started2, b) input e =
     let moments : moment ≡ moment2 = cc in
     let turns : turn ≡ turn2 = cc in
     let same : kind ≡ kind2 = started_same turn turn2 kind kind2 turns started started2 in
-    let P : ℕ → Type 0 = λ k. IsRunning kinds head k bytes2 uid r2 in
+    let P : ℕ → Type 0 = λ k. IsRunning terms head k bytes2 uid r2 in
     let later : running_ticks r ++ t ≡ running_ticks r2 ++ t2 = ap (drop 1) e in
-    let one = running_one kinds head kind bytes bytes2 uid r r2 rest rest2 t t2 a (subst P (sym same) b) input later in
+    let one = running_one terms head kind bytes bytes2 uid r r2 rest rest2 t t2 a (subst P (sym same) b) input later in
     (ap (λ x. begun x turn kind r) moments ∙ ap (λ x. begun moment2 x kind r) turns ∙ ap (λ x. begun moment2 turn2 x r) same ∙ ap (λ x. begun moment2 turn2 kind2 x) one.0, one.1, one.2)
 
 -- ---- ends in a Call
@@ -269,29 +284,29 @@ arguments_one kinds at tail tail2 rest rest2 end end2 t t2 a settled b settled2 
     )
 
 -- A call that is given up isn't served.
-not_given_up : (kinds : List Kind) (head : CallHead) (bytes : List ℕ) (uid : Uid) (moment : ℕ) (turn : Turn) (kind place moment2 place2 : ℕ) (s : Served) (t u : List Tick) → turn.reply ≡ Started kind → IsMethodOf kinds kind head place
-    → IsServed kinds head bytes uid s → ends_ticks moment turn moment2 place2 ++ t ≡ served_ticks s ++ u → ⊥
-not_given_up kinds head bytes uid moment turn kind place moment2 place2 (absent moment3 turn2) t u started known (h, none) e =
+not_given_up : (terms : Terms) (head : CallHead) (bytes : List ℕ) (uid : Uid) (moment : ℕ) (turn : Turn) (kind place moment2 place2 : ℕ) (s : Served) (t u : List Tick) → turn.reply ≡ Started kind → IsMethodOf terms.kinds kind head place
+    → IsServed terms head bytes uid s → ends_ticks moment turn moment2 place2 ++ t ≡ served_ticks s ++ u → ⊥
+not_given_up terms head bytes uid moment turn kind place moment2 place2 (absent moment3 turn2) t u started known (h, none) e =
     let turns : turn2 ≡ turn = cc in not_started turn2 turn kind turns none started
-not_given_up kinds head bytes uid moment turn kind place moment2 place2 (refused moment3) t u started known is e = cc
-not_given_up kinds head bytes uid moment turn kind place moment2 place2 (begun moment3 turn2 kind2 (unknown moment4 place3)) t u started known (started2, (h, none)) e =
+not_given_up terms head bytes uid moment turn kind place moment2 place2 (refused moment3) t u started known is e = cc
+not_given_up terms head bytes uid moment turn kind place moment2 place2 (begun moment3 turn2 kind2 (unknown moment4 place3)) t u started known (started2, (h, none)) e =
     let turns : turn2 ≡ turn = cc in
-    let P : ℕ → Type 0 = λ k. HasNoMethod kinds k head in
-    none_known kinds kind head place known (subst P (started_same turn2 turn kind2 kind turns started2 started) none)
-not_given_up kinds head bytes uid moment turn kind place moment2 place2 (begun moment3 turn2 kind2 (ran place3 arguments outcome conclusion)) t u started known is e = cc
+    let P : ℕ → Type 0 = λ k. HasNoMethod terms.kinds k head in
+    none_known terms.kinds kind head place known (subst P (started_same turn2 turn kind2 kind turns started2 started) none)
+not_given_up terms head bytes uid moment turn kind place moment2 place2 (begun moment3 turn2 kind2 (ran place3 arguments outcome conclusion)) t u started known is e = cc
 
 -- Reading doesn't end in the arguments of a Call that is served.
-arguments_not_served : (kinds : List Kind) (at : ℕ) (tail : Course) (rest : List ℕ) (end : ConnEnd) (head : CallHead) (bytes : List ℕ) (uid : Uid) (s : Served) (xs : List ℕ) (t u : List Tick)
-    → EndsInArguments kinds at tail (Some rest) end → FitsHead head → IsServed kinds head bytes uid s → tail.taken ++ rest ≡ code_byte Call ∷ (bytes ++ xs) → tape tail.acts ++ t ≡ tape (served_acts head uid s) ++ u → ⊥
-arguments_not_served kinds at tail rest end head bytes uid s xs t u a fits is input ticking =
-    let b = served_begins kinds head bytes uid s is in
+arguments_not_served : (terms : Terms) (at : ℕ) (tail : Course) (rest : List ℕ) (end : ConnEnd) (head : CallHead) (bytes : List ℕ) (uid : Uid) (s : Served) (xs : List ℕ) (t u : List Tick)
+    → EndsInArguments terms.kinds at tail (Some rest) end → FitsHead head → IsServed terms head bytes uid s → tail.taken ++ rest ≡ code_byte Call ∷ (bytes ++ xs) → tape tail.acts ++ t ≡ tape (served_acts head uid s) ++ u → ⊥
+arguments_not_served terms at tail rest end head bytes uid s xs t u a fits is input ticking =
+    let b = served_begins terms head bytes uid s is in
     let behind : (a.front ++ a.more) ++ rest ≡ bytes ++ xs = ap (drop 1) (sym (ap (λ (c : Course). c.taken ++ rest) a.tail_is) ∙ input) in
     let mine : Begins a.head (a.front ++ a.more) = record { front = a.front; left = a.left; more = a.more; is = refl; heading = a.heading } in
     let heads : a.head ≡ head = begin_same a.head head (a.front ++ a.more) bytes rest xs a.numbers fits mine b behind in
-    let P : CallHead → Type 0 = λ h. IsMethodOf kinds a.kind h a.place in
+    let P : CallHead → Type 0 = λ h. IsMethodOf terms.kinds a.kind h a.place in
     let handed : ends_ticks a.moment a.turn a.moment2 a.place2 ++ t ≡ served_ticks s ++ u =
-    ap (λ (l : List Tick). l ++ t) (sym (arguments_tape kinds at tail rest end a)) ∙ ticking ∙ ap (λ (l : List Tick). l ++ u) (served_tape kinds head bytes uid s is) in
-    not_given_up kinds head bytes uid a.moment a.turn a.kind a.place a.moment2 a.place2 s t u a.started (subst P heads a.known) is handed
+    ap (λ (l : List Tick). l ++ t) (sym (arguments_tape terms.kinds at tail rest end a)) ∙ ticking ∙ ap (λ (l : List Tick). l ++ u) (served_tape terms head bytes uid s is) in
+    not_given_up terms head bytes uid a.moment a.turn a.kind a.place a.moment2 a.place2 s t u a.started (subst P heads a.known) is handed
 
 -- ---- a Call in which reading ends, beside others
 
@@ -324,23 +339,23 @@ in_call_one kinds at tail tail2 rest rest2 end end2 t t2 (inr a) settled (inr b)
     with_rests end end2 tail tail2 rest rest2 input one.0 one.1
 
 -- Reading doesn't end in a Call that is served.
-pub in_call_not_served : (kinds : List Kind) (at : ℕ) (tail : Course) (rest : List ℕ) (end : ConnEnd) (head : CallHead) (bytes : List ℕ) (uid : Uid) (s : Served) (xs : List ℕ) (t u : List Tick)
-    → InCall kinds at tail rest end → IsSettled end → FitsHead head → 1 + length bytes ≤ most_bytes → IsServed kinds head bytes uid s
+pub in_call_not_served : (terms : Terms) (at : ℕ) (tail : Course) (rest : List ℕ) (end : ConnEnd) (head : CallHead) (bytes : List ℕ) (uid : Uid) (s : Served) (xs : List ℕ) (t u : List Tick)
+    → InCall terms.kinds at tail rest end → IsSettled end → FitsHead head → 1 + length bytes ≤ most_bytes → IsServed terms head bytes uid s
     → tail.taken ++ rest ≡ code_byte Call ∷ (bytes ++ xs) → tape tail.acts ++ t ≡ tape (served_acts head uid s) ++ u → ⊥
-in_call_not_served kinds at tail rest end head bytes uid s xs t u (inl (more, is, breaks)) settled fits few legal input ticking =
-    head_not_served at more rest bytes xs end head breaks settled (served_begins kinds head bytes uid s legal) few (head_behind at tail rest bytes xs end (more, is, breaks) input)
-in_call_not_served kinds at tail rest end head bytes uid s xs t u (inr a) settled fits few legal input ticking = arguments_not_served kinds at tail rest end head bytes uid s xs t u a fits legal input ticking
+in_call_not_served terms at tail rest end head bytes uid s xs t u (inl (more, is, breaks)) settled fits few legal input ticking =
+    head_not_served at more rest bytes xs end head breaks settled (served_begins terms head bytes uid s legal) few (head_behind at tail rest bytes xs end (more, is, breaks) input)
+in_call_not_served terms at tail rest end head bytes uid s xs t u (inr a) settled fits few legal input ticking = arguments_not_served terms at tail rest end head bytes uid s xs t u a fits legal input ticking
 
 -- ---- one exchange
 
 -- A Call of some bytes is served in one way, by one head.
-pub exchange_one : (kinds : List Kind) (head head2 : CallHead) (bytes bytes2 : List ℕ) (uid : Uid) (s s2 : Served) (rest rest2 : List ℕ) (t t2 : List Tick) → FitsHead head → FitsHead head2
-    → IsServed kinds head bytes uid s → IsServed kinds head2 bytes2 uid s2 → bytes ++ rest ≡ bytes2 ++ rest2 → tape (served_acts head uid s) ++ t ≡ tape (served_acts head2 uid s2) ++ t2
+pub exchange_one : (terms : Terms) (head head2 : CallHead) (bytes bytes2 : List ℕ) (uid : Uid) (s s2 : Served) (rest rest2 : List ℕ) (t t2 : List Tick) → FitsHead head → FitsHead head2
+    → IsServed terms head bytes uid s → IsServed terms head2 bytes2 uid s2 → bytes ++ rest ≡ bytes2 ++ rest2 → tape (served_acts head uid s) ++ t ≡ tape (served_acts head2 uid s2) ++ t2
     → (head ≡ head2) × (s ≡ s2) × (bytes ≡ bytes2) × (t ≡ t2)
-exchange_one kinds head head2 bytes bytes2 uid s s2 rest rest2 t t2 fits fits2 is is2 input ticking =
-    let heads : head ≡ head2 = begin_same head head2 bytes bytes2 rest rest2 fits fits2 (served_begins kinds head bytes uid s is) (served_begins kinds head2 bytes2 uid s2 is2) input in
-    let P : CallHead → Type 0 = λ h. IsServed kinds h bytes2 uid s2 in
+exchange_one terms head head2 bytes bytes2 uid s s2 rest rest2 t t2 fits fits2 is is2 input ticking =
+    let heads : head ≡ head2 = begin_same head head2 bytes bytes2 rest rest2 fits fits2 (served_begins terms head bytes uid s is) (served_begins terms head2 bytes2 uid s2 is2) input in
+    let P : CallHead → Type 0 = λ h. IsServed terms h bytes2 uid s2 in
     let handed : served_ticks s ++ t ≡ served_ticks s2 ++ t2 =
-    ap (λ (l : List Tick). l ++ t) (sym (served_tape kinds head bytes uid s is)) ∙ ticking ∙ ap (λ (l : List Tick). l ++ t2) (served_tape kinds head2 bytes2 uid s2 is2) in
-    let one = served_one kinds head bytes bytes2 uid s s2 rest rest2 t t2 is (subst P (sym heads) is2) input handed in
+    ap (λ (l : List Tick). l ++ t) (sym (served_tape terms head bytes uid s is)) ∙ ticking ∙ ap (λ (l : List Tick). l ++ t2) (served_tape terms head2 bytes2 uid s2 is2) in
+    let one = served_one terms head bytes bytes2 uid s s2 rest rest2 t t2 is (subst P (sym heads) is2) input handed in
     (heads, one.0, one.1, one.2)

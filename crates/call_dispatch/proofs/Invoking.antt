@@ -29,7 +29,8 @@ use Rattle.call_dispatch.specs.Rows.{Exchange, ping, acknowledged, served, IsExc
 use Rattle.call_dispatch.specs.Dialogue.{Whole, nothing, greeted, opened, exchanges_in, IsWhole, taken_in, IsAnswered, IsCutIn, EndsInCall, Ends, Dialogue}
 use Rattle.call_dispatch.specs.Progress.{Talked}
 use Rattle.call_dispatch.proofs.OneReading.{chain_first, chain_rest}
-use Rattle.call_dispatch.specs.Served.{Conclusion, finished, denied, faulted, finish_of, conclusion_acts, Running, unknown, ran, invocation_of, running_acts, IsRunning, absent, refused, begun}
+use Rattle.call_dispatch.specs.Results.{finish_with}
+use Rattle.call_dispatch.specs.Served.{Conclusion, finished, denied, faulted, conclusion_acts, Running, unknown, ran, invocation_of, running_acts, IsRunning, absent, refused, begun}
 use Rattle.call_dispatch.specs.Invoked.{invocations_in, IsInvocationOf, IsInvokedOnce, CallIsInvokedOnce, IsCallOf, LeadTo, InvokesEachOnce}
 
 in_more : (xs ys : List Act) → invocations_in (xs ++ ys) ≡ invocations_in xs ++ invocations_in ys
@@ -46,25 +47,25 @@ turn_none moment ask (Err HistoryFull) = refl
 turn_none moment ask (Err (Full kind)) = refl
 turn_none moment ask (Err OutOfMemory) = refl
 
-conclusion_none : (object : ObjId) (uid : Uid) (c : Conclusion) → invocations_in (conclusion_acts object uid c) ≡ []
-conclusion_none object uid (finished moment turn) = turn_none moment (finish_of object uid) (Ok turn)
-conclusion_none object uid (denied moment refusal moment2 place) =
-    in_more (acts_of moment (finish_of object uid) (Err refusal)) (abandoned moment2 object place ∷ []) ∙ ap (λ (l : List Invocation). l ++ []) (turn_none moment (finish_of object uid) (Err refusal))
-conclusion_none object uid (faulted moment place) = refl
+conclusion_none : (object : ObjId) (uid : Uid) (outcome : Outcome) (c : Conclusion) → invocations_in (conclusion_acts object uid outcome c) ≡ []
+conclusion_none object uid outcome (finished listed moment turn bytes) = turn_none moment (finish_with object outcome listed uid) (Ok turn)
+conclusion_none object uid outcome (denied listed moment refusal moment2 place) =
+    in_more (acts_of moment (finish_with object outcome listed uid) (Err refusal)) (abandoned moment2 object place ∷ []) ∙ ap (λ (l : List Invocation). l ++ []) (turn_none moment (finish_with object outcome listed uid) (Err refusal))
+conclusion_none object uid outcome (faulted moment place) = refl
 
-running_once : (kinds : List Kind) (head : CallHead) (kind : ℕ) (bytes : List ℕ) (uid : Uid) (r : Running) → IsRunning kinds head kind bytes uid r → IsInvokedOnce kinds head bytes (invocations_in (running_acts head uid kind r))
-running_once kinds head kind bytes uid (unknown moment place) is = tt
-running_once kinds head kind bytes uid (ran place arguments outcome c) (known, (method, here, spelled, concluded)) =
+running_once : (terms : Terms) (head : CallHead) (kind : ℕ) (bytes : List ℕ) (uid : Uid) (r : Running) → IsRunning terms head kind bytes uid r → IsInvokedOnce terms.kinds head bytes (invocations_in (running_acts head uid kind r))
+running_once terms head kind bytes uid (unknown moment place) is = tt
+running_once terms head kind bytes uid (ran place arguments outcome c) (known, (method, here, spelled, concluded)) =
     let call : Invocation = invocation_of head.id kind place arguments in
-    let once : IsInvokedOnce kinds head bytes (call ∷ []) = record { object = refl; known = known; method = method; method_is = here; spelled = spelled } in
-    subst (λ (l : List Invocation). IsInvokedOnce kinds head bytes (call ∷ l)) (sym (conclusion_none head.id uid c)) once
+    let once : IsInvokedOnce terms.kinds head bytes (call ∷ []) = record { object = refl; known = known; method = method; method_is = here; spelled = spelled } in
+    subst (λ (l : List Invocation). IsInvokedOnce terms.kinds head bytes (call ∷ l)) (sym (conclusion_none head.id uid outcome c)) once
 
 pub call_is_invoked_once : CallIsInvokedOnce
-call_is_invoked_once kinds head bytes uid (absent moment turn) is = subst (λ (l : List Invocation). IsInvokedOnce kinds head bytes l) (sym (turn_none moment (Begin head.id) (Ok turn))) tt
-call_is_invoked_once kinds head bytes uid (refused moment) is = tt
-call_is_invoked_once kinds head bytes uid (begun moment turn kind r) (started, is) =
+call_is_invoked_once terms head bytes uid (absent moment turn) is = subst (λ (l : List Invocation). IsInvokedOnce terms.kinds head bytes l) (sym (turn_none moment (Begin head.id) (Ok turn))) tt
+call_is_invoked_once terms head bytes uid (refused moment) is = tt
+call_is_invoked_once terms head bytes uid (begun moment turn kind r) (started, is) =
     let same = in_more (acts_of moment (Begin head.id) (Ok turn)) (running_acts head uid kind r) ∙ ap (λ (l : List Invocation). l ++ invocations_in (running_acts head uid kind r)) (turn_none moment (Begin head.id) (Ok turn)) in
-    subst (λ (l : List Invocation). IsInvokedOnce kinds head bytes l) (sym same) (running_once kinds head kind bytes uid r is)
+    subst (λ (l : List Invocation). IsInvokedOnce terms.kinds head bytes l) (sym same) (running_once terms head kind bytes uid r is)
 
 -- ---- in a connection
 
@@ -90,7 +91,7 @@ exchange_leads : (terms : Terms) (drawn : ℕ) (e : Exchange) → IsExchange ter
 exchange_leads terms drawn ping is = inl refl
 exchange_leads terms drawn (acknowledged uid moment answer) is = inl (turn_none moment (Ack uid) answer)
 exchange_leads terms drawn (served bytes head uid s) (draw, fits, few, is) =
-    once_leads terms.kinds head bytes (invocations_in (acts_by (served bytes head uid s))) (call_is_invoked_once terms.kinds head bytes uid s is)
+    once_leads terms.kinds head bytes (invocations_in (acts_by (served bytes head uid s))) (call_is_invoked_once terms head bytes uid s is)
 
 exchanges_lead : (terms : Terms) (drawn : ℕ) (es : List Exchange) → IsChain terms drawn es → LeadTo terms.kinds (map taken_by es) (invocations_in (flat_map acts_by es))
 exchanges_lead terms drawn [] chain = refl

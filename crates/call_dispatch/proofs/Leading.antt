@@ -14,6 +14,7 @@ use Rattle.space.specs.Entries.{entry_of}
 use Rattle.space.specs.Ports.{entries_of}
 use Rattle.call_dispatch.specs.declared.outcome.Invocation.{Invocation}
 use Rattle.call_dispatch.specs.declared.outcome.Outcome.{Outcome}
+use Rattle.call_dispatch.specs.Results.{made_by, finish_with}
 use Rattle.call_dispatch.specs.Acts.{Call, invokes, unreferenced, States, Act, asks, lost, called, Tells, Leads, Side, Led, tells_of, acts_of}
 use Rattle.call_dispatch.proofs.Going.{led_more, tells_nothing, leads_nothing}
 
@@ -102,8 +103,7 @@ led_answer may moves asked given a b moment ask (Err OutOfMemory) is gave rest =
 pub led_same : (may : Invocation → Outcome → Type 0) (moves : States → Call → States → Type 0) (a b : Side) (xs ys : List Act) → xs ≡ ys → Led may moves a b xs → Led may moves a b ys
 led_same may moves a b xs ys same led = let P : List Act → Type 0 = λ l. Led may moves a b l in subst P same led
 
--- A Finish with two lists that are empty.
-pub finish_same : (moment : ℕ) (object : ObjId) (made : List ℕ) (listed : List ObjId) (uid : Uid) (answer : Result Turn Refused) → made ≡ [] → listed ≡ []
-    → acts_of moment (Finish object made listed uid) answer ≡ acts_of moment (Finish object [] [] uid) answer
-finish_same moment object made listed uid answer no_made no_listed =
-    ap (λ xs. acts_of moment (Finish object xs listed uid) answer) no_made ∙ ap (λ ys. acts_of moment (Finish object [] ys uid) answer) no_listed
+-- A Finish that lists what an outcome makes.
+pub finish_same : (moment : ℕ) (object : ObjId) (outcome : Outcome) (made : List ℕ) (listed : List ObjId) (uid : Uid) (answer : Result Turn Refused) → made ≡ made_by outcome
+    → acts_of moment (Finish object made listed uid) answer ≡ acts_of moment (finish_with object outcome listed uid) answer
+finish_same moment object outcome made listed uid answer same = ap (λ xs. acts_of moment (Finish object xs listed uid) answer) same

@@ -99,8 +99,8 @@ next_is_one terms drawn (served bytes head uid s) ping rest rest2 t t2 is is2 in
 next_is_one terms drawn (served bytes head uid s) (served bytes2 head2 uid2 s2) rest rest2 t t2 (draw, fits, few, is) (draw2, fits2, few2, is2) input ticking =
     let uids : uid ≡ uid2 = draw ∙ sym draw2 in
     let behind : bytes ++ rest ≡ bytes2 ++ rest2 = ap (drop 1) input in
-    let P : Uid → Type 0 = λ u. IsServed terms.kinds head2 bytes2 u s2 in
-    let one = exchange_one terms.kinds head head2 bytes bytes2 uid s s2 rest rest2 t t2 fits fits2 is (subst P (sym uids) is2) behind (ticking ∙ ap (λ (u : Uid). tape (served_acts head2 u s2) ++ t2) (sym uids)) in
+    let P : Uid → Type 0 = λ u. IsServed terms head2 bytes2 u s2 in
+    let one = exchange_one terms head head2 bytes bytes2 uid s s2 rest rest2 t t2 fits fits2 is (subst P (sym uids) is2) behind (ticking ∙ ap (λ (u : Uid). tape (served_acts head2 u s2) ++ t2) (sym uids)) in
     (served_same bytes bytes2 head head2 uid uid2 s s2 one.2 one.0 uids one.1, same_behind bytes bytes2 rest rest2 one.2 behind, one.3)
 
 -- ---- what comes next
@@ -312,7 +312,7 @@ not_both terms opening es drawn tail rest end ping xs t u (inr (more, taken, cal
 not_both terms opening es drawn tail rest end (acknowledged uid moment answer) xs t u (inr (more, taken, calls, inside)) settled few goes legal input ticking =
     no_ack (more ++ rest) (bytes_of_uid uid ++ xs) (sym (call_input tail more rest taken) ∙ input)
 not_both terms opening es drawn tail rest end (served bytes head uid s) xs t u (inr (more, taken, calls, inside)) settled few goes (draw, fits, small, is) input ticking =
-    in_call_not_served terms.kinds (length (taken_in (opened opening es))) tail rest end head bytes uid s xs t u inside settled fits small is input ticking
+    in_call_not_served terms (length (taken_in (opened opening es))) tail rest end head bytes uid s xs t u inside settled fits small is input ticking
 
 -- ---- exchanges
 

@@ -10,10 +10,11 @@ use Rattle.history.specs.declared.replies.Turn.{Turn}
 use Rattle.history.specs.declared.replies.Refused.TheVariants as refusals
 use Rattle.space.specs.declared.asked.AskedEnd.TheVariants.{Turned, Abandoned, Refused as Denied}
 use Rattle.jrmp_frames.specs.declared.head.CallHead.{CallHead}
-use Rattle.call_dispatch.specs.declared.book.Kind.{Kind}
 use Rattle.call_dispatch.specs.declared.outcome.Outcome.{Outcome}
 use Rattle.call_dispatch.specs.Acts.{Act, tells_of, acts_of}
-use Rattle.call_dispatch.specs.Served.{Conclusion, finished, denied, faulted, finish_of, conclusion_acts, IsConclusion, Running, unknown, ran, running_acts, IsRunning, Served, absent, refused, begun, served_acts, IsServed}
+use Rattle.call_dispatch.specs.Results.{finish_with}
+use Rattle.call_dispatch.specs.Served.{Conclusion, finished, denied, faulted, conclusion_acts, IsConclusion, Running, unknown, ran, running_acts, IsRunning, Served, absent, refused, begun, served_acts, IsServed}
+use Rattle.call_dispatch.specs.Terms.{Terms}
 use Rattle.call_dispatch.specs.Tape.{Tick, answered, gave, ticks, tape}
 
 -- Telling the worker of what is gone hands nothing in.
@@ -30,8 +31,8 @@ pub turn_alone : (moment : ℕ) (ask : Ask) (turn : Turn) → tape (acts_of mome
 turn_alone moment ask turn = ap (λ (l : List Tick). answered moment (Turned turn) ∷ l) (told_tape turn.gone)
 
 abbrev pub conclusion_ticks : Conclusion → List Tick
-conclusion_ticks (finished moment turn) = answered moment (Turned turn) ∷ []
-conclusion_ticks (denied moment refusal moment2 place) = answered moment (Denied refusal) ∷ answered moment2 (Abandoned place) ∷ []
+conclusion_ticks (finished listed moment turn bytes) = answered moment (Turned turn) ∷ []
+conclusion_ticks (denied listed moment refusal moment2 place) = answered moment (Denied refusal) ∷ answered moment2 (Abandoned place) ∷ []
 conclusion_ticks (faulted moment place) = answered moment (Abandoned place) ∷ []
 
 abbrev pub running_ticks : Running → List Tick
@@ -43,21 +44,21 @@ served_ticks (absent moment turn) = answered moment (Turned turn) ∷ []
 served_ticks (refused moment) = answered moment (Denied refusals.HistoryFull) ∷ []
 served_ticks (begun moment turn kind running) = answered moment (Turned turn) ∷ running_ticks running
 
-conclusion_tape : (object : ObjId) (uid : Uid) (returned : Option TypeCode) (outcome : Outcome) (c : Conclusion) → IsConclusion uid returned outcome c → tape (conclusion_acts object uid c) ≡ conclusion_ticks c
-conclusion_tape object uid returned outcome (finished moment turn) is = turn_alone moment (finish_of object uid) turn
-conclusion_tape object uid returned outcome (denied moment refusals.HistoryFull moment2 place) is = refl
-conclusion_tape object uid returned outcome (denied moment (refusals.Full kind) moment2 place) is = refl
-conclusion_tape object uid returned outcome (denied moment refusals.OutOfMemory moment2 place) is = absurd (is.1 refl)
-conclusion_tape object uid returned outcome (faulted moment place) is = refl
+conclusion_tape : (terms : Terms) (object : ObjId) (uid : Uid) (returned : Option TypeCode) (outcome : Outcome) (c : Conclusion) → IsConclusion terms uid returned outcome c → tape (conclusion_acts object uid outcome c) ≡ conclusion_ticks c
+conclusion_tape terms object uid returned outcome (finished listed moment turn bytes) is = turn_alone moment (finish_with object outcome listed uid) turn
+conclusion_tape terms object uid returned outcome (denied listed moment refusals.HistoryFull moment2 place) is = refl
+conclusion_tape terms object uid returned outcome (denied listed moment (refusals.Full kind) moment2 place) is = refl
+conclusion_tape terms object uid returned outcome (denied listed moment refusals.OutOfMemory moment2 place) (fit, (same, other)) = absurd (other refl)
+conclusion_tape terms object uid returned outcome (faulted moment place) is = refl
 
-running_tape : (kinds : List Kind) (head : CallHead) (kind : ℕ) (bytes : List ℕ) (uid : Uid) (r : Running) → IsRunning kinds head kind bytes uid r → tape (running_acts head uid kind r) ≡ running_ticks r
-running_tape kinds head kind bytes uid (unknown moment place) is = refl
-running_tape kinds head kind bytes uid (ran place arguments outcome conclusion) (known, (method, method_is, call, concluded)) =
-    ap (λ (l : List Tick). gave outcome ∷ l) (conclusion_tape head.id uid method.result outcome conclusion concluded)
+running_tape : (terms : Terms) (head : CallHead) (kind : ℕ) (bytes : List ℕ) (uid : Uid) (r : Running) → IsRunning terms head kind bytes uid r → tape (running_acts head uid kind r) ≡ running_ticks r
+running_tape terms head kind bytes uid (unknown moment place) is = refl
+running_tape terms head kind bytes uid (ran place arguments outcome conclusion) (known, (method, method_is, call, concluded)) =
+    ap (λ (l : List Tick). gave outcome ∷ l) (conclusion_tape terms head.id uid method.result outcome conclusion concluded)
 
 -- What a Call's acts hand in.
-pub served_tape : (kinds : List Kind) (head : CallHead) (bytes : List ℕ) (uid : Uid) (s : Served) → IsServed kinds head bytes uid s → tape (served_acts head uid s) ≡ served_ticks s
-served_tape kinds head bytes uid (absent moment turn) is = turn_alone moment (Begin head.id) turn
-served_tape kinds head bytes uid (refused moment) is = refl
-served_tape kinds head bytes uid (begun moment turn kind running) (started, is) =
-    turn_tape moment (Begin head.id) turn (running_acts head uid kind running) ∙ ap (λ (l : List Tick). answered moment (Turned turn) ∷ l) (running_tape kinds head kind bytes uid running is)
+pub served_tape : (terms : Terms) (head : CallHead) (bytes : List ℕ) (uid : Uid) (s : Served) → IsServed terms head bytes uid s → tape (served_acts head uid s) ≡ served_ticks s
+served_tape terms head bytes uid (absent moment turn) is = turn_alone moment (Begin head.id) turn
+served_tape terms head bytes uid (refused moment) is = refl
+served_tape terms head bytes uid (begun moment turn kind running) (started, is) =
+    turn_tape moment (Begin head.id) turn (running_acts head uid kind running) ∙ ap (λ (l : List Tick). answered moment (Turned turn) ∷ l) (running_tape terms head kind bytes uid running is)

@@ -37,7 +37,7 @@ IsInvokedOnce kinds head bytes (call ∷ more ∷ others) = ⊥
 
 -- Each Call is invoked at most once, with the graph that it spells.
 abbrev pub CallIsInvokedOnce : Type 0
-CallIsInvokedOnce = (kinds : List Kind) (head : CallHead) (bytes : List ℕ) (uid : Uid) (s : Served) → IsServed kinds head bytes uid s → IsInvokedOnce kinds head bytes (invocations_in (served_acts head uid s))
+CallIsInvokedOnce = (terms : Terms) (head : CallHead) (bytes : List ℕ) (uid : Uid) (s : Served) → IsServed terms head bytes uid s → IsInvokedOnce terms.kinds head bytes (invocations_in (served_acts head uid s))
 
 -- ---- in a connection
 

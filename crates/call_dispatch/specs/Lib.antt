@@ -9,6 +9,7 @@ pub mod Dialogue
 pub mod Tape
 pub mod Laws
 pub mod Book
+pub mod Results
 pub mod Returns
 pub mod Served
 pub mod Invoked

@@ -15,11 +15,12 @@ use Rattle.object_ids.specs.declared.ids.FullKind.TheVariants.{Exports, Awaiting
 use Rattle.history.specs.declared.replies.Refused.{Refused}
 use Rattle.history.specs.declared.replies.Refused.TheVariants as refusals
 use Rattle.java_shapes.specs.Fault.{fault_nodes, fault_items}
-use Rattle.jrmp_frames.specs.declared.message.Body.{Body}
-use Rattle.jrmp_frames.specs.declared.message.Body.TheVariants as bodies
-use Rattle.jrmp_frames.specs.Messages.{return_front, return_message}
+use Rattle.jrmp_frames.specs.Messages.{return_front}
+use Rattle.call_dispatch.specs.declared.book.Kind.{Kind}
 use Rattle.call_dispatch.specs.declared.outcome.Outcome.{Outcome}
-use Rattle.call_dispatch.specs.declared.outcome.Outcome.TheVariants.{Void, Prim, Tree, Fault}
+use Rattle.call_dispatch.specs.declared.outcome.Outcome.TheVariants.{Void, Prim, Tree, NewRemote, OldRemote, Fault}
+use Rattle.call_dispatch.specs.Results.{is_place, plain_return}
+use Rattle.call_dispatch.specs.Terms.{Terms}
 
 -- the greatest number of bytes of a Return
 abbrev pub most_return : ℕ
@@ -30,16 +31,6 @@ unfoldable pub fault_return : Uid → List ℕ → List ℕ
 fault_return uid message = 0x51 ∷ 0xAC ∷ 0xED ∷ 0x00 ∷ 0x05 ∷ contents (fault_nodes message) (put_block (return_front false uid) fault_items)
 
 -- ---- outcomes
-
--- what an outcome's Return carries
-abbrev pub body_of : Outcome → Body
-body_of (Prim value) = bodies.Prim value
-body_of (Tree graph) = bodies.Tree graph
-body_of _ = bodies.Void
-
--- the normal Return of an outcome
-abbrev pub normal_return : Uid → Outcome → List ℕ
-normal_return uid outcome = return_message true uid (body_of outcome)
 
 -- The value is of this primitive type.
 abbrev pub is_of : TypeCode → Value → Bool
@@ -58,19 +49,32 @@ abbrev pub is_one_reference : List Item → Bool
 is_one_reference (items.Ref slot ∷ []) = true
 is_one_reference _ = false
 
+-- A method with this result returns references, and the kind has a place.
+abbrev pub returns_place : List Kind → Option TypeCode → ℕ → Bool
+returns_place kinds (Some code) kind = not (is_primitive code) && is_place kinds kind
+returns_place kinds None kind = false
+
 -- The outcome is one of a method with this result.
-abbrev pub suits : Option TypeCode → Outcome → Bool
-suits None Void = true
-suits (Some code) (Prim value) = is_of code value
-suits (Some code) (Tree graph) = not (is_primitive code) && is_one_reference graph.items
-suits _ _ = false
+abbrev pub suits : List Kind → Option TypeCode → Outcome → Bool
+suits kinds None Void = true
+suits kinds (Some code) (Prim value) = is_of code value
+suits kinds (Some code) (Tree graph) = not (is_primitive code) && is_one_reference graph.items
+suits kinds (Some code) (NewRemote kind) = returns_place kinds (Some code) kind
+suits kinds (Some code) (OldRemote object kind) = returns_place kinds (Some code) kind
+suits kinds _ _ = false
 
 abbrev pub is_short : List ℕ → Bool
 is_short bytes = nat_le (length bytes) most_return
 
--- It is, and its Return can be sent.
-abbrev pub fits : Uid → Option TypeCode → Outcome → Bool
-fits uid result outcome = suits result outcome && is_short (normal_return uid outcome)
+-- The outcome's Return isn't too long. That of a remote object never is.
+abbrev pub is_sent : Uid → Outcome → Bool
+is_sent uid (NewRemote kind) = true
+is_sent uid (OldRemote object kind) = true
+is_sent uid outcome = is_short (plain_return uid outcome)
+
+-- The outcome is one of a method with this result, and its Return can be sent.
+abbrev pub fits : Terms → Uid → Option TypeCode → Outcome → Bool
+fits terms uid result outcome = suits terms.kinds result outcome && is_sent uid outcome
 
 -- ---- messages of exceptional Returns
 

@@ -66,7 +66,7 @@ IsNoted (Err _) = ⊥
 abbrev pub IsExchange : Terms → ℕ → Exchange → Type 0
 IsExchange terms drawn ping = Unit {0}
 IsExchange terms drawn (acknowledged uid moment answer) = FitsUid uid × IsNoted answer
-IsExchange terms drawn (served bytes head uid s) = (uid ≡ uid_drawn terms.unique terms.time drawn) × FitsHead head × (1 + length bytes ≤ most_bytes) × IsServed terms.kinds head bytes uid s
+IsExchange terms drawn (served bytes head uid s) = (uid ≡ uid_drawn terms.unique terms.time drawn) × FitsHead head × (1 + length bytes ≤ most_bytes) × IsServed terms head bytes uid s
 
 abbrev pub taken_by : Exchange → List ℕ
 taken_by e = (row_of e).message

@@ -1,17 +1,16 @@
 -- What is done at a call of an object that is exported.
-use Rattle.std.specs.Prelude.{◌≡◌, ◌≢◌, ℕ, ℤ, negsuc, ◌⊎◌, true, false, List, [], ◌∷◌, ◌++◌, slice_get, Option, None, Some, Ok, Err, FitsSigned}
+use Rattle.std.specs.Prelude.{◌≡◌, ◌≢◌, ℕ, ℤ, negsuc, ◌⊎◌, true, false, List, [], ◌∷◌, ◌++◌, length, slice_get, Option, None, Some, Ok, Err, FitsSigned}
 use Rattle.std.specs.Int.{w16, w32, w64}
 use Rattle.class_desc.specs.declared.field.TypeCode.{TypeCode}
 use Rattle.method_hash.specs.declared.method.Method.{Method}
 use Rattle.object_ids.specs.declared.ids.ObjId.{ObjId}
 use Rattle.object_ids.specs.declared.ids.Uid.{Uid}
-use Rattle.history.specs.declared.asks.Ask.{Ask}
-use Rattle.history.specs.declared.asks.Ask.TheVariants.{Begin, Finish}
-use Rattle.history.specs.declared.replies.Reply.TheVariants.{Started, NoObject}
+use Rattle.history.specs.declared.asks.Ask.TheVariants.{Begin}
+use Rattle.history.specs.declared.replies.Reply.{Reply}
+use Rattle.history.specs.declared.replies.Reply.TheVariants.{Started, NoObject, Finished}
 use Rattle.history.specs.declared.replies.Turn.{Turn}
 use Rattle.history.specs.declared.replies.Refused.{Refused}
 use Rattle.history.specs.declared.replies.Refused.TheVariants as refusals
-use Rattle.space.specs.Ports.{is_finished}
 use Rattle.jrmp_frames.specs.declared.arguments.Arguments.{Arguments}
 use Rattle.ser_read.specs.Heading.{EndsInBlock}
 use Rattle.jrmp_frames.specs.declared.head.CallHead.{CallHead}
@@ -24,7 +23,9 @@ use Rattle.call_dispatch.specs.declared.outcome.Outcome.{Outcome}
 use Rattle.call_dispatch.specs.declared.outcome.Outcome.TheVariants.{OutOfMemory}
 use Rattle.call_dispatch.specs.Acts.{Act, called, invokes, acts_of, abandoned}
 use Rattle.call_dispatch.specs.Book.{methods_of, first_with}
-use Rattle.call_dispatch.specs.Returns.{fault_return, normal_return, fits, no_object, no_method, full, fault_message}
+use Rattle.call_dispatch.specs.Results.{made_by, listed_by, finish_with, normal_return}
+use Rattle.call_dispatch.specs.Returns.{fault_return, fits, no_object, no_method, full, fault_message}
+use Rattle.call_dispatch.specs.Terms.{Terms}
 
 -- The bytes, which stand behind a Call's code, end with this head: the stream's magic number and version, and then whole blocks and a front of
 -- one, with so many of its bytes left, which hold the head's 34 bytes.
@@ -46,32 +47,40 @@ pub record FitsHead (head : CallHead) : Type 0 where
   pub operation : FitsSigned w32 head.operation
   pub hash : FitsSigned w64 head.hash
 
--- How a running call goes on once its worker answered: Finish is answered at a moment; or it is refused, and the call is given up at a
--- moment and a place of the history; or the outcome is a fault or doesn't fit, and the call is given up.
+-- How a running call goes on once its worker answered: Finish, which lists these objects, is answered at a moment, and then the normal Return has
+-- these bytes; or it is refused, and the call is given up at a moment and a place of the history; or the outcome is a fault or doesn't fit, and the
+-- call is given up.
 pub data Conclusion : Type 0 where
-  finished : ℕ → Turn → Conclusion
-  denied : ℕ → Refused → ℕ → ℕ → Conclusion
+  finished : List ObjId → ℕ → Turn → List ℕ → Conclusion
+  denied : List ObjId → ℕ → Refused → ℕ → ℕ → Conclusion
   faulted : ℕ → ℕ → Conclusion
 
--- the turn that ends a call with its Return
-abbrev pub finish_of : ObjId → Uid → Ask
-finish_of object uid = Finish object [] [] uid
-
-abbrev pub conclusion_acts : ObjId → Uid → Conclusion → List Act
-conclusion_acts object uid (finished moment turn) = acts_of moment (finish_of object uid) (Ok turn)
-conclusion_acts object uid (denied moment refused moment2 place) = acts_of moment (finish_of object uid) (Err refused) ++ abandoned moment2 object place ∷ []
-conclusion_acts object uid (faulted moment place) = abandoned moment object place ∷ []
+abbrev pub conclusion_acts : ObjId → Uid → Outcome → Conclusion → List Act
+conclusion_acts object uid outcome (finished listed moment turn bytes) = acts_of moment (finish_with object outcome listed uid) (Ok turn)
+conclusion_acts object uid outcome (denied listed moment refused moment2 place) = acts_of moment (finish_with object outcome listed uid) (Err refused) ++ abandoned moment2 object place ∷ []
+conclusion_acts object uid outcome (faulted moment place) = abandoned moment object place ∷ []
 
 abbrev pub conclusion_written : Uid → Outcome → Conclusion → List ℕ
-conclusion_written uid outcome (finished moment turn) = normal_return uid outcome
-conclusion_written uid outcome (denied moment refused moment2 place) = fault_return uid (full refused)
+conclusion_written uid outcome (finished listed moment turn bytes) = bytes
+conclusion_written uid outcome (denied listed moment refused moment2 place) = fault_return uid (full refused)
 conclusion_written uid outcome (faulted moment place) = fault_return uid (fault_message uid outcome)
 
+-- The reply is that the call was finished, with an identifier for each object that its Return makes.
+abbrev pub IsFinished : List ℕ → Reply → Type 0
+IsFinished made (Finished objects) = length objects ≡ length made
+IsFinished made _ = ⊥
+
+-- Finish, which lists what the outcome's Return refers to, is answered, and the bytes are those of the Return; or it is refused for a limit.
+abbrev pub IsGranted : Terms → Uid → Outcome → Conclusion → Type 0
+IsGranted terms uid outcome (finished listed moment turn bytes) = (listed ≡ listed_by terms outcome) × IsFinished (made_by outcome) turn.reply × (bytes ≡ normal_return terms uid outcome turn.reply)
+IsGranted terms uid outcome (denied listed moment refused moment2 place) = (listed ≡ listed_by terms outcome) × (refused ≢ refusals.OutOfMemory)
+IsGranted terms uid outcome (faulted moment place) = ⊥
+
 -- It may come so of an outcome of a method with this result.
-abbrev pub IsConclusion : Uid → Option TypeCode → Outcome → Conclusion → Type 0
-IsConclusion uid result outcome (finished moment turn) = (fits uid result outcome ≡ true) × (is_finished turn.reply ≡ true)
-IsConclusion uid result outcome (denied moment refused moment2 place) = (fits uid result outcome ≡ true) × (refused ≢ refusals.OutOfMemory)
-IsConclusion uid result outcome (faulted moment place) = (fits uid result outcome ≡ false) × (outcome ≢ OutOfMemory)
+abbrev pub IsConclusion : Terms → Uid → Option TypeCode → Outcome → Conclusion → Type 0
+IsConclusion terms uid result outcome (finished listed moment turn bytes) = (fits terms uid result outcome ≡ true) × IsGranted terms uid outcome (finished listed moment turn bytes)
+IsConclusion terms uid result outcome (denied listed moment refused moment2 place) = (fits terms uid result outcome ≡ true) × IsGranted terms uid outcome (denied listed moment refused moment2 place)
+IsConclusion terms uid result outcome (faulted moment place) = (fits terms uid result outcome ≡ false) × (outcome ≢ OutOfMemory)
 
 -- ---- a Call
 
@@ -87,7 +96,7 @@ invocation_of object kind method arguments = record { object = object; kind = ki
 abbrev pub running_acts : CallHead → Uid → ℕ → Running → List Act
 running_acts head uid kind (unknown moment place) = abandoned moment head.id place ∷ []
 running_acts head uid kind (ran method arguments outcome conclusion) =
-    called (invokes (invocation_of head.id kind method arguments) outcome) ∷ conclusion_acts head.id uid conclusion
+    called (invokes (invocation_of head.id kind method arguments) outcome) ∷ conclusion_acts head.id uid outcome conclusion
 
 abbrev pub running_written : Uid → Running → List ℕ
 running_written uid (unknown moment place) = fault_return uid no_method
@@ -110,11 +119,11 @@ abbrev pub HasNoMethod : List Kind → ℕ → CallHead → Type 0
 HasNoMethod kinds kind head = (head.operation ≢ minus_one) ⊎ (first_with head.hash (methods_of kinds kind) ≡ None)
 
 -- It may come so where these bytes were taken of the Call behind its code.
-abbrev pub IsRunning : List Kind → CallHead → ℕ → List ℕ → Uid → Running → Type 0
-IsRunning kinds head kind bytes uid (unknown moment place) = IsHeadOf head bytes × HasNoMethod kinds kind head
-IsRunning kinds head kind bytes uid (ran place arguments outcome conclusion) = IsMethodOf kinds kind head place
-    × ((method : Method) × (slice_get (methods_of kinds kind) place ≡ Some method) × CallBytes head method.params arguments (0x50 ∷ bytes)
-    × IsConclusion uid method.result outcome conclusion)
+abbrev pub IsRunning : Terms → CallHead → ℕ → List ℕ → Uid → Running → Type 0
+IsRunning terms head kind bytes uid (unknown moment place) = IsHeadOf head bytes × HasNoMethod terms.kinds kind head
+IsRunning terms head kind bytes uid (ran place arguments outcome conclusion) = IsMethodOf terms.kinds kind head place
+    × ((method : Method) × (slice_get (methods_of terms.kinds kind) place ≡ Some method) × CallBytes head method.params arguments (0x50 ∷ bytes)
+    × IsConclusion terms uid method.result outcome conclusion)
 
 -- What is done at a Call's head: Begin is answered that there is no such object; or it is refused; or the call of an object of this kind runs.
 pub data Served : Type 0 where
@@ -138,7 +147,7 @@ served_closes head (refused moment) = Some ends.SpaceFull
 served_closes head (begun moment turn kind running) = running_closes head running
 
 -- It may come so at the Call of which these bytes were taken behind its code. What is taken of a Call that closes the connection ends with its head.
-abbrev pub IsServed : List Kind → CallHead → List ℕ → Uid → Served → Type 0
-IsServed kinds head bytes uid (absent moment turn) = IsHeadOf head bytes × (turn.reply ≡ NoObject)
-IsServed kinds head bytes uid (refused moment) = IsHeadOf head bytes
-IsServed kinds head bytes uid (begun moment turn kind running) = (turn.reply ≡ Started kind) × IsRunning kinds head kind bytes uid running
+abbrev pub IsServed : Terms → CallHead → List ℕ → Uid → Served → Type 0
+IsServed terms head bytes uid (absent moment turn) = IsHeadOf head bytes × (turn.reply ≡ NoObject)
+IsServed terms head bytes uid (refused moment) = IsHeadOf head bytes
+IsServed terms head bytes uid (begun moment turn kind running) = (turn.reply ≡ Started kind) × IsRunning terms head kind bytes uid running

@@ -7,7 +7,9 @@ use Rattle.object_ids.specs.declared.ids.Uid.{Uid}
 use Rattle.object_ids.specs.Bytes.{bytes_of_uid}
 use Rattle.object_ids.specs.Draw.{uid_drawn}
 use Rattle.object_ids.specs.Same.{same_id}
+use Rattle.ser_values.specs.declared.graph.Graph.{Graph}
 use Rattle.history.specs.declared.asks.Ask.TheVariants.{Begin, Ack}
+use Rattle.history.specs.declared.replies.Reply.{Reply}
 use Rattle.history.specs.declared.replies.Reply.TheVariants.{Started}
 use Rattle.history.specs.declared.replies.Turn.{Turn}
 use Rattle.history.specs.declared.replies.Refused.{Refused}
@@ -16,30 +18,32 @@ use Rattle.wire_io.specs.Wire.{Rose}
 use Rattle.wire_io.specs.Pulled.{Place, Takes}
 use Rattle.space.specs.declared.asked.Asked.{Asked}
 use Rattle.space.specs.Balance.{calls_begun, calls_ended}
-use Rattle.space.specs.Ports.{is_finished}
 use Rattle.ser_read.specs.Wants.{Stand, serve_to_close}
 use Rattle.jrmp_frames.specs.declared.head.CallHead.{CallHead}
-use Rattle.jrmp_frames.specs.declared.message.Body.{Body}
 use Rattle.ser_read.specs.declared.fault.StreamFault.{StreamFault}
 use Rattle.jrmp_frames.specs.declared.fault.FrameFault.{FrameFault}
 use Rattle.jrmp_frames.specs.declared.fault.FrameFault.TheVariants.{Stream}
 use Rattle.jrmp_frames.specs.Gives.{StopsIn}
-use Rattle.jrmp_frames.specs.Messages.{return_message, wants_of}
+use Rattle.jrmp_frames.specs.Messages.{wants_of}
 use Rattle.jrmp_frames.specs.Calls.{ReadsHead, BreaksIn}
 use Rattle.call_dispatch.specs.declared.book.Kind.{Kind}
 use Rattle.call_dispatch.specs.declared.end.ConnEnd.{ConnEnd}
 use Rattle.call_dispatch.specs.declared.end.ConnEnd.TheVariants as ends
 use Rattle.call_dispatch.specs.declared.outcome.Invocation.{Invocation}
 use Rattle.call_dispatch.specs.declared.outcome.Outcome.{Outcome}
-use Rattle.call_dispatch.specs.declared.outcome.Outcome.TheVariants.{Fault, OutOfMemory}
+use Rattle.call_dispatch.specs.declared.outcome.Outcome.TheVariants.{Tree, NewRemote, OutOfMemory}
 use Rattle.call_dispatch.specs.declared.returns.Answer.{Answer}
+use Rattle.call_dispatch.specs.declared.results.Pending.{Pending}
 use Rattle.call_dispatch.specs.declared.returns.Prepared.{Prepared}
 use Rattle.call_dispatch.specs.declared.returns.Prepared.TheVariants.{Normal, Exceptional}
+use Rattle.call_dispatch.specs.declared.results.Sent.{Sent}
+use Rattle.call_dispatch.specs.declared.results.Sent.TheVariants.{Whole, New}
 use Rattle.call_dispatch.specs.Terms.{Terms}
 use Rattle.call_dispatch.specs.Acts.{Act, Call, States, Side, Led, acts_of, abandoned, GivesUp}
 use Rattle.call_dispatch.specs.Book.{methods_of}
-use Rattle.call_dispatch.specs.Returns.{fault_return, normal_return, is_short, fits, full, fault_message, wrong_outcome}
-use Rattle.call_dispatch.specs.Served.{Conclusion, finished, denied, faulted, conclusion_acts, conclusion_written, IsConclusion, Running, running_acts, running_written, running_closes, IsRunning, Served, served_acts, served_written, served_closes, IsServed, IsMethodOf}
+use Rattle.call_dispatch.specs.Results.{made_by, listed_by, interface_of, plain_return, normal_return}
+use Rattle.call_dispatch.specs.Returns.{fault_return, is_short, fits, full, fault_message, wrong_outcome}
+use Rattle.call_dispatch.specs.Served.{Conclusion, conclusion_acts, conclusion_written, IsFinished, IsGranted, IsConclusion, Running, running_acts, running_written, running_closes, IsRunning, Served, served_acts, served_written, served_closes, IsServed, IsMethodOf}
 use Rattle.call_dispatch.specs.Rows.{FitsUid, IsNoted, IsCut}
 use Rattle.call_dispatch.specs.Progress.{Writes, end_from}
 
@@ -57,60 +61,82 @@ pub record CutShort (may : Invocation → Outcome → Type 0) (moves : States �
   pub led : Led may moves before after acts
   pub cut : (shown : List Asked) → RunsOne object shown → IsCut shown row acts
 
--- The Return can be sent.
-abbrev pub IsShortReturn : Prepared → Type 0
-IsShortReturn (Normal bytes) = length bytes ≤ 2 ^ 30
-IsShortReturn (Exceptional bytes) = length bytes ≤ 2 ^ 30
+-- What is to be sent can be: it isn't too long, or one object is made.
+abbrev pub IsReadySent : List ℕ → Sent → Type 0
+IsReadySent made (Whole bytes) = length bytes ≤ 2 ^ 30
+IsReadySent made (New interface) = length made ≡ 1
 
--- What was prepared of a result that suits its method or not.
-abbrev pub PreparesBody : {E : Type 0} → Uid → Bool → Body → Result Prepared E → Type 0
-PreparesBody uid suits body (Ok (Normal bytes)) = (suits ≡ true) × (is_short (return_message true uid body) ≡ true) × (bytes ≡ return_message true uid body)
-PreparesBody uid suits body (Ok (Exceptional bytes)) = ((suits && is_short (return_message true uid body)) ≡ false) × (bytes ≡ fault_return uid wrong_outcome)
-PreparesBody uid suits body (Err e) = Unit {0}
+abbrev pub IsReady : Pending → Type 0
+IsReady pending = IsReadySent pending.made pending.sent
 
--- What was prepared of a worker's own message.
-abbrev pub PreparesFault : {E : Type 0} → Uid → List ℕ → Result Prepared E → Type 0
-PreparesFault uid message (Ok (Normal bytes)) = ⊥
-PreparesFault uid message (Ok (Exceptional bytes)) = bytes ≡ fault_return uid (fault_message uid (Fault message))
-PreparesFault uid message (Err e) = Unit {0}
+abbrev pub IsReadyReturn : Prepared → Type 0
+IsReadyReturn (Normal pending) = IsReady pending
+IsReadyReturn (Exceptional bytes) = length bytes ≤ 2 ^ 30
+
+-- The reply is that the call was finished and has one new object.
+abbrev pub MakesOne : Reply → Type 0
+MakesOne reply = (made : List ℕ) × IsFinished made reply × (length made ≡ 1)
+
+-- What is to be sent can be, now that this is the reply of Finish.
+abbrev pub IsReadyFor : Reply → Sent → Type 0
+IsReadyFor reply (Whole bytes) = length bytes ≤ 2 ^ 30
+IsReadyFor reply (New interface) = MakesOne reply
+
+-- The normal Return of an outcome has these bytes, whatever Finish is answered; or it is that of a new object of a kind with this interface.
+abbrev pub IsSent : Terms → Uid → Outcome → Sent → Type 0
+IsSent terms uid outcome (Whole bytes) = (reply : Reply) → bytes ≡ normal_return terms uid outcome reply
+IsSent terms uid outcome (New interface) = (kind : ℕ) × (outcome ≡ NewRemote kind) × (interface ≡ interface_of terms.kinds kind)
+
+-- What is sent for an outcome once its call was finished, and what Finish lists.
+pub record IsPending (terms : Terms) (uid : Uid) (outcome : Outcome) (pending : Pending) : Type 0 where
+  pub made : pending.made ≡ made_by outcome
+  pub listed : pending.listed ≡ listed_by terms outcome
+  pub sent : IsSent terms uid outcome pending.sent
+
+-- These bytes are sent, no object is made and none is listed.
+abbrev pub IsPlain : List ℕ → Prepared → Type 0
+IsPlain bytes (Normal pending) = (pending.made ≡ []) × (pending.listed ≡ []) × (pending.sent ≡ Whole bytes)
+IsPlain bytes (Exceptional other) = ⊥
+
+-- A normal Return with these bytes is that of an outcome of its method or not: they are sent, no object is made and none is listed; or it is said
+-- that the outcome is wrong.
+abbrev pub PreparesPlain : {E : Type 0} → Uid → Bool → List ℕ → Result Prepared E → Type 0
+PreparesPlain uid suits bytes (Ok (Normal pending)) = (suits ≡ true) × (is_short bytes ≡ true) × IsPlain bytes (Normal pending)
+PreparesPlain uid suits bytes (Ok (Exceptional other)) = ((suits && is_short bytes) ≡ false) × (other ≡ fault_return uid wrong_outcome)
+PreparesPlain uid suits bytes (Err e) = Unit {0}
+
+-- The same for a graph whose Return lists these objects.
+abbrev pub PreparesGraph : {E : Type 0} → Uid → Graph → List ObjId → Result Prepared E → Type 0
+PreparesGraph uid graph listed (Ok (Normal pending)) = (is_short (plain_return uid (Tree graph)) ≡ true) × (pending.made ≡ []) × (pending.listed ≡ listed)
+    × (pending.sent ≡ Whole (plain_return uid (Tree graph)))
+PreparesGraph uid graph listed (Ok (Exceptional other)) = (is_short (plain_return uid (Tree graph)) ≡ false) × (other ≡ fault_return uid wrong_outcome)
+PreparesGraph uid graph listed (Err e) = Unit {0}
 
 -- What was prepared of an outcome.
-abbrev pub Prepares : {E : Type 0} → Uid → Option TypeCode → Outcome → Result Prepared E → Type 0
-Prepares uid returned outcome (Ok (Normal bytes)) = (fits uid returned outcome ≡ true) × (bytes ≡ normal_return uid outcome)
-Prepares uid returned outcome (Ok (Exceptional bytes)) = (fits uid returned outcome ≡ false) × (outcome ≢ OutOfMemory) × (bytes ≡ fault_return uid (fault_message uid outcome))
-Prepares uid returned outcome (Err e) = Unit {0}
-
--- Finish was answered, or it was refused and the call given up.
-abbrev pub IsGranted : Conclusion → Type 0
-IsGranted (finished moment turn) = is_finished turn.reply ≡ true
-IsGranted (denied moment refused moment2 place) = refused ≢ refusals.OutOfMemory
-IsGranted (faulted moment place) = ⊥
-
--- what is then sent, where these are the bytes of the normal Return
-abbrev pub sent_by : Uid → List ℕ → Conclusion → List ℕ
-sent_by uid bytes (finished moment turn) = bytes
-sent_by uid bytes (denied moment refused moment2 place) = fault_return uid (full refused)
-sent_by uid bytes (faulted moment place) = bytes
+abbrev pub Prepares : {E : Type 0} → Terms → Uid → Option TypeCode → Outcome → Result Prepared E → Type 0
+Prepares terms uid returned outcome (Ok (Normal pending)) = (fits terms uid returned outcome ≡ true) × IsPending terms uid outcome pending
+Prepares terms uid returned outcome (Ok (Exceptional bytes)) = (fits terms uid returned outcome ≡ false) × (outcome ≢ OutOfMemory) × (bytes ≡ fault_return uid (fault_message uid outcome))
+Prepares terms uid returned outcome (Err e) = Unit {0}
 
 -- What a call is answered whose Finish was refused.
 abbrev pub IsDenied : Uid → Refused → Result Answer ConnEnd → Type 0
 IsDenied uid refused (Ok answer) = (refused ≢ refusals.OutOfMemory) × (answer.bytes ≡ fault_return uid (full refused)) × (answer.close ≡ None)
 IsDenied uid refused (Err end) = end ≡ ends.OutOfMemory
 
--- A running call whose normal Return is prepared is finished.
-abbrev pub Finishes : (Invocation → Outcome → Type 0) → (States → Call → States → Type 0) → ObjId → Uid → List ℕ → Side → Side → Result Answer ConnEnd → Type 0
-Finishes may moves object uid bytes before after (Ok answer) = (c : Conclusion) × IsGranted c × Led may moves before after (conclusion_acts object uid c)
-    × (answer.bytes ≡ sent_by uid bytes c) × (answer.close ≡ None)
-Finishes may moves object uid bytes before after (Err end) = (end ≡ ends.OutOfMemory)
-    × ((c : Conclusion) × IsGranted c × CutShort may moves before after object (conclusion_acts object uid c))
+-- A running call of which this is pending is finished.
+abbrev pub Finishes : (Invocation → Outcome → Type 0) → (States → Call → States → Type 0) → Terms → ObjId → Uid → Outcome → Side → Side → Result Answer ConnEnd → Type 0
+Finishes may moves terms object uid outcome before after (Ok answer) = (c : Conclusion) × IsGranted terms uid outcome c × Led may moves before after (conclusion_acts object uid outcome c)
+    × (answer.bytes ≡ conclusion_written uid outcome c) × (answer.close ≡ None)
+Finishes may moves terms object uid outcome before after (Err end) = (end ≡ ends.OutOfMemory)
+    × ((c : Conclusion) × IsGranted terms uid outcome c × CutShort may moves before after object (conclusion_acts object uid outcome c))
 
 -- A running call whose worker answered so is concluded.
-abbrev pub Concludes : (Invocation → Outcome → Type 0) → (States → Call → States → Type 0) → ObjId → Uid → Option TypeCode → Outcome → Side → Side → Result Answer ConnEnd → Type 0
-Concludes may moves object uid returned outcome before after (Ok answer) = (c : Conclusion) × IsConclusion uid returned outcome c × Led may moves before after (conclusion_acts object uid c)
+abbrev pub Concludes : (Invocation → Outcome → Type 0) → (States → Call → States → Type 0) → Terms → ObjId → Uid → Option TypeCode → Outcome → Side → Side → Result Answer ConnEnd → Type 0
+Concludes may moves terms object uid returned outcome before after (Ok answer) = (c : Conclusion) × IsConclusion terms uid returned outcome c × Led may moves before after (conclusion_acts object uid outcome c)
     × (answer.bytes ≡ conclusion_written uid outcome c) × (answer.close ≡ None)
-Concludes may moves object uid returned outcome before after (Err end) = (end ≡ ends.OutOfMemory)
+Concludes may moves terms object uid returned outcome before after (Err end) = (end ≡ ends.OutOfMemory)
     × (((outcome ≡ OutOfMemory) × GivesUp may moves before after object)
-    ⊎ ((c : Conclusion) × IsConclusion uid returned outcome c × CutShort may moves before after object (conclusion_acts object uid c)))
+    ⊎ ((c : Conclusion) × IsConclusion terms uid returned outcome c × CutShort may moves before after object (conclusion_acts object uid outcome c)))
 
 -- The arguments of a call whose head was read, and whose method was found, break off.
 abbrev pub BreaksOff : List Kind → CallHead → ℕ → Place → Place → ConnEnd → Type 0
@@ -120,13 +146,13 @@ BreaksOff kinds head kind first now end = (mid : Place) × (stand : Stand) × (p
 
 -- A call whose head was read behind `first`, and that runs, goes on. So many identifiers were drawn before and after; none where its arguments
 -- break off.
-abbrev pub RunsOn : (Invocation → Outcome → Type 0) → (States → Call → States → Type 0) → List Kind → Uid → CallHead → ℕ → Place → Place → Side → Side → ℕ → ℕ → Result Answer ConnEnd → Type 0
-RunsOn may moves kinds uid head kind first now before after drawn drew (Ok answer) = (r : Running) × (bytes : List ℕ) × Takes first now bytes × IsRunning kinds head kind bytes uid r
+abbrev pub RunsOn : (Invocation → Outcome → Type 0) → (States → Call → States → Type 0) → Terms → Uid → CallHead → ℕ → Place → Place → Side → Side → ℕ → ℕ → Result Answer ConnEnd → Type 0
+RunsOn may moves terms uid head kind first now before after drawn drew (Ok answer) = (r : Running) × (bytes : List ℕ) × Takes first now bytes × IsRunning terms head kind bytes uid r
     × Led may moves before after (running_acts head uid kind r) × (answer.bytes ≡ running_written uid r) × (answer.close ≡ running_closes head r)
-RunsOn may moves kinds uid head kind first now before after drawn drew (Err end) =
-    ((end ≡ ends.OutOfMemory) × ((r : Running) × (bytes : List ℕ) × Takes first now bytes × IsRunning kinds head kind bytes uid r
+RunsOn may moves terms uid head kind first now before after drawn drew (Err end) =
+    ((end ≡ ends.OutOfMemory) × ((r : Running) × (bytes : List ℕ) × Takes first now bytes × IsRunning terms head kind bytes uid r
     × CutShort may moves before after head.id (running_acts head uid kind r)))
-    ⊎ ((drew ≡ drawn) × BreaksOff kinds head kind first now end × GivesUp may moves before after head.id)
+    ⊎ ((drew ≡ drawn) × BreaksOff terms.kinds head kind first now end × GivesUp may moves before after head.id)
 
 -- A Return that closes the connection was prepared with this message, or there was no memory.
 abbrev pub IsPrepared : List ℕ → Option ConnEnd → Result Answer ConnEnd → Type 0
@@ -134,13 +160,13 @@ IsPrepared bytes close (Ok answer) = (answer.bytes ≡ bytes) × (answer.close �
 IsPrepared bytes close (Err end) = end ≡ ends.OutOfMemory
 
 -- A Call whose head was read behind `first` is answered, or the connection ends in it. So many identifiers were drawn before and after.
-abbrev pub Answers : (Invocation → Outcome → Type 0) → (States → Call → States → Type 0) → List Kind → Uid → CallHead → Place → Place → Side → Side → ℕ → ℕ → Result Answer ConnEnd → Type 0
-Answers may moves kinds uid head first now before after drawn drew (Ok answer) = (s : Served) × (bytes : List ℕ) × Takes first now bytes × IsServed kinds head bytes uid s
+abbrev pub Answers : (Invocation → Outcome → Type 0) → (States → Call → States → Type 0) → Terms → Uid → CallHead → Place → Place → Side → Side → ℕ → ℕ → Result Answer ConnEnd → Type 0
+Answers may moves terms uid head first now before after drawn drew (Ok answer) = (s : Served) × (bytes : List ℕ) × Takes first now bytes × IsServed terms head bytes uid s
     × Led may moves before after (served_acts head uid s) × (answer.bytes ≡ served_written uid s) × (answer.close ≡ served_closes head s)
-Answers may moves kinds uid head first now before after drawn drew (Err end) =
-    ((end ≡ ends.OutOfMemory) × ((s : Served) × (bytes : List ℕ) × Takes first now bytes × IsServed kinds head bytes uid s
+Answers may moves terms uid head first now before after drawn drew (Err end) =
+    ((end ≡ ends.OutOfMemory) × ((s : Served) × (bytes : List ℕ) × Takes first now bytes × IsServed terms head bytes uid s
     × ((acts : List Act) × Led may moves before after acts × IsCut [] (served_acts head uid s) acts)))
-    ⊎ ((moment : ℕ) × (turn : Turn) × (kind moment2 place : ℕ) × (turn.reply ≡ Started kind) × (drew ≡ drawn) × BreaksOff kinds head kind first now end
+    ⊎ ((moment : ℕ) × (turn : Turn) × (kind moment2 place : ℕ) × (turn.reply ≡ Started kind) × (drew ≡ drawn) × BreaksOff terms.kinds head kind first now end
     × Led may moves before after (acts_of moment (Begin head.id) (Ok turn) ++ abandoned moment2 head.id place ∷ []))
 
 -- ---- answers

@@ -1,18 +1,23 @@
 //! What a Call is answered.
-ghost use Rattle.std.specs.Prelude.{◌≡◌, ◌≢◌, ◌≤◌, ◌<◌, ◌+◌, ◌^◌, ◌++◌, ◌⊎◌, pos, ◌<ℤ◌, codes, length, IfOk, IfSome, IfNone, OnOk, None, Some, []};
+ghost use Rattle.std.specs.Prelude.{◌≡◌, ◌≢◌, ◌≤◌, ◌<◌, ◌+◌, ◌^◌, ◌++◌, ◌∷◌, ◌⊎◌, pos, ◌<ℤ◌, codes, List, length, IfOk, IfSome, IfNone, OnOk, None, Some, []};
+ghost use Rattle.history.specs.declared.replies.Reply.TheVariants.{Finished};
 ghost use Rattle.wire_io.specs.Pulled.{Place, place};
 ghost use Rattle.space.specs.Balance.{Balanced};
 ghost use Rattle.jrmp_frames.specs.Calls.{ReadsHead, HasHead};
 ghost use Rattle.call_dispatch.specs.Spot.{side_of, IsLent};
+ghost use Rattle.call_dispatch.specs.declared.book.Kind.{Kind};
+ghost use Rattle.call_dispatch.specs.declared.outcome.Outcome.{Outcome};
+ghost use Rattle.call_dispatch.specs.Results.{normal_return};
 ghost use Rattle.call_dispatch.specs.Returns.{fault_return};
 ghost use Rattle.call_dispatch.specs.Served.{IsMethodOf, HasNoMethod};
-ghost use Rattle.call_dispatch.specs.Serving.{next_of, RunsOne, Finishes, Concludes, IsDenied, IsPrepared, RunsOn, Answers};
+ghost use Rattle.call_dispatch.specs.Serving.{next_of, RunsOne, IsReady, IsReadyFor, MakesOne, IsSent, IsPending, Finishes, Concludes, IsDenied, IsPrepared, RunsOn, Answers};
 ghost use Rattle.call_dispatch.specs.Terms.{terms_of};
 
 use crate::book::Book;
 use crate::connection::Connection;
 use crate::end::{ConnEnd, end_of};
 use crate::outcome::{Invocation, Outcome};
+use crate::results::{Pending, Sent, own_return};
 use crate::returns::{Answer, Prepared, exceptional_ascii, full_message, next_uid, prepare};
 use crate::setup::Setup;
 use crate::turns::{give_up, take_turn};
@@ -20,8 +25,7 @@ use crate::worker::Worker;
 use class_desc::TypeCode;
 use history::{Ask, Refused, Reply};
 use jrmp_frames::{CallHead, read_arguments};
-use mod_utf::list::{ByteList, Kinds};
-use object_ids::{ObjId, ObjIds, Uid};
+use object_ids::{ObjId, Uid};
 use ser_read::Reader;
 use space::Port;
 use std::alloc::Global;
@@ -71,19 +75,59 @@ fn refuse(alloc: Global, setup: &mut Setup, message: &[u8], end: ConnEnd) -> Res
     told(alloc, uid, message, Some(end))
 }
 
-/// Finishes a call that runs, whose normal Return has these bytes.
+/// The answer to a call that was finished with this reply. There is no memory for the Return of a new object that is too long.
+fn finished(
+    alloc: Global,
+    setup: &Setup,
+    uid: Uid,
+    sent: Sent,
+    reply: &Reply,
+) -> Result<Answer, ConnEnd>
+    requires ready { IsReadyFor reply.now sent }
+    ensures sends { (kinds : List Kind) (outcome : Outcome) → IsSent (terms_of kinds setup.now) uid outcome sent →
+        IsPrepared (normal_return (terms_of kinds setup.now) uid outcome reply.now) None result }
+    ensures short { IfOk result (λ answer. length answer.bytes ≤ 2 ^ 30) }
+{
+    match sent {
+        Sent::Whole(bytes) => Ok(Answer { bytes, close: None }),
+        Sent::New(interface) => {
+            let object = object_made(reply);
+            match own_return(alloc, setup, uid, &interface, object) {
+                Ok(bytes) => Ok(Answer { bytes, close: None }),
+                Err(_) => Err(ConnEnd::OutOfMemory),
+            }
+        }
+    }
+}
+
+/// The one new object of a reply to a Finish.
+fn object_made(reply: &Reply) -> ObjId
+    requires { MakesOne reply.now }
+    ensures { reply.now ≡ Finished (result ∷ []) }
+{
+    let Reply::Finished(objects) = reply else {
+        unreachable!()
+    };
+    match objects.as_slice() {
+        [object] => *object,
+        _ => unreachable!(),
+    }
+}
+
+/// Finishes a call that runs, and answers it with what is pending.
 fn finish<S: Source, K: Sink, C: Clock, P: Port, W: Worker>(
     alloc: Global,
     connection: &mut Connection<S, K, C, P, W>,
     object: ObjId,
     uid: Uid,
-    bytes: ByteList,
+    pending: Pending,
 ) -> Result<Answer, ConnEnd>
     requires ready { P.ready connection.old.port.now }
     requires room { 1 < P.room_of connection.old.port.now }
     requires runs { RunsOne object (P.asked connection.old.port.now) }
-    requires short { length bytes ≤ 2 ^ 30 }
-    ensures finishes { Finishes W.may W.moves object uid bytes
+    requires pending { IsReady pending }
+    ensures finishes { (outcome : Outcome) → IsPending (terms_of connection.old.book.now connection.old.setup.now) uid outcome pending →
+        Finishes W.may W.moves (terms_of connection.old.book.now connection.old.setup.now) object uid outcome
         (side_of C.given P.asked W.calls W.seen W.state connection.old)
         (side_of C.given P.asked W.calls W.seen W.state connection.new) result }
     ensures short { IfOk result (λ answer. length answer.bytes ≤ 2 ^ 30) }
@@ -97,14 +141,15 @@ fn finish<S: Source, K: Sink, C: Clock, P: Port, W: Worker>(
     ensures leads { P.leads connection.old.port.now connection.new.port.now }
     ensures lent { IsLent connection.old connection.new }
 {
+    let Pending { made, listed, sent } = pending;
     let ask = Ask::Finish {
         object,
-        made: Kinds::new(alloc),
-        listed: ObjIds::new(alloc),
+        made,
+        listed,
         uid,
     };
     match take_turn(connection, ask) {
-        Ok(_turn) => Ok(Answer { bytes, close: None }),
+        Ok(turn) => finished(alloc, connection.setup, uid, sent, &turn.reply),
         Err(refused) => {
             give_up(connection, object);
             denied(alloc, uid, refused)
@@ -125,7 +170,7 @@ fn conclude<S: Source, K: Sink, C: Clock, P: Port, W: Worker>(
     requires ready { P.ready connection.old.port.now }
     requires room { 1 < P.room_of connection.old.port.now }
     requires runs { RunsOne object (P.asked connection.old.port.now) }
-    ensures concludes { Concludes W.may W.moves object (next_of (terms_of connection.old.book.now connection.old.setup.now) connection.old.setup.now.draw.drawn) returned outcome
+    ensures concludes { Concludes W.may W.moves (terms_of connection.old.book.now connection.old.setup.now) object (next_of (terms_of connection.old.book.now connection.old.setup.now) connection.old.setup.now.draw.drawn) returned outcome
         (side_of C.given P.asked W.calls W.seen W.state connection.old)
         (side_of C.given P.asked W.calls W.seen W.state connection.new) result }
     ensures short { IfOk result (λ answer. length answer.bytes ≤ 2 ^ 30) }
@@ -140,8 +185,15 @@ fn conclude<S: Source, K: Sink, C: Clock, P: Port, W: Worker>(
     ensures lent { IsLent connection.old connection.new }
 {
     let uid = next_uid(connection.setup);
-    match prepare(alloc, uid, returned, outcome) {
-        Ok(Prepared::Normal(bytes)) => finish(alloc, connection, object, uid, bytes),
+    match prepare(
+        alloc,
+        connection.setup,
+        connection.book,
+        uid,
+        returned,
+        outcome,
+    ) {
+        Ok(Prepared::Normal(pending)) => finish(alloc, connection, object, uid, pending),
         Ok(Prepared::Exceptional(bytes)) => {
             give_up(connection, object);
             Ok(Answer { bytes, close: None })
@@ -189,7 +241,7 @@ fn run_call<S: Source, K: Sink, C: Clock, P: Port, W: Worker>(
     requires room { 1 < P.room_of connection.old.port.now }
     requires calls { W.calls connection.old.worker.now < 2 ^ 62 }
     requires runs { RunsOne head.id (P.asked connection.old.port.now) }
-    ensures runs_on { (first : Place) → ReadsHead first (place S.left S.faults connection.old.pull) head reader.stand → RunsOn W.may W.moves connection.old.book.now
+    ensures runs_on { (first : Place) → ReadsHead first (place S.left S.faults connection.old.pull) head reader.stand → RunsOn W.may W.moves (terms_of connection.old.book.now connection.old.setup.now)
         (next_of (terms_of connection.old.book.now connection.old.setup.now) connection.old.setup.now.draw.drawn) head kind
         first (place S.left S.faults connection.new.pull)
         (side_of C.given P.asked W.calls W.seen W.state connection.old)
@@ -245,7 +297,7 @@ pub fn answer_call<S: Source, K: Sink, C: Clock, P: Port, W: Worker>(
     requires room { 2 < P.room_of connection.old.port.now }
     requires calls { W.calls connection.old.worker.now < 2 ^ 62 }
     requires balanced { Balanced (P.asked connection.old.port.now) }
-    ensures answers { (first : Place) → ReadsHead first (place S.left S.faults connection.old.pull) head reader.stand → Answers W.may W.moves connection.old.book.now
+    ensures answers { (first : Place) → ReadsHead first (place S.left S.faults connection.old.pull) head reader.stand → Answers W.may W.moves (terms_of connection.old.book.now connection.old.setup.now)
         (next_of (terms_of connection.old.book.now connection.old.setup.now) connection.old.setup.now.draw.drawn) head
         first (place S.left S.faults connection.new.pull)
         (side_of C.given P.asked W.calls W.seen W.state connection.old)

@@ -12,6 +12,7 @@ mod messages;
 mod opening;
 pub mod outcome;
 pub mod recording;
+mod results;
 mod returns;
 pub mod serve;
 pub mod setup;

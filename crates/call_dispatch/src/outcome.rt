@@ -27,11 +27,12 @@ pub enum Outcome {
     Void,
     /// A number, a character or a truth value.
     Prim(Value),
-    /// A reference, as a graph whose one item it is. The graph is to hold no reference to a remote object: none is awaited yet.
+    /// A reference, as a graph whose one item it is. The server's own objects to which the graph refers are kept until the client has
+    /// acknowledged the result, as far as they are exported.
     Tree(Graph),
-    /// A new object of this kind. It fits no method yet.
+    /// A reference to a new object of this kind, which is exported when the call is finished.
     NewRemote(u32),
-    /// An object that is exported, and its kind. It fits no method yet.
+    /// A reference to an object of the server, and its kind. It is kept until the client has acknowledged the result, if it is exported.
     OldRemote(ObjId, u32),
     /// An exception with this text.
     Fault(Units),

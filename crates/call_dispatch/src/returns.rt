@@ -1,22 +1,26 @@
 //! What calls are answered.
-ghost use Rattle.std.specs.Prelude.{◌≡◌, ◌+◌, ◌≤◌, ◌<◌, ◌^◌, pos, ◌<ℤ◌, Bool, true, false, length, codes, ◌++◌, IfOk};
+ghost use Rattle.std.specs.Prelude.{◌≡◌, ◌+◌, ◌≤◌, ◌<◌, ◌^◌, pos, ◌<ℤ◌, Bool, true, false, List, Option, length, codes, ◌++◌, IfOk};
 ghost use Rattle.object_ids.specs.Draw.{uid_drawn};
-ghost use Rattle.call_dispatch.specs.Returns.{fault_return, is_of, is_one_reference, table_word};
-ghost use Rattle.call_dispatch.specs.Serving.{Prepares, PreparesBody, PreparesFault, IsShortReturn};
+ghost use Rattle.class_desc.specs.declared.field.TypeCode.{TypeCode};
+ghost use Rattle.jrmp_frames.specs.Messages.{return_message};
+ghost use Rattle.call_dispatch.specs.declared.book.Kind.{Kind};
+ghost use Rattle.call_dispatch.specs.declared.setup.Setup.{Setup};
+ghost use Rattle.call_dispatch.specs.Returns.{fault_return, is_of, is_one_reference, suits, table_word};
+ghost use Rattle.call_dispatch.specs.Serving.{IsPlain, Prepares, PreparesGraph, PreparesPlain, IsReadyReturn};
+ghost use Rattle.call_dispatch.specs.Terms.{Terms, terms_of};
 
+use crate::book::Book;
 use crate::end::ConnEnd;
 use crate::outcome::Outcome;
+use crate::results::{Pending, RETURN_BYTES, Sent, interface_for, own_return, tree_return};
 use crate::setup::Setup;
 use class_desc::{Item, TypeCode, is_primitive};
-use java_shapes::fault_graph;
+use java_shapes::{fault_graph, local_refs};
 use jrmp_frames::{Body, return_bytes};
-use mod_utf::list::{ByteList, Units};
-use object_ids::{FullKind, Uid};
-use ser_values::Value;
+use mod_utf::list::{ByteList, Kinds, Units};
+use object_ids::{FullKind, ObjId, ObjIds, Uid};
+use ser_values::{Graph, Value};
 use std::alloc::{AllocError, Global};
-
-/// How many bytes a Return has at most.
-pub(crate) const RETURN_BYTES: usize = 1 << 30;
 
 /// An answer that is yet to be written.
 #[derive(Drop)]
@@ -31,7 +35,7 @@ pub struct Answer {
 #[derive(Drop)]
 pub enum Prepared {
     /// The normal Return of an outcome, which is sent once the call was finished.
-    Normal(ByteList),
+    Normal(Pending),
     /// An exceptional Return: the call is given up.
     Exceptional(ByteList),
 }
@@ -73,36 +77,9 @@ pub fn exceptional_ascii(alloc: Global, uid: Uid, message: &[u8]) -> Result<Byte
 /// The exceptional Return where an outcome is none of its method.
 fn wrong_outcome(alloc: Global, uid: Uid) -> Result<Prepared, AllocError>
     ensures prepared { IfOk result (λ prepared. prepared ≡ Prepared.Exceptional (fault_return uid (codes "java.rmi.ServerException: wrong outcome"))) }
-    ensures short { IfOk result IsShortReturn }
+    ensures ready { IfOk result IsReadyReturn }
 {
     let bytes = exceptional_ascii(alloc, uid, b"java.rmi.ServerException: wrong outcome")?;
-    Ok(Prepared::Exceptional(bytes))
-}
-
-/// The Return of a method's result, where it suits the method and can be sent.
-fn prepare_body(alloc: Global, uid: Uid, suits: bool, body: &Body) -> Result<Prepared, AllocError>
-    ensures prepares { PreparesBody uid suits body.now result }
-    ensures short { IfOk result IsShortReturn }
-{
-    if !suits {
-        return wrong_outcome(alloc, uid);
-    }
-    let bytes = return_bytes(alloc, true, uid, body)?;
-    if bytes.len() > RETURN_BYTES {
-        return wrong_outcome(alloc, uid);
-    }
-    Ok(Prepared::Normal(bytes))
-}
-
-/// The exceptional Return of a worker's own message, where it can be sent.
-fn prepare_fault(alloc: Global, uid: Uid, message: &Units) -> Result<Prepared, AllocError>
-    ensures prepares { PreparesFault uid message.now result }
-    ensures short { IfOk result IsShortReturn }
-{
-    let bytes = exceptional(alloc, uid, message)?;
-    if bytes.len() > RETURN_BYTES {
-        return wrong_outcome(alloc, uid);
-    }
     Ok(Prepared::Exceptional(bytes))
 }
 
@@ -133,34 +110,202 @@ fn is_one_reference(items: &[Item]) -> bool
     }
 }
 
-/// What is sent for an outcome of a method with this result. It is refused for want of memory, and where the worker had none.
+/// Whether a method with this result returns nothing.
+fn returns_nothing(returned: Option<TypeCode>) -> bool
+    ensures { (kinds : List Kind) → result ≡ suits kinds returned Outcome.Void }
+{
+    match returned {
+        Some(_code) => false,
+        None => true,
+    }
+}
+
+/// Whether a method with this result can return the value.
+fn returns_value(returned: Option<TypeCode>, value: Value) -> bool
+    ensures { (kinds : List Kind) → result ≡ suits kinds returned (Outcome.Prim value) }
+{
+    match returned {
+        Some(code) => is_of(code, value),
+        None => false,
+    }
+}
+
+/// Whether a method with this result can return the graph: as one reference.
+fn returns_graph(returned: Option<TypeCode>, graph: &Graph) -> bool
+    ensures { (kinds : List Kind) → result ≡ suits kinds returned (Outcome.Tree graph.now) }
+{
+    match returned {
+        Some(code) => !is_primitive(code) && is_one_reference(graph.items().as_slice()),
+        None => false,
+    }
+}
+
+/// A normal Return with these bytes, which makes no object and refers to none.
+fn plain(alloc: Global, bytes: ByteList) -> Prepared
+    ensures { IsPlain bytes result }
+{
+    Prepared::Normal(Pending {
+        made: Kinds::new(alloc),
+        listed: ObjIds::new(alloc),
+        sent: Sent::Whole(bytes),
+    })
+}
+
+/// The Return of a method's result that is no reference, where it suits the method and can be sent.
+fn prepare_body(alloc: Global, uid: Uid, suits: bool, body: &Body) -> Result<Prepared, AllocError>
+    ensures prepares { PreparesPlain uid suits (return_message true uid body.now) result }
+    ensures ready { IfOk result IsReadyReturn }
+{
+    if !suits {
+        return wrong_outcome(alloc, uid);
+    }
+    let bytes = return_bytes(alloc, true, uid, body)?;
+    if bytes.len() > RETURN_BYTES {
+        return wrong_outcome(alloc, uid);
+    }
+    Ok(plain(alloc, bytes))
+}
+
+/// The Return of a method without a result.
+fn prepare_void(alloc: Global, uid: Uid, returned: Option<TypeCode>) -> Result<Prepared, AllocError>
+    ensures prepares { (terms : Terms) → Prepares terms uid returned Outcome.Void result }
+    ensures ready { IfOk result IsReadyReturn }
+{
+    prepare_body(alloc, uid, returns_nothing(returned), &Body::Void)
+}
+
+/// The Return of a method's result that is a number, a character or a truth value.
+fn prepare_value(
+    alloc: Global,
+    uid: Uid,
+    returned: Option<TypeCode>,
+    value: Value,
+) -> Result<Prepared, AllocError>
+    ensures prepares { (terms : Terms) → Prepares terms uid returned (Outcome.Prim value) result }
+    ensures ready { IfOk result IsReadyReturn }
+{
+    let suits = returns_value(returned, value);
+    prepare_body(alloc, uid, suits, &Body::Prim(value))
+}
+
+/// The Return of a graph, which refers to these objects of the server, where it can be sent.
+fn prepare_graph(
+    alloc: Global,
+    uid: Uid,
+    graph: Graph,
+    listed: ObjIds,
+) -> Result<Prepared, AllocError>
+    ensures prepares { PreparesGraph uid graph listed result }
+    ensures ready { IfOk result IsReadyReturn }
+{
+    let bytes = tree_return(alloc, uid, graph)?;
+    if bytes.len() > RETURN_BYTES {
+        return wrong_outcome(alloc, uid);
+    }
+    Ok(Prepared::Normal(Pending {
+        made: Kinds::new(alloc),
+        listed,
+        sent: Sent::Whole(bytes),
+    }))
+}
+
+/// The Return of a method's result that is a graph, where it suits the method and can be sent.
+fn prepare_tree(
+    alloc: Global,
+    setup: &Setup,
+    uid: Uid,
+    returned: Option<TypeCode>,
+    graph: Graph,
+) -> Result<Prepared, AllocError>
+    ensures prepares { (kinds : List Kind) → Prepares (terms_of kinds setup.now) uid returned (Outcome.Tree graph) result }
+    ensures ready { IfOk result IsReadyReturn }
+{
+    if !returns_graph(returned, &graph) {
+        return wrong_outcome(alloc, uid);
+    }
+    let listed = local_refs(alloc, &graph, &setup.host, setup.port)?;
+    prepare_graph(alloc, uid, graph, listed)
+}
+
+/// The Return of a reference to a new object of a kind, where that suits the method.
+fn prepare_new(
+    alloc: Global,
+    book: &Book,
+    uid: Uid,
+    returned: Option<TypeCode>,
+    kind: u32,
+) -> Result<Prepared, AllocError>
+    ensures prepares { (setup : Setup) → Prepares (terms_of book.now setup) uid returned (Outcome.NewRemote kind) result }
+    ensures ready { IfOk result IsReadyReturn }
+{
+    let Some(interface) = interface_for(book, returned, kind) else {
+        return wrong_outcome(alloc, uid);
+    };
+    let interface = interface.copy(alloc)?;
+    Ok(Prepared::Normal(Pending {
+        made: Kinds::from_slice(alloc, &[kind])?,
+        listed: ObjIds::new(alloc),
+        sent: Sent::New(interface),
+    }))
+}
+
+/// The Return of a reference to an object of a kind, where that suits the method.
+fn prepare_old(
+    alloc: Global,
+    setup: &Setup,
+    book: &Book,
+    uid: Uid,
+    returned: Option<TypeCode>,
+    object: ObjId,
+    kind: u32,
+) -> Result<Prepared, AllocError>
+    ensures prepares { Prepares (terms_of book.now setup.now) uid returned (Outcome.OldRemote object kind) result }
+    ensures ready { IfOk result IsReadyReturn }
+{
+    let Some(interface) = interface_for(book, returned, kind) else {
+        return wrong_outcome(alloc, uid);
+    };
+    let bytes = own_return(alloc, setup, uid, interface, object)?;
+    Ok(Prepared::Normal(Pending {
+        made: Kinds::new(alloc),
+        listed: ObjIds::from_slice(alloc, &[object])?,
+        sent: Sent::Whole(bytes),
+    }))
+}
+
+/// The exceptional Return of a worker's own message, where it can be sent.
+fn prepare_fault(alloc: Global, uid: Uid, message: &Units) -> Result<Prepared, AllocError>
+    ensures prepares { (terms : Terms) (returned : Option TypeCode) → Prepares terms uid returned (Outcome.Fault message.now) result }
+    ensures ready { IfOk result IsReadyReturn }
+{
+    let bytes = exceptional(alloc, uid, message)?;
+    if bytes.len() > RETURN_BYTES {
+        return wrong_outcome(alloc, uid);
+    }
+    Ok(Prepared::Exceptional(bytes))
+}
+
+/// What is sent for an outcome of a method with this result, and what its Finish lists. It is refused for want of memory, and where the worker
+/// had none.
 pub fn prepare(
     alloc: Global,
+    setup: &Setup,
+    book: &Book,
     uid: Uid,
     returned: Option<TypeCode>,
     outcome: Outcome,
 ) -> Result<Prepared, AllocError>
-    ensures prepares { Prepares uid returned outcome result }
-    ensures short { IfOk result IsShortReturn }
+    ensures prepares { Prepares (terms_of book.now setup.now) uid returned outcome result }
+    ensures ready { IfOk result IsReadyReturn }
 {
     match outcome {
-        Outcome::Void => prepare_body(alloc, uid, returned.is_none(), &Body::Void),
-        Outcome::Prim(value) => {
-            let suits = match returned {
-                Some(code) => is_of(code, value),
-                None => false,
-            };
-            prepare_body(alloc, uid, suits, &Body::Prim(value))
+        Outcome::Void => prepare_void(alloc, uid, returned),
+        Outcome::Prim(value) => prepare_value(alloc, uid, returned, value),
+        Outcome::Tree(graph) => prepare_tree(alloc, setup, uid, returned, graph),
+        Outcome::NewRemote(kind) => prepare_new(alloc, book, uid, returned, kind),
+        Outcome::OldRemote(object, kind) => {
+            prepare_old(alloc, setup, book, uid, returned, object, kind)
         }
-        Outcome::Tree(graph) => {
-            let suits = match returned {
-                Some(code) => !is_primitive(code) && is_one_reference(graph.items().as_slice()),
-                None => false,
-            };
-            prepare_body(alloc, uid, suits, &Body::Tree(graph))
-        }
-        Outcome::NewRemote(_kind) => wrong_outcome(alloc, uid),
-        Outcome::OldRemote(_object, _kind) => wrong_outcome(alloc, uid),
         Outcome::Fault(message) => prepare_fault(alloc, uid, &message),
         Outcome::OutOfMemory => Err(AllocError),
     }

@@ -10,7 +10,8 @@ ghost use Rattle.call_dispatch.specs.Terms.{terms_of};
 
 use crate::book::{Book, Kind};
 use crate::demand::Kept;
-use crate::returns::{RETURN_BYTES, exceptional, exceptional_ascii, full_message};
+use crate::results::RETURN_BYTES;
+use crate::returns::{exceptional, exceptional_ascii, full_message};
 use crate::setup::Setup;
 use history::{Name, Refused, Reply, Turn};
 use java_shapes::{LiveRef, lease_graph, ref_graph, texts_graph};

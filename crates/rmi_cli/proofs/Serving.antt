@@ -23,7 +23,7 @@ use Rattle.rmi_cli.specs.Answer.{answer_terms, answer_space, IsOnly, ServesOne, 
 
 -- the sample space
 abbrev pub opened_space : SpaceConfig → SpaceHistory
-opened_space config = record { configuration = config; events = sample_events }
+opened_space config = record { configuration = config; events = sample_events config }
 
 -- A dialogue on these terms, before which so much was drawn, is one on the same.
 dialogue_is : (terms terms2 : Terms) (drawn drawn2 : ℕ) (c : Course) (rest : Option (List ℕ)) (end : ConnEnd) → terms ≡ terms2 → drawn ≡ drawn2
@@ -35,12 +35,12 @@ dialogue_is terms terms2 drawn drawn2 c rest end same none dialogue =
 
 -- The events of the connection's turns follow those of the sample space.
 went_is : (seed : List ℕ) (by : ℕ) (s s2 : SpaceHistory) (asked asked2 : List Asked) (acts : List Act) → by ≡ 1 → s ≡ opened_space (answer_space seed)
-    → asked ≡ [] → asked2 ≡ asked ++ flat_map entries acts → Leads by s asked s2 asked2 → Went (answer_space seed) 1 sample_events (flat_map entries acts) s2.events
+    → asked ≡ [] → asked2 ≡ asked ++ flat_map entries acts → Leads by s asked s2 asked2 → Went (answer_space seed) 1 (sample_events (answer_space seed)) (flat_map entries acts) s2.events
 went_is seed by s s2 asked asked2 acts one fresh none led leads =
     let same : leads.more ≡ flat_map entries acts = ap (λ l. l ++ leads.more) (sym none) ∙ sym leads.longer ∙ led ∙ ap (λ l. l ++ flat_map entries acts) none in
     let P : SpaceHistory → Type 0 = λ x. Went x.configuration by x.events leads.more s2.events in
-    let Q : ℕ → Type 0 = λ n. Went (answer_space seed) n sample_events leads.more s2.events in
-    let R : List Asked → Type 0 = λ l. Went (answer_space seed) 1 sample_events l s2.events in
+    let Q : ℕ → Type 0 = λ n. Went (answer_space seed) n (sample_events (answer_space seed)) leads.more s2.events in
+    let R : List Asked → Type 0 = λ l. Went (answer_space seed) 1 (sample_events (answer_space seed)) l s2.events in
     subst R same (subst Q one (subst P fresh leads.went))
 
 -- What settles a course on these terms settles it on the same.
@@ -97,7 +97,7 @@ memory_at_once seed start given = record {
   dialogue = (nothing, took [], tt, refl, inl ([], refl, inl refl, refl));
   only = λ other rest end t t2 told dialogue settled settled2 answers. absurd settled2;
   given = Gave-nothing given;
-  events = sample_events;
+  events = sample_events (answer_space seed);
   went = refl;
   may_all = tt;
   numbers = [];

@@ -65,7 +65,7 @@ pub record ServesOne (seed : List ℕ) (old new : Wires) (gave gave2 : Option (L
   pub only : IsOnly seed old new course end
   pub given : Gave gave gave2 (flat_map moments course.acts)
   pub events : List Event
-  pub went : Went (answer_space seed) 1 sample_events (flat_map entries course.acts) events
+  pub went : Went (answer_space seed) 1 (sample_events (answer_space seed)) (flat_map entries course.acts) events
   pub may_all : MayAll sample.May (flat_map calls course.acts)
   pub numbers : States
   pub counted : Moves sample.Moves [] (flat_map calls course.acts) numbers

@@ -65,7 +65,7 @@ pub fn answer_input<S: Source, K: Sink, C: Clock>(
 fn ground_of(alloc: Global, seed: &[u64; 4]) -> Result<Ground, AllocError>
     ensures terms { IfOk result (λ ground. terms_of ground.book ground.setup ≡ answer_terms seed.now) }
     ensures drawn { IfOk result (λ ground. ground.setup.draw.drawn ≡ 0) }
-    ensures space { IfOk result (λ ground. ground.space ≡ record { configuration = answer_space seed.now; events = sample_events }) }
+    ensures space { IfOk result (λ ground. ground.space ≡ record { configuration = answer_space seed.now; events = sample_events (answer_space seed.now) }) }
 {
     let setup = setup_of(alloc, seed)?;
     let book = sample_book(alloc)?;
@@ -75,7 +75,7 @@ fn ground_of(alloc: Global, seed: &[u64; 4]) -> Result<Ground, AllocError>
 
 /// The sample space that the seed gives.
 fn space_of(alloc: Global, seed: &[u64; 4]) -> Result<Space, AllocError>
-    ensures { IfOk result (λ space. space ≡ record { configuration = answer_space seed.now; events = sample_events }) }
+    ensures { IfOk result (λ space. space ≡ record { configuration = answer_space seed.now; events = sample_events (answer_space seed.now) }) }
 {
     match sample_space(alloc, &config_of(seed)) {
         Ok(space) => Ok(space),

@@ -8,20 +8,20 @@ use Rattle.call_dispatch.specs.declared.book.Kind.{Kind}
 use Rattle.call_dispatch.specs.declared.book.BookFault.{BookFault}
 use Rattle.call_dispatch.specs.declared.book.BookFault.TheVariants.{FloatMethod}
 use Rattle.call_dispatch.specs.Book.{has_float, FaultsBook}
-use Rattle.sample_app.specs.Kinds.{echo, counter, sample_kinds}
+use Rattle.sample_app.specs.Kinds.{echo, counter, maker, sample_kinds}
 
 pub few_methods : (kinds : List Kind) → kinds ≡ sample_kinds → All (λ kind. length kind.methods < 2 ^ 32) kinds
-unfolding echo counter
+unfolding echo counter maker
 few_methods kinds are = subst (All (λ kind. length kind.methods < 2 ^ 32)) (sym are)
-    (All-from_recursion (λ kind. length kind.methods < 2 ^ 32) sample_kinds (lit≤ tt, (lit≤ tt, tt)))
+    (All-from_recursion (λ kind. length kind.methods < 2 ^ 32) sample_kinds (lit≤ tt, (lit≤ tt, (lit≤ tt, tt))))
 
 pub short_interfaces : (kinds : List Kind) → kinds ≡ sample_kinds → All (λ kind. length (utf kind.interface) ≤ 65535) kinds
-unfolding echo counter
+unfolding echo counter maker
 short_interfaces kinds are = subst (All (λ kind. length (utf kind.interface) ≤ 65535)) (sym are)
-    (All-from_recursion (λ kind. length (utf kind.interface) ≤ 65535) sample_kinds (lit≤ tt, (lit≤ tt, tt)))
+    (All-from_recursion (λ kind. length (utf kind.interface) ≤ 65535) sample_kinds (lit≤ tt, (lit≤ tt, (lit≤ tt, tt))))
 
 no_float : position has_float sample_kinds ≡ None
-unfolding echo counter
+unfolding echo counter maker
 no_float = refl
 
 none_found : (kind : ℕ) → None ≡ Some kind → ⊥

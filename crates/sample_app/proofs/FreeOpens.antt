@@ -1,6 +1,7 @@
 -- No limit is met where the sample space is opened.
 use Rattle.std.proofs.Common.{◌≡◌, List, [], ◌∷◌, ◌++◌, None, Result, refl, sym, ◌∙◌, ap, subst, inl, inr}
-use Rattle.std.specs.Prelude.{OnOk, IfErr}
+use Rattle.std.specs.Prelude.{OnOk, IfErr, codes, pos}
+use Rattle.object_ids.proofs.Exact.{same_uid-self}
 use Rattle.history.specs.declared.asks.SpaceConfig.{SpaceConfig}
 use Rattle.history.specs.declared.asks.Event.{Event}
 use Rattle.history.specs.declared.replies.Turn.{Turn}
@@ -15,7 +16,15 @@ use Rattle.history.specs.Places.{now, added, next}
 use Rattle.history.specs.Running.{running, running_calls, is_running}
 use Rattle.history.specs.Steps.{Step, answer_with, history_with}
 use Rattle.history.specs.Table.{is_pinned, is_kept, table, is_effective, exports, lists, place_of, places_back, places, withdrawn, withdrawals}
-use Rattle.sample_app.specs.Opened.{opened}
+use Rattle.space.specs.Built.{SpaceHistory}
+use Rattle.sample_app.specs.Opened.{opened, bound}
+
+-- No limit refuses the event.
+abbrev pub IsFree : Event → SpaceHistory → Type 0
+IsFree e s = refusal limits s.configuration (places s.configuration s.events) e ≡ None
+
+abbrev pub one_more : Event → SpaceHistory → SpaceHistory
+one_more e s = record { configuration = s.configuration; events = s.events ++ e ∷ [] }
 
 pub first_is_free : (config : SpaceConfig) → refusal limits config (places config []) (opened 0) ≡ None
 unfolding lease_end tenure counting_calls highest_is_dirty holds is_remembered calls_of clients clients_with_time_left is_held pairs_with new_pairs now added next running running_calls is_running until_of awaits references awaiting is_awaited stands_for names is_named lease_calls is_pinned is_kept table is_effective exports lists place_of places_back places withdrawn withdrawals units reserved exports_with_event awaiting_with_event clients_with_event pairs_with_event names_with_event is_full refusal
@@ -24,6 +33,24 @@ first_is_free config = refl
 pub second_is_free : (config : SpaceConfig) → refusal limits config (places config (opened 0 ∷ [])) (opened 1) ≡ None
 unfolding lease_end tenure counting_calls highest_is_dirty holds is_remembered calls_of clients clients_with_time_left is_held pairs_with new_pairs now added next running running_calls is_running until_of awaits references awaiting is_awaited stands_for names is_named lease_calls is_pinned is_kept table is_effective exports lists place_of places_back places withdrawn withdrawals units reserved exports_with_event awaiting_with_event clients_with_event pairs_with_event names_with_event is_full refusal
 second_is_free config = refl
+
+pub third_is_free : (config : SpaceConfig) → refusal limits config (places config (opened 0 ∷ opened 1 ∷ [])) (opened 2) ≡ None
+unfolding lease_end tenure counting_calls highest_is_dirty holds is_remembered calls_of clients clients_with_time_left is_held pairs_with new_pairs now added next running running_calls is_running until_of awaits references awaiting is_awaited stands_for names is_named lease_calls is_pinned is_kept table is_effective exports lists place_of places_back places withdrawn withdrawals units reserved exports_with_event awaiting_with_event clients_with_event pairs_with_event names_with_event is_full refusal
+third_is_free config = refl
+
+pub first_name_is_free : (config : SpaceConfig) → refusal limits config (places config (opened 0 ∷ opened 1 ∷ opened 2 ∷ [])) (bound config (codes "echo") (pos 16)) ≡ None
+unfolding lease_end tenure counting_calls highest_is_dirty holds is_remembered calls_of clients clients_with_time_left is_held pairs_with new_pairs now added next running running_calls is_running until_of awaits references awaiting is_awaited stands_for names is_named lease_calls is_pinned is_kept table is_effective exports lists place_of places_back places withdrawn withdrawals units reserved exports_with_event awaiting_with_event clients_with_event pairs_with_event names_with_event is_full refusal
+first_name_is_free config = rw (same_uid-self config.uid) refl
+
+pub second_name_is_free : (config : SpaceConfig)
+    → refusal limits config (places config (opened 0 ∷ opened 1 ∷ opened 2 ∷ bound config (codes "echo") (pos 16) ∷ [])) (bound config (codes "counter") (pos 17)) ≡ None
+unfolding lease_end tenure counting_calls highest_is_dirty holds is_remembered calls_of clients clients_with_time_left is_held pairs_with new_pairs now added next running running_calls is_running until_of awaits references awaiting is_awaited stands_for names is_named lease_calls is_pinned is_kept table is_effective exports lists place_of places_back places withdrawn withdrawals units reserved exports_with_event awaiting_with_event clients_with_event pairs_with_event names_with_event is_full refusal
+second_name_is_free config = rw (same_uid-self config.uid) refl
+
+pub third_name_is_free : (config : SpaceConfig)
+    → refusal limits config (places config (opened 0 ∷ opened 1 ∷ opened 2 ∷ bound config (codes "echo") (pos 16) ∷ bound config (codes "counter") (pos 17) ∷ [])) (bound config (codes "maker") (pos 18)) ≡ None
+unfolding lease_end tenure counting_calls highest_is_dirty holds is_remembered calls_of clients clients_with_time_left is_held pairs_with new_pairs now added next running running_calls is_running until_of awaits references awaiting is_awaited stands_for names is_named lease_calls is_pinned is_kept table is_effective exports lists place_of places_back places withdrawn withdrawals units reserved exports_with_event awaiting_with_event clients_with_event pairs_with_event names_with_event is_full refusal
+third_name_is_free config = rw (same_uid-self config.uid) refl
 
 -- A step that no limit refuses appends its event, or there was no memory.
 pub steps_on : (config : SpaceConfig) (h h2 : List Event) (e : Event) (answer : Result Turn Refused) → refusal limits config (places config h) e ≡ None → Step config h e answer h2

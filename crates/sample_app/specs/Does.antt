@@ -13,11 +13,12 @@ use Rattle.jrmp_frames.specs.declared.arguments.Arg.TheVariants as arguments
 use Rattle.jrmp_frames.specs.declared.arguments.Arguments.{Arguments}
 use Rattle.call_dispatch.specs.declared.outcome.Invocation.{Invocation}
 use Rattle.call_dispatch.specs.declared.outcome.Outcome.{Outcome}
-use Rattle.call_dispatch.specs.declared.outcome.Outcome.TheVariants.{Void, Prim, Tree, Fault, OutOfMemory}
+use Rattle.call_dispatch.specs.declared.outcome.Outcome.TheVariants.{Void, Prim, Tree, NewRemote, Fault, OutOfMemory}
 use Rattle.call_dispatch.specs.Acts.{Call, invokes, unreferenced, States}
 use Rattle.sample_app.specs.declared.sample_call.SampleCall.{SampleCall}
-use Rattle.sample_app.specs.declared.sample_call.SampleCall.TheVariants.{Echo, Add, Get}
+use Rattle.sample_app.specs.declared.sample_call.SampleCall.TheVariants.{Echo, Add, Get, Make}
 use Rattle.sample_app.specs.Counters.{count_of, with_count, without}
+use Rattle.sample_app.specs.Kinds.{counter_kind}
 
 -- ---- what is asked for
 
@@ -50,12 +51,21 @@ get_with _ = None
 abbrev pub get_of : Arguments → Option SampleCall
 get_of a = get_with a.values
 
+-- make has no arguments.
+abbrev pub make_with : List Arg → Option SampleCall
+make_with [] = Some Make
+make_with _ = None
+
+abbrev pub make_of : Arguments → Option SampleCall
+make_of a = make_with a.values
+
 -- What an invocation asks for, by the places of its kind and its method: none of these methods, or not its arguments, is None.
 abbrev pub call_of : Invocation → Option SampleCall
 call_of call =
     if call.kind == 0 && call.method == 0 then echo_of call.arguments else
     if call.kind == 1 && call.method == 0 then add_of call.arguments else
-    if call.kind == 1 && call.method == 1 then get_of call.arguments else None
+    if call.kind == 1 && call.method == 1 then get_of call.arguments else
+    if call.kind == 2 && call.method == 0 then make_of call.arguments else None
 
 -- ---- outcomes
 
@@ -72,6 +82,7 @@ abbrev pub MayGive : Graph → Option SampleCall → Outcome → Type 0
 MayGive graph (Some Echo) outcome = outcome ≡ Tree graph
 MayGive graph (Some (Add number)) outcome = IsNumber outcome ⊎ ((number ≢ pos 0) × (outcome ≡ overflow))
 MayGive graph (Some Get) outcome = IsNumber outcome
+MayGive graph (Some Make) outcome = outcome ≡ NewRemote counter_kind
 MayGive graph None outcome = outcome ≡ Void
 
 -- Which outcomes an invocation may have, whatever was counted before: for each there may be no memory.

@@ -23,6 +23,9 @@ long_type = ([], refl, refl)
 object_type : HasType Object (codes "Ljava/lang/Object;")
 object_type = (codes "java/lang/Object;", refl, (codes "java/lang/Object", lit≤ tt, each is_class_byte (codes "java/lang/Object") refl, refl))
 
+counter_type : HasType Object (codes "Lsample/Counter;")
+counter_type = (codes "sample/Counter;", refl, (codes "sample/Counter", lit≤ tt, each is_class_byte (codes "sample/Counter") refl, refl))
+
 pub echo_is : IsMethod (codes "echo(Ljava/lang/Object;)Ljava/lang/Object;") (codes "echo") (Object ∷ []) (Some Object)
 echo_is = record {
   types = codes "Ljava/lang/Object;";
@@ -65,6 +68,20 @@ get_is = record {
   short = lit≤ tt;
 }
 
+pub make_is : IsMethod (codes "make()Lsample/Counter;") (codes "make") [] (Some Object)
+make_is = record {
+  types = [];
+  last = codes "Lsample/Counter;";
+  named = each is_name_byte (codes "make") refl;
+  some_name = lit≤ tt;
+  short_name = lit≤ tt;
+  typed = refl;
+  few = lit≤ tt;
+  returns = counter_type;
+  parts = refl;
+  short = lit≤ tt;
+}
+
 -- ---- the kinds
 
 -- the method of a text whose parts are these
@@ -85,6 +102,17 @@ counter = record {
   methods = method_of (codes "add(J)J") (codes "add") (J ∷ []) (Some J) add_is ∷ method_of (codes "get()J") (codes "get") [] (Some J) get_is ∷ [];
 }
 
+-- the kind that makes counters
+unfoldable pub maker : Kind
+maker = record {
+  interface = codes "sample.Maker";
+  methods = method_of (codes "make()Lsample/Counter;") (codes "make") [] (Some Object) make_is ∷ [];
+}
+
 -- the kinds, each at its place
 abbrev pub sample_kinds : List Kind
-sample_kinds = echo ∷ counter ∷ []
+sample_kinds = echo ∷ counter ∷ maker ∷ []
+
+-- the place of the kind that counts
+abbrev pub counter_kind : ℕ
+counter_kind = 1

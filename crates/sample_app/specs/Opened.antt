@@ -1,12 +1,29 @@
 -- The history of the sample space.
-use Rattle.std.specs.Prelude.{ℕ, true, List, [], ◌∷◌}
+use Rattle.std.specs.Prelude.{ℕ, ℤ, pos, true, codes, List, [], ◌∷◌}
+use Rattle.object_ids.specs.declared.ids.ObjId.{ObjId}
 use Rattle.history.specs.declared.asks.Event.{Event}
-use Rattle.history.specs.declared.asks.Ask.TheVariants.{Open}
+use Rattle.history.specs.declared.asks.SpaceConfig.{SpaceConfig}
+use Rattle.history.specs.declared.asks.Ask.TheVariants.{Open, Bind}
 
 -- an object of a kind that connection 0 opens at the moment 0 to be kept for good
 abbrev pub opened : ℕ → Event
 opened kind = record { by = 0; moment = 0; ask = Open kind true }
 
--- one object of each kind
-abbrev pub sample_events : List Event
-sample_events = opened 0 ∷ opened 1 ∷ []
+-- the object of the space with this number
+abbrev pub object_with : SpaceConfig → ℤ → ObjId
+object_with config number = record { number = number; space = config.uid }
+
+-- a name that connection 0 binds at the moment 0 to the object with this number
+abbrev pub bound : SpaceConfig → List ℕ → ℤ → Event
+bound config name number = record { by = 0; moment = 0; ask = Bind name (object_with config number) }
+
+-- One object of each kind is opened, and then a name of each is bound.
+abbrev pub sample_events : SpaceConfig → List Event
+sample_events config =
+    opened 0
+    ∷ opened 1
+    ∷ opened 2
+    ∷ bound config (codes "echo") (pos 16)
+    ∷ bound config (codes "counter") (pos 17)
+    ∷ bound config (codes "maker") (pos 18)
+    ∷ []

@@ -1,7 +1,7 @@
 //! The sample kinds and their methods.
 ghost use Rattle.std.specs.Prelude.{◌≡◌, Some, IfOk};
 ghost use Rattle.method_hash.specs.MethodText.{IsMethod};
-ghost use Rattle.sample_app.specs.Kinds.{method_of, echo, counter, sample_kinds};
+ghost use Rattle.sample_app.specs.Kinds.{method_of, echo, counter, maker, sample_kinds};
 
 use call_dispatch::{Book, BookFault, Kind, KindList};
 use class_desc::TypeCode;
@@ -15,6 +15,7 @@ use std::alloc::{AllocError, Global};
 /// |---|---|---|
 /// | 0 | `sample.Echo` | `echo(Ljava/lang/Object;)Ljava/lang/Object;` |
 /// | 1 | `sample.Counter` | `add(J)J`, `get()J` |
+/// | 2 | `sample.Maker` | `make()Lsample/Counter;` |
 ///
 /// It is refused only for want of memory.
 pub fn sample_book(alloc: Global) -> Result<Book, AllocError>
@@ -34,6 +35,7 @@ fn kinds_of(alloc: Global) -> Result<KindList, AllocError>
     let mut kinds = KindList::new(alloc);
     kinds.push(echo(alloc)?)?;
     kinds.push(counter(alloc)?)?;
+    kinds.push(maker(alloc)?)?;
     Ok(kinds)
 }
 
@@ -64,6 +66,24 @@ fn counter(alloc: Global) -> Result<Kind, AllocError>
     methods.push(method(alloc, b"get()J", b"get", &[], TypeCode::J)?)?;
     Ok(Kind {
         interface: Units::from_ascii(alloc, b"sample.Counter")?,
+        methods,
+    })
+}
+
+/// The kind that makes counters.
+fn maker(alloc: Global) -> Result<Kind, AllocError>
+    ensures { IfOk result (λ kind. kind ≡ maker) }
+{
+    let mut methods = MethodList::new(alloc);
+    methods.push(method(
+        alloc,
+        b"make()Lsample/Counter;",
+        b"make",
+        &[],
+        TypeCode::Object,
+    )?)?;
+    Ok(Kind {
+        interface: Units::from_ascii(alloc, b"sample.Maker")?,
         methods,
     })
 }

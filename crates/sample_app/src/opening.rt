@@ -1,27 +1,40 @@
 //! The space of the sample.
-ghost use Rattle.std.specs.Prelude.{◌≡◌, ◌≤◌, ◌^◌, ◌++◌, ◌∷◌, [], None, IfOk, IfErr, OnOk};
+ghost use Rattle.std.specs.Prelude.{◌≡◌, ◌≤◌, ◌^◌, ◌++◌, ◌∷◌, [], None, length, IfOk, IfErr, OnOk};
 ghost use Rattle.history.specs.declared.replies.Refused.TheVariants.{OutOfMemory};
 ghost use Rattle.history.specs.Limits.{limits, refusal};
 ghost use Rattle.history.specs.Table.{places};
-ghost use Rattle.sample_app.specs.Opened.{opened, sample_events};
+ghost use Rattle.sample_app.specs.Opened.{opened, bound, sample_events};
 
-use history::{Ask, Refused, SpaceConfig};
+use history::{Ask, Name, Refused, SpaceConfig};
+use mod_utf::list::Units;
+use object_ids::ObjId;
 use space::Space;
-use std::alloc::Global;
+use std::alloc::{AllocError, Global};
 
-/// A space that has one object of each sample kind, opened by connection 0 at the moment 0 and pinned: the objects 16 and 17 are of the kinds
-/// 0 and 1. It is refused only for want of memory.
+/// A space that has one object of each sample kind, opened by connection 0 at the moment 0 and pinned, with a name bound to it:
+///
+/// | object | kind | name |
+/// |---|---|---|
+/// | 16 | 0 | `echo` |
+/// | 17 | 1 | `counter` |
+/// | 18 | 2 | `maker` |
+///
+/// It is refused only for want of memory.
 pub fn sample_space(alloc: Global, config: &SpaceConfig) -> Result<Space, Refused>
     requires some_lease { 1 ≤ config.now.lease_ms }
     requires short_lease { config.now.lease_ms ≤ 2 ^ 40 }
     requires some_ack { 1 ≤ config.now.ack_ms }
     requires short_ack { config.now.ack_ms ≤ 2 ^ 40 }
-    ensures ok { IfOk result (λ space. space ≡ record { configuration = config.now; events = sample_events }) }
+    ensures ok { IfOk result (λ space. space ≡ record { configuration = config.now; events = sample_events config.now }) }
     ensures err { IfErr result (λ refused. refused ≡ OutOfMemory) }
 {
     let mut space = Space::fresh(alloc, config);
     open(&mut space, 0)?;
     open(&mut space, 1)?;
+    open(&mut space, 2)?;
+    bind(alloc, &mut space, config, b"echo", 16)?;
+    bind(alloc, &mut space, config, b"counter", 17)?;
+    bind(alloc, &mut space, config, b"maker", 18)?;
     Ok(space)
 }
 
@@ -32,6 +45,54 @@ fn open(space: &mut Space, kind: u32) -> Result<(), Refused>
     ensures err { IfErr result (λ refused. refused ≡ OutOfMemory) }
 {
     let ask = Ask::Open { kind, pinned: true };
+    let answer = space.turn(0, 0, ask);
+    match answer {
+        Ok(_turn) => Ok(()),
+        Err(refused) => Err(refused),
+    }
+}
+
+/// A name of at most 255 characters in ASCII.
+fn name_of(alloc: Global, name: &[u8]) -> Result<Name, AllocError>
+    requires { length name.now ≤ 255 }
+    ensures { IfOk result (λ named. named ≡ name.now) }
+{
+    match Name::new(Units::from_ascii(alloc, name)?) {
+        Ok(named) => Ok(named),
+        Err(_too_long) => unreachable!(),
+    }
+}
+
+/// What binds a name to the object of the space with this number.
+fn binding(alloc: Global, config: &SpaceConfig, name: &[u8], number: i64) -> Result<Ask, AllocError>
+    requires { length name.now ≤ 255 }
+    ensures { IfOk result (λ ask. ask ≡ (bound config.now name.now number).ask) }
+{
+    Ok(Ask::Bind {
+        name: name_of(alloc, name)?,
+        object: ObjId {
+            number,
+            space: config.uid,
+        },
+    })
+}
+
+/// Binds a name to the object with this number. It is refused only for want of memory, where no limit is met.
+fn bind(
+    alloc: Global,
+    space: &mut Space,
+    config: &SpaceConfig,
+    name: &[u8],
+    number: i64,
+) -> Result<(), Refused>
+    requires short { length name.now ≤ 255 }
+    requires free { refusal limits space.old.configuration (places space.old.configuration space.old.events) (bound config.now name.now number) ≡ None }
+    ensures ok { OnOk result (space.new ≡ record space.old { events = space.old.events ++ bound config.now name.now number ∷ [] }) }
+    ensures err { IfErr result (λ refused. refused ≡ OutOfMemory) }
+{
+    let Ok(ask) = binding(alloc, config, name, number) else {
+        return Err(Refused::OutOfMemory);
+    };
     let answer = space.turn(0, 0, ask);
     match answer {
         Ok(_turn) => Ok(()),

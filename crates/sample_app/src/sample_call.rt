@@ -1,6 +1,6 @@
 //! What calls ask of sample objects.
 ghost use Rattle.std.specs.Prelude.{◌≡◌};
-ghost use Rattle.sample_app.specs.Does.{call_of, echo_of, add_of, get_of, same_slot};
+ghost use Rattle.sample_app.specs.Does.{call_of, echo_of, add_of, get_of, make_of, same_slot};
 
 use call_dispatch::Invocation;
 use class_desc::{Item, Slot};
@@ -16,6 +16,8 @@ pub enum SampleCall {
     Add(i64),
     /// `get`: give the object's number.
     Get,
+    /// `make`: give a new counter.
+    Make,
 }
 
 /// What a call asks for: None where it is of none of the sample kinds' methods, or doesn't have its arguments.
@@ -26,6 +28,7 @@ pub fn sample_call(call: &Invocation) -> Option<SampleCall>
         (0, 0) => echo_of(&call.arguments),
         (1, 0) => add_of(&call.arguments),
         (1, 1) => get_of(&call.arguments),
+        (2, 0) => make_of(&call.arguments),
         _ => None,
     }
 }
@@ -63,6 +66,16 @@ fn get_of(arguments: &Arguments) -> Option<SampleCall>
 {
     match arguments.values.as_slice() {
         [] => Some(SampleCall::Get),
+        _ => None,
+    }
+}
+
+/// The call of `make` with these arguments, of which there are none.
+fn make_of(arguments: &Arguments) -> Option<SampleCall>
+    ensures { result ≡ make_of arguments.now }
+{
+    match arguments.values.as_slice() {
+        [] => Some(SampleCall::Make),
         _ => None,
     }
 }

@@ -12,9 +12,12 @@ use object_ids::ObjId;
 use ser_values::{Graph, Value};
 use std::alloc::Global;
 
-/// Does the calls of sample objects: an echo gives its argument back, and counters count, each from 0 on. A counter past the ends of its type
-/// stays, and the call ends in an `ArithmeticException`. A call that is none of theirs comes out as `Void`. What an object has counted is forgotten
-/// when it is no longer exported.
+/// The place of the kind that counts.
+const COUNTER_KIND: u32 = 1;
+
+/// Does the calls of sample objects: an echo gives its argument back, counters count, each from 0 on, and a maker gives a new counter. A counter
+/// past the ends of its type stays, and the call ends in an `ArithmeticException`. A call that is none of theirs comes out as `Void`. What an object
+/// has counted is forgotten when it is no longer exported.
 #[derive(Drop)]
 pub struct SampleWorker {
     alloc: Global,
@@ -94,6 +97,7 @@ impl Worker for SampleWorker {
             Some(SampleCall::Echo) => Outcome::Tree(graph_of(call)),
             Some(SampleCall::Add(number)) => self.add(call.object, number),
             Some(SampleCall::Get) => Outcome::Prim(Value::J(self.counters.count(&call.object))),
+            Some(SampleCall::Make) => Outcome::NewRemote(COUNTER_KIND),
             None => Outcome::Void,
         }
     }

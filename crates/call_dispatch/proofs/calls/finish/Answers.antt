@@ -1,39 +1,47 @@
-use Rattle.std.proofs.Common.{refl, Err}
-use Rattle.std.proofs.Common.{◌++◌}
+use Rattle.std.proofs.Common.{Ok, Err, subst, ◌++◌}
 use Rattle.std.specs.List.{flat_map}
 use Rattle.call_dispatch.specs.Acts.{entries, acts_of}
-use Rattle.call_dispatch.specs.Served.{finished, finish_of}
+use Rattle.history.specs.declared.asks.Ask.TheVariants.{Finish}
+use Rattle.call_dispatch.specs.Served.{IsFinished}
+use Rattle.call_dispatch.specs.Terms.{terms_of}
 use Rattle.call_dispatch.proofs.Balancing.{finish_answered, finish_balances, finish_refused, give_up_balances}
 use Rattle.call_dispatch.proofs.Leading.{led_same, finish_same}
-use Rattle.call_dispatch.proofs.Cutting.{finishes_refused}
+use Rattle.call_dispatch.proofs.Cutting.{finishes_answered, finishes_refused}
+use Rattle.call_dispatch.proofs.Returning.{ready_for}
 use Rattle.call_dispatch.proofs.calls.finish.Goals as goal
 
+pub finished-requires : goal.finished-requires
+finished-requires g c =
+    let over = finish_answered c.args.object c.args.pending.made c.args.pending.listed c.args.uid (g.P.Port.asked c.args.connection.now.port.now) c.in-Ok.turn.reply c.requires.runs c.in-Ok.ensures.answers in
+    record { ready = ready_for c.args.pending.made c.in-Ok.turn.reply c.args.pending.sent c.requires.pending over }
+
 pub returns-in-Ok-clause-finishes : goal.returns-in-Ok-clause-finishes
-returns-in-Ok-clause-finishes g c =
-    let (moment, led) = rw (c.new.ensures, c.new-2.ensures) at c.in-Ok.ensures.led in (
-      finished moment c.in-Ok._turn,
-      finish_answered c.args.object c.new.result c.new-2.result c.args.uid (g.P.Port.asked c.args.connection.now.port.now) c.in-Ok._turn.reply c.requires.runs c.in-Ok.ensures.answers,
-      led,
-      refl,
-      refl,
-    )
+returns-in-Ok-clause-finishes g c outcome pends =
+    let (moment, led) = c.in-Ok.ensures.led in
+    let over = finish_answered c.args.object c.args.pending.made c.args.pending.listed c.args.uid (g.P.Port.asked c.args.connection.now.port.now) c.in-Ok.turn.reply c.requires.runs c.in-Ok.ensures.answers in
+    let sends = c.finished.ensures.sends c.args.connection.now.book.now outcome in
+    finishes_answered _ _ (terms_of c.args.connection.now.book.now c.args.connection.now.setup.now) c.args.object c.args.uid outcome c.args.pending.listed _ _ moment c.in-Ok.turn c.finished.result
+    pends.listed (subst (λ made. IsFinished made c.in-Ok.turn.reply) pends.made over)
+    (led_same _ _ _ _ _ _ (finish_same moment c.args.object outcome c.args.pending.made c.args.pending.listed c.args.uid (Ok c.in-Ok.turn) pends.made) led)
+    (rw c.take_turn.ensures.setup at sends pends.sent)
 
 pub returns-in-Ok-clause-balanced : goal.returns-in-Ok-clause-balanced
 returns-in-Ok-clause-balanced g c =
-    let (moment, led) = rw (c.new.ensures, c.new-2.ensures) at c.in-Ok.ensures.led in
-    rw led.asked (finish_balances c.args.object c.args.uid moment c.in-Ok._turn (g.P.Port.asked c.args.connection.now.port.now) c.requires.runs
-    (finish_answered c.args.object c.new.result c.new-2.result c.args.uid (g.P.Port.asked c.args.connection.now.port.now) c.in-Ok._turn.reply c.requires.runs c.in-Ok.ensures.answers))
+    let (moment, led) = c.in-Ok.ensures.led in
+    rw led.asked (finish_balances c.args.object c.args.pending.made c.args.pending.listed c.args.uid moment c.in-Ok.turn (g.P.Port.asked c.args.connection.now.port.now) c.requires.runs
+    (finish_answered c.args.object c.args.pending.made c.args.pending.listed c.args.uid (g.P.Port.asked c.args.connection.now.port.now) c.in-Ok.turn.reply c.requires.runs c.in-Ok.ensures.answers))
 
 pub returns-in-Err-clause-finishes : goal.returns-in-Err-clause-finishes
-returns-in-Err-clause-finishes g c =
+returns-in-Err-clause-finishes g c outcome pends =
     let (moment, led) = c.in-Err.ensures.led in
     let (moment2, place, up) = c.give_up.ensures.led in
-    finishes_refused _ _ c.args.object c.args.uid c.args.bytes _ _ _ moment moment2 place c.in-Err.refused c.denied.result
-    (led_same _ _ _ _ _ _ (finish_same moment c.args.object c.new.result c.new-2.result c.args.uid (Err c.in-Err.refused) c.new.ensures c.new-2.ensures) led) up c.denied.ensures.denied
+    finishes_refused _ _ (terms_of c.args.connection.now.book.now c.args.connection.now.setup.now) c.args.object c.args.uid outcome c.args.pending.listed _ _ _ moment moment2 place c.in-Err.refused c.denied.result
+    pends.listed (led_same _ _ _ _ _ _ (finish_same moment c.args.object outcome c.args.pending.made c.args.pending.listed c.args.uid (Err c.in-Err.refused) pends.made) led) up c.denied.ensures.denied
 
 pub returns-in-Err-clause-balanced : goal.returns-in-Err-clause-balanced
 returns-in-Err-clause-balanced g c =
     let (moment, led) = c.in-Err.ensures.led in
     let (moment2, place, up) = c.give_up.ensures.led in
-    let led2 = led_same _ _ _ _ _ _ (finish_same moment c.args.object c.new.result c.new-2.result c.args.uid (Err c.in-Err.refused) c.new.ensures c.new-2.ensures) led in
-    rw (up.asked, led2.asked) (give_up_balances c.args.object moment2 place (g.P.Port.asked c.args.connection.now.port.now ++ flat_map entries (acts_of moment (finish_of c.args.object c.args.uid) (Err c.in-Err.refused))) (finish_refused c.args.object c.args.uid moment c.in-Err.refused (g.P.Port.asked c.args.connection.now.port.now) c.requires.runs))
+    let ask = Finish c.args.object c.args.pending.made c.args.pending.listed c.args.uid in
+    rw (up.asked, led.asked) (give_up_balances c.args.object moment2 place (g.P.Port.asked c.args.connection.now.port.now ++ flat_map entries (acts_of moment ask (Err c.in-Err.refused)))
+    (finish_refused c.args.object c.args.pending.made c.args.pending.listed c.args.uid moment c.in-Err.refused (g.P.Port.asked c.args.connection.now.port.now) c.requires.runs))

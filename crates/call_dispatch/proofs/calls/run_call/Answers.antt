@@ -1,5 +1,6 @@
 use Rattle.std.proofs.Common.{ap, inr}
 use Rattle.wire_io.specs.Pulled.{place}
+use Rattle.call_dispatch.specs.Terms.{terms_of}
 use Rattle.call_dispatch.proofs.Leading.{led_invoked}
 use Rattle.call_dispatch.proofs.Balancing.{give_up_balances}
 use Rattle.call_dispatch.proofs.Calling.{unknown_runs, ran_runs}
@@ -9,7 +10,7 @@ pub returns-in_default-clause-runs_on : goal.returns-in_default-clause-runs_on
 returns-in_default-clause-runs_on g c first reads =
     let (moment, at, led) = c.give_up.ensures.led in
     let prepared = rw c.no_such_method.ensures at (rw c.give_up.ensures.setup at c.refuse.ensures.prepared) in
-    rw c.give_up.ensures.pull (unknown_runs _ _ c.args.connection.now.book.now _ c.args.head c.args.kind first (place g.S.Source.left g.S.Source.faults c.args.connection.now.pull) c.args.reader.stand _ _ _ _ moment at c.refuse.result c.in_default.ensures.none reads led prepared)
+    rw c.give_up.ensures.pull (unknown_runs _ _ (terms_of c.args.connection.now.book.now c.args.connection.now.setup.now) _ c.args.head c.args.kind first (place g.S.Source.left g.S.Source.faults c.args.connection.now.pull) c.args.reader.stand _ _ _ _ moment at c.refuse.result c.in_default.ensures.none reads led prepared)
 
 pub returns-in_default-clause-balanced : goal.returns-in_default-clause-balanced
 returns-in_default-clause-balanced g c =
@@ -19,7 +20,7 @@ returns-in_default-clause-balanced g c =
 pub returns-in-Ok-clause-runs_on : goal.returns-in-Ok-clause-runs_on
 returns-in-Ok-clause-runs_on g c first reads =
     let takes = c.in-Ok.ensures.call first c.args.head reads in
-    rw c.conclude.ensures.pull (ran_runs _ _ c.args.connection.now.book.now _ c.args.head c.args.kind c.in-Some.method_place c.in-Some-method.method.now c.in-Ok.arguments c.invoke-outcome.result first _ _ _ _ _ _ c.conclude.result
+    rw c.conclude.ensures.pull (ran_runs _ _ (terms_of c.args.connection.now.book.now c.args.connection.now.setup.now) _ c.args.head c.args.kind c.in-Some.method_place c.in-Some-method.method.now c.in-Ok.arguments c.invoke-outcome.result first _ _ _ _ _ _ c.conclude.result
     c.in-Some.ensures.some c.in-Some-method.ensures takes
     (led_invoked _ _ (g.P.Port.asked c.args.connection.now.port.now) (g.C.Clock.given c.args.connection.now.clock.now) _ c.invoke-outcome.result _ _ _ _ _ _ c.invoke-outcome.ensures.calls c.invoke-outcome.ensures.may c.invoke-outcome.ensures.seen c.invoke-outcome.ensures.state)
     c.conclude.ensures.concludes)

@@ -5,6 +5,7 @@ use Rattle.std.proofs.lemmas.Result.{err_from_is_err_and}
 use Rattle.wire_io.specs.Pulled.{place}
 use Rattle.jrmp_frames.specs.Calls.{head_at}
 use Rattle.call_dispatch.specs.Served.{FitsHead}
+use Rattle.call_dispatch.specs.Terms.{terms_of}
 use Rattle.call_dispatch.proofs.CallSteps.{head_breaks, call_ended, call_done, answered_within}
 use Rattle.call_dispatch.proofs.MessageSteps.{most_of}
 use Rattle.call_dispatch.proofs.Blaming.{head_blames, ended_blames, call_blames}
@@ -37,7 +38,7 @@ pub returns-in_err-answer-in-Ok-clause-blames : goal.returns-in_err-answer-in-Ok
 returns-in_err-answer-in-Ok-clause-blames g c =
     let p = err_from_is_err_and c.from_residual.result c.from_residual.ensures.1 in
     let start_place = place g.S.Source.left g.S.Source.faults c.args.connection.now.pull in
-    rw (c.in_err-answer-in-Ok.ensures.sink, p.1, p.2) (ended_blames g.W.Worker.may g.W.Worker.moves _ _ c.in-Ok.head start_place (place g.S.Source.left g.S.Source.faults c.answer_call.new.connection.pull) _ _ _ _ (g.K.Sink.faults c.args.connection.now.sink.now) _ (c.in_err-answer-in-Ok.ensures.answers start_place c.in-Ok.ensures.reads))
+    rw (c.in_err-answer-in-Ok.ensures.sink, p.1, p.2) (ended_blames g.W.Worker.may g.W.Worker.moves (terms_of c.args.connection.now.book.now c.args.connection.now.setup.now) _ c.in-Ok.head start_place (place g.S.Source.left g.S.Source.faults c.answer_call.new.connection.pull) _ _ _ _ (g.K.Sink.faults c.args.connection.now.sink.now) _ (c.in_err-answer-in-Ok.ensures.answers start_place c.in-Ok.ensures.reads))
 
 pub returns-in_ok-answer-in-Ok-clause-serves : goal.returns-in_ok-answer-in-Ok-clause-serves
 returns-in_ok-answer-in-Ok-clause-serves g c start first opening exchanges coded =
@@ -55,9 +56,9 @@ returns-in_ok-answer-in-Ok-clause-serves g c start first opening exchanges coded
 pub returns-in_ok-answer-in-Ok-clause-blames : goal.returns-in_ok-answer-in-Ok-clause-blames
 returns-in_ok-answer-in-Ok-clause-blames g c =
     let start_place = place g.S.Source.left g.S.Source.faults c.args.connection.now.pull in
-    call_blames _ _ _ _ c.in-Ok.head start_place _ _ _ c.args.connection.now.setup.now.draw.drawn c.answer_call.new.connection.setup.now.draw.drawn _ _ _ _ _ c.in_ok-answer-in-Ok.answer c.send.result (c.in_ok-answer-in-Ok.ensures.answers start_place c.in-Ok.ensures.reads) (rw c.in_ok-answer-in-Ok.ensures.sink at c.send.ensures.sends)
+    call_blames _ _ (terms_of c.args.connection.now.book.now c.args.connection.now.setup.now) _ c.in-Ok.head start_place _ _ _ c.args.connection.now.setup.now.draw.drawn c.answer_call.new.connection.setup.now.draw.drawn _ _ _ _ _ c.in_ok-answer-in-Ok.answer c.send.result (c.in_ok-answer-in-Ok.ensures.answers start_place c.in-Ok.ensures.reads) (rw c.in_ok-answer-in-Ok.ensures.sink at c.send.ensures.sends)
 
 pub returns-in_ok-answer-in-Ok-clause-most : goal.returns-in_ok-answer-in-Ok-clause-most
 returns-in_ok-answer-in-Ok-clause-most g c =
     let start_place = place g.S.Source.left g.S.Source.faults c.args.connection.now.pull in
-    most_of c.send.result _ _ _ (answered_within _ _ _ _ c.in-Ok.head start_place _ _ _ c.args.connection.now.setup.now.draw.drawn c.answer_call.new.connection.setup.now.draw.drawn c.in_ok-answer-in-Ok.answer c.answer_call.new.connection.pull.within (c.in_ok-answer-in-Ok.ensures.answers start_place c.in-Ok.ensures.reads)) c.send.ensures.most
+    most_of c.send.result _ _ _ (answered_within _ _ (terms_of c.args.connection.now.book.now c.args.connection.now.setup.now) _ c.in-Ok.head start_place _ _ _ c.args.connection.now.setup.now.draw.drawn c.answer_call.new.connection.setup.now.draw.drawn c.in_ok-answer-in-Ok.answer c.answer_call.new.connection.pull.within (c.in_ok-answer-in-Ok.ensures.answers start_place c.in-Ok.ensures.reads)) c.send.ensures.most
