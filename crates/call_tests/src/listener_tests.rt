@@ -49,6 +49,13 @@ fn check_accept(rt: &impl Abort, listener: &mut MemListener, port: i32, left: us
     must(rt, told.1 == left, "left");
 }
 
+/// Looks at what a listener listened on, and how many links and faults it gave.
+fn check_counts(rt: &impl Abort, listener: &MemListener) {
+    must(rt, listener.ports() == [1099].as_slice(), "ports");
+    must(rt, listener.accepted() == 2, "accepted");
+    must(rt, listener.faults() == 2, "faults");
+}
+
 #[test]
 fn links_come_in_order_and_then_none(rt: HostRuntime) {
     let mut links = MemLinks::new(rt.alloc());
@@ -60,7 +67,5 @@ fn links_come_in_order_and_then_none(rt: HostRuntime) {
     check_accept(&rt, &mut listener, 9, 0);
     check_accept(&rt, &mut listener, 0, 0);
     check_accept(&rt, &mut listener, 0, 0);
-    must(&rt, listener.ports() == [1099].as_slice(), "ports");
-    must(&rt, listener.accepted() == 2, "accepted");
-    must(&rt, listener.faults() == 2, "faults");
+    check_counts(&rt, &listener);
 }

@@ -1,6 +1,5 @@
 //! Calls that are read and written, and returns that are written.
-use crate::texts::{cut, must, put, put_digits};
-use class_desc::{Item, Items, Slot};
+use crate::texts::{cut, must, null_graph, put, put_digits};
 use jrmp_frames::{
     Body, CallHead, FrameFault, call_bytes, read_arguments, read_head, read_uid, return_bytes,
 };
@@ -8,7 +7,7 @@ use method_hash::Method;
 use mod_utf::Kinds;
 use mod_utf::list::ByteList;
 use object_ids::Uid;
-use ser_values::{Builder, Graph, Value};
+use ser_values::{Graph, Value};
 use std::alloc::Global;
 use std::process::Abort;
 use wire_io::mem::MemSource;
@@ -157,13 +156,6 @@ const UID: Uid = Uid {
 };
 
 const UID_BYTES: &str = "00000006 0000000000000006 8000";
-
-/// The graph of null.
-fn null_graph(rt: &impl Abort, alloc: Global) -> Option<Graph> {
-    let mut items = Items::new(alloc);
-    must(rt, items.push(Item::Ref(Slot::Null)).is_ok(), "memory");
-    Builder::new(alloc).finish(items).ok()
-}
 
 /// What a return holds, by its name.
 fn body_of(rt: &impl Abort, alloc: Global, name: &str) -> Option<Body> {

@@ -1,18 +1,17 @@
 //! Calls of an exported object: what is written, what the space is asked, what is invoked, and how the connection ends.
-ghost use Rattle.std.specs.Prelude.{◌≡◌, ◌≤◌, pos, length, IfSome};
+ghost use Rattle.std.specs.Prelude.{◌≡◌, ◌≤◌, pos, length, IsTrue};
 ghost use Rattle.mod_utf.specs.Utf.{utf};
 
-use crate::texts::{cut, listed, must, put_digits, units_of};
+use crate::texts::{cut, listed, must, null_graph, put_digits, units_of};
 use call_dispatch::{
     Book, ConnEnd, Kind, KindList, Outcome, OutcomeList, Recorded, RecordingWorker, Setup,
     serve_connection,
 };
-use class_desc::{Item, Items, Slot};
 use method_hash::{Method, MethodList};
 use mod_utf::list::{ByteList, Kinds, MomentList, Units};
 use mod_utf::utf::encoded_len;
 use object_ids::{Uid, UidDraw};
-use ser_values::{Builder, Value};
+use ser_values::Value;
 use space::{Ask, Asked, AskedEnd, DirectPort, Space, SpaceConfig};
 use std::alloc::Global;
 use std::process::Abort;
@@ -89,18 +88,11 @@ fn bytes_of(rt: &impl Abort, alloc: Global, front: &str, words: &str) -> ByteLis
     bytes
 }
 
-/// The outcome of a null.
-fn null_outcome(rt: &impl Abort, alloc: Global) -> Option<Outcome> {
-    let mut items = Items::new(alloc);
-    must(rt, items.push(Item::Ref(Slot::Null)).is_ok(), "memory");
-    Builder::new(alloc).finish(items).ok().map(Outcome::Tree)
-}
-
 /// How an invocation comes out: a number where it is no word.
 fn outcome_of(rt: &impl Abort, alloc: Global, word: &str) -> Option<Outcome> {
     match word {
         "void" => Some(Outcome::Void),
-        "null" => null_outcome(rt, alloc),
+        "null" => null_graph(rt, alloc).map(Outcome::Tree),
         "new" => Some(Outcome::NewRemote(0)),
         "fault" => Some(Outcome::Fault(units_of(rt, alloc, "x"))),
         "memory" => Some(Outcome::OutOfMemory),
@@ -149,32 +141,27 @@ fn book(rt: &impl Abort, alloc: Global) -> Option<Book> {
     Book::new(alloc, kinds).ok()
 }
 
-/// The host of both sides.
-fn host(rt: &impl Abort, alloc: Global) -> Option<Units>
-    ensures { IfSome result (λ host. length (utf host) ≤ 255) }
+/// Whether a host has few enough bytes.
+fn is_short(host: &Units) -> bool
+    ensures { IsTrue result → length (utf host.now) ≤ 255 }
 {
-    let host = units_of(rt, alloc, "127.0.0.1");
-    if encoded_len(&host) > 255 {
-        return None;
-    }
-    Some(host)
+    encoded_len(host) <= 255
 }
 
 /// What a connection is told beforehand.
-fn setup(rt: &impl Abort, alloc: Global) -> Option<Setup>
-    ensures hosts { IfSome result (λ s. (length (utf s.peer_host) ≤ 255) × (length (utf s.host) ≤ 255)) }
-    ensures draw { IfSome result (λ s. s.draw ≡ record { unique = pos 2; time = pos 2; drawn = 0 }) }
+fn setup(rt: &impl Abort, alloc: Global) -> Setup
+    ensures draw { result.draw ≡ record { unique = pos 2; time = pos 2; drawn = 0 } }
 {
-    Some(Setup {
+    Setup {
         by: 1,
-        peer_host: host(rt, alloc)?,
+        peer_host: units_of(rt, alloc, "127.0.0.1"),
         peer_port: 1234,
-        host: host(rt, alloc)?,
+        host: units_of(rt, alloc, "127.0.0.1"),
         port: 1099,
         binding: false,
         draw: UidDraw::new(2, 2),
         mark: [0; 8],
-    })
+    }
 }
 
 /// The space of one object, which is pinned.
@@ -203,7 +190,10 @@ fn serve(
     outcomes: OutcomeList,
     wanted: Wanted,
 ) -> Option<ConnEnd> {
-    let mut setup = setup(rt, alloc)?;
+    let mut setup = setup(rt, alloc);
+    if !is_short(&setup.peer_host) || !is_short(&setup.host) {
+        return None;
+    }
     let bytes = listed(rt, alloc, input);
     let mut source = MemSource::new(bytes, Kinds::new(alloc), Kinds::new(alloc));
     let mut sink = MemSink::new(alloc, Kinds::new(alloc));

@@ -1,5 +1,7 @@
 //! Bytes and lists from text. A test stops where there is no memory: no helper answers an error, and none has an early end.
+use class_desc::{Item, Items, Slot};
 use mod_utf::list::{ByteList, Units};
+use ser_values::{Builder, Graph};
 use std::alloc::Global;
 use std::process::Abort;
 
@@ -57,4 +59,11 @@ pub(crate) fn put_digits(rt: &impl Abort, bytes: &mut ByteList, digits: &str) {
             (Some(_), None) => {}
         }
     }
+}
+
+/// The graph of null.
+pub(crate) fn null_graph(rt: &impl Abort, alloc: Global) -> Option<Graph> {
+    let mut items = Items::new(alloc);
+    must(rt, items.push(Item::Ref(Slot::Null)).is_ok(), "memory");
+    Builder::new(alloc).finish(items).ok()
 }

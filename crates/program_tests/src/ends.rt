@@ -3,7 +3,7 @@ use crate::hosts::check_table;
 
 /// A stream of too many nodes, and one of arrays, each in the one before it.
 const STREAMS: &str = "magic 65537*740000 | | | 6 too large nodes at 196612
-magic objects 200*7571007E00000000000001 70 | | | 6 too large depth at 2034";
+magic objects 200*7571007E000000000001 70 | | | 6 too large depth at 2034";
 
 /// A Finish of more new objects than an export table takes.
 const JOURNALS: &str =
