@@ -21,10 +21,10 @@ use Rattle.call_dispatch.specs.Acts.{entries, acts_of, tells_of, abandoned}
 use Rattle.call_dispatch.specs.Served.{IsFinished}
 use Rattle.call_dispatch.specs.Serving.{RunsOne}
 
-abbrev one : Bool → ℕ
+abbrev pub one : Bool → ℕ
 one b = if b then 1 else 0
 
-filter_one : (p : Asked → Bool) (e : Asked) (b : Bool) → p e ≡ b → length (filter p (e ∷ [])) ≡ one b
+pub filter_one : (p : Asked → Bool) (e : Asked) (b : Bool) → p e ≡ b → length (filter p (e ∷ [])) ≡ one b
 filter_one p e true is = rw is refl
 filter_one p e false is = rw is refl
 

@@ -40,7 +40,7 @@ pub rose_after : (a b c : ℕ) → a ≤ b → Rose b c → Rose a c
 rose_after a b c le h = (omega (arith, h.0), omega (arith, h.1))
 
 -- Reading broke off.
-broken_blames : {Y : Type 0} (read : ℕ → List ℕ → Result Y WantFault) (f k : ℕ) (p q : Place) (fault : FrameFault) → f ≤ p.faults → BreaksIn p q fault read → Blames (counts f k) (counts q.faults k) (end_from fault)
+pub broken_blames : {Y : Type 0} (read : ℕ → List ℕ → Result Y WantFault) (f k : ℕ) (p q : Place) (fault : FrameFault) → f ≤ p.faults → BreaksIn p q fault read → Blames (counts f k) (counts q.faults k) (end_from fault)
 broken_blames read f k p q (BadHeader at) le h = absurd h
 broken_blames read f k p q (UnknownProtocol byte) le h = absurd h
 broken_blames read f k p q (BadMessage byte at) le h = absurd h
@@ -61,7 +61,7 @@ broken_blames read f k p q (Stream faults.OutOfMemory) le h = blameless f q.faul
 pub head_blames : {Y : Type 0} (read : ℕ → List ℕ → Result Y WantFault) (k : ℕ) (p q : Place) (fault : FrameFault) → BreaksIn p q fault read → Blames (counts p.faults k) (counts q.faults k) (end_from fault)
 head_blames read k p q fault broken = let same : p.faults ≤ p.faults = omega arith in broken_blames read p.faults k p q fault same broken
 
-memory_blames : (f f2 k : ℕ) (end : ConnEnd) → f ≤ f2 → end ≡ ends.OutOfMemory → Blames (counts f k) (counts f2 k) end
+pub memory_blames : (f f2 k : ℕ) (end : ConnEnd) → f ≤ f2 → end ≡ ends.OutOfMemory → Blames (counts f k) (counts f2 k) end
 memory_blames f f2 k end le memory =
     let P : ConnEnd → Type 0 = λ e. Blames (counts f k) (counts f2 k) e in
     subst P (sym memory) (blameless f f2 k ends.OutOfMemory le ((λ same. cc), (λ w. w)))
@@ -90,7 +90,7 @@ closes_blameless head (begun moment turn kind (ran place arguments outcome concl
 write_is : (sent : ℕ) (end : ConnEnd) → end ≡ ends.WriteFault sent → end ≢ ends.ReadFault
 write_is sent end how same = cc
 
-sent_blames : (f g k l sent : ℕ) (held held2 : Option (List ℕ)) (bytes : List ℕ) (written : Result ℕ ConnEnd) (close : Option ConnEnd) → f ≤ g → AreBlameless close
+pub sent_blames : (f g k l sent : ℕ) (held held2 : Option (List ℕ)) (bytes : List ℕ) (written : Result ℕ ConnEnd) (close : Option ConnEnd) → f ≤ g → AreBlameless close
     → Writes held held2 sent bytes written → OnErr written (Rose k l) → k ≤ l → BlamesIn (counts f k) (counts g l) (closing written close)
 sent_blames f g k l sent held held2 bytes (Ok sent2) None le none writes rose kept = record { source = le; sink = kept }
 sent_blames f g k l sent held held2 bytes (Ok sent2) (Some end) le none writes rose kept =

@@ -1,5 +1,5 @@
 -- A Call in its dialogue.
-use Rattle.std.proofs.Common.{◌≡◌, ℕ, zero, suc, ◌+◌, ◌<◌, ◌≤◌, ◌⊎◌, List, [], ◌∷◌, ◌++◌, length, take, Option, None, Some, Result, Ok, Err, refl, ap, sym, subst, ◌∙◌, inl, inr, arith, add-zero}
+use Rattle.std.proofs.Common.{◌≡◌, false, ℕ, zero, suc, ◌+◌, ◌<◌, ◌≤◌, ◌⊎◌, List, [], ◌∷◌, ◌++◌, length, take, Option, None, Some, Result, Ok, Err, refl, ap, sym, subst, ◌∙◌, inl, inr, arith, add-zero}
 use Rattle.wire_io.specs.Wire.{Rose, with_front, with_end, with_front-with_front, with_front-nothing, with_end-nothing}
 use Rattle.wire_io.specs.Pulled.{Place, Takes}
 use Rattle.object_ids.specs.declared.ids.Uid.{Uid}
@@ -27,7 +27,8 @@ use Rattle.call_dispatch.specs.Spot.{Spot, Course, took, Goes}
 use Rattle.call_dispatch.specs.Served.{Served, absent, refused, begun, unknown, ran, FitsHead, served_acts, served_written, served_closes, IsServed}
 use Rattle.call_dispatch.specs.Rows.{Exchange, served, row_of, closed_by, draws_in, course_by, most_bytes, IsExchange, IsCut}
 use Rattle.call_dispatch.specs.Inside.{BreaksAt}
-use Rattle.call_dispatch.specs.Dialogue.{Opening, Whole, opened, IsClosed, EndsInHead, EndsInArguments, EndsInCall, Ends}
+use Rattle.call_dispatch.specs.Systems.{is_system}
+use Rattle.call_dispatch.specs.Dialogue.{Opening, Whole, opened, IsClosed, EndsInHead, EndsInArguments, EndsInSystem, EndsInCall, Ends}
 use Rattle.call_dispatch.specs.Progress.{Stands, Talked, IsCoded, StepsTo, Writes, end_from}
 use Rattle.call_dispatch.specs.Serving.{BreaksOff, Answers, closing, Sends}
 use Rattle.call_dispatch.proofs.Going.{led_nothing}
@@ -37,11 +38,11 @@ use Rattle.call_dispatch.proofs.Steps.{spot_at, talks_on, talks_took, talks_cut,
 use Rattle.call_dispatch.proofs.MessageSteps.{limit_left}
 
 -- what a Call takes, does, draws and writes, so far as these bytes of it were taken behind its code
-abbrev so_far : List ℕ → List Act → ℕ → List ℕ → Course
+abbrev pub so_far : List ℕ → List Act → ℕ → List ℕ → Course
 so_far bytes acts draws written = record { taken = code_byte CallCode ∷ bytes; acts = acts; draws = draws; written = written }
 
 -- It leads on from where the code was to come.
-call_goes : (may : Invocation → Outcome → Type 0) (moves : States → Call → States → Type 0) (terms : Terms) (start first before now : Spot) (at stop sent : ℕ) (opening : Opening) (exchanges : List Exchange) (bytes : List ℕ) (acts : List Act) (draws : ℕ) (written : List ℕ)
+pub call_goes : (may : Invocation → Outcome → Type 0) (moves : States → Call → States → Type 0) (terms : Terms) (start first before now : Spot) (at stop sent : ℕ) (opening : Opening) (exchanges : List Exchange) (bytes : List ℕ) (acts : List Act) (draws : ℕ) (written : List ℕ)
     → IsCoded may moves terms start first before at stop sent opening exchanges
     → before.wires.left ≡ with_front bytes now.wires.left → now.wires.held ≡ with_end before.wires.held written → Led may moves before.side now.side acts → now.drawn ≡ before.drawn + draws
     → Goes may moves first now (so_far bytes acts draws written)
@@ -54,7 +55,7 @@ call_goes may moves terms start first before now at stop sent opening exchanges 
 
 -- ---- reading ends in the Call
 
-moved : {Y : Type 0} (read : ℕ → List ℕ → Result Y WantFault) (a b s t : ℕ) (more : List ℕ) (rest : Option (List ℕ)) (end : ConnEnd) → a ≡ b → s ≡ t → BreaksAt read a s more rest end → BreaksAt read b t more rest end
+pub moved : {Y : Type 0} (read : ℕ → List ℕ → Result Y WantFault) (a b s t : ℕ) (more : List ℕ) (rest : Option (List ℕ)) (end : ConnEnd) → a ≡ b → s ≡ t → BreaksAt read a s more rest end → BreaksAt read b t more rest end
 moved read a b s t more rest end same same2 h =
     let P : ℕ → Type 0 = λ n. BreaksAt read n s more rest end in
     let Q : ℕ → Type 0 = λ n. BreaksAt read b n more rest end in
@@ -79,14 +80,14 @@ in_call read at stop more left terms drawn w tail rest ends.MessageLimit breaks 
 in_call read at stop more left terms drawn w tail rest (ends.WriteFault sent) breaks h = absurd breaks
 
 -- Reading ended in the Call, with this end.
-breaks_talk : {Y : Type 0} (read : ℕ → List ℕ → Result Y WantFault) (may : Invocation → Outcome → Type 0) (moves : States → Call → States → Type 0) (terms : Terms) (start first before now : Spot) (at stop sent : ℕ) (opening : Opening) (exchanges : List Exchange)
+pub breaks_talk : {Y : Type 0} (read : ℕ → List ℕ → Result Y WantFault) (may : Invocation → Outcome → Type 0) (moves : States → Call → States → Type 0) (terms : Terms) (start first before now : Spot) (at stop sent : ℕ) (opening : Opening) (exchanges : List Exchange)
     (bytes : List ℕ) (acts : List Act) (base bound : ℕ) (more : List ℕ) (left2 : Option (List ℕ)) (end : ConnEnd) → (h : IsCoded may moves terms start first before at stop sent opening exchanges)
     → before.wires.left ≡ with_front bytes now.wires.left → now.wires.held ≡ before.wires.held → Led may moves before.side now.side acts → now.drawn ≡ before.drawn → BreaksAt read base bound more left2 end
-    → EndsInHead h.place (so_far bytes acts 0 []) now.wires.left end ⊎ EndsInArguments terms.kinds h.place (so_far bytes acts 0 []) now.wires.left end
+    → EndsInHead h.place (so_far bytes acts 0 []) now.wires.left end ⊎ (EndsInArguments terms.kinds h.place (so_far bytes acts 0 []) now.wires.left end ⊎ EndsInSystem h.place (so_far bytes acts 0 []) now.wires.left end)
     → Talked may moves terms start now end
 breaks_talk read may moves terms start first before now at stop sent opening exchanges bytes acts base bound more left2 end h left held led drawn breaks how =
     let tail : Course = so_far bytes acts 0 [] in
-    let P : ℕ → Type 0 = λ n. EndsInHead n tail now.wires.left end ⊎ EndsInArguments terms.kinds n tail now.wires.left end in
+    let P : ℕ → Type 0 = λ n. EndsInHead n tail now.wires.left end ⊎ (EndsInArguments terms.kinds n tail now.wires.left end ⊎ EndsInSystem n tail now.wires.left end) in
     talks_on may moves terms start first now h.place sent (opened opening exchanges) tail end h.stands
     (call_goes may moves terms start first before now at stop sent opening exchanges bytes acts 0 [] h left (held ∙ sym (with_end-nothing before.wires.held)) led (drawn ∙ sym (add-zero before.drawn)))
     (in_call read base bound more left2 terms start.drawn (opened opening exchanges) tail now.wires.left end breaks (h.code, h.few, subst P h.stands.position how))
@@ -103,10 +104,10 @@ head_breaks may moves terms start first p q held side drawn sent opening exchang
 -- Reading ended in the arguments.
 pub arguments_break : (may : Invocation → Outcome → Type 0) (moves : States → Call → States → Type 0) (terms : Terms) (start first : Spot) (p q : Place) (held : Option (List ℕ)) (side side2 : Side) (drawn drew sent : ℕ) (opening : Opening) (exchanges : List Exchange)
     (head : CallHead) (moment : ℕ) (turn : Turn) (kind moment2 ended : ℕ) (end : ConnEnd)
-    → IsCoded may moves terms start first (spot_at p held side drawn) p.at p.stop sent opening exchanges → FitsHead head → q.at ≤ q.stop → turn.reply ≡ Started kind → drew ≡ drawn → BreaksOff terms.kinds head kind p q end
+    → IsCoded may moves terms start first (spot_at p held side drawn) p.at p.stop sent opening exchanges → is_system head.id ≡ false → FitsHead head → q.at ≤ q.stop → turn.reply ≡ Started kind → drew ≡ drawn → BreaksOff terms.kinds head kind p q end
     → Led may moves side side2 (acts_of moment (Begin head.id) (Ok turn) ++ abandoned moment2 head.id ended ∷ [])
     → Talked may moves terms start (spot_at q held side2 drew) end
-arguments_break may moves terms start first p q held side side2 drawn drew sent opening exchanges head moment turn kind moment2 ended end h fits within started undrawn (mid, stand, spot, method, fault, reads, known, method_is, broken, is) led =
+arguments_break may moves terms start first p q held side side2 drawn drew sent opening exchanges head moment turn kind moment2 ended end h other fits within started undrawn (mid, stand, spot, method, fault, reads, known, method_is, broken, is) led =
     let (left, heading, stands) = head_stands p mid head stand reads in
     let front : List ℕ = reads.taken in
     let R : Stand → Type 0 = λ s. BreaksIn mid q fault (λ last. serve_to_close last (wants_of method.params) s) in
@@ -114,8 +115,9 @@ arguments_break may moves terms start first p q held side side2 drawn drew sent 
     let T : ConnEnd → Type 0 = λ e. Talked may moves terms start (spot_at q held side2 drew) e in
     subst T (sym is) (breaks_talk (λ last. serve_to_close last (wants_of method.params) (inside_block (head_bytes head) left)) may moves terms start first (spot_at p held side drawn) (spot_at q held side2 drew) p.at p.stop sent opening exchanges
     (front ++ more) (acts_of moment (Begin head.id) (Ok turn) ++ abandoned moment2 head.id ended ∷ []) mid.at mid.stop more q.left (end_from fault)
-    h (reads.takes.left ∙ ap (with_front front) taken ∙ with_front-with_front front more q.left) refl led undrawn here (inr (record {
+    h (reads.takes.left ∙ ap (with_front front) taken ∙ with_front-with_front front more q.left) refl led undrawn here (inr (inl (record {
       head = head;
+      other = other;
       numbers = fits;
       front = front;
       left = left;
@@ -134,16 +136,16 @@ arguments_break may moves terms start first p q held side side2 drawn drew sent 
       moment2 = moment2;
       place2 = ended;
       tail_is = refl;
-    })))
+    }))))
 
 -- ---- the Call is served
 
-closed_more : (exchanges : List Exchange) (e : Exchange) → closed_by (exchanges ++ e ∷ []) ≡ (row_of e).closes
+pub closed_more : (exchanges : List Exchange) (e : Exchange) → closed_by (exchanges ++ e ∷ []) ≡ (row_of e).closes
 closed_more [] e = refl
 closed_more (x ∷ []) e = refl
 closed_more (x ∷ y ∷ more) e = closed_more (y ∷ more) e
 
-some_is : (a b : ConnEnd) → Some a ≡ Some b → a ≡ b
+pub some_is : (a b : ConnEnd) → Some a ≡ Some b → a ≡ b
 some_is a b same = cc
 
 -- Where the last exchange closes the connection, this is its end.
@@ -161,10 +163,10 @@ closed_ends terms drawn w rest head (begun moment turn kind (ran place arguments
 
 -- The exchange may come where so many were drawn since the beginning.
 may_come : (may : Invocation → Outcome → Type 0) (moves : States → Call → States → Type 0) (terms : Terms) (start first : Spot) (p q : Place) (held : Option (List ℕ)) (side : Side) (drawn sent : ℕ) (opening : Opening) (exchanges : List Exchange) (bytes : List ℕ) (head : CallHead) (uid : Uid) (s : Served)
-    → IsCoded may moves terms start first (spot_at p held side drawn) p.at p.stop sent opening exchanges → FitsHead head → q.at ≤ q.stop → uid ≡ uid_drawn terms.unique terms.time drawn → Takes p q bytes → IsServed terms head bytes uid s
+    → IsCoded may moves terms start first (spot_at p held side drawn) p.at p.stop sent opening exchanges → is_system head.id ≡ false → FitsHead head → q.at ≤ q.stop → uid ≡ uid_drawn terms.unique terms.time drawn → Takes p q bytes → IsServed terms head bytes uid s
     → IsExchange terms (start.drawn + draws_in exchanges) (served bytes head uid s)
-may_come may moves terms start first p q held side drawn sent opening exchanges bytes head uid s h fits within is takes legal =
-    (is ∙ ap (uid_drawn terms.unique terms.time) (h.drawn ∙ h.stands.goes.drawn), fits, omega (arith, within, takes.at, takes.stop, h.position, h.limit), legal)
+may_come may moves terms start first p q held side drawn sent opening exchanges bytes head uid s h other fits within is takes legal =
+    (other, is ∙ ap (uid_drawn terms.unique terms.time) (h.drawn ∙ h.stands.goes.drawn), fits, omega (arith, within, takes.at, takes.stop, h.position, h.limit), legal)
 
 few_more : (a b : ℕ) → a ≤ b → b ≤ a + 1 → (d : ℕ) × (b ≡ a + d) × (d ≤ 1)
 few_more zero b low high = (b, omega arith, omega (arith, high))
@@ -175,9 +177,9 @@ few_more (suc a) (suc b) low high =
 -- There was no memory for all of the Call's row.
 pub call_cut : (may : Invocation → Outcome → Type 0) (moves : States → Call → States → Type 0) (terms : Terms) (start first : Spot) (p q : Place) (held : Option (List ℕ)) (side side2 : Side) (drawn drew sent : ℕ) (opening : Opening) (exchanges : List Exchange)
     (bytes : List ℕ) (head : CallHead) (uid : Uid) (s : Served) (acts : List Act) (end : ConnEnd)
-    → IsCoded may moves terms start first (spot_at p held side drawn) p.at p.stop sent opening exchanges → FitsHead head → q.at ≤ q.stop → uid ≡ uid_drawn terms.unique terms.time drawn → Takes p q bytes → IsServed terms head bytes uid s
+    → IsCoded may moves terms start first (spot_at p held side drawn) p.at p.stop sent opening exchanges → is_system head.id ≡ false → FitsHead head → q.at ≤ q.stop → uid ≡ uid_drawn terms.unique terms.time drawn → Takes p q bytes → IsServed terms head bytes uid s
     → Led may moves side side2 acts → IsCut [] (served_acts head uid s) acts → drawn ≤ drew → drew ≤ drawn + 1 → end ≡ ends.OutOfMemory → Talked may moves terms start (spot_at q held side2 drew) end
-call_cut may moves terms start first p q held side side2 drawn drew sent opening exchanges bytes head uid s acts end h fits within is takes legal led cut low high memory =
+call_cut may moves terms start first p q held side side2 drawn drew sent opening exchanges bytes head uid s acts end h other fits within is takes legal led cut low high memory =
     let (d, drawn_is, few) = few_more drawn drew low high in
     let tail : Course = so_far bytes acts d [] in
     let some : 0 < length (served_acts head uid s) + 1 = omega arith in
@@ -187,7 +189,7 @@ call_cut may moves terms start first p q held side side2 drawn drew sent opening
     (inr (inl (
       served bytes head uid s,
       record {
-        next = (h.code, h.few, may_come may moves terms start first p q held side drawn sent opening exchanges bytes head uid s h fits within is takes legal);
+        next = (h.code, h.few, may_come may moves terms start first p q held side drawn sent opening exchanges bytes head uid s h other fits within is takes legal);
         message = refl;
         acts = cut;
         draws = few;
@@ -199,69 +201,69 @@ call_cut may moves terms start first p q held side side2 drawn drew sent opening
 -- A Call was answered, and its answer written or cut.
 call_sent : (may : Invocation → Outcome → Type 0) (moves : States → Call → States → Type 0) (terms : Terms) (start first : Spot) (p q : Place) (held held2 : Option (List ℕ)) (side side2 : Side) (drawn drew sent : ℕ) (opening : Opening) (exchanges : List Exchange)
     (bytes : List ℕ) (head : CallHead) (uid : Uid) (s : Served) (close : Option ConnEnd) (written : Result ℕ ConnEnd)
-    → IsCoded may moves terms start first (spot_at p held side drawn) p.at p.stop sent opening exchanges → FitsHead head → q.at ≤ q.stop → uid ≡ uid_drawn terms.unique terms.time drawn → Takes p q bytes → IsServed terms head bytes uid s
+    → IsCoded may moves terms start first (spot_at p held side drawn) p.at p.stop sent opening exchanges → is_system head.id ≡ false → FitsHead head → q.at ≤ q.stop → uid ≡ uid_drawn terms.unique terms.time drawn → Takes p q bytes → IsServed terms head bytes uid s
     → Led may moves side side2 (served_acts head uid s) → drew ≡ drawn + 1 → close ≡ served_closes head s → Writes held held2 sent (served_written uid s) written
     → StepsTo may moves terms start (spot_at q held2 side2 drew) q.at opening exchanges (closing written close)
-call_sent may moves terms start first p q held held2 side side2 drawn drew sent opening exchanges bytes head uid s None (Ok sent2) h fits within is takes legal led drew_is closes writes =
+call_sent may moves terms start first p q held held2 side side2 drawn drew sent opening exchanges bytes head uid s None (Ok sent2) h other fits within is takes legal led drew_is closes writes =
     let e : Exchange = served bytes head uid s in
     let ats : q.at ≡ h.place + length (code_byte CallCode ∷ bytes) = omega (arith, takes.at, h.position) in (
       e,
       sym closes,
       stands_more may moves terms start first (spot_at q held2 side2 drew) h.place sent q.at sent2 opening exchanges e h.stands h.code (limit_left opening exchanges h.code h.few)
-          (may_come may moves terms start first p q held side drawn sent opening exchanges bytes head uid s h fits within is takes legal)
+          (may_come may moves terms start first p q held side drawn sent opening exchanges bytes head uid s h other fits within is takes legal)
           (call_goes may moves terms start first (spot_at p held side drawn) (spot_at q held2 side2 drew) p.at p.stop sent opening exchanges bytes (served_acts head uid s) 1 (served_written uid s) h takes.left writes.0 led drew_is)
           ats writes.1,
     )
-call_sent may moves terms start first p q held held2 side side2 drawn drew sent opening exchanges bytes head uid s (Some end) (Ok sent2) h fits within is takes legal led drew_is closes writes =
+call_sent may moves terms start first p q held held2 side side2 drawn drew sent opening exchanges bytes head uid s (Some end) (Ok sent2) h other fits within is takes legal led drew_is closes writes =
     let e : Exchange = served bytes head uid s in
     let now : Spot = spot_at q held2 side2 drew in
     let ats : q.at ≡ h.place + length (code_byte CallCode ∷ bytes) = omega (arith, takes.at, h.position) in
     let stood : Stands may moves terms start now q.at sent2 (opened opening (exchanges ++ e ∷ [])) =
     stands_more may moves terms start first now h.place sent q.at sent2 opening exchanges e h.stands h.code (limit_left opening exchanges h.code h.few)
-    (may_come may moves terms start first p q held side drawn sent opening exchanges bytes head uid s h fits within is takes legal)
+    (may_come may moves terms start first p q held side drawn sent opening exchanges bytes head uid s h other fits within is takes legal)
     (call_goes may moves terms start first (spot_at p held side drawn) now p.at p.stop sent opening exchanges bytes (served_acts head uid s) 1 (served_written uid s) h takes.left writes.0 led drew_is)
     ats writes.1 in
     talks_took may moves terms start now now q.at sent2 (opened opening (exchanges ++ e ∷ [])) [] end stood (sym (with_front-nothing q.left)) refl refl refl
     (closed_ends terms start.drawn (opened opening (exchanges ++ e ∷ [])) q.left head s end (sym closes) (closed_more exchanges e ∙ sym closes))
-call_sent may moves terms start first p q held held2 side side2 drawn drew sent opening exchanges bytes head uid s close (Err end) h fits within is takes legal led drew_is closes (part, less, how, wrote) =
+call_sent may moves terms start first p q held held2 side side2 drawn drew sent opening exchanges bytes head uid s close (Err end) h other fits within is takes legal led drew_is closes (part, less, how, wrote) =
     let e : Exchange = served bytes head uid s in
     let T : ConnEnd → Type 0 = λ x. Talked may moves terms start (spot_at q held2 side2 drew) x in
     subst T (sym how) (talks_cut may moves terms start first (spot_at q held2 side2 drew) h.place sent part (opened opening exchanges) (course_by e) h.stands
-    (inr (inr (e, (h.code, h.few, may_come may moves terms start first p q held side drawn sent opening exchanges bytes head uid s h fits within is takes legal), refl))) less
+    (inr (inr (e, (h.code, h.few, may_come may moves terms start first p q held side drawn sent opening exchanges bytes head uid s h other fits within is takes legal), refl))) less
     (call_goes may moves terms start first (spot_at p held side drawn) (spot_at q held2 side2 drew) p.at p.stop sent opening exchanges bytes (served_acts head uid s) 1 (take part (served_written uid s)) h takes.left wrote led drew_is))
 
 -- A Call was answered, and its answer sent.
 pub call_answered : (may : Invocation → Outcome → Type 0) (moves : States → Call → States → Type 0) (terms : Terms) (start first : Spot) (p q : Place) (held held2 : Option (List ℕ)) (side side2 : Side) (drawn drew sent faults faults2 : ℕ) (opening : Opening) (exchanges : List Exchange)
     (bytes : List ℕ) (head : CallHead) (uid : Uid) (s : Served) (answer : Answer) (result : Result ℕ ConnEnd)
-    → IsCoded may moves terms start first (spot_at p held side drawn) p.at p.stop sent opening exchanges → FitsHead head → q.at ≤ q.stop → uid ≡ uid_drawn terms.unique terms.time drawn → Takes p q bytes → IsServed terms head bytes uid s
+    → IsCoded may moves terms start first (spot_at p held side drawn) p.at p.stop sent opening exchanges → is_system head.id ≡ false → FitsHead head → q.at ≤ q.stop → uid ≡ uid_drawn terms.unique terms.time drawn → Takes p q bytes → IsServed terms head bytes uid s
     → Led may moves side side2 (served_acts head uid s) → drew ≡ drawn + 1 → answer.bytes ≡ served_written uid s → answer.close ≡ served_closes head s → Sends held held2 faults faults2 sent answer result
     → StepsTo may moves terms start (spot_at q held2 side2 drew) q.at opening exchanges result
-call_answered may moves terms start first p q held held2 side side2 drawn drew sent faults faults2 opening exchanges bytes head uid s answer result h fits within is takes legal led drew_is bytes_are closes sends =
+call_answered may moves terms start first p q held held2 side side2 drawn drew sent faults faults2 opening exchanges bytes head uid s answer result h other fits within is takes legal led drew_is bytes_are closes sends =
     let T : Result ℕ ConnEnd → Type 0 = λ r. StepsTo may moves terms start (spot_at q held2 side2 drew) q.at opening exchanges r in
     let W : List ℕ → Type 0 = λ l. Writes held held2 sent l sends.written in
-    subst T (sym sends.is) (call_sent may moves terms start first p q held held2 side side2 drawn drew sent opening exchanges bytes head uid s answer.close sends.written h fits within is takes legal led drew_is closes (subst W bytes_are sends.writes))
+    subst T (sym sends.is) (call_sent may moves terms start first p q held held2 side side2 drawn drew sent opening exchanges bytes head uid s answer.close sends.written h other fits within is takes legal led drew_is closes (subst W bytes_are sends.writes))
 
 -- A Call was answered as its row says, and its answer sent.
 pub call_done : (may : Invocation → Outcome → Type 0) (moves : States → Call → States → Type 0) (terms : Terms) (start first : Spot) (p q : Place) (held held2 : Option (List ℕ)) (side side2 : Side) (drawn drew sent faults faults2 : ℕ) (opening : Opening) (exchanges : List Exchange)
     (head : CallHead) (answer : Answer) (result : Result ℕ ConnEnd)
-    → IsCoded may moves terms start first (spot_at p held side drawn) p.at p.stop sent opening exchanges → FitsHead head → q.at ≤ q.stop
+    → IsCoded may moves terms start first (spot_at p held side drawn) p.at p.stop sent opening exchanges → is_system head.id ≡ false → FitsHead head → q.at ≤ q.stop
     → Answers may moves terms (uid_drawn terms.unique terms.time drawn) head p q side side2 drawn drew (Ok answer) → drew ≡ drawn + 1 → Sends held held2 faults faults2 sent answer result
     → StepsTo may moves terms start (spot_at q held2 side2 drew) q.at opening exchanges result
-call_done may moves terms start first p q held held2 side side2 drawn drew sent faults faults2 opening exchanges head answer result h fits within (s, bytes, takes, is, led, bytes_are, closes) drew_is sends =
+call_done may moves terms start first p q held held2 side side2 drawn drew sent faults faults2 opening exchanges head answer result h other fits within (s, bytes, takes, is, led, bytes_are, closes) drew_is sends =
     call_answered may moves terms start first p q held held2 side side2 drawn drew sent faults faults2 opening exchanges bytes head (uid_drawn terms.unique terms.time drawn) s answer result
-    h fits within refl takes is led drew_is bytes_are closes sends
+    h other fits within refl takes is led drew_is bytes_are closes sends
 
 -- The connection ended in a Call whose head was read.
 pub call_ended : (may : Invocation → Outcome → Type 0) (moves : States → Call → States → Type 0) (terms : Terms) (start first : Spot) (p q : Place) (held : Option (List ℕ)) (side side2 : Side) (drawn drew sent : ℕ) (opening : Opening) (exchanges : List Exchange)
     (head : CallHead) (end : ConnEnd)
-    → IsCoded may moves terms start first (spot_at p held side drawn) p.at p.stop sent opening exchanges → FitsHead head → q.at ≤ q.stop
+    → IsCoded may moves terms start first (spot_at p held side drawn) p.at p.stop sent opening exchanges → is_system head.id ≡ false → FitsHead head → q.at ≤ q.stop
     → Answers may moves terms (uid_drawn terms.unique terms.time drawn) head p q side side2 drawn drew (Err end) → drawn ≤ drew → drew ≤ drawn + 1
     → Talked may moves terms start (spot_at q held side2 drew) end
-call_ended may moves terms start first p q held side side2 drawn drew sent opening exchanges head end h fits within how low high = elim how [
+call_ended may moves terms start first p q held side side2 drawn drew sent opening exchanges head end h other fits within how low high = elim how [
   | inl (memory, (s, bytes, takes, is, (acts, led, cut))) ↦
-      call_cut may moves terms start first p q held side side2 drawn drew sent opening exchanges bytes head (uid_drawn terms.unique terms.time drawn) s acts end h fits within refl takes is led cut low high memory
+      call_cut may moves terms start first p q held side side2 drawn drew sent opening exchanges bytes head (uid_drawn terms.unique terms.time drawn) s acts end h other fits within refl takes is led cut low high memory
   | inr (moment, turn, kind, moment2, place, started, undrawn, breaks, led) ↦
-      arguments_break may moves terms start first p q held side side2 drawn drew sent opening exchanges head moment turn kind moment2 place end h fits within started undrawn breaks led
+      arguments_break may moves terms start first p q held side side2 drawn drew sent opening exchanges head moment turn kind moment2 place end h other fits within started undrawn breaks led
 ]
 
 -- What was taken of a Call that was answered stays within its limit.

@@ -59,7 +59,7 @@ begin_same head head2 bytes bytes2 rest rest2 fits fits2 a b input =
     same_head head head2 fits fits2 same.0
 
 -- What ends with a head of one Call and of another is the same.
-front_same : (head : CallHead) (bytes bytes2 rest rest2 : List ℕ) (left left2 : ℕ) → EndsWithHead head bytes left → EndsWithHead head bytes2 left2 → bytes ++ rest ≡ bytes2 ++ rest2 → bytes ≡ bytes2
+pub front_same : (head : CallHead) (bytes bytes2 rest rest2 : List ℕ) (left left2 : ℕ) → EndsWithHead head bytes left → EndsWithHead head bytes2 left2 → bytes ++ rest ≡ bytes2 ++ rest2 → bytes ≡ bytes2
 front_same head bytes bytes2 rest rest2 left left2 a b input = (one_front head head bytes bytes2 rest rest2 left left2 a b input).2
 
 -- ---- one way
@@ -79,7 +79,7 @@ graph_same a b n i =
 abbrev arguments_with : Graph → List Arg → Arguments
 arguments_with graph values = record { graph = graph; values = values }
 
-arguments_same : (a b : Arguments) → a.graph.nodes ≡ b.graph.nodes → a.graph.items ≡ b.graph.items → a.values ≡ b.values → a ≡ b
+pub arguments_same : (a b : Arguments) → a.graph.nodes ≡ b.graph.nodes → a.graph.items ≡ b.graph.items → a.values ≡ b.values → a ≡ b
 arguments_same a b n i v = ap (λ (g : Graph). arguments_with g a.values) (graph_same a.graph b.graph n i) ∙ ap (λ (l : List Arg). arguments_with b.graph l) v
 
 -- An outcome of a call comes to one conclusion.
@@ -204,13 +204,13 @@ abbrev pub InCall : List Kind → ℕ → Course → List ℕ → ConnEnd → Ty
 InCall kinds at tail rest end = EndsInHead at tail (Some rest) end ⊎ EndsInArguments kinds at tail (Some rest) end
 
 -- What was taken of a head that isn't read whole doesn't begin with a head, within the limit.
-head_unread : (at : ℕ) (more rest whole xs : List ℕ) (end : ConnEnd) (head : CallHead) (left : ℕ) → BreaksAt head_at (at + 1) (at + most_bytes) more (Some rest) end → IsSettled end
+pub head_unread : (at : ℕ) (more rest whole xs : List ℕ) (end : ConnEnd) (head : CallHead) (left : ℕ) → BreaksAt head_at (at + 1) (at + most_bytes) more (Some rest) end → IsSettled end
     → EndsWithHead head whole left → at + 1 + length whole ≤ at + most_bytes → whole ++ xs ≡ more ++ rest → ⊥
 head_unread at more rest whole xs end head left breaks settled heading within input =
     breaks_read head_at (at + 1) (at + most_bytes) more rest whole xs end breaks settled (λ n r. ((head_bytes head, inside_block (head_bytes head) left, r), head_given n head whole left r heading)) within input
 
 -- Reading doesn't end in the head of a Call that is served.
-head_not_served : (at : ℕ) (more rest bytes xs : List ℕ) (end : ConnEnd) (head : CallHead) → BreaksAt head_at (at + 1) (at + most_bytes) more (Some rest) end → IsSettled end
+pub head_not_served : (at : ℕ) (more rest bytes xs : List ℕ) (end : ConnEnd) (head : CallHead) → BreaksAt head_at (at + 1) (at + most_bytes) more (Some rest) end → IsSettled end
     → Begins head bytes → 1 + length bytes ≤ most_bytes → more ++ rest ≡ bytes ++ xs → ⊥
 head_not_served at more rest bytes xs end head breaks settled b few input =
     let long : length bytes ≡ length b.front + length b.more = ap (λ (l : List ℕ). length l) b.is ∙ length-append b.front b.more in
@@ -318,7 +318,7 @@ with_rests : (end end2 : ConnEnd) (tail tail2 : Course) (rest rest2 : List ℕ) 
 with_rests end end2 tail tail2 rest rest2 input ends tails = (ends, tails, same_behind tail.taken tail2.taken rest rest2 (ap (λ (c : Course). c.taken) tails) input)
 
 -- what comes behind the code of a Call in whose head reading ends
-head_behind : (at : ℕ) (tail : Course) (rest more2 rest2 : List ℕ) (end : ConnEnd) (a : EndsInHead at tail (Some rest) end) → tail.taken ++ rest ≡ code_byte Call ∷ (more2 ++ rest2) → a.0 ++ rest ≡ more2 ++ rest2
+pub head_behind : (at : ℕ) (tail : Course) (rest more2 rest2 : List ℕ) (end : ConnEnd) (a : EndsInHead at tail (Some rest) end) → tail.taken ++ rest ≡ code_byte Call ∷ (more2 ++ rest2) → a.0 ++ rest ≡ more2 ++ rest2
 head_behind at tail rest more2 rest2 end (more, is, breaks) input = ap (drop 1) (sym (ap (λ (c : Course). c.taken ++ rest) is) ∙ input)
 
 -- Reading ends in a Call in one way.

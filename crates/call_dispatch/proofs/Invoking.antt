@@ -1,5 +1,5 @@
 -- How often a Call is invoked.
-use Rattle.std.proofs.Common.{◌≡◌, ℕ, ◌+◌, ◌⊎◌, inl, inr, List, [], ◌∷◌, ◌++◌, map, Option, Result, Ok, Err, refl, ap, sym, subst, ◌∙◌, append_assoc, append-nil}
+use Rattle.std.proofs.Common.{◌≡◌, ℕ, ◌+◌, inl, inr, List, [], ◌∷◌, ◌++◌, map, Option, Result, Ok, Err, refl, ap, sym, subst, ◌∙◌, append_assoc, append-nil}
 use Rattle.std.specs.List.{flat_map}
 use Rattle.std.proofs.lemmas.Grind.{flat_map-append}
 use Rattle.object_ids.specs.declared.ids.ObjId.{ObjId}
@@ -16,7 +16,6 @@ use Rattle.space.specs.declared.asked.Asked.{Asked}
 use Rattle.space.specs.declared.asked.AskedEnd.{AskedEnd}
 use Rattle.space.specs.declared.asked.AskedEnd.TheVariants.{Turned, Abandoned, Refused as Denied}
 use Rattle.call_dispatch.specs.declared.outcome.Outcome.{Outcome}
-use Rattle.call_dispatch.specs.declared.outcome.Outcome.TheVariants.{OutOfMemory as NoMemory}
 use Rattle.call_dispatch.specs.declared.end.ConnEnd.{ConnEnd}
 use Rattle.call_dispatch.specs.declared.end.ConnEnd.TheVariants as ends
 use Rattle.call_dispatch.specs.Terms.{Terms}
@@ -25,13 +24,15 @@ use Rattle.wire_io.specs.Wire.{with_front}
 use Rattle.jrmp_frames.specs.declared.code.Code.TheVariants.{Call as Call50}
 use Rattle.jrmp_frames.specs.Frames.{code_byte}
 use Rattle.call_dispatch.specs.Acts.{Act, asks, lost, called, invokes, unreferenced, Call, States, calls, invocations, tells_of, entries, acts_of, abandoned}
-use Rattle.call_dispatch.specs.Rows.{Exchange, ping, acknowledged, served, IsExchange, taken_by, acts_by, draws_by, draws_in, IsChain, lost_at, failed, IsFailed, IsGivenUp, IsCut}
-use Rattle.call_dispatch.specs.Dialogue.{Whole, nothing, greeted, opened, exchanges_in, IsWhole, taken_in, IsAnswered, IsCutIn, EndsInCall, Ends, Dialogue}
+use Rattle.call_dispatch.specs.Rows.{Exchange, ping, acknowledged, served, system, IsExchange, taken_by, acts_by, draws_by, draws_in, IsChain, lost_at, failed, IsFailed, IsGivenUp, IsCut}
+use Rattle.call_dispatch.specs.Dialogue.{Whole, nothing, greeted, opened, exchanges_in, IsWhole, IsAnswered, IsCutIn, EndsInCall, Ends}
 use Rattle.call_dispatch.specs.Progress.{Talked}
 use Rattle.call_dispatch.proofs.OneReading.{chain_first, chain_rest}
 use Rattle.call_dispatch.specs.Results.{finish_with}
 use Rattle.call_dispatch.specs.Served.{Conclusion, finished, denied, faulted, conclusion_acts, Running, unknown, ran, invocation_of, running_acts, IsRunning, absent, refused, begun}
 use Rattle.call_dispatch.specs.Invoked.{invocations_in, IsInvocationOf, IsInvokedOnce, CallIsInvokedOnce, IsCallOf, LeadTo, InvokesEachOnce}
+use Rattle.call_dispatch.specs.Systems.{System, barred, turned, system_acts}
+use Rattle.call_dispatch.specs.Systems.{unknown as nameless}
 
 in_more : (xs ys : List Act) → invocations_in (xs ++ ys) ≡ invocations_in xs ++ invocations_in ys
 in_more xs ys = ap (λ l. flat_map invocations l) (flat_map-append calls xs ys) ∙ flat_map-append invocations (flat_map calls xs) (flat_map calls ys)
@@ -86,11 +87,18 @@ leads_more kinds (m ∷ ms) ns xs ys (inl first) then = inl (leads_more kinds ms
 leads_more kinds (m ∷ ms) ns xs ys (inr (call, others, is, mine, first)) then =
     inr (call, others ++ ys, ap (λ (l : List Invocation). l ++ ys) is, mine, leads_more kinds ms ns others ys first then)
 
+-- A call of the registry or the collector leads to none.
+system_none : (s : System) → invocations_in (system_acts s) ≡ []
+system_none nameless = refl
+system_none (barred method arguments bar) = refl
+system_none (turned method arguments ask moment answer written) = turn_none moment ask answer
+
 -- An exchange leads to at most one.
 exchange_leads : (terms : Terms) (drawn : ℕ) (e : Exchange) → IsExchange terms drawn e → LeadTo terms.kinds (taken_by e ∷ []) (invocations_in (acts_by e))
 exchange_leads terms drawn ping is = inl refl
 exchange_leads terms drawn (acknowledged uid moment answer) is = inl (turn_none moment (Ack uid) answer)
-exchange_leads terms drawn (served bytes head uid s) (draw, fits, few, is) =
+exchange_leads terms drawn (system bytes head uid s) is = inl (system_none s)
+exchange_leads terms drawn (served bytes head uid s) (other, draw, fits, few, is) =
     once_leads terms.kinds head bytes (invocations_in (acts_by (served bytes head uid s))) (call_is_invoked_once terms head bytes uid s is)
 
 exchanges_lead : (terms : Terms) (drawn : ℕ) (es : List Exchange) → IsChain terms drawn es → LeadTo terms.kinds (map taken_by es) (invocations_in (flat_map acts_by es))
@@ -162,7 +170,8 @@ took_leads kinds tail more is = inl (ap (λ (c : Course). invocations_in c.acts)
 
 call_leads : (terms : Terms) (w : Whole) (tail : Course) (rest : Option (List ℕ)) (end : ConnEnd) → EndsInCall terms w tail rest end → LeadTo terms.kinds (tail.taken ∷ []) (invocations_in tail.acts)
 call_leads terms w tail rest end (code, room, inl (more, is, breaks)) = took_leads terms.kinds tail (code_byte Call50 ∷ more) is
-call_leads terms w tail rest end (code, room, inr a) =
+call_leads terms w tail rest end (code, room, inr (inr a)) = took_leads terms.kinds tail (code_byte Call50 ∷ a.front ++ a.more) a.tail_is
+call_leads terms w tail rest end (code, room, inr (inl a)) =
     inl (ap (λ (c : Course). invocations_in c.acts) a.tail_is ∙ in_more (acts_of a.moment (Begin a.head.id) (Ok a.turn)) (abandoned a.moment2 a.head.id a.place2 ∷ [])
     ∙ ap (λ (l : List Invocation). l ++ []) (turn_none a.moment (Begin a.head.id) (Ok a.turn)))
 

@@ -13,12 +13,17 @@ pub mod OpeningSteps
 pub mod MessageSteps
 pub mod CallSteps
 pub mod Blaming
+pub mod SystemTurns
+pub mod SystemAsks
+pub mod SystemSteps
 pub mod AckSteps
 pub mod Invoking
 pub mod HeadReads
 pub mod Breaks
 pub mod Tapes
 pub mod CallsOne
+pub mod SystemNames
+pub mod SystemOne
 pub mod OpeningReading
 pub mod OneReading
 pub mod Books

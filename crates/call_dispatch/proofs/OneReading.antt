@@ -25,13 +25,15 @@ use Rattle.call_dispatch.specs.Terms.{Terms}
 use Rattle.call_dispatch.specs.Acts.{Act, Call as WorkerCall, States, acts_of}
 use Rattle.call_dispatch.specs.Served.{Served as Way, served_acts, IsServed}
 use Rattle.call_dispatch.specs.Spot.{Spot, Course, took, followed_by}
-use Rattle.call_dispatch.specs.Rows.{Exchange, ping, acknowledged, served, FitsUid, IsNoted, taken_by, acts_by, draws_by, IsExchange, IsOpen, closed_by, GoOn, IsChain}
+use Rattle.call_dispatch.specs.Systems.{System}
+use Rattle.call_dispatch.specs.Rows.{Exchange, ping, acknowledged, served, system, FitsUid, IsNoted, taken_by, acts_by, draws_by, IsExchange, IsOpen, closed_by, GoOn, IsChain}
 use Rattle.call_dispatch.specs.Dialogue.{Opening, stream, single_op, most_messages, opening_taken, Whole, nothing, greeted, opened, taken_in, course_in, IsAtCode, IsDone, IsClosed, EndsInCall, Ends, Dialogue}
 use Rattle.call_dispatch.specs.Tape.{Tick, answered, ticks, tape}
 use Rattle.call_dispatch.specs.Progress.{Talks, Settles, Talked, Served}
 use Rattle.call_dispatch.proofs.Breaks.{same_behind}
 use Rattle.call_dispatch.proofs.Tapes.{turn_alone}
-use Rattle.call_dispatch.proofs.CallsOne.{InCall, in_call_one, in_call_not_served, exchange_one}
+use Rattle.call_dispatch.proofs.CallsOne.{exchange_one}
+use Rattle.call_dispatch.proofs.SystemOne.{InAnyCall, in_any_one, in_any_not_served, in_any_not_answered, system_exchange_one, system_not_served}
 use Rattle.call_dispatch.proofs.OpeningReading.{opens, over, reading, neq-eqb, opening_passed, Reads, nothing_reads, greeted_reads}
 
 -- ---- one exchange
@@ -78,6 +80,9 @@ ack_one m m2 (Err refusal) (Err refusal2) t t2 same = ((cc), (cc), (cc))
 served_same : (b b2 : List ℕ) (h h2 : CallHead) (u u2 : Uid) (s s2 : Way) → b ≡ b2 → h ≡ h2 → u ≡ u2 → s ≡ s2 → served b h u s ≡ served b2 h2 u2 s2
 served_same b b2 h h2 u u2 s s2 bs hs us ss = ap (λ x. served x h u s) bs ∙ ap (λ x. served b2 x u s) hs ∙ ap (λ x. served b2 h2 x s) us ∙ ap (λ x. served b2 h2 u2 x) ss
 
+system_same : (b b2 : List ℕ) (h h2 : CallHead) (u u2 : Uid) (s s2 : System) → b ≡ b2 → h ≡ h2 → u ≡ u2 → s ≡ s2 → system b h u s ≡ system b2 h2 u2 s2
+system_same b b2 h h2 u u2 s s2 bs hs us ss = ap (λ x. system x h u s) bs ∙ ap (λ x. system b2 x u s) hs ∙ ap (λ x. system b2 h2 x s) us ∙ ap (λ x. system b2 h2 u2 x) ss
+
 -- Two exchanges that begin one input and one list of answers are one.
 pub next_is_one : (terms : Terms) (drawn : ℕ) (e f : Exchange) (rest rest2 : List ℕ) (t t2 : List Tick)
     → IsExchange terms drawn e → IsExchange terms drawn f
@@ -96,12 +101,24 @@ next_is_one terms drawn (acknowledged uid moment answer) (served bytes head uid2
 next_is_one terms drawn (served bytes head uid2 s) (acknowledged uid moment answer) rest rest2 t t2 is is2 input ticking = absurd (no_ack (bytes ++ rest) (bytes_of_uid uid ++ rest2) input)
 next_is_one terms drawn ping (served bytes head uid s) rest rest2 t t2 is is2 input ticking = absurd (no_call (bytes ++ rest2) rest (sym input))
 next_is_one terms drawn (served bytes head uid s) ping rest rest2 t t2 is is2 input ticking = absurd (no_call (bytes ++ rest) rest2 input)
-next_is_one terms drawn (served bytes head uid s) (served bytes2 head2 uid2 s2) rest rest2 t t2 (draw, fits, few, is) (draw2, fits2, few2, is2) input ticking =
+next_is_one terms drawn (served bytes head uid s) (served bytes2 head2 uid2 s2) rest rest2 t t2 (other, draw, fits, few, is) (other2, draw2, fits2, few2, is2) input ticking =
     let uids : uid ≡ uid2 = draw ∙ sym draw2 in
     let behind : bytes ++ rest ≡ bytes2 ++ rest2 = ap (drop 1) input in
     let P : Uid → Type 0 = λ u. IsServed terms head2 bytes2 u s2 in
     let one = exchange_one terms head head2 bytes bytes2 uid s s2 rest rest2 t t2 fits fits2 is (subst P (sym uids) is2) behind (ticking ∙ ap (λ (u : Uid). tape (served_acts head2 u s2) ++ t2) (sym uids)) in
     (served_same bytes bytes2 head head2 uid uid2 s s2 one.2 one.0 uids one.1, same_behind bytes bytes2 rest rest2 one.2 behind, one.3)
+next_is_one terms drawn ping (system bytes head uid s) rest rest2 t t2 is is2 input ticking = absurd (no_call (bytes ++ rest2) rest (sym input))
+next_is_one terms drawn (system bytes head uid s) ping rest rest2 t t2 is is2 input ticking = absurd (no_call (bytes ++ rest) rest2 input)
+next_is_one terms drawn (acknowledged uid moment answer) (system bytes head uid2 s) rest rest2 t t2 is is2 input ticking = absurd (no_ack (bytes ++ rest2) (bytes_of_uid uid ++ rest) (sym input))
+next_is_one terms drawn (system bytes head uid2 s) (acknowledged uid moment answer) rest rest2 t t2 is is2 input ticking = absurd (no_ack (bytes ++ rest) (bytes_of_uid uid ++ rest2) input)
+next_is_one terms drawn (system bytes head uid s) (served bytes2 head2 uid2 s2) rest rest2 t t2 (own, fits, few, is) (other, draw, fits2, few2, is2) input ticking =
+    absurd (system_not_served terms drawn head head2 bytes bytes2 uid uid2 s s2 rest rest2 fits fits2 own other is is2 (ap (drop 1) input))
+next_is_one terms drawn (served bytes head uid s) (system bytes2 head2 uid2 s2) rest rest2 t t2 (other, draw, fits, few, is) (own, fits2, few2, is2) input ticking =
+    absurd (system_not_served terms drawn head2 head bytes2 bytes uid2 uid s2 s rest2 rest fits2 fits own other is2 is (ap (drop 1) (sym input)))
+next_is_one terms drawn (system bytes head uid s) (system bytes2 head2 uid2 s2) rest rest2 t t2 (own, fits, few, is) (own2, fits2, few2, is2) input ticking =
+    let behind : bytes ++ rest ≡ bytes2 ++ rest2 = ap (drop 1) input in
+    let one = system_exchange_one terms drawn head head2 bytes bytes2 uid uid2 s s2 rest rest2 t t2 fits fits2 is is2 behind ticking in
+    (system_same bytes bytes2 head head2 uid uid2 s s2 one.1.2 one.0 one.1.0 one.1.1, same_behind bytes bytes2 rest rest2 one.1.2 behind, one.1.3)
 
 -- ---- what comes next
 
@@ -143,6 +160,7 @@ abbrev went : Exchange → List ℕ → Next
 went ping xs = pinged xs
 went (acknowledged uid moment answer) xs = acking (bytes_of_uid uid ++ xs)
 went (served bytes head uid s) xs = calling (bytes ++ xs)
+went (system bytes head uid s) xs = calling (bytes ++ xs)
 
 code_reads : (n at : ℕ) (e : Exchange) (rest : List ℕ) → n < 2 ^ 28 → code_next n at (taken_by e ++ rest) ≡ went e rest
 code_reads n at ping rest few = let no = neq-eqb n (2 ^ 28) (λ same. omega arith) in rw no refl
@@ -152,6 +170,7 @@ code_reads n at (acknowledged uid moment answer) rest few =
     let enough : nat_lt (length (bytes_of_uid uid ++ rest)) 14 ≡ false = grind (arith, nat_tests, long) in
     rw (no, enough) refl
 code_reads n at (served bytes head uid s) rest few = let no = neq-eqb n (2 ^ 28) (λ same. omega arith) in rw no refl
+code_reads n at (system bytes head uid s) rest few = let no = neq-eqb n (2 ^ 28) (λ same. omega arith) in rw no refl
 
 open_reads : (opening : Opening) (es : List Exchange) (at : ℕ) (e : Exchange) (rest : List ℕ) → length es < most_messages opening → open_next opening es at (taken_by e ++ rest) ≡ went e rest
 open_reads (stream endpoint) es at e rest few = code_reads (length es) at e rest few
@@ -221,15 +240,16 @@ Stops opening es tail rest end = (more : List ℕ) × (tail ≡ took more) × (n
 -- After these exchanges a Call began, and reading ended in it.
 abbrev StopsInCall : Terms → Opening → List Exchange → Course → List ℕ → ConnEnd → Type 0
 StopsInCall terms opening es tail rest end = (more : List ℕ) × (tail.taken ≡ code_byte Call ∷ more) × (next opening es (code_byte Call ∷ (more ++ rest)) ≡ calling (more ++ rest))
-    × InCall terms.kinds (length (taken_in (opened opening es))) tail rest end
+    × InAnyCall terms.kinds (length (taken_in (opened opening es))) tail rest end
 
 abbrev StopsAt : Terms → Opening → List Exchange → Course → List ℕ → ConnEnd → Type 0
 StopsAt terms opening es tail rest end = Stops opening es tail rest end ⊎ StopsInCall terms opening es tail rest end
 
 -- what was taken of the Call
-taken_of : (terms : Terms) (at : ℕ) (tail : Course) (rest : List ℕ) (end : ConnEnd) → InCall terms.kinds at tail rest end → (more : List ℕ) × (tail.taken ≡ code_byte Call ∷ more)
+taken_of : (terms : Terms) (at : ℕ) (tail : Course) (rest : List ℕ) (end : ConnEnd) → InAnyCall terms.kinds at tail rest end → (more : List ℕ) × (tail.taken ≡ code_byte Call ∷ more)
 taken_of terms at tail rest end (inl (more, is, breaks)) = (more, ap (λ (c : Course). c.taken) is)
-taken_of terms at tail rest end (inr a) = (a.front ++ a.more, ap (λ (c : Course). c.taken) a.tail_is)
+taken_of terms at tail rest end (inr (inl a)) = (a.front ++ a.more, ap (λ (c : Course). c.taken) a.tail_is)
+taken_of terms at tail rest end (inr (inr a)) = (a.front ++ a.more, ap (λ (c : Course). c.taken) a.tail_is)
 
 call_stops : (terms : Terms) (opening : Opening) (es : List Exchange) (tail : Course) (rest : List ℕ) (end : ConnEnd) → EndsInCall terms (opened opening es) tail (Some rest) end → StopsAt terms opening es tail rest end
 call_stops terms opening es tail rest end (code, room, inside) =
@@ -294,12 +314,13 @@ ends_one terms opening es tail tail2 rest rest2 end end2 t t2 (inr (more, taken,
     let same : stopped end2 rest2 ≡ calling (more ++ rest) = next_same opening es (more2 ++ rest2) (code_byte Call ∷ (more ++ rest)) (stopped end2 rest2) (calling (more ++ rest)) same_input stop2 calls in
     absurd (cc)
 ends_one terms opening es tail tail2 rest rest2 end end2 t t2 (inr (more, taken, calls, inside)) settled (inr (more2, taken2, calls2, inside2)) settled2 input ticking =
-    in_call_one terms.kinds (length (taken_in (opened opening es))) tail tail2 rest rest2 end end2 t t2 inside settled inside2 settled2 input ticking
+    in_any_one terms.kinds (length (taken_in (opened opening es))) tail tail2 rest rest2 end end2 t t2 inside settled inside2 settled2 input ticking
 
 stopped_went : (end : ConnEnd) (rest : List ℕ) (f : Exchange) (xs : List ℕ) → stopped end rest ≡ went f xs → ⊥
 stopped_went end rest ping xs same = cc
 stopped_went end rest (acknowledged uid moment answer) xs same = cc
 stopped_went end rest (served bytes head uid s) xs same = cc
+stopped_went end rest (system bytes head uid s) xs same = cc
 
 -- An end doesn't stand where an exchange goes on.
 not_both : (terms : Terms) (opening : Opening) (es : List Exchange) (drawn : ℕ) (tail : Course) (rest : List ℕ) (end : ConnEnd) (f : Exchange) (xs : List ℕ) (t u : List Tick) → StopsAt terms opening es tail rest end → IsSettled end
@@ -311,8 +332,10 @@ not_both terms opening es drawn tail rest end ping xs t u (inr (more, taken, cal
     no_call (more ++ rest) xs (sym (call_input tail more rest taken) ∙ input)
 not_both terms opening es drawn tail rest end (acknowledged uid moment answer) xs t u (inr (more, taken, calls, inside)) settled few goes legal input ticking =
     no_ack (more ++ rest) (bytes_of_uid uid ++ xs) (sym (call_input tail more rest taken) ∙ input)
-not_both terms opening es drawn tail rest end (served bytes head uid s) xs t u (inr (more, taken, calls, inside)) settled few goes (draw, fits, small, is) input ticking =
-    in_call_not_served terms (length (taken_in (opened opening es))) tail rest end head bytes uid s xs t u inside settled fits small is input ticking
+not_both terms opening es drawn tail rest end (served bytes head uid s) xs t u (inr (more, taken, calls, inside)) settled few goes (other, draw, fits, small, is) input ticking =
+    in_any_not_served terms (length (taken_in (opened opening es))) tail rest end head bytes uid s xs t u inside settled other fits small is input ticking
+not_both terms opening es drawn tail rest end (system bytes head uid s) xs t u (inr (more, taken, calls, inside)) settled few goes (own, fits, small, is) input ticking =
+    in_any_not_answered terms drawn (length (taken_in (opened opening es))) tail rest end head bytes uid s xs inside settled own fits small is input
 
 -- ---- exchanges
 

@@ -7,9 +7,15 @@ use Rattle.class_desc.specs.declared.field.TypeCode.{TypeCode}
 use Rattle.class_desc.specs.declared.field.TypeCode.TheVariants as codes
 use Rattle.method_hash.specs.declared.method.Method.{Method}
 use Rattle.method_hash.specs.Hash.{hash_of}
+use Rattle.method_hash.specs.System.{registry_text, collector_text}
+use Rattle.method_hash.specs.declared.system.RegistryMethod.TheVariants as registry
+use Rattle.method_hash.specs.declared.system.CollectorMethod.TheVariants as collector
 use Rattle.call_dispatch.specs.declared.book.Kind.{Kind}
 use Rattle.call_dispatch.specs.declared.book.BookFault.{BookFault}
 use Rattle.call_dispatch.specs.declared.book.BookFault.TheVariants.{FloatMethod, OutOfMemory}
+use Rattle.call_dispatch.specs.declared.book.SystemHashes.{SystemHashes}
+use Rattle.call_dispatch.specs.declared.system.SystemMethod.{SystemMethod}
+use Rattle.call_dispatch.specs.declared.system.SystemMethod.TheVariants.{Registry, Collector}
 
 -- ---- floats and doubles
 
@@ -47,6 +53,26 @@ first_with hash methods = position (λ method. int_eq (hash_of method.text) hash
 abbrev pub hashes_of : Kind → List ℤ
 hashes_of kind = map (λ method. hash_of method.text) kind.methods
 
+-- ---- methods of the registry and the collector
+
+abbrev pub text_of : SystemMethod → List ℕ
+text_of (Registry method) = registry_text method
+text_of (Collector method) = collector_text method
+
+-- the hash by which a method is called beside the operation -1
+unfoldable pub hash_by : SystemMethod → ℤ
+hash_by method = hash_of (text_of method)
+
+-- Each is the hash of its method.
+pub record AreSystemHashes (hashes : SystemHashes) : Type 0 where
+  pub bind : hashes.bind ≡ hash_by (Registry registry.Bind)
+  pub list : hashes.list ≡ hash_by (Registry registry.List)
+  pub lookup : hashes.lookup ≡ hash_by (Registry registry.Lookup)
+  pub rebind : hashes.rebind ≡ hash_by (Registry registry.Rebind)
+  pub unbind : hashes.unbind ≡ hash_by (Registry registry.Unbind)
+  pub clean : hashes.clean ≡ hash_by (Collector collector.Clean)
+  pub dirty : hashes.dirty ≡ hash_by (Collector collector.Dirty)
+
 -- ---- books
 
 -- Why these kinds make no book: the first kind that has such a method, and the first such method of it; or there was no memory.
@@ -54,9 +80,10 @@ abbrev pub FaultsBook : List Kind → BookFault → Type 0
 FaultsBook kinds (FloatMethod kind method) = (position has_float kinds ≡ Some kind) × (position uses_float (methods_of kinds kind) ≡ Some method)
 FaultsBook kinds OutOfMemory = Unit {0}
 
--- The hashes are those of the kinds' methods, of which there are not too many.
-pub record IsBook (kinds : List Kind) (hashes : List (List ℤ)) : Type 0 where
+-- The hashes are those of the kinds' methods, of which there are not too many, and of the registry's and the collector's.
+pub record IsBook (kinds : List Kind) (hashes : List (List ℤ)) (system : SystemHashes) : Type 0 where
   pub same : hashes ≡ map hashes_of kinds
   pub few_kinds : length kinds < 2 ^ 32
   pub few_methods : All (λ kind. length kind.methods < 2 ^ 32) kinds
   pub interfaces : All (λ kind. length (utf kind.interface) ≤ 65535) kinds
+  pub system_same : AreSystemHashes system

@@ -1,6 +1,6 @@
 -- The dialogue of one connection (Java RMI Specification, 10.2), as a relation between whole lists: the bytes taken, what was
 -- done, the bytes that the source has left then, the bytes written and the end. It is an opening, whole exchanges and an end.
-use Rattle.std.specs.Prelude.{◌≡◌, ℕ, ◌+◌, ◌^◌, ◌<◌, ◌≤◌, ◌⊎◌, List, [], ◌∷◌, ◌++◌, length, take, slice_get, Option, Some, Ok}
+use Rattle.std.specs.Prelude.{◌≡◌, true, false, ℕ, ◌+◌, ◌^◌, ◌<◌, ◌≤◌, ◌⊎◌, List, [], ◌∷◌, ◌++◌, length, take, slice_get, Option, Some, Ok}
 use Rattle.std.specs.List.{flat_map}
 use Rattle.wire_io.specs.Wire.{NothingLeft}
 use Rattle.jrmp_frames.specs.declared.header.Protocol.{Protocol}
@@ -23,6 +23,8 @@ use Rattle.call_dispatch.specs.Book.{methods_of}
 use Rattle.call_dispatch.specs.Acts.{acts_of, abandoned}
 use Rattle.call_dispatch.specs.Inside.{BreaksAt}
 use Rattle.call_dispatch.specs.Served.{EndsWithHead, FitsHead, IsMethodOf}
+use Rattle.call_dispatch.specs.Systems.{is_system, system_method, params_of}
+use Rattle.call_dispatch.specs.declared.system.SystemMethod.{SystemMethod}
 use Rattle.call_dispatch.specs.Terms.{Terms}
 use Rattle.call_dispatch.specs.Spot.{Course, exchanged, took, followed_by}
 use Rattle.call_dispatch.specs.Rows.{Exchange, taken_by, acts_by, draws_by, written_by, draws_in, course_by, most_bytes, IsExchange, closed_by, GoOn, IsChain, IsCut}
@@ -162,6 +164,7 @@ EndsInHead at tail rest end = (more : List ℕ) × (tail ≡ took (code_byte Cal
 -- Reading ends in the arguments of a Call that begins at a position: its head was read, its Begin answered, its method found, and it is given up.
 pub record EndsInArguments (kinds : List Kind) (at : ℕ) (tail : Course) (rest : Option (List ℕ)) (end : ConnEnd) : Type 0 where
   pub head : CallHead
+  pub other : is_system head.id ≡ false
   pub numbers : FitsHead head
   pub front : List ℕ
   pub left : ℕ
@@ -185,10 +188,25 @@ pub record EndsInArguments (kinds : List Kind) (at : ℕ) (tail : Course) (rest 
     written = [];
   }
 
+-- Reading ends in the arguments of a call of the registry or the collector that begins at a position: its head was read and its method found, and nothing
+-- is done.
+pub record EndsInSystem (at : ℕ) (tail : Course) (rest : Option (List ℕ)) (end : ConnEnd) : Type 0 where
+  pub head : CallHead
+  pub own : is_system head.id ≡ true
+  pub numbers : FitsHead head
+  pub front : List ℕ
+  pub left : ℕ
+  pub heading : EndsWithHead head front left
+  pub method : SystemMethod
+  pub known : system_method head ≡ Some method
+  pub more : List ℕ
+  pub breaks : BreaksAt (λ last. serve_to_close last (wants_of (params_of method)) (inside_block (head_bytes head) left)) (at + 1 + length front) (at + most_bytes) more rest end
+  pub tail_is : tail ≡ took (code_byte Call ∷ front ++ more)
+
 -- Reading ends in a Call.
 abbrev pub EndsInCall : Terms → Whole → Course → Option (List ℕ) → ConnEnd → Type 0
 EndsInCall terms w tail rest end = IsAtCode w × (count_of w < 2 ^ 28)
-    × (EndsInHead (length (taken_in w)) tail rest end ⊎ EndsInArguments terms.kinds (length (taken_in w)) tail rest end)
+    × (EndsInHead (length (taken_in w)) tail rest end ⊎ (EndsInArguments terms.kinds (length (taken_in w)) tail rest end ⊎ EndsInSystem (length (taken_in w)) tail rest end))
 
 -- Where each end stands: what stands whole, what came after it, and what is left.
 abbrev pub Ends : Terms → ℕ → Whole → Course → Option (List ℕ) → ConnEnd → Type 0

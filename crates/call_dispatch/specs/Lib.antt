@@ -12,10 +12,14 @@ pub mod Book
 pub mod Results
 pub mod Returns
 pub mod Served
+pub mod Demands
+pub mod SystemReturns
+pub mod Systems
 pub mod Invoked
 pub mod Inside
 pub mod Progress
 pub mod Serving
+pub mod ServingSystem
 pub mod Words
 pub mod Demands
 pub mod SystemReturns

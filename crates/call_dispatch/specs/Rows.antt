@@ -1,5 +1,5 @@
 -- The table of exchanges: what each message takes, does, draws and writes, and how a row is cut.
-use Rattle.std.specs.Prelude.{◌≡◌, ℕ, ◌+◌, ◌^◌, ◌≤◌, List, [], ◌∷◌, ◌++◌, ◌⊎◌, length, Option, None, Result, Ok, Err, FitsSigned}
+use Rattle.std.specs.Prelude.{◌≡◌, true, false, ℕ, ◌+◌, ◌^◌, ◌≤◌, List, [], ◌∷◌, ◌++◌, ◌⊎◌, length, Option, None, Result, Ok, Err, FitsSigned}
 use Rattle.std.specs.Int.{w16, w32, w64}
 use Rattle.std.specs.List.{flat_map}
 use Rattle.object_ids.specs.declared.ids.ObjId.{ObjId}
@@ -23,6 +23,7 @@ use Rattle.call_dispatch.specs.Terms.{Terms}
 use Rattle.call_dispatch.specs.Acts.{Act, asks, lost, called, invokes, unreferenced, entries, acts_of}
 use Rattle.call_dispatch.specs.Served.{FitsHead, Served, served_acts, served_written, served_closes, IsServed}
 use Rattle.call_dispatch.specs.Spot.{Course}
+use Rattle.call_dispatch.specs.Systems.{is_system, System, system_acts, system_draws, system_written, system_closes, IsSystem}
 
 -- a row of the table: the bytes of the message, what is done at it in order, how many identifiers are drawn, the bytes of
 -- the answer, and the end of the connection, where it ends with this answer
@@ -34,17 +35,20 @@ pub record Row : Type 0 where
   pub closes : Option ConnEnd
 
 -- an exchange: one message of the client, and what is done at it. An acknowledgement has the identifier that it names, and its turn's moment and
--- answer. A Call has the bytes behind its code, its head, and the identifier of its Return.
+-- answer. A Call has the bytes behind its code, its head, and the identifier of its Return; it is served, or it is a call of the registry or the collector.
 pub data Exchange : Type 0 where
   ping : Exchange
   acknowledged : Uid → ℕ → Result Turn Refused → Exchange
   served : List ℕ → CallHead → Uid → Served → Exchange
+  system : List ℕ → CallHead → Uid → System → Exchange
 
 abbrev pub row_of : Exchange → Row
 row_of ping = record { message = code_byte Ping ∷ []; acts = []; draws = 0; written = ping_ack; closes = None }
 row_of (acknowledged uid moment answer) = record { message = dgc_ack uid; acts = acts_of moment (Ack uid) answer; draws = 0; written = []; closes = None }
 row_of (served bytes head uid s) =
     record { message = code_byte Call ∷ bytes; acts = served_acts head uid s; draws = 1; written = served_written uid s; closes = served_closes head s }
+row_of (system bytes head uid s) =
+    record { message = code_byte Call ∷ bytes; acts = system_acts s; draws = system_draws s; written = system_written uid s; closes = system_closes head s }
 
 -- how many bytes a message has at most
 abbrev pub most_bytes : ℕ
@@ -66,7 +70,9 @@ IsNoted (Err _) = ⊥
 abbrev pub IsExchange : Terms → ℕ → Exchange → Type 0
 IsExchange terms drawn ping = Unit {0}
 IsExchange terms drawn (acknowledged uid moment answer) = FitsUid uid × IsNoted answer
-IsExchange terms drawn (served bytes head uid s) = (uid ≡ uid_drawn terms.unique terms.time drawn) × FitsHead head × (1 + length bytes ≤ most_bytes) × IsServed terms head bytes uid s
+IsExchange terms drawn (served bytes head uid s) =
+    (is_system head.id ≡ false) × (uid ≡ uid_drawn terms.unique terms.time drawn) × FitsHead head × (1 + length bytes ≤ most_bytes) × IsServed terms head bytes uid s
+IsExchange terms drawn (system bytes head uid s) = (is_system head.id ≡ true) × FitsHead head × (1 + length bytes ≤ most_bytes) × IsSystem terms drawn head bytes uid s
 
 abbrev pub taken_by : Exchange → List ℕ
 taken_by e = (row_of e).message

@@ -4,11 +4,15 @@ ghost use Rattle.std.specs.List.{list_any, position};
 ghost use Rattle.std.specs.Ordering.{int_eq};
 ghost use Rattle.mod_utf.specs.Utf.{utf};
 ghost use Rattle.method_hash.specs.Hash.{hash_of};
-ghost use Rattle.call_dispatch.specs.Book.{is_float, returns_float, uses_float, has_float, methods_of, first_with, hashes_of, FaultsBook};
+ghost use Rattle.call_dispatch.specs.Book.{is_float, returns_float, uses_float, has_float, methods_of, first_with, hashes_of, FaultsBook, AreSystemHashes};
+ghost use Rattle.call_dispatch.specs.Served.{minus_one};
+ghost use Rattle.call_dispatch.specs.Systems.{registry_numbered, collector_numbered, registry_hashed, collector_hashed, registry_method, collector_method, system_method};
 ghost use Rattle.call_dispatch.specs.declared.book.BookFault.TheVariants.{OutOfMemory};
 
+use crate::system::{SystemMethod, hash_by, is_registry};
 use class_desc::TypeCode;
-use method_hash::{Method, MethodList, hash};
+use jrmp_frames::CallHead;
+use method_hash::{CollectorMethod, Method, MethodList, RegistryMethod, hash};
 use mod_utf::list::{I64List, Sequence, Units};
 use std::alloc::{AllocError, AllocFailed, Global};
 use std::marker::Model;
@@ -54,11 +58,24 @@ impl<T: Drop> From<AllocFailed<T>> for BookFault {
     }
 }
 
+/// The hashes of the methods of the registry and of the collector.
+#[derive(Clone, Copy, Debug)]
+struct SystemHashes {
+    bind: i64,
+    list: i64,
+    lookup: i64,
+    rebind: i64,
+    unbind: i64,
+    clean: i64,
+    dirty: i64,
+}
+
 /// The kinds of objects that are served, with the hashes of their methods. Contracts see it as the list of its kinds.
 #[derive(Debug, Drop)]
 pub struct Book {
     kinds: KindList,
     hashes: Sequence<I64List>,
+    system: SystemHashes,
 }
 
 impl Model for Book {
@@ -70,7 +87,7 @@ impl Model for Book {
 
     ghost view = { λ b. b.kinds };
 
-    ghost invariant = { λ b. IsBook b.kinds b.hashes };
+    ghost invariant = { λ b. IsBook b.kinds b.hashes b.system };
 }
 
 /// Whether values of the type are floats or doubles.
@@ -154,6 +171,113 @@ fn hashes_in_all(alloc: Global, kinds: &[Kind]) -> Result<Sequence<I64List>, Boo
     Ok(all)
 }
 
+/// The hashes of the methods of the registry and of the collector.
+fn system_hashes() -> SystemHashes
+    ensures { AreSystemHashes result }
+{
+    SystemHashes {
+        bind: hash_by(SystemMethod::Registry(RegistryMethod::Bind)),
+        list: hash_by(SystemMethod::Registry(RegistryMethod::List)),
+        lookup: hash_by(SystemMethod::Registry(RegistryMethod::Lookup)),
+        rebind: hash_by(SystemMethod::Registry(RegistryMethod::Rebind)),
+        unbind: hash_by(SystemMethod::Registry(RegistryMethod::Unbind)),
+        clean: hash_by(SystemMethod::Collector(CollectorMethod::Clean)),
+        dirty: hash_by(SystemMethod::Collector(CollectorMethod::Dirty)),
+    }
+}
+
+/// Whether two hashes are the same.
+fn same(a: &i64, b: &i64) -> bool
+    ensures { result ≡ int_eq a.now b.now }
+{
+    *a == *b
+}
+
+/// Whether the operation is the one beside which a method is called by its hash.
+fn is_by_hash(operation: &i32) -> bool
+    ensures { result ≡ int_eq operation.now minus_one }
+{
+    *operation == -1
+}
+
+/// The method of the registry with an operation number.
+fn registry_numbered(operation: i32) -> Option<SystemMethod>
+    ensures { result ≡ registry_numbered operation }
+{
+    match RegistryMethod::of_operation(operation) {
+        Some(method) => Some(SystemMethod::Registry(method)),
+        None => None,
+    }
+}
+
+/// The method of the collector with an operation number.
+fn collector_numbered(operation: i32) -> Option<SystemMethod>
+    ensures { result ≡ collector_numbered operation }
+{
+    match CollectorMethod::of_operation(operation) {
+        Some(method) => Some(SystemMethod::Collector(method)),
+        None => None,
+    }
+}
+
+/// The first method of the registry with a hash.
+fn registry_hashed(hashes: &SystemHashes, hash: &i64) -> Option<SystemMethod>
+    requires { AreSystemHashes hashes.now }
+    ensures { result ≡ registry_hashed hash.now }
+{
+    if same(&hashes.bind, hash) {
+        Some(SystemMethod::Registry(RegistryMethod::Bind))
+    } else if same(&hashes.list, hash) {
+        Some(SystemMethod::Registry(RegistryMethod::List))
+    } else if same(&hashes.lookup, hash) {
+        Some(SystemMethod::Registry(RegistryMethod::Lookup))
+    } else if same(&hashes.rebind, hash) {
+        Some(SystemMethod::Registry(RegistryMethod::Rebind))
+    } else if same(&hashes.unbind, hash) {
+        Some(SystemMethod::Registry(RegistryMethod::Unbind))
+    } else {
+        None
+    }
+}
+
+/// The first method of the collector with a hash.
+fn collector_hashed(hashes: &SystemHashes, hash: &i64) -> Option<SystemMethod>
+    requires { AreSystemHashes hashes.now }
+    ensures { result ≡ collector_hashed hash.now }
+{
+    if same(&hashes.clean, hash) {
+        Some(SystemMethod::Collector(CollectorMethod::Clean))
+    } else if same(&hashes.dirty, hash) {
+        Some(SystemMethod::Collector(CollectorMethod::Dirty))
+    } else {
+        None
+    }
+}
+
+/// The method of the registry that a call names.
+fn registry_method(hashes: &SystemHashes, head: &CallHead) -> Option<SystemMethod>
+    requires { AreSystemHashes hashes.now }
+    ensures { result ≡ registry_method head.now.operation head.now.hash }
+{
+    if is_by_hash(&head.operation) {
+        registry_hashed(hashes, &head.hash)
+    } else {
+        registry_numbered(head.operation)
+    }
+}
+
+/// The method of the collector that a call names.
+fn collector_method(hashes: &SystemHashes, head: &CallHead) -> Option<SystemMethod>
+    requires { AreSystemHashes hashes.now }
+    ensures { result ≡ collector_method head.now.operation head.now.hash }
+{
+    if is_by_hash(&head.operation) {
+        collector_hashed(hashes, &head.hash)
+    } else {
+        collector_numbered(head.operation)
+    }
+}
+
 /// The place of the first of these hashes that is this one.
 fn first_hash(hashes: &[i64], hash: i64) -> Option<usize>
     ensures { result ≡ position (λ other. int_eq other hash) hashes.now }
@@ -192,7 +316,11 @@ impl Book {
             return Err(float_fault(kinds.as_slice(), kind));
         }
         let hashes = hashes_in_all(alloc, kinds.as_slice())?;
-        Ok(Book { kinds, hashes })
+        Ok(Book {
+            kinds,
+            hashes,
+            system: system_hashes(),
+        })
     }
 
     /// The kind at a place; None where there is none.
@@ -218,5 +346,17 @@ impl Book {
     {
         let kind = self.kind(kind)?;
         kind.methods.as_slice().get(place as usize)
+    }
+
+    /// The method that a call of the registry or the collector names: by its operation number, whatever hash stands beside it, or beside the
+    /// operation -1 by its hash. None exactly where it names none.
+    pub fn system_method(&self, head: &CallHead) -> Option<SystemMethod>
+        ensures { result ≡ system_method head.now }
+    {
+        if is_registry(head.id) {
+            registry_method(&self.system, head)
+        } else {
+            collector_method(&self.system, head)
+        }
     }
 }

@@ -35,13 +35,18 @@ use wire_io::{Clock, Sink, Source};
 const NO_OBJECT: &[u8] = b"java.rmi.NoSuchObjectException: no such object";
 
 /// The message where the object's kind has no such method.
-const NO_METHOD: &[u8] = b"java.rmi.UnmarshalException: no such method";
+pub const NO_METHOD: &[u8] = b"java.rmi.UnmarshalException: no such method";
 
 /// The message where the space's history is full.
 const FULL_HISTORY: &[u8] = b"java.rmi.ServerException: full: history";
 
 /// An exceptional Return with a message in ASCII, after which the connection ends so, or goes on.
-fn told(alloc: Global, uid: Uid, message: &[u8], close: Option<ConnEnd>) -> Result<Answer, ConnEnd>
+pub fn told(
+    alloc: Global,
+    uid: Uid,
+    message: &[u8],
+    close: Option<ConnEnd>,
+) -> Result<Answer, ConnEnd>
     ensures prepared { IsPrepared (fault_return uid message.now) close result }
     ensures short { IfOk result (λ answer. length answer.bytes ≤ 2 ^ 30) }
 {
@@ -64,7 +69,12 @@ fn denied(alloc: Global, uid: Uid, refused: Refused) -> Result<Answer, ConnEnd>
 }
 
 /// What a Call is answered that ends the connection. The answer takes the next identifier of the draw.
-fn refuse(alloc: Global, setup: &mut Setup, message: &[u8], end: ConnEnd) -> Result<Answer, ConnEnd>
+pub fn refuse(
+    alloc: Global,
+    setup: &mut Setup,
+    message: &[u8],
+    end: ConnEnd,
+) -> Result<Answer, ConnEnd>
     requires time { setup.old.draw.time <ℤ pos (2 ^ 61) }
     requires drawn { setup.old.draw.drawn < 2 ^ 65 }
     ensures prepared { IsPrepared (fault_return (next_of (terms_of [] setup.old) setup.old.draw.drawn) message.now) (Some end) result }
@@ -217,7 +227,7 @@ fn method_of(book: &Book, kind: u32, head: &CallHead) -> Option<u32>
 }
 
 /// The end where an object's kind doesn't have the method that a head names.
-fn no_such_method(head: &CallHead) -> ConnEnd
+pub fn no_such_method(head: &CallHead) -> ConnEnd
     ensures { result ≡ ConnEnd.NoSuchMethod head.now.operation head.now.hash }
 {
     ConnEnd::NoSuchMethod {

@@ -17,6 +17,7 @@ mod returns;
 pub mod serve;
 pub mod setup;
 pub mod system;
+mod system_calls;
 mod system_return;
 mod turns;
 pub mod words;

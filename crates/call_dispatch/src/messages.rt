@@ -1,5 +1,6 @@
 //! The messages of a connection, after its opening.
 ghost use Rattle.std.specs.Prelude.{◌≡◌, ◌<◌, ◌≤◌, ◌+◌, ◌^◌, pos, ◌<ℤ◌, length, IfOk, OnOk};
+ghost use Rattle.mod_utf.specs.Utf.{utf};
 ghost use Rattle.space.specs.Balance.{Balanced};
 ghost use Rattle.jrmp_frames.specs.declared.header.Protocol.TheVariants.{Stream, SingleOp};
 ghost use Rattle.call_dispatch.specs.Faults.{counts_of, Blames, BlamesIn};
@@ -10,11 +11,11 @@ ghost use Rattle.call_dispatch.specs.Progress.{GoesOn, Steps, ServesCall};
 ghost use Rattle.call_dispatch.specs.Serving.{Sends, Notes, Acknowledges};
 
 use crate::answer::write_answer;
-use crate::calls::answer_call;
 use crate::connection::Connection;
 use crate::end::{ConnEnd, end_of};
 use crate::opening::Opened;
 use crate::returns::Answer;
+use crate::system_calls::answer_any;
 use crate::turns::take_turn;
 use crate::worker::Worker;
 use history::{Ask, Refused};
@@ -38,6 +39,7 @@ pub fn serve_messages<S: Source, K: Sink, C: Clock, P: Port, W: Worker>(
 ) -> ConnEnd
     requires at { connection.old.pull.at < 2 ^ 17 }
     requires sent { opened.sent < 2 ^ 17 }
+    requires host { length (utf connection.old.setup.now.host) ≤ 255 }
     requires time { connection.old.setup.now.draw.time <ℤ pos (2 ^ 61) }
     requires drawn { connection.old.setup.now.draw.drawn < 2 ^ 64 }
     requires ready { P.ready connection.old.port.now }
@@ -67,6 +69,7 @@ fn serve_one<S: Source, K: Sink, C: Clock, P: Port, W: Worker>(
 ) -> ConnEnd
     requires at { connection.old.pull.at < 2 ^ 17 }
     requires sent { before < 2 ^ 17 }
+    requires host { length (utf connection.old.setup.now.host) ≤ 255 }
     requires time { connection.old.setup.now.draw.time <ℤ pos (2 ^ 61) }
     requires drawn { connection.old.setup.now.draw.drawn < 2 ^ 64 }
     requires ready { P.ready connection.old.port.now }
@@ -96,6 +99,7 @@ fn serve_many<S: Source, K: Sink, C: Clock, P: Port, W: Worker>(
 ) -> ConnEnd
     requires at { connection.old.pull.at < 2 ^ 17 }
     requires sent { before < 2 ^ 17 }
+    requires host { length (utf connection.old.setup.now.host) ≤ 255 }
     requires time { connection.old.setup.now.draw.time <ℤ pos (2 ^ 61) }
     requires drawn { connection.old.setup.now.draw.drawn < 2 ^ 64 }
     requires ready { P.ready connection.old.port.now }
@@ -133,8 +137,9 @@ fn serve_message<S: Source, K: Sink, C: Clock, P: Port, W: Worker>(
     requires at { connection.old.pull.at < 2 ^ 61 }
     requires sent { sent < 2 ^ 61 }
     requires served { served ≤ 2 ^ 28 }
+    requires host { length (utf connection.old.setup.now.host) ≤ 255 }
     requires time { connection.old.setup.now.draw.time <ℤ pos (2 ^ 61) }
-    requires drawn { connection.old.setup.now.draw.drawn < 2 ^ 65 }
+    requires drawn { connection.old.setup.now.draw.drawn + 1 < 2 ^ 65 }
     requires ready { P.ready connection.old.port.now }
     requires room { 2 < P.room_of connection.old.port.now }
     requires balanced { Balanced (P.asked connection.old.port.now) }
@@ -150,7 +155,7 @@ fn serve_message<S: Source, K: Sink, C: Clock, P: Port, W: Worker>(
     ensures leads { P.leads connection.old.port.now connection.new.port.now }
     ensures room { P.room_of connection.old.port.now ≤ P.room_of connection.new.port.now + 3 }
     ensures calls { W.calls connection.new.worker.now ≤ W.calls connection.old.worker.now + 1 }
-    ensures drawn { connection.new.setup.now.draw.drawn ≤ connection.old.setup.now.draw.drawn + 1 }
+    ensures drawn { connection.new.setup.now.draw.drawn ≤ connection.old.setup.now.draw.drawn + 2 }
     ensures blames { BlamesIn (counts_of S.faults K.faults connection.old) (counts_of S.faults K.faults connection.new) result }
 {
     connection.pull.mark(MESSAGE_BYTES);
@@ -234,8 +239,9 @@ fn serve_call<S: Source, K: Sink, C: Clock, P: Port, W: Worker>(
     sent: u64,
 ) -> Result<u64, ConnEnd>
     requires sent { sent < 2 ^ 61 }
+    requires host { length (utf connection.old.setup.now.host) ≤ 255 }
     requires time { connection.old.setup.now.draw.time <ℤ pos (2 ^ 61) }
-    requires drawn { connection.old.setup.now.draw.drawn < 2 ^ 65 }
+    requires drawn { connection.old.setup.now.draw.drawn + 1 < 2 ^ 65 }
     requires ready { P.ready connection.old.port.now }
     requires room { 2 < P.room_of connection.old.port.now }
     requires balanced { Balanced (P.asked connection.old.port.now) }
@@ -250,12 +256,12 @@ fn serve_call<S: Source, K: Sink, C: Clock, P: Port, W: Worker>(
     ensures leads { P.leads connection.old.port.now connection.new.port.now }
     ensures room { P.room_of connection.old.port.now ≤ P.room_of connection.new.port.now + 3 }
     ensures calls { W.calls connection.new.worker.now ≤ W.calls connection.old.worker.now + 1 }
-    ensures drawn { connection.new.setup.now.draw.drawn ≤ connection.old.setup.now.draw.drawn + 1 }
+    ensures drawn { connection.new.setup.now.draw.drawn ≤ connection.old.setup.now.draw.drawn + 2 }
     ensures blames { BlamesIn (counts_of S.faults K.faults connection.old) (counts_of S.faults K.faults connection.new) result }
 {
     match read_head(alloc, &mut connection.pull) {
         Ok((head, reader)) => {
-            let answer = answer_call(alloc, connection, head, reader)?;
+            let answer = answer_any(alloc, connection, head, reader)?;
             send(connection.sink, answer, sent)
         }
         Err(fault) => Err(end_of(fault)),

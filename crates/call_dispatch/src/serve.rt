@@ -92,7 +92,8 @@ fn talk<S: Source, K: Sink, C: Clock, P: Port, W: Worker>(
     alloc: Global,
     connection: &mut Connection<S, K, C, P, W>,
 ) -> ConnEnd
-    requires host { length (utf connection.old.setup.now.peer_host) ≤ 255 }
+    requires peer_host { length (utf connection.old.setup.now.peer_host) ≤ 255 }
+    requires host { length (utf connection.old.setup.now.host) ≤ 255 }
     requires at { connection.old.pull.at ≡ 0 }
     requires stop { connection.old.pull.stop ≡ 2 ^ 62 }
     requires time { connection.old.setup.now.draw.time <ℤ pos (2 ^ 61) }

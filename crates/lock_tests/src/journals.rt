@@ -4,36 +4,58 @@ use space::{Space, journal};
 use std::alloc::Global;
 use std::str;
 
-/// The number and the moment of an event, which begin its line.
-fn number_and_moment(line: &str) -> Option<(usize, u64)> {
-    let mut words = line.split(' ');
-    let by = words.next()?.parse::<usize>().ok()?;
-    let moment = words.next()?.parse::<u64>().ok()?;
-    Some((by, moment))
+/// The number that a text spells.
+fn number_of(text: &str) -> Option<u64> {
+    text.parse::<u64>().ok()
 }
 
-/// How many events each number has, where the k-th event of a number, from 0, has the moment k; None where one has another moment.
-fn counts_of(text: &ByteList) -> Option<[u64; 10]> {
-    let mut counts = [0u64; 10];
-    let text = str::from_utf8(text.as_slice()).ok()?;
-    for line in text.split('\n').skip(1) {
-        if line.is_empty() {
-            continue;
+/// Counts the event of a line, and answers whether the k-th event of its number, from 0, has the moment k.
+fn count(counts: &mut [u64], line: &str) -> bool {
+    let (by, rest) = line.split_once(' ').unwrap_or((line, ""));
+    let (moment, _rest) = rest.split_once(' ').unwrap_or((rest, ""));
+    match counts.get_mut(number_of(by).unwrap_or(99) as usize) {
+        Some(count) => {
+            let next = Some(*count) == number_of(moment);
+            *count = count.wrapping_add(1);
+            next
         }
-        let (by, moment) = number_and_moment(line)?;
-        let count = counts.get_mut(by)?;
-        if *count != moment {
-            return None;
-        }
-        *count = count.wrapping_add(1);
+        None => false,
     }
-    Some(counts)
 }
 
-/// How many events each number has, where each number's stand in the order of their moments.
-pub(crate) fn counts(alloc: Global, space: &Space) -> Option<[u64; 10]> {
+/// Counts the events of a journal's lines after the first one.
+fn count_all(counts: &mut [u64], text: &str) -> bool {
+    for line in text.split('\n').skip(1) {
+        if !line.is_empty() && !count(counts, line) {
+            return false;
+        }
+    }
+    true
+}
+
+/// Whether these are the counts that a text spells.
+fn are_wanted(counts: &[u64], wanted: &str) -> bool {
+    for (place, word) in wanted.split(' ').enumerate() {
+        if counts.get(place).copied() != number_of(word) {
+            return false;
+        }
+    }
+    true
+}
+
+/// Whether a journal has so many events of each number from 0 to 9, in the order of their moments.
+fn is_counted(text: &ByteList, wanted: &str) -> bool {
+    let mut counts = [0u64; 10];
+    match str::from_utf8(text.as_slice()) {
+        Ok(text) => count_all(&mut counts, text) && are_wanted(&counts, wanted),
+        Err(_) => false,
+    }
+}
+
+/// Whether a space has so many events of each number from 0 to 9, where the k-th one of a number, from 0, has the moment k.
+pub(crate) fn are_counted(alloc: Global, space: &Space, wanted: &str) -> bool {
     match journal(alloc, space) {
-        Ok(text) => counts_of(&text),
-        Err(_) => None,
+        Ok(text) => is_counted(&text, wanted),
+        Err(_) => false,
     }
 }

@@ -4,7 +4,7 @@ ghost use Rattle.std.specs.Thread.{IsSync};
 ghost use Rattle.turn_lock.specs.Handles.{IsBranchOf, IsRootOf};
 
 use crate::crews::{FIRST, crew, fresh, ticked};
-use crate::journals::counts;
+use crate::journals::are_counted;
 use mod_utf::list::Kinds;
 use object_ids::ObjIds;
 use space::{Ask, Space};
@@ -24,7 +24,7 @@ fn branch(root: &mut Root, lock: &TurnLock) -> Option<Pass>
     requires { IsRootOf lock.now root.old }
     ensures root { IsRootOf lock.now root.new }
     ensures pass { IfSome result (λ p. IsBranchOf lock.now p × (p.room ≡ 2147483648)) }
-    ensures out { IfSome result (λ _. root.new.out ≡ root.old.out + 1) }
+    ensures out { IfSome result (λ _. (root.new.out ≡ root.old.out + 1) × (root.new.pass.room ≡ root.old.pass.room)) }
 {
     match root.split(lock) {
         Ok(pass) => Some(pass),
@@ -83,13 +83,9 @@ fn by_two<R: Threads + Wait + Sync>(
 }
 
 /// Looks whether a space has so many events, and so many of each number in the order of their moments.
-fn check_counts(rt: &impl Abort, alloc: Global, space: &Space, len: u64, wanted: [u64; 10]) {
+fn check_counts(rt: &impl Abort, alloc: Global, space: &Space, len: u64, wanted: &str) {
     must(rt, space.len() == len, "as many events");
-    must(
-        rt,
-        counts(alloc, space) == Some(wanted),
-        "each in its order",
-    );
+    must(rt, are_counted(alloc, space, wanted), wanted);
 }
 
 #[test]
@@ -98,8 +94,7 @@ fn two_passes(rt: HostRuntime) {
     match by_two(&rt, alloc, fresh(alloc), 100) {
         Some((space, refused)) => {
             must(&rt, refused == 0, "none is refused");
-            let wanted = [0, 100, 100, 0, 0, 0, 0, 0, 0, 0];
-            check_counts(&rt, alloc, &space, 200, wanted);
+            check_counts(&rt, alloc, &space, 200, "0 100 100 0 0 0 0 0 0 0");
         }
         None => must(&rt, false, "no memory"),
     }
@@ -171,7 +166,7 @@ fn eight_passes(rt: HostRuntime) {
     let alloc = rt.alloc();
     match by_eight(&rt, alloc, space_of_one(&rt, alloc)) {
         Some(space) => {
-            let wanted = [1, 1000, 1000, 1000, 1000, 1000, 1000, 1000, 1000, 0];
+            let wanted = "1 1000 1000 1000 1000 1000 1000 1000 1000 0";
             check_counts(&rt, alloc, &space, 8001, wanted);
             must(&rt, is_idle(&space), "no call runs");
         }
@@ -192,9 +187,10 @@ fn split_and_tick<R: Wait>(
     ensures root { IsRootOf lock.now root.new }
     ensures pass { IfSome result (λ p. IsBranchOf lock.now p × (root.new.out ≡ root.old.out + 1) × (root.new.pass.room ≡ root.old.pass.room)) }
 {
-    let pass = root.split(lock).ok()?;
-    let (pass, _refused) = ticked(rt, alloc, lock, pass, turns);
-    Some(pass)
+    match branch(root, lock) {
+        Some(pass) => Some(ticked(rt, alloc, lock, pass, turns).0),
+        None => None,
+    }
 }
 
 /// Makes three passes, uses them, and joins them in another order.
@@ -236,7 +232,7 @@ fn in_other_order<R: Wait>(rt: &R, alloc: Global) -> Option<Space> {
 fn passes_are_joined_in_another_order(rt: HostRuntime) {
     let alloc = rt.alloc();
     match in_other_order(&rt, alloc) {
-        Some(space) => check_counts(&rt, alloc, &space, 7, [1, 1, 2, 3, 0, 0, 0, 0, 0, 0]),
+        Some(space) => check_counts(&rt, alloc, &space, 7, "1 1 2 3 0 0 0 0 0 0"),
         None => must(&rt, false, "no memory"),
     }
 }

@@ -1,5 +1,5 @@
 use Rattle.std.proofs.Common.{Ok, Err, refl}
-use Rattle.history.specs.declared.replies.Refused.TheVariants.{HistoryFull, OutOfMemory}
+use Rattle.history.specs.declared.replies.Refused.TheVariants.{HistoryFull}
 use Rattle.call_dispatch.proofs.Balancing.{ack_even, ack_answered}
 use Rattle.call_dispatch.proofs.messages.note.Goals as goal
 

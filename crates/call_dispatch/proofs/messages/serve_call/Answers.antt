@@ -5,10 +5,11 @@ use Rattle.std.proofs.lemmas.Result.{err_from_is_err_and}
 use Rattle.wire_io.specs.Pulled.{place}
 use Rattle.jrmp_frames.specs.Calls.{head_at}
 use Rattle.call_dispatch.specs.Served.{FitsHead}
+use Rattle.call_dispatch.proofs.CallSteps.{head_breaks}
+use Rattle.call_dispatch.proofs.SystemSteps.{any_done, any_ended, any_within, any_ended_blames, any_blames}
 use Rattle.call_dispatch.specs.Terms.{terms_of}
-use Rattle.call_dispatch.proofs.CallSteps.{head_breaks, call_ended, call_done, answered_within}
 use Rattle.call_dispatch.proofs.MessageSteps.{most_of}
-use Rattle.call_dispatch.proofs.Blaming.{head_blames, ended_blames, call_blames}
+use Rattle.call_dispatch.proofs.Blaming.{head_blames}
 use Rattle.call_dispatch.proofs.messages.serve_call.Goals as goal
 
 pub returns-in-Err-clause-serves : goal.returns-in-Err-clause-serves
@@ -31,14 +32,14 @@ returns-in_err-answer-in-Ok-clause-serves g c start first opening exchanges code
     let fits : FitsHead c.in-Ok.head = record { number = number; unique = unique; time = time; count = count; operation = operation; hash = hash } in
     let p = err_from_is_err_and c.from_residual.result c.from_residual.ensures.1 in
     let start_place = place g.S.Source.left g.S.Source.faults c.args.connection.now.pull in
-    rw (c.in_err-answer-in-Ok.ensures.sink, p.1, p.2) (call_ended _ _ _ start first start_place _ _ _ _ _ _ _ opening exchanges c.in-Ok.head _
-    coded fits c.answer_call.new.connection.pull.within (c.in_err-answer-in-Ok.ensures.answers start_place c.in-Ok.ensures.reads) c.in_err-answer-in-Ok.ensures.drawn.0 c.in_err-answer-in-Ok.ensures.drawn.1)
+    rw (c.in_err-answer-in-Ok.ensures.sink, p.1, p.2) (any_ended g.W.Worker.may g.W.Worker.moves (terms_of c.args.connection.now.book.now c.args.connection.now.setup.now) start first start_place _ _ _ _ _ _ _ opening exchanges c.in-Ok.head _
+    coded fits c.answer_any.new.connection.pull.within (c.in_err-answer-in-Ok.ensures.answers start_place c.in-Ok.ensures.reads))
 
 pub returns-in_err-answer-in-Ok-clause-blames : goal.returns-in_err-answer-in-Ok-clause-blames
 returns-in_err-answer-in-Ok-clause-blames g c =
     let p = err_from_is_err_and c.from_residual.result c.from_residual.ensures.1 in
     let start_place = place g.S.Source.left g.S.Source.faults c.args.connection.now.pull in
-    rw (c.in_err-answer-in-Ok.ensures.sink, p.1, p.2) (ended_blames g.W.Worker.may g.W.Worker.moves (terms_of c.args.connection.now.book.now c.args.connection.now.setup.now) _ c.in-Ok.head start_place (place g.S.Source.left g.S.Source.faults c.answer_call.new.connection.pull) _ _ _ _ (g.K.Sink.faults c.args.connection.now.sink.now) _ (c.in_err-answer-in-Ok.ensures.answers start_place c.in-Ok.ensures.reads))
+    rw (c.in_err-answer-in-Ok.ensures.sink, p.1, p.2) (any_ended_blames g.W.Worker.may g.W.Worker.moves (terms_of c.args.connection.now.book.now c.args.connection.now.setup.now) c.in-Ok.head start_place (place g.S.Source.left g.S.Source.faults c.answer_any.new.connection.pull) _ _ _ _ (g.K.Sink.faults c.args.connection.now.sink.now) _ (c.in_err-answer-in-Ok.ensures.answers start_place c.in-Ok.ensures.reads))
 
 pub returns-in_ok-answer-in-Ok-clause-serves : goal.returns-in_ok-answer-in-Ok-clause-serves
 returns-in_ok-answer-in-Ok-clause-serves g c start first opening exchanges coded =
@@ -50,15 +51,15 @@ returns-in_ok-answer-in-Ok-clause-serves g c start first opening exchanges coded
     let hash : FitsSigned w64 c.in-Ok.head.hash = search rules in
     let fits : FitsHead c.in-Ok.head = record { number = number; unique = unique; time = time; count = count; operation = operation; hash = hash } in
     let start_place = place g.S.Source.left g.S.Source.faults c.args.connection.now.pull in
-    call_done _ _ _ start first start_place _ _ _ _ _ _ _ _ _ _ opening exchanges c.in-Ok.head c.in_ok-answer-in-Ok.answer c.send.result
-    coded fits c.answer_call.new.connection.pull.within (c.in_ok-answer-in-Ok.ensures.answers start_place c.in-Ok.ensures.reads) c.in_ok-answer-in-Ok.ensures.drew (rw c.in_ok-answer-in-Ok.ensures.sink at c.send.ensures.sends)
+    any_done g.W.Worker.may g.W.Worker.moves (terms_of c.args.connection.now.book.now c.args.connection.now.setup.now) start first start_place _ _ _ _ _ _ _ _ _ _ opening exchanges c.in-Ok.head c.in_ok-answer-in-Ok.answer c.send.result
+    coded fits c.answer_any.new.connection.pull.within (c.in_ok-answer-in-Ok.ensures.answers start_place c.in-Ok.ensures.reads) (rw c.in_ok-answer-in-Ok.ensures.sink at c.send.ensures.sends)
 
 pub returns-in_ok-answer-in-Ok-clause-blames : goal.returns-in_ok-answer-in-Ok-clause-blames
 returns-in_ok-answer-in-Ok-clause-blames g c =
     let start_place = place g.S.Source.left g.S.Source.faults c.args.connection.now.pull in
-    call_blames _ _ (terms_of c.args.connection.now.book.now c.args.connection.now.setup.now) _ c.in-Ok.head start_place _ _ _ c.args.connection.now.setup.now.draw.drawn c.answer_call.new.connection.setup.now.draw.drawn _ _ _ _ _ c.in_ok-answer-in-Ok.answer c.send.result (c.in_ok-answer-in-Ok.ensures.answers start_place c.in-Ok.ensures.reads) (rw c.in_ok-answer-in-Ok.ensures.sink at c.send.ensures.sends)
+    any_blames g.W.Worker.may g.W.Worker.moves (terms_of c.args.connection.now.book.now c.args.connection.now.setup.now) c.in-Ok.head start_place _ _ _ c.args.connection.now.setup.now.draw.drawn c.answer_any.new.connection.setup.now.draw.drawn _ _ _ _ _ c.in_ok-answer-in-Ok.answer c.send.result (c.in_ok-answer-in-Ok.ensures.answers start_place c.in-Ok.ensures.reads) (rw c.in_ok-answer-in-Ok.ensures.sink at c.send.ensures.sends)
 
 pub returns-in_ok-answer-in-Ok-clause-most : goal.returns-in_ok-answer-in-Ok-clause-most
 returns-in_ok-answer-in-Ok-clause-most g c =
     let start_place = place g.S.Source.left g.S.Source.faults c.args.connection.now.pull in
-    most_of c.send.result _ _ _ (answered_within _ _ (terms_of c.args.connection.now.book.now c.args.connection.now.setup.now) _ c.in-Ok.head start_place _ _ _ c.args.connection.now.setup.now.draw.drawn c.answer_call.new.connection.setup.now.draw.drawn c.in_ok-answer-in-Ok.answer c.answer_call.new.connection.pull.within (c.in_ok-answer-in-Ok.ensures.answers start_place c.in-Ok.ensures.reads)) c.send.ensures.most
+    most_of c.send.result _ _ _ (any_within g.W.Worker.may g.W.Worker.moves (terms_of c.args.connection.now.book.now c.args.connection.now.setup.now) c.in-Ok.head start_place _ _ _ c.args.connection.now.setup.now.draw.drawn c.answer_any.new.connection.setup.now.draw.drawn c.in_ok-answer-in-Ok.answer c.answer_any.new.connection.pull.within (c.in_ok-answer-in-Ok.ensures.answers start_place c.in-Ok.ensures.reads)) c.send.ensures.most

@@ -1,4 +1,5 @@
-use Rattle.std.proofs.Common.{rules, ◌∷◌, [], ◌++◌, pos, ◌<ℤ◌, ◌^◌, sym, subst, Ok, Err, arith, length-append}
+use Rattle.std.proofs.Common.{rules, length, ◌≤◌, ◌∷◌, [], ◌++◌, pos, ◌<ℤ◌, ◌^◌, sym, subst, Ok, Err, arith, length-append}
+use Rattle.mod_utf.specs.Utf.{utf}
 use Rattle.call_dispatch.specs.Terms.{Terms}
 use Rattle.call_dispatch.specs.Spot.{spot_of}
 use Rattle.call_dispatch.proofs.Steps.{goes_on_more}
@@ -8,6 +9,9 @@ use Rattle.call_dispatch.proofs.messages.serve_many.Goals as goal
 
 pub serve_message-requires-clause-time : goal.serve_message-requires-clause-time
 serve_message-requires-clause-time g c = subst (λ (t : Terms). t.time <ℤ pos (2 ^ 61)) (sym c.loop-after.invariant.4.terms) c.requires.time
+
+pub serve_message-requires-clause-host : goal.serve_message-requires-clause-host
+serve_message-requires-clause-host g c = subst (λ (t : Terms). length (utf t.host) ≤ 255) (sym c.loop-after.invariant.4.terms) c.requires.host
 
 pub returns-in-Err-clause-goes_on : goal.returns-in-Err-clause-goes_on
 returns-in-Err-clause-goes_on g c start opening is stands =

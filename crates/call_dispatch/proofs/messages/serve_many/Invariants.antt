@@ -10,7 +10,7 @@ use Rattle.call_dispatch.specs.Progress.{Stands}
 use Rattle.call_dispatch.proofs.messages.serve_many.Given as goal
 
 -- So many exchanges stand, and the connection goes on; each took and wrote at most so much, made at most three turns, invoked the worker at
--- most once and drew at most one identifier.
+-- most once and drew at most two identifiers.
 abbrev pub invariant-loop-after : goal.invariant-loop-after
 invariant-loop-after g l = ((start : Spot) (opening : Opening) → protocol_of opening ≡ Stream
     → Stands g.W.Worker.may g.W.Worker.moves (terms_of l.initial.connection.book.now l.initial.connection.setup.now) start
@@ -28,7 +28,7 @@ invariant-loop-after g l = ((start : Spot) (opening : Opening) → protocol_of o
     × g.P.Port.leads l.initial.connection.port.now l.connection.port.now
     × (g.P.Port.room_of l.initial.connection.port.now ≤ g.P.Port.room_of l.connection.port.now + 3 * l.served)
     × (g.W.Worker.calls l.connection.worker.now ≤ g.W.Worker.calls l.initial.connection.worker.now + l.served)
-    × (l.connection.setup.now.draw.drawn ≤ l.initial.connection.setup.now.draw.drawn + l.served)
+    × (l.connection.setup.now.draw.drawn ≤ l.initial.connection.setup.now.draw.drawn + 2 * l.served)
 
 abbrev pub decreases-loop-after : goal.decreases-loop-after
 decreases-loop-after g l = 2 ^ 28 - l.served

@@ -16,6 +16,9 @@ returns-in-Ok-clause-leads g c = rw c.in-Ok.ensures.stays.port at c.serve_messag
 pub serve_messages-requires-clause-time : goal.serve_messages-requires-clause-time
 serve_messages-requires-clause-time g c = rw c.in-Ok.ensures.stays.setup c.requires.time
 
+pub serve_messages-requires-clause-host : goal.serve_messages-requires-clause-host
+serve_messages-requires-clause-host g c = rw c.in-Ok.ensures.stays.setup c.requires.host
+
 pub serve_messages-requires-clause-drawn : goal.serve_messages-requires-clause-drawn
 serve_messages-requires-clause-drawn g c = rw c.in-Ok.ensures.stays.setup c.requires.drawn
 
