@@ -10,6 +10,8 @@ mod message_tests;
 #[cfg(test)]
 mod method_tests;
 #[cfg(test)]
+mod remote_rows;
+#[cfg(test)]
 mod served_tests;
 #[cfg(test)]
 mod texts;

@@ -10,22 +10,31 @@ use call_dispatch::{
 use method_hash::{Method, MethodList};
 use mod_utf::list::{ByteList, Kinds, MomentList, Units};
 use mod_utf::utf::encoded_len;
-use object_ids::{Uid, UidDraw};
+use object_ids::{ObjId, Uid, UidDraw};
 use ser_values::Value;
 use space::{Ask, Asked, AskedEnd, DirectPort, Space, SpaceConfig};
 use std::alloc::Global;
 use std::process::Abort;
 use wire_io::mem::{MemClock, MemSink, MemSource};
 
+/// The space's identifier.
+const SPACE: Uid = Uid {
+    unique: 7,
+    time: 9,
+    count: 0,
+};
+
 /// What the space keeps to. Its one object has the number 16 and the kind 0.
 const CONFIG: SpaceConfig = SpaceConfig {
     lease_ms: 600_000,
     ack_ms: 300_000,
-    uid: Uid {
-        unique: 7,
-        time: 9,
-        count: 0,
-    },
+    uid: SPACE,
+};
+
+/// The object.
+const FIRST: ObjId = ObjId {
+    number: 16,
+    space: SPACE,
 };
 
 /// The methods of the kind.
@@ -47,7 +56,10 @@ return 51 ACED0005 77
 uid 00000002 0000000000000002
 exception 73 72 0018 6A6176612E726D692E52656D6F7465457863657074696F6E B88C9D4EDEE47A22 02 0001 4C 0006 64657461696C 74 0015 4C6A6176612F6C616E672F5468726F7761626C653B 70 78 72 0013 6A6176612E696F2E494F457863657074696F6E 6C8073646525F0AB 02 0000 70 78 72 0013 6A6176612E6C616E672E457863657074696F6E D0FD1F3E1A3B1CC4 02 0000 70 78 72 0013 6A6176612E6C616E672E5468726F7761626C65 D5C635273977B8CB 03 0001 4C 000D 64657461696C4D657373616765 74 0012 4C6A6176612F6C616E672F537472696E673B 70 78 70 74
 wrong 0027 6A6176612E726D692E536572766572457863657074696F6E3A2077726F6E67206F7574636F6D65
-absent 002B 6A6176612E726D692E556E6D61727368616C457863657074696F6E3A206E6F2073756368206D6574686F64";
+absent 002B 6A6176612E726D692E556E6D61727368616C457863657074696F6E3A206E6F2073756368206D6574686F64
+proxy 73 7D 00000002 000F 6A6176612E726D692E52656D6F7465
+handler 70 78 72 0017 6A6176612E6C616E672E7265666C6563742E50726F7879 E127DA20CC1043CB 02 0001 4C 0001 68 74 0025 4C6A6176612F6C616E672F7265666C6563742F496E766F636174696F6E48616E646C65723B 70 78 70 73 72 002D 6A6176612E726D692E7365727665722E52656D6F74654F626A656374496E766F636174696F6E48616E646C6572 0000000000000002 02 0000 70 78 72 001C 6A6176612E726D692E7365727665722E52656D6F74654F626A656374 D361B4910C61331E 03 0000 70 78 70 77 32 000A 556E6963617374526566 0009 3132372E302E302E31 0000044B
+of_space 00000007 0000000000000009 0000 01 78";
 
 /// What a connection gets after its opening; how its invocations come out; what it is answered after the acknowledgement; what
 /// the space is asked; the methods that are invoked, by their places; and the end.
@@ -56,7 +68,6 @@ call add 77 08 0000000000000005 | 6 | return 17 01 uid 8000 0000000000000006 | b
 call done | void | return 0F 01 uid 8000 | begin finish | 2 | Ended
 call done | fault | return 0F 02 uid 8000 exception 0001 78 78 70 | begin abandon | 2 | Ended
 call echo 70 | 6 | return 0F 02 uid 8000 exception wrong 78 70 | begin abandon | 0 | Ended
-call echo 70 | new | return 0F 02 uid 8000 exception wrong 78 70 | begin abandon | 0 | Ended
 call FFFFFFFF 0000000000000001 70 | null | return 0F 02 uid 8000 exception absent 78 70 | begin abandon | | NoSuchMethod { operation: -1, hash: 1 }
 call 00000000 0000000000000001 70 | null | return 0F 02 uid 8000 exception absent 78 70 | begin abandon | | NoSuchMethod { operation: 0, hash: 1 }
 call done | memory | | begin abandon | 2 | OutOfMemory
@@ -94,6 +105,9 @@ fn outcome_of(rt: &impl Abort, alloc: Global, word: &str) -> Option<Outcome> {
         "void" => Some(Outcome::Void),
         "null" => null_graph(rt, alloc).map(Outcome::Tree),
         "new" => Some(Outcome::NewRemote(0)),
+        "new7" => Some(Outcome::NewRemote(7)),
+        "old" => Some(Outcome::OldRemote(FIRST, 0)),
+        "old7" => Some(Outcome::OldRemote(FIRST, 7)),
         "fault" => Some(Outcome::Fault(units_of(rt, alloc, "x"))),
         "memory" => Some(Outcome::OutOfMemory),
         _ => {
@@ -131,7 +145,7 @@ fn kind(rt: &impl Abort, alloc: Global) -> Kind {
 }
 
 /// The book of the one kind.
-fn book(rt: &impl Abort, alloc: Global) -> Option<Book> {
+pub(crate) fn book(rt: &impl Abort, alloc: Global) -> Option<Book> {
     let kind = kind(rt, alloc);
     if encoded_len(&kind.interface) > 65535 || kind.methods.len() != 3 {
         return None;
@@ -274,7 +288,7 @@ fn is_told(alloc: Global, end: Option<ConnEnd>, text: &str) -> bool {
 }
 
 /// Serves what a line says, and checks the rest of it.
-fn check_line(rt: &impl Abort, alloc: Global, book: &Book, line: &str) {
+pub(crate) fn check_line(rt: &impl Abort, alloc: Global, book: &Book, line: &str) {
     let (input, rest) = cut(line, '|');
     let (outcomes, rest) = cut(rest, '|');
     let (output, rest) = cut(rest, '|');

@@ -19,8 +19,8 @@ const CONFIG: SpaceConfig = SpaceConfig {
     lease_ms: 600_000,
     ack_ms: 300_000,
     uid: Uid {
-        unique: 3,
-        time: 4,
+        unique: 7,
+        time: 9,
         count: 0,
     },
 };

@@ -26,6 +26,8 @@ mod served;
 #[cfg(test)]
 mod shows;
 #[cfg(test)]
+mod system_rows;
+#[cfg(test)]
 mod texts;
 #[cfg(test)]
 mod wires;
