@@ -1,0 +1,72 @@
+-- A link whose pass the root took back.
+use Rattle.std.proofs.Common.{◌≡◌, ℕ, List, [], ◌∷◌, ◌++◌, sym, refl, ap, ◌∙◌, subst, arith}
+use Rattle.std.specs.Prelude.{Contains}
+use Rattle.std.proofs.lemmas.List.Elements.{Contains-append_left, Contains-append_right}
+use Rattle.space.specs.declared.asked.Asked.{Asked}
+use Rattle.turn_lock.specs.Answers.{events_of}
+use Rattle.turn_lock.specs.Handles.{view_of}
+use Rattle.turn_lock.specs.Rule.{Events, StartsWith, joined_of}
+use Rattle.turn_lock.specs.declared.handles.TurnLock.{TurnLock}
+use Rattle.turn_lock.specs.declared.view.View.{View}
+use Rattle.conn_server.specs.Serves.{Serves}
+use Rattle.conn_server.specs.Starts.{IsEndOf}
+use Rattle.conn_server.specs.Views.{Grows, IsTicked, IsTicking}
+use Rattle.conn_server.specs.declared.jobs.Done.{Done}
+use Rattle.conn_server.specs.declared.jobs.Guest.{Guest}
+use Rattle.conn_server.specs.declared.jobs.Job.{Job}
+use Rattle.conn_server.specs.declared.jobs.LinkReport.{LinkReport}
+use Rattle.conn_server.proofs.Histories.{starts_self, starts_on}
+
+pub grows_joined : (v w q : View) → w ≡ joined_of v q → StartsWith w.seen v.seen → Grows v w
+grows_joined v w q is seen = record {
+  number = ap (λ (y : View). y.number) is;
+  config = ap (λ (y : View). y.config) is;
+  opening = ap (λ (y : View). y.opening) is;
+  own = ap (λ (y : View). y.own) is;
+  seen = seen;
+  more = (q.number, q.own) ∷ [];
+  ended = ap (λ (y : View). y.ended) is;
+}
+
+pub ticked_first : (v : View) (ticks : List Asked) → IsTicking v ticks → IsTicked v ticks
+ticked_first v ticks t = record { number = t.number; own = t.own; last = v.seen; went = t.went; seen = starts_self v.seen }
+
+pub ticked_grown : (v w : View) (ticks : List Asked) → Grows v w → IsTicked v ticks → IsTicked w ticks
+ticked_grown v w ticks g t = record {
+  number = g.number ∙ t.number;
+  own = g.own ∙ t.own;
+  last = t.last;
+  went = rw (g.config, g.opening) t.went;
+  seen = starts_on w.seen v.seen t.last g.seen t.seen;
+}
+
+module _ {I O T H : Type 0} (Talked : Guest I O T H → LinkReport I O T H → Type 0) where
+  pub ends_joined : (lock : TurnLock) (v w : View) (job : Job I O T H) (done : Done I O T H) → Serves Talked lock job done → w ≡ joined_of v (view_of done.pass)
+      → StartsWith w.seen (view_of done.pass).seen → IsEndOf Talked w job done.report
+  ends_joined lock v w job done serves is later =
+      let went = serves.went.views in
+      let q = view_of done.pass in
+      let ended : w.ended ≡ v.ended ++ (q.number, q.own) ∷ [] = ap (λ (y : View). y.ended) is in
+      let here : Contains w.ended (q.number, q.own) = subst (λ (l : List (ℕ × Events)). Contains l (q.number, q.own)) (sym ended) (Contains-append_right v.ended ((q.number, q.own) ∷ []) (q.number, q.own) (0, omega arith, refl)) in
+      record {
+        by = serves.by;
+        talked = serves.talked;
+        listed = subst (λ (x : ℕ × Events). Contains w.ended x) (λ i. (went.same_number i, went.own_more i)) here;
+        last = q.seen;
+        went = went.went;
+        seen = later;
+      }
+
+  -- It stays so as the root takes further passes back.
+  pub ends_later : (v w : View) (job : Job I O T H) (report : LinkReport I O T H) → Grows v w → IsEndOf Talked v job report → IsEndOf Talked w job report
+  ends_later v w job report grows e =
+      let n = (view_of job.pass).number in
+      let own = (view_of job.pass).own ++ events_of n report.asked in
+      record {
+        by = e.by;
+        talked = e.talked;
+        listed = subst (λ (l : List (ℕ × Events)). Contains l (n, own)) (sym grows.ended) (Contains-append_left v.ended grows.more (n, own) e.listed);
+        last = e.last;
+        went = e.went;
+        seen = starts_on w.seen v.seen e.last grows.seen e.seen;
+      }

@@ -1,0 +1,10 @@
+pub mod Rows
+pub mod Histories
+pub mod Ticks
+pub mod Listening
+pub mod Taking
+pub mod Ending
+pub mod Joining
+pub mod Making
+pub mod Linking
+pub mod Closing

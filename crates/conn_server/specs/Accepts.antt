@@ -1,0 +1,68 @@
+-- What holds while links are accepted.
+use Rattle.std.specs.Prelude.{◌≡◌, ℕ, ◌+◌, ◌<◌, ◌≤◌, List, [], ◌++◌, map, vec_len, vec_capacity, Option, Some, None}
+use Rattle.wire_io.specs.Links.{Accepted}
+use Rattle.space.specs.declared.asked.Asked.{Asked}
+use Rattle.turn_lock.specs.Handles.{IsRootOf, view_of}
+use Rattle.turn_lock.specs.declared.handles.TurnLock.{TurnLock}
+use Rattle.call_dispatch.specs.declared.book.Kind.{Kind}
+use Rattle.conn_server.specs.Made.{shown_guest}
+use Rattle.conn_server.specs.Rows.{EachAt}
+use Rattle.conn_server.specs.Serves.{IsJob}
+use Rattle.conn_server.specs.Starts.{IsStart, job_of}
+use Rattle.conn_server.specs.Views.{IsTicking}
+use Rattle.conn_server.specs.declared.accepting.Accepting.{Accepting}
+use Rattle.conn_server.specs.declared.jobs.Guest.{Guest}
+use Rattle.conn_server.specs.declared.jobs.LinkReport.{LinkReport}
+use Rattle.conn_server.specs.declared.started.Started.{Started}
+
+-- What was told, and then these, where it is told.
+abbrev pub with_all : {A : Type 0} → Option (List A) → List A → Option (List A)
+with_all None more = None
+with_all (Some told) more = Some (told ++ more)
+
+-- The link of connection k was begun at the lock, with a job that is made for it and could be done there. Its pass has the
+-- connection's number, and had made no turn.
+pub record IsBegun {I O T H : Type 0} (Talked : Guest I O T H → LinkReport I O T H → Type 0) (Made : ℕ → Guest I O T H → Type 0) (calls : H → ℕ) (lock : TurnLock) (kinds : List Kind) (k : ℕ) (started : Started I O T H) : Type 0 where
+  pub start : IsStart Talked lock kinds started
+  pub job : IsJob calls lock (job_of started)
+  pub made : Made k (job_of started).guest
+  pub by : (job_of started).by ≡ k
+  pub number : (view_of (job_of started).pass).number ≡ k
+  pub own : (view_of (job_of started).pass).own ≡ []
+
+-- What the listener tells of these links, each with the entry of the server's turn before it.
+abbrev pub shown_all : {I O T H : Type 0} → (I → Option (List ℕ)) → (O → Option (List ℕ)) → (T → Option (List ℕ)) → List (Started I O T H) → List (Accepted × Asked)
+shown_all left held given all = map (λ s. shown_guest left held given (job_of s).guest) all
+
+-- The links alone.
+abbrev pub links_of : List (Accepted × Asked) → List Accepted
+links_of all = map (λ p. p.0) all
+
+-- The entries alone.
+abbrev pub ticks_of : List (Accepted × Asked) → List Asked
+ticks_of all = map (λ p. p.1) all
+
+-- Every link was begun with its pass and has its place in the report, and the root made these turns of its own.
+pub record IsAccepting {I O T H : Type 0} (Talked : Guest I O T H → LinkReport I O T H → Type 0) (Made : ℕ → Guest I O T H → Type 0) (calls : H → ℕ) (lock : TurnLock) (kinds : List Kind) (a : Accepting I O T H) : Type 0 where
+  pub own : IsRootOf lock a.root
+  pub out : a.root.out ≡ vec_len a.started
+  pub made : a.root.made ≡ vec_len a.started
+  pub ticked : IsTicking (view_of a.root.pass) a.ticks.items
+  pub empty : a.reports.items ≡ []
+  pub room : vec_len a.started ≤ vec_capacity a.reports
+  pub links : EachAt (IsBegun Talked Made calls lock kinds) 1 a.started.items
+
+-- There is more room, and all else is the same.
+pub record IsSame {I O T H : Type 0} (a b : Accepting I O T H) : Type 0 where
+  pub root : b.root ≡ a.root
+  pub started : b.started.items ≡ a.started.items
+  pub count : vec_len b.started ≡ vec_len a.started
+  pub ticks : b.ticks.items ≡ a.ticks.items
+  pub reports : b.reports.items ≡ a.reports.items
+  pub room : vec_capacity a.reports ≤ vec_capacity b.reports
+
+-- There is room for one more of each.
+pub record HasRoom {I O T H : Type 0} (a : Accepting I O T H) : Type 0 where
+  pub ticks : vec_len a.ticks < vec_capacity a.ticks
+  pub started : vec_len a.started < vec_capacity a.started
+  pub reports : vec_len a.started < vec_capacity a.reports

@@ -1,0 +1,11 @@
+pub mod Plans
+pub mod Talks
+pub mod Serves
+pub mod Rows
+pub mod Views
+pub mod Made
+pub mod Starts
+pub mod Accepts
+pub mod Stops
+pub mod Joins
+pub mod Reports

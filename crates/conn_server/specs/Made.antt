@@ -1,0 +1,43 @@
+-- How the job of a link comes from the link that was accepted, and from the server's turn before it.
+use Rattle.std.specs.Prelude.{◌≡◌, ℕ, List, [], ◌∷◌, map, Option}
+use Rattle.wire_io.specs.Links.{Accepted, accepted_as}
+use Rattle.wire_io.specs.Wire.{Gave}
+use Rattle.object_ids.specs.declared.ids.ObjId.{ObjId}
+use Rattle.history.specs.declared.asks.Ask.TheVariants.{Tick}
+use Rattle.space.specs.declared.asked.Asked.{Asked}
+use Rattle.space.specs.declared.asked.AskedEnd.{AskedEnd}
+use Rattle.space.specs.declared.asked.AskedEnd.TheVariants.{Turned}
+use Rattle.call_dispatch.specs.Acts.{Call, unreferenced, States, Tells, Leads}
+use Rattle.call_dispatch.specs.Terms.{terms_of}
+use Rattle.call_dispatch.specs.declared.book.Kind.{Kind}
+use Rattle.conn_server.specs.Plans.{link_terms}
+use Rattle.conn_server.specs.declared.jobs.Guest.{Guest}
+use Rattle.conn_server.specs.declared.plan.ServePlan.{ServePlan}
+
+-- The objects that an entry tells as withdrawn.
+abbrev pub gone_with : AskedEnd → List ObjId
+gone_with (Turned turn) = turn.gone
+gone_with _ = []
+
+-- The calls by which a hand is told of them.
+abbrev pub told_of : Asked → List Call
+told_of entry = map unreferenced (gone_with entry.end)
+
+-- A hand tells this, after it was told what an entry tells as withdrawn.
+abbrev pub WasTold : (States → Call → States → Type 0) → Option (List Call) → Option States → Asked → Type 0
+WasTold moves seen state entry = (seen0 : Option (List Call)) × (state0 : Option States) × Tells seen0 (told_of entry) seen × Leads moves state0 (told_of entry) state
+
+-- What a listener tells of a link that was taken in, and the entry of the server's turn before it.
+abbrev pub shown_guest : {I O T H : Type 0} → (I → Option (List ℕ)) → (O → Option (List ℕ)) → (T → Option (List ℕ)) → Guest I O T H → Accepted × Asked
+shown_guest left held given guest = (accepted_as left held given guest.first.value, guest.tick.value)
+
+-- A link was taken in for connection k, as it was accepted: nothing was read or written on it yet; its setup is the plan's; a Tick was made at a
+-- moment of its clock, which gave no other; and its hand was told what that Tick withdrew.
+pub record IsMadeFor {I O T H : Type 0} (left : I → Option (List ℕ)) (held : O → Option (List ℕ)) (given : T → Option (List ℕ)) (seen : H → Option (List Call)) (state : H → Option States)
+    (moves : States → Call → States → Type 0) (plan : ServePlan) (k : ℕ) (guest : Guest I O T H) : Type 0 where
+  pub left_is : left guest.source ≡ left guest.first.value.source
+  pub held_is : held guest.sink ≡ held guest.first.value.sink
+  pub terms : (kinds : List Kind) → terms_of kinds guest.setup ≡ link_terms kinds plan k guest.first.value.host guest.first.value.port
+  pub tick_asked : guest.tick.value.ask ≡ Tick
+  pub ticked : Gave (given guest.first.value.clock) (given guest.clock) (guest.tick.value.moment ∷ [])
+  pub told : WasTold moves (seen guest.hand) (state guest.hand) guest.tick.value

@@ -1,0 +1,107 @@
+//! Accepting links, and joining their threads.
+ghost use Rattle.std.specs.Prelude.{◌≡◌, ◌≤◌, List, [], ◌++◌, length, vec_len};
+ghost use Rattle.mod_utf.specs.Utf.{utf};
+ghost use Rattle.wire_io.specs.Links.{Accepted};
+ghost use Rattle.wire_io.specs.Wire.{Rose};
+ghost use Rattle.turn_lock.specs.Handles.{IsRootOf, view_of};
+ghost use Rattle.conn_server.specs.Accepts.{IsAccepting, shown_all, links_of, ticks_of, with_all};
+ghost use Rattle.conn_server.specs.Joins.{IsJoined};
+ghost use Rattle.conn_server.specs.Made.{IsMadeFor};
+ghost use Rattle.conn_server.specs.Rows.{Paired};
+ghost use Rattle.conn_server.specs.Stops.{Stopped};
+ghost use Rattle.conn_server.specs.Talks.{TalksOver};
+ghost use Rattle.conn_server.specs.Views.{IsTicked};
+
+use crate::accepting::{Accepting, take_in};
+use crate::crew::Crew;
+use crate::jobs::LinkReport;
+use crate::plan::ServePlan;
+use crate::started::finish;
+use call_dispatch::{Book, Worker};
+use space::Asked;
+use std::alloc::Global;
+use std::sync::Wait;
+use std::thread::{Scope, Threads};
+use turn_lock::{Root, TurnLock};
+use wire_io::{Clock, Listener, Sink, Source};
+
+/// Why no more links were accepted.
+#[derive(Clone, Copy, Debug, PartialEq, Eq)]
+pub enum Stop {
+    /// As many were served as were to be.
+    All,
+    /// The listener failed.
+    AcceptFault,
+    /// There was no memory for a link that was accepted. It is shut, and not reported.
+    OutOfMemory,
+}
+
+/// Accepts so many links, and serves each.
+pub fn accept_links<'s, E, R: Threads + Wait + Sync, L: Listener, G: Crew>(
+    scope: &Scope<'s, E>,
+    rt: &'s R,
+    alloc: Global,
+    lock: &'s TurnLock,
+    book: &'s Book,
+    listener: &mut L,
+    crew: &G,
+    plan: &ServePlan,
+    accepting: Accepting<L::In, L::Out, L::Ticks, G::Hand>,
+) -> (Accepting<L::In, L::Out, L::Ticks, G::Hand>, Stop)
+where
+    L::In: 's,
+    L::Out: 's,
+    L::Ticks: 's,
+    G::Hand: 's,
+    requires host { length (utf plan.now.host) ≤ 255 }
+    requires accepting { IsAccepting (TalksOver L.In.left L.Out.held L.Ticks.given G.Hand.calls G.Hand.seen G.Hand.state G.Hand.may G.Hand.moves book.now) (IsMadeFor L.In.left L.Out.held L.Ticks.given G.Hand.seen G.Hand.state G.Hand.moves plan.now) G.Hand.calls lock.now book.now accepting }
+    requires fresh { (accepting.started.items ≡ []) × (accepting.ticks.items ≡ []) }
+    requires turns { (plan.now.count ≤ 65535) × (65535 ≤ accepting.root.pass.room) }
+    ensures accepting { IsAccepting (TalksOver L.In.left L.Out.held L.Ticks.given G.Hand.calls G.Hand.seen G.Hand.state G.Hand.may G.Hand.moves book.now) (IsMadeFor L.In.left L.Out.held L.Ticks.given G.Hand.seen G.Hand.state G.Hand.moves plan.now) G.Hand.calls lock.now book.now result.0 }
+    ensures tied { result.0.ticks.items ≡ ticks_of (shown_all L.In.left L.Out.held L.Ticks.given result.0.started.items) }
+    ensures links { (lost : List Accepted) × (L.accepted listener.new ≡ with_all (L.accepted listener.old) (links_of (shown_all L.In.left L.Out.held L.Ticks.given result.0.started.items) ++ lost)) × Stopped result.1 plan.now.count (vec_len result.0.started) lost }
+    ensures fault { result.1 ≡ Stop.AcceptFault → Rose (L.faults listener.old) (L.faults listener.new) }
+    ensures faults { L.faults listener.old ≤ L.faults listener.new }
+    ensures ports { L.ports listener.new ≡ L.ports listener.old }
+{
+    let mut accepting = accepting;
+    for _ in 0..plan.count {
+        let Ok(link) = listener.accept() else {
+            return (accepting, Stop::AcceptFault);
+        };
+        let (next, taken) = take_in(scope, rt, alloc, lock, book, crew, plan, link, accepting);
+        accepting = next;
+        if !taken {
+            return (accepting, Stop::OutOfMemory);
+        }
+    }
+    (accepting, Stop::All)
+}
+
+/// Waits for each link, in order of accepting. Gives back the root, the reports and the entries of the root's own turns.
+pub fn join_links<R: Threads, I: Source + Drop, O: Sink + Drop, T: Clock + Drop, H: Worker + Drop>(
+    rt: &R,
+    lock: &TurnLock,
+    book: &Book,
+    plan: &ServePlan,
+    accepting: Accepting<I, O, T, H>,
+) -> (Root, Vec<LinkReport<I, O, T, H>>, Vec<Asked>)
+    requires { IsAccepting (TalksOver I.left O.held T.given H.calls H.seen H.state H.may H.moves book.now) (IsMadeFor I.left O.held T.given H.seen H.state H.moves plan.now) H.calls lock.now book.now accepting }
+    ensures root { IsRootOf lock.now result.0 × (result.0.out ≡ 0) }
+    ensures made { result.0.made ≡ vec_len accepting.started }
+    ensures ticks { IsTicked (view_of result.0.pass) result.2.items × (result.2 ≡ accepting.ticks) }
+    ensures links { Paired (IsJoined (TalksOver I.left O.held T.given H.calls H.seen H.state H.may H.moves book.now) (IsMadeFor I.left O.held T.given H.seen H.state H.moves plan.now) H.calls lock.now book.now (view_of result.0.pass)) 1 accepting.started.items result.1.items }
+{
+    let _ = plan;
+    let Accepting {
+        mut root,
+        started,
+        mut reports,
+        ticks,
+    } = accepting;
+    for link in started {
+        let report = finish(rt, lock, book, &mut root, link);
+        reports.push_reserved(report);
+    }
+    (root, reports, ticks)
+}

@@ -1,0 +1,17 @@
+//! A server of the Java Remote Method Protocol: it accepts connections, serves each over one space, and tells what came of
+//! them.
+#![tactic(auto)]
+
+mod accepting;
+mod accepts;
+pub mod crew;
+pub mod jobs;
+pub mod plan;
+pub mod server;
+mod started;
+
+pub use accepts::Stop;
+pub use crew::Crew;
+pub use jobs::LinkReport;
+pub use plan::ServePlan;
+pub use server::{LinkReports, Report, serve};

@@ -1,0 +1,68 @@
+//! What a server is told beforehand, and what it tells each connection.
+ghost use Rattle.std.specs.Prelude.{◌≡◌, ◌≤◌, ◌<◌, ◌^◌, pos, ◌<ℤ◌, length, List, IfOk};
+ghost use Rattle.mod_utf.specs.Utf.{utf};
+ghost use Rattle.call_dispatch.specs.Terms.{terms_of};
+ghost use Rattle.call_dispatch.specs.declared.book.Kind.{Kind};
+ghost use Rattle.conn_server.specs.Plans.{low_signed, link_terms};
+
+use call_dispatch::Setup;
+use mod_utf::list::Units;
+use object_ids::UidDraw;
+use std::alloc::{AllocError, Global};
+use wire_io::Link;
+
+/// Below this a moment is drawn from the seed, in milliseconds.
+const MOMENTS: u64 = 1 << 61;
+
+/// What a server is told beforehand.
+#[derive(Drop)]
+pub struct ServePlan {
+    /// How many connections are accepted.
+    pub count: u32,
+    /// The server's own host, as references name it.
+    pub host: Units,
+    /// The server's own port, as references name it.
+    pub port: i32,
+    /// Whether clients may bind names.
+    pub binding: bool,
+    /// Words by chance, of which the identifiers of each connection are made.
+    pub seed: [u64; 4],
+}
+
+/// What connection `by` is told beforehand, which comes over this link. It is refused only for want of memory.
+pub fn setup_for<I, O, T>(
+    alloc: Global,
+    plan: &ServePlan,
+    by: u32,
+    link: &Link<I, O, T>,
+) -> Result<Setup, AllocError>
+    requires host { length (utf plan.now.host) ≤ 255 }
+    ensures terms { IfOk result (λ setup. (kinds : List Kind) → terms_of kinds setup ≡ link_terms kinds plan.now by link.now.host link.now.port) }
+    ensures peer_host { IfOk result (λ setup. length (utf setup.peer_host) ≤ 255) }
+    ensures host { IfOk result (λ setup. length (utf setup.host) ≤ 255) }
+    ensures time { IfOk result (λ setup. setup.draw.time <ℤ pos (2 ^ 61)) }
+    ensures drawn { IfOk result (λ setup. setup.draw.drawn ≡ 0) }
+{
+    let peer_host = link.host.copy(alloc)?;
+    let host = plan.host.copy(alloc)?;
+    Ok(Setup {
+        by,
+        peer_host,
+        peer_port: link.port,
+        host,
+        port: plan.port,
+        binding: plan.binding,
+        draw: UidDraw::new(
+            low_half(plan.seed[0].wrapping_add(u64::from(by))),
+            (plan.seed[1] % MOMENTS) as i64,
+        ),
+        mark: plan.seed[2].to_be_bytes(),
+    })
+}
+
+/// The low 32 bits of a word, as a signed number.
+fn low_half(word: u64) -> i32
+    ensures { result ≡ low_signed word }
+{
+    ((word % (1 << 32)) as u32).cast_signed()
+}

@@ -1,0 +1,178 @@
+//! The server.
+ghost use Rattle.std.specs.Prelude.{◌≡◌, ◌<◌, ◌≤◌, ℕ, List, [], ◌++◌, length};
+ghost use Rattle.mod_utf.specs.Utf.{utf};
+ghost use Rattle.wire_io.specs.Links.{Accepted};
+ghost use Rattle.wire_io.specs.Wire.{Rose};
+ghost use Rattle.history.specs.Steps.{IsLegal};
+ghost use Rattle.space.specs.Lists.{CollectsEach};
+ghost use Rattle.space.specs.declared.asked.Asked.{Asked};
+ghost use Rattle.turn_lock.specs.Handles.{IsFresh, opening_of};
+ghost use Rattle.turn_lock.specs.Rule.{StartsWith};
+ghost use Rattle.conn_server.specs.Accepts.{links_of, ticks_of, with_all};
+ghost use Rattle.conn_server.specs.Reports.{AreTurnsOf, IsLinkOf, IsOutcome, IsReportOf, events_after};
+ghost use Rattle.conn_server.specs.Rows.{Paired};
+ghost use Rattle.conn_server.specs.Stops.{Stopped};
+
+use crate::accepting::Accepting;
+use crate::accepts::{Stop, accept_links, join_links};
+use crate::crew::Crew;
+use crate::jobs::LinkReport;
+use crate::plan::ServePlan;
+use call_dispatch::Book;
+use mod_utf::list::Sequence;
+use space::{Asked, AskedList, Space};
+use std::alloc::Global;
+use std::sync::Wait;
+use std::thread;
+use std::thread::{Scope, Threads};
+use turn_lock::{Root, TurnLock};
+use wire_io::Listener;
+
+/// The reports of several links.
+pub type LinkReports<I, O, T, H> = Sequence<LinkReport<I, O, T, H>>;
+
+/// What is left once all threads were joined.
+#[derive(Drop)]
+pub struct Outcome<I, O, T, H> {
+    pub root: Root,
+    pub links: Vec<LinkReport<I, O, T, H>>,
+    pub ticks: Vec<Asked>,
+    pub stop: Stop,
+}
+
+/// What was served.
+#[derive(Drop)]
+pub struct Report<I, O, T, H> {
+    /// A report of each link that was served, in the order of accepting.
+    pub links: LinkReports<I, O, T, H>,
+    /// The entries of the server's own turns, which are Ticks: one before each of these links.
+    pub ticks: AskedList,
+    /// Why no more links were accepted.
+    pub stop: Stop,
+    /// The space that the lock was round.
+    pub space: Space,
+}
+
+/// Accepts links, serves them and joins their passes.
+fn serve_within<'s, E, R: Threads + Wait + Sync, L: Listener, G: Crew>(
+    scope: &Scope<'s, E>,
+    rt: &'s R,
+    alloc: Global,
+    lock: &'s TurnLock,
+    book: &'s Book,
+    root: Root,
+    listener: &mut L,
+    crew: &G,
+    plan: &ServePlan,
+) -> Outcome<L::In, L::Out, L::Ticks, G::Hand>
+where
+    L::In: 's,
+    L::Out: 's,
+    L::Ticks: 's,
+    G::Hand: 's,
+    requires fresh { IsFresh lock.now root }
+    requires few { plan.now.count ≤ 65535 }
+    requires host { length (utf plan.now.host) ≤ 255 }
+    ensures served { (served : List (Accepted × Asked)) × IsOutcome (IsLinkOf L.In.left L.Out.held L.Ticks.given G.Hand.calls G.Hand.seen G.Hand.state G.Hand.may G.Hand.moves book.now plan.now) lock.now served result
+        × ((lost : List Accepted) × (L.accepted listener.new ≡ with_all (L.accepted listener.old) (links_of served ++ lost)) × Stopped result.stop plan.now.count (length result.links.items) lost) }
+    ensures fault { result.stop ≡ Stop.AcceptFault → Rose (L.faults listener.old) (L.faults listener.new) }
+    ensures faults { L.faults listener.old ≤ L.faults listener.new }
+    ensures ports { L.ports listener.new ≡ L.ports listener.old }
+{
+    let accepting = Accepting {
+        root,
+        started: Vec::new(alloc),
+        reports: Vec::new(alloc),
+        ticks: Vec::new(alloc),
+    };
+    let (accepting, stop) = accept_links(
+        scope, rt, alloc, lock, book, listener, crew, plan, accepting,
+    );
+    let (root, links, ticks) = join_links(rt, lock, book, plan, accepting);
+    Outcome {
+        root,
+        links,
+        ticks,
+        stop,
+    }
+}
+
+/// Accepts the plan's count of links, serves each as the connection of the next number, and closes the lock. Each link is served by the caller
+/// before the next is accepted. Before each link it makes a Tick as connection 0, at a moment of the link's clock, and tells the link's hand what is
+/// gone; a Tick that is refused HistoryFull is passed over. Both halves of a link are
+/// shut when its connection ends.
+///
+/// The stop is AcceptFault only where the listener's count of faults rose, and OutOfMemory where a hand, a Tick or the room of a report finds no
+/// memory; that link is shut and not reported. No more links are accepted then, and those that were are served to their ends.
+///
+/// Its conditions: at most 65,535 links are to be accepted, the plan's host takes at most 255 bytes as modified UTF, and the root is the lock's,
+/// from which no pass was split and which made no turn.
+pub fn serve<R: Threads + Wait + Sync, L: Listener, G: Crew>(
+    rt: &R,
+    alloc: Global,
+    listener: &mut L,
+    crew: &G,
+    book: &Book,
+    lock: TurnLock,
+    root: Root,
+    plan: &ServePlan,
+) -> Report<L::In, L::Out, L::Ticks, G::Hand>
+    requires fresh { IsFresh lock root }
+    requires few { plan.now.count ≤ 65535 }
+    requires host { length (utf plan.now.host) ≤ 255 }
+
+    // The history that is left is legal and goes on from the lock's, and at each of its events the collector kept what there was a reason to
+    // keep, and withdrew the rest.
+    ensures config { result.space.configuration ≡ (opening_of lock).configuration }
+    ensures legal { IsLegal result.space.configuration result.space.events }
+    ensures begins { StartsWith result.space.events (opening_of lock).events }
+    ensures collects { CollectsEach result.space.configuration [] result.space.events result.space.events }
+
+    // The links that were accepted, in their order: those that were served, each with its Tick and its report, and maybe one for which there was
+    // no memory. Each report tells of the link's own bytes, calls and moments, and of its turns in the one history.
+    ensures links { (served : List (Accepted × Asked)) × (lost : List Accepted)
+        × (L.accepted listener.new ≡ with_all (L.accepted listener.old) (links_of served ++ lost))
+        × (result.ticks ≡ ticks_of served)
+        × Paired (IsReportOf (IsLinkOf L.In.left L.Out.held L.Ticks.given G.Hand.calls G.Hand.seen G.Hand.state G.Hand.may G.Hand.moves book.now plan.now) (opening_of lock) result.space) 1 served result.links
+        × Stopped result.stop plan.now.count (length result.links) lost }
+
+    // The server's own turns, and nobody else's but the links'.
+    ensures ticks { AreTurnsOf (opening_of lock) 0 result.ticks result.space }
+    ensures others { (n : ℕ) → length result.links < n → events_after (opening_of lock) n result.space ≡ [] }
+
+    // The listener.
+    ensures fault { result.stop ≡ Stop.AcceptFault → Rose (L.faults listener.old) (L.faults listener.new) }
+    ensures faults { L.faults listener.old ≤ L.faults listener.new }
+    ensures ports { L.ports listener.new ≡ L.ports listener.old }
+{
+    let shared = &lock;
+    let (left, outcome) = thread::scope(
+        thread::scope_env(),
+        rt,
+        move |scope| -> (&mut L, Outcome<L::In, L::Out, L::Ticks, G::Hand>)
+            requires { IsFresh shared.now root × (plan.now.count ≤ 65535) × (length (utf plan.now.host) ≤ 255) }
+            ensures left { (result.0.ghost_name ≡ listener.entry.ghost_name) }
+            ensures served { (served : List (Accepted × Asked)) × IsOutcome (IsLinkOf L.In.left L.Out.held L.Ticks.given G.Hand.calls G.Hand.seen G.Hand.state G.Hand.may G.Hand.moves book.entry.now plan.entry.now) shared.entry.now served result.1
+                × ((lost : List Accepted) × (L.accepted result.0.now ≡ with_all (L.accepted listener.entry.now) (links_of served ++ lost)) × Stopped result.1.stop plan.entry.now.count (length result.1.links.items) lost) }
+            ensures fault { result.1.stop ≡ Stop.AcceptFault → Rose (L.faults listener.entry.now) (L.faults result.0.now) }
+            ensures faults { L.faults listener.entry.now ≤ L.faults result.0.now }
+            ensures ports { L.ports result.0.now ≡ L.ports listener.entry.now }
+        {
+            let outcome = serve_within(scope, rt, alloc, shared, book, root, listener, crew, plan);
+            (listener, outcome)
+        },
+    );
+    let _ = left;
+    let Outcome {
+        root,
+        links,
+        ticks,
+        stop,
+    } = outcome;
+    Report {
+        links: Sequence::from_vec(links),
+        ticks: Sequence::from_vec(ticks),
+        stop,
+        space: lock.close(root),
+    }
+}
