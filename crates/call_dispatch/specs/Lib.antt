@@ -21,5 +21,3 @@ pub mod Progress
 pub mod Serving
 pub mod ServingSystem
 pub mod Words
-pub mod Demands
-pub mod SystemReturns
