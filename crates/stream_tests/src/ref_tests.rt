@@ -50,16 +50,6 @@ fn built(rt: &impl Abort, alloc: Global, interface: &str) -> Graph {
     graph_at(rt, alloc, builder, slot)
 }
 
-/// Its graph, made at once.
-fn whole(alloc: Global, interface: &str) -> Result<Graph, AllocError> {
-    let reference = reference(alloc)?;
-    let interface = ascii(alloc, interface)?;
-    if encoded_len(&reference.host) > 65_535 || encoded_len(&interface) > 65_535 {
-        return Err(AllocError);
-    }
-    ref_graph(alloc, &interface, &reference)
-}
-
 #[test]
 fn references_are_built(rt: HostRuntime) {
     let alloc = rt.alloc();
@@ -67,16 +57,6 @@ fn references_are_built(rt: HostRuntime) {
         let graph = built(&rt, alloc, interface);
         must(&rt, is_written(&rt, alloc, &graph, stream), interface);
     }
-}
-
-#[test]
-fn graphs_of_references_are_made(rt: HostRuntime) -> Result<(), Fail> {
-    let alloc = rt.alloc();
-    let echo = whole(alloc, "sample.Echo")?;
-    must(&rt, is_written(alloc, &echo, ECHO)?, "a proxy");
-    let remote = whole(alloc, "java.rmi.Remote")?;
-    must(&rt, is_written(alloc, &remote, REMOTE)?, "one interface");
-    Ok(())
 }
 
 /// An array of stubs of the objects 17, 16 and 17, of object 18 at another port, and of object 19 at another host; `^` stands
