@@ -1,5 +1,5 @@
 -- The server's own turns, and what a hand is told of them.
-use Rattle.std.proofs.Common.{◌≡◌, ℕ, List, [], ◌∷◌, ◌++◌, length, take, map, refl, ap, sym, ◌∙◌, subst, arith, append-nil}
+use Rattle.std.proofs.Common.{◌≡◌, ℕ, List, [], ◌∷◌, ◌++◌, length, map, refl, ap, sym, ◌∙◌, subst, arith, append-nil}
 use Rattle.std.specs.Prelude.{Option, Some, None, Result, Ok, Err, IfSome, MatchOption, option_to_list}
 use Rattle.std.specs.List.{flat_map}
 use Rattle.object_ids.specs.declared.ids.ObjId.{ObjId}
@@ -15,16 +15,6 @@ use Rattle.call_dispatch.specs.Acts.{calls, called, unreferenced, tells_of}
 pub calls_told : (gone : List ObjId) → flat_map calls (tells_of gone) ≡ map unreferenced gone
 calls_told [] = refl
 calls_told (o ∷ gone) = ap (λ l. unreferenced o ∷ l) (calls_told gone)
-
-one_entry : (m : ℕ) (a : Ask) (answer : Result Turn Refused) → take 1 (entries_of m a answer) ≡ entries_of m a answer
-one_entry m a (Ok turn) = refl
-one_entry m a (Err HistoryFull) = refl
-one_entry m a (Err (Full kind)) = refl
-one_entry m a (Err OutOfMemory) = refl
-
--- The first entry of a turn is all its entries.
-pub first_entry : (m : ℕ) (a : Ask) (answer : Result Turn Refused) (entries : List Asked) (r : Option Asked) → entries ≡ entries_of m a answer → option_to_list r ≡ take 1 entries → option_to_list r ≡ entries
-first_entry m a answer entries r is first = first ∙ (ap (take 1) is ∙ (one_entry m a answer ∙ sym is))
 
 head_is : (x y : Asked) → x ∷ [] ≡ y ∷ [] → x ≡ y
 head_is x y same = ap (first x) same

@@ -1,10 +1,11 @@
 //! Taking a link in.
-ghost use Rattle.std.specs.Prelude.{◌≡◌, ◌<◌, ◌≤◌, ◌+◌, ◌^◌, pos, ◌<ℤ◌, ℕ, List, [], ◌∷◌, ◌++◌, map, length, vec_len, vec_capacity, MatchBool, MatchOption, IfSome, Some, None, IfOk, take, option_to_list, Option};
+ghost use Rattle.std.specs.Prelude.{◌≡◌, ◌<◌, ◌≤◌, ◌+◌, ◌^◌, pos, ◌<ℤ◌, ℕ, List, [], ◌∷◌, ◌++◌, map, length, vec_len, vec_capacity, MatchBool, MatchOption, IfSome, Some, None, IfOk, option_to_list, Option};
 ghost use Rattle.mod_utf.specs.Utf.{utf};
 ghost use Rattle.wire_io.specs.Links.{accepted_as};
 ghost use Rattle.wire_io.specs.Wire.{Gave};
 ghost use Rattle.history.specs.declared.asks.Ask.TheVariants.{Tick};
 ghost use Rattle.space.specs.Entries.{end_of};
+ghost use Rattle.space.specs.Ports.{entries_of};
 ghost use Rattle.call_dispatch.specs.Acts.{unreferenced, Tells, Leads};
 ghost use Rattle.call_dispatch.specs.Terms.{terms_of};
 ghost use Rattle.call_dispatch.specs.declared.book.Kind.{Kind};
@@ -23,7 +24,7 @@ use crate::plan::{ServePlan, setup_for};
 use crate::started::{Started, start};
 use call_dispatch::{Book, Setup, Worker};
 use history::{Ask, Refused, Turn};
-use space::{Asked, AskedList};
+use space::{Asked, AskedEnd};
 use std::alloc::{AllocError, Global};
 use std::snapshot::Snapshot;
 use std::sync::Wait;
@@ -85,12 +86,23 @@ fn tell_answer<H: Worker>(hand: &mut H, answer: &Result<Turn, Refused>)
     }
 }
 
-/// The first of some entries, if there is one.
-fn first_of(entries: AskedList) -> Option<Asked>
-    ensures { option_to_list result ≡ take 1 entries }
+/// The entry of a Tick that was made at this moment and answered so: none where there was no memory for the Tick.
+fn tick_entry(moment: u64, answer: Result<Turn, Refused>) -> Option<Asked>
+    ensures { option_to_list result ≡ entries_of moment Tick answer }
 {
-    let mut entries = entries.into_vec().into_iter();
-    entries.next()
+    match answer {
+        Ok(turn) => Some(Asked {
+            moment,
+            ask: Ask::Tick,
+            end: AskedEnd::Turned(turn),
+        }),
+        Err(Refused::OutOfMemory) => None,
+        Err(refused) => Some(Asked {
+            moment,
+            ask: Ask::Tick,
+            end: AskedEnd::Refused(refused),
+        }),
+    }
 }
 
 /// Makes a Tick at the clock's moment, as connection 0, and tells the hand what is gone. Its entry is answered: none where there was no
@@ -116,9 +128,9 @@ fn tick<R: Wait, T: Clock, H: Worker>(
     ensures calls { H.calls hand.new ≡ H.calls hand.old }
 {
     let moment = clock.now();
-    let (answer, entries) = root.turn(rt, alloc, lock, moment, Ask::Tick);
+    let (answer, _entries) = root.turn(rt, alloc, lock, moment, Ask::Tick);
     tell_answer(hand, &answer);
-    first_of(entries)
+    tick_entry(moment, answer)
 }
 
 /// A hand, and what its connection is told beforehand.

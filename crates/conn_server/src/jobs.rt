@@ -4,7 +4,7 @@ ghost use Rattle.conn_server.specs.Serves.{IsJob, Serves};
 ghost use Rattle.conn_server.specs.Talks.{TalksOver};
 
 use call_dispatch::{Book, ConnEnd, Setup, Worker, serve_connection};
-use space::{Asked, AskedList};
+use space::{Asked, PortEntries};
 use std::alloc::Global;
 use std::snapshot::Snapshot;
 use std::sync::Wait;
@@ -48,7 +48,7 @@ pub struct LinkReport<I, O, T, H> {
     /// Its clock.
     pub clock: T,
     /// The entries of its turns, in their order.
-    pub asked: AskedList,
+    pub asked: PortEntries,
     /// Its hand.
     pub hand: H,
 }
