@@ -1,5 +1,6 @@
 //! Who does the calls of sample objects.
 ghost use Rattle.std.specs.Prelude.{◌≡◌, ◌≢◌, pos, [], ◌⊎◌, Some, None};
+ghost use Rattle.call_dispatch.specs.Acts.{invokes};
 ghost use Rattle.call_dispatch.specs.declared.outcome.Outcome.TheVariants.{OutOfMemory};
 ghost use Rattle.sample_app.specs.Does.{Adds, May, Moves, overflow};
 
@@ -36,6 +37,21 @@ impl SampleWorker {
             alloc,
             counters: Counters::new(alloc),
             calls: 0,
+        }
+    }
+
+    /// Does what a call asks for, and counts no invocation.
+    pub fn perform(&mut self, call: Invocation) -> Outcome
+        ensures may { May call result }
+        ensures moves { Moves self.old.counters (invokes call result) self.new.counters }
+        ensures calls { self.new.calls ≡ self.old.calls }
+    {
+        match sample_call(&call) {
+            Some(SampleCall::Echo) => Outcome::Tree(graph_of(call)),
+            Some(SampleCall::Add(number)) => self.add(call.object, number),
+            Some(SampleCall::Get) => Outcome::Prim(Value::J(self.counters.count(&call.object))),
+            Some(SampleCall::Make) => Outcome::NewRemote(COUNTER_KIND),
+            None => Outcome::Void,
         }
     }
 
@@ -93,13 +109,7 @@ impl Worker for SampleWorker {
 
     fn invoke(&mut self, call: Invocation) -> Outcome {
         self.calls += 1;
-        match sample_call(&call) {
-            Some(SampleCall::Echo) => Outcome::Tree(graph_of(call)),
-            Some(SampleCall::Add(number)) => self.add(call.object, number),
-            Some(SampleCall::Get) => Outcome::Prim(Value::J(self.counters.count(&call.object))),
-            Some(SampleCall::Make) => Outcome::NewRemote(COUNTER_KIND),
-            None => Outcome::Void,
-        }
+        self.perform(call)
     }
 
     fn unreferenced(&mut self, object: ObjId) {

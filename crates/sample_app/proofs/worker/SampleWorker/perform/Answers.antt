@@ -2,7 +2,7 @@ use Rattle.std.proofs.Common.{◌≡◌, Some, rules}
 use Rattle.sample_app.specs.declared.sample_call.SampleCall.TheVariants.{Add}
 use Rattle.sample_app.specs.Does.{call_of}
 use Rattle.sample_app.proofs.Giving.{adding_may}
-use Rattle.sample_app.proofs.worker.SampleWorkerWorker.invoke.Goals as goal
+use Rattle.sample_app.proofs.worker.SampleWorker.perform.Goals as goal
 
 pub returns-in-Some-Add-clause-may : goal.returns-in-Some-Add-clause-may
 returns-in-Some-Add-clause-may c =
