@@ -8,3 +8,4 @@ pub mod Joining
 pub mod Making
 pub mod Linking
 pub mod Closing
+pub mod Crossing

@@ -36,7 +36,7 @@ pub enum Stop {
     OutOfMemory,
 }
 
-/// Accepts so many links, and serves each.
+/// Accepts so many links. A thread of the scope serves each.
 pub fn accept_links<'s, E, R: Threads + Wait + Sync, L: Listener, G: Crew>(
     scope: &Scope<'s, E>,
     rt: &'s R,

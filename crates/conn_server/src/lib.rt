@@ -1,5 +1,5 @@
-//! A server of the Java Remote Method Protocol: it accepts connections, serves each over one space, and tells what came of
-//! them.
+//! A server of the Java Remote Method Protocol: it accepts connections, serves each in a thread of its own over one space, and tells
+//! what came of them.
 #![tactic(auto)]
 
 mod accepting;

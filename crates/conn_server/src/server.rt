@@ -53,7 +53,7 @@ pub struct Report<I, O, T, H> {
     pub space: Space,
 }
 
-/// Accepts links, serves them and joins their passes.
+/// Accepts links, serves them by threads of the scope, and joins these.
 fn serve_within<'s, E, R: Threads + Wait + Sync, L: Listener, G: Crew>(
     scope: &Scope<'s, E>,
     rt: &'s R,
@@ -97,10 +97,10 @@ where
     }
 }
 
-/// Accepts the plan's count of links, serves each as the connection of the next number, and closes the lock. Each link is served by the caller
-/// before the next is accepted. Before each link it makes a Tick as connection 0, at a moment of the link's clock, and tells the link's hand what is
-/// gone; a Tick that is refused HistoryFull is passed over. Both halves of a link are
-/// shut when its connection ends.
+/// Accepts the plan's count of links, serves each in a thread of its own as the connection of the next number, joins all threads and closes
+/// the lock. Before each link it makes a Tick as connection 0, at a moment of the link's clock, and tells the link's hand what is
+/// gone; a Tick that is refused HistoryFull is passed over. A link whose thread could not be started is served here. Both halves of a link
+/// are shut when its connection ends.
 ///
 /// The stop is AcceptFault only where the listener's count of faults rose, and OutOfMemory where a hand, a Tick or the room of a report finds no
 /// memory; that link is shut and not reported. No more links are accepted then, and those that were are served to their ends.

@@ -15,14 +15,14 @@ use std::thread::{PromisedHandle, Scope, Threads};
 use turn_lock::{Root, TurnLock};
 use wire_io::{Clock, Sink, Source};
 
-/// A link that a thread serves, or one that was served here.
+/// A link that a thread serves, or one that was served here, since no thread could be made.
 #[derive(Drop)]
 pub enum Started<I: Source, O: Sink, T: Clock, H: Worker> {
     There(PromisedHandle<Done<I, O, T, H>, JobKept<I, O, T, H>>),
     Here(Snapshot<Job<I, O, T, H>>, Done<I, O, T, H>),
 }
 
-/// Serves the link. It is done here, and not in a thread of the scope yet.
+/// Serves the link in a thread of the scope. Where none can be made, the job comes back and is done here.
 pub fn start<
     's,
     E,
@@ -44,8 +44,22 @@ pub fn start<
     ensures job { job_of result ≡ job }
 {
     let known = Snapshot::of(&job);
-    let _ = scope;
-    Started::Here(known, serve_job(rt, alloc, lock, book, job))
+    let kept = JobKept {
+        lock: Snapshot::of(lock),
+        book: Snapshot::of(book),
+        job: Snapshot::of(&job),
+    };
+    let spawned = scope.spawn_with(
+        kept,
+        move || -> Done<I, O, T, H>
+            requires { IsJob H.calls lock.now job }
+            ensures { Serves (TalksOver I.left O.held T.given H.calls H.seen H.state H.may H.moves book.entry.now) lock.entry.now job result }
+        { serve_job(rt, alloc, lock, book, job) },
+    );
+    match spawned {
+        Ok(child) => Started::There(child),
+        Err(refused) => Started::Here(known, (refused.value)()),
+    }
 }
 
 /// Waits until the link is served.

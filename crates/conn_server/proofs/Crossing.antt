@@ -1,0 +1,41 @@
+-- What crosses to the thread of a link.
+use mathlib.Core.List.{List, [], ◌∷◌}
+use Prim.Native.Nat.{ℕ}
+use mir.Syntax.{Sym, Ty}
+use denote.Exit.{Kept}
+use denote.RattleType.{RattleType}
+use denote.Param.{param, arg}
+use denote.Param.Send.{IsSend, IsSync, AllSend, arg_send, param_send, recorded_send, struct_send, sendable}
+use denote.Param.SendFields.{FieldsHave, as_row_send, declared_send}
+use denote.Struct.Declared.{shape}
+use denote.Struct.Field.{row_field}
+use denote.Struct.Tuple.{TupleAt, parts, type_at}
+use Rattle.std.proofs.Crossing.{crosses}
+use Rattle.call_dispatch.specs.contracts.book.Book as book
+use Rattle.call_dispatch.proofs.book.Book.TheSendSync as book_there
+use Rattle.call_dispatch.proofs.setup.Setup.TheSendSync as setup_there
+use Rattle.conn_server.specs.contracts.jobs.Job as job
+use Rattle.turn_lock.specs.contracts.handles.TurnLock as lock
+use Rattle.turn_lock.proofs.handles.TurnLock.TheSendSync as lock_there
+use Rattle.turn_lock.proofs.handles.Pass.TheSendSync as pass_there
+
+pub book_sync : IsSync book.the_row
+book_sync = book_there.the_sync
+
+pub lock_sync : IsSync lock.the_row
+lock_sync = lock_there.the_sync
+
+pub job_send : (I O T H : RattleType) → IsSend I → IsSend O → IsSend T → IsSend H → IsSend (job.the_row I O T H)
+job_send I O T H i o t h = recorded_send (job.the_field I O T H).row _ _ (job.the_type I O T H).to_one (struct_send (shape (job.the_type I O T H))
+    (search sendable, (pass_there.the_field_send, (search (setup_there.the_field_send, i, o, t, h, sendable, crosses) depth 20, tt))))
+
+parts_send : (Ts : List RattleType) → AllSend Ts → FieldsHave IsSend (parts Ts)
+parts_send [] s = tt
+parts_send (T ∷ Ts) s = (as_row_send (row_field T) s.0, parts_send Ts s.1)
+
+-- A closure may cross where each of its captures may.
+pub captures_send : (i : ℕ) (δ : Ty) (k : Kept) (ν : Sym) (Ts : List RattleType) → AllSend Ts → IsSend (param i (arg δ k (TupleAt ν Ts)))
+captures_send i δ k ν Ts s = param_send i (arg δ k (TupleAt ν Ts)) (arg_send δ k (TupleAt ν Ts) (declared_send (type_at ν Ts) (parts_send Ts s)))
+
+pub five_send : {i : ℕ} {δ : Ty} {A B C D E : RattleType} (k : Kept) (ν : Sym) → IsSend A → IsSend B → IsSend C → IsSend D → IsSend E → IsSend (param i (arg δ k (TupleAt ν (A ∷ B ∷ C ∷ D ∷ E ∷ []))))
+five_send {i} {δ} {A} {B} {C} {D} {E} k ν a b c d e = captures_send i δ k ν (A ∷ B ∷ C ∷ D ∷ E ∷ []) (a, (b, (c, (d, (e, tt)))))
