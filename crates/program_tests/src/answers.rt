@@ -93,9 +93,29 @@ fn check_usage(rt: &impl Abort, alloc: Global, line: &str) {
     must(rt, host.output.writes() == 0, line);
 }
 
+/// Words that ask for no drill.
+const NO_DRILLS: &str = "drill
+drill 1
+drill 1 1 1
+drill 01 5
+drill 1 05
+drill +1 5
+drill 1 -5
+drill 1 0
+drill 1 1000001
+drill 9223372036854775808 1
+drill 18446744073709551617 1
+drill  1
+journal 1
+journal 1 1000001
+Drill 1 1";
+
 #[test]
 fn other_words_are_no_command_line(rt: HostRuntime) {
     for line in "|frob|Answer|answer |answer answer|list 127.0.0.1".split('|') {
+        check_usage(&rt, rt.alloc(), line);
+    }
+    for line in NO_DRILLS.split('\n') {
         check_usage(&rt, rt.alloc(), line);
     }
 }

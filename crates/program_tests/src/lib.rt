@@ -10,6 +10,8 @@ mod calls;
 #[cfg(test)]
 mod connections;
 #[cfg(test)]
+mod drills;
+#[cfg(test)]
 mod ends;
 #[cfg(test)]
 mod frames;

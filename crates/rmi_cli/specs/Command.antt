@@ -1,14 +1,33 @@
 -- The command lines of the program.
-use Rattle.std.specs.Prelude.{◌≡◌, ℕ, codes, List, [], ◌∷◌}
+use Rattle.std.specs.Prelude.{◌≡◌, ℕ, ◌<◌, ◌≤◌, ◌^◌, codes, decimal, List, [], ◌∷◌}
 use Rattle.rmi_cli.specs.declared.words.Command.{Command}
-use Rattle.rmi_cli.specs.declared.words.Command.TheVariants.{Answer, Replay, Show}
+use Rattle.rmi_cli.specs.declared.words.Command.TheVariants.{Answer, Replay, Show, Drill}
+use Rattle.rmi_cli.specs.declared.words.DrillText.{DrillText}
+use Rattle.rmi_cli.specs.declared.words.DrillText.TheVariants.{Summary, Journal}
 
--- the word of a command
-abbrev pub word_of : Command → List ℕ
-word_of Answer = codes "answer"
-word_of Replay = codes "replay"
-word_of Show = codes "show"
+-- These words are a word alone.
+abbrev pub IsWord : List (List ℕ) → List ℕ → Type 0
+IsWord words word = words ≡ word ∷ []
 
--- These words ask for the command: they are its word alone.
+-- The numbers of a drill: a seed below 2^63, and 1 to 1,000,000 rounds.
+pub record AreInRange (seed rounds : ℕ) : Type 0 where
+  pub seed_fits : seed < 2 ^ 63
+  pub some : 1 ≤ rounds
+  pub most : rounds ≤ 1000000
+
+-- These words are a word, and the numbers of a drill: its seed, then its rounds.
+pub record IsWordOfDrill (words : List (List ℕ)) (word : List ℕ) (seed rounds : ℕ) : Type 0 where
+  pub in_range : AreInRange seed rounds
+  pub words_are : words ≡ word ∷ decimal seed ∷ decimal rounds ∷ []
+
+-- the word of a drill's text
+abbrev pub word_of_text : DrillText → List ℕ
+word_of_text Summary = codes "drill"
+word_of_text Journal = codes "journal"
+
+-- These words ask for the command.
 abbrev pub AskFor : List (List ℕ) → Command → Type 0
-AskFor words command = words ≡ word_of command ∷ []
+AskFor words Answer = IsWord words (codes "answer")
+AskFor words Replay = IsWord words (codes "replay")
+AskFor words Show = IsWord words (codes "show")
+AskFor words (Drill text seed rounds) = IsWordOfDrill words (word_of_text text) seed rounds

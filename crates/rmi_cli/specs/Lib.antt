@@ -1,6 +1,7 @@
 pub mod Answer
 pub mod Batches
 pub mod Command
+pub mod Drilled
 pub mod Line
 pub mod Replay
 pub mod Replayed

@@ -2,9 +2,11 @@
 #![tactic(auto)]
 
 mod answer_input;
+mod drill_output;
 mod end;
 mod host;
 mod journal_input;
+mod numbers;
 mod outlines;
 mod program;
 mod stream_input;
@@ -17,4 +19,4 @@ pub use journal_input::JOURNAL_BYTES;
 pub use outlines::{ReplayFault, replay};
 pub use program::run;
 pub use stream_input::STREAM_BYTES;
-pub use words::{Command, Words};
+pub use words::{Command, DrillText, Words};

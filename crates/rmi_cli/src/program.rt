@@ -1,16 +1,19 @@
 //! All that the program does.
-ghost use Rattle.std.specs.Prelude.{◌≡◌, ◌↔◌, ◌⊎◌, IfOk};
+ghost use Rattle.std.specs.Prelude.{◌≡◌, ◌↔◌, ◌⊎◌, ℕ, IfOk};
 ghost use Rattle.wire_io.specs.Wire.{Rose, wires};
 ghost use Rattle.rmi_cli.specs.Answer.{Answers, AnswersExactly};
 ghost use Rattle.rmi_cli.specs.Command.{AskFor};
+ghost use Rattle.rmi_cli.specs.Drilled.{Drills, DrillsExactly};
 ghost use Rattle.rmi_cli.specs.Line.{status_of_run};
 ghost use Rattle.rmi_cli.specs.Replayed.{ReplaysInput, ReplaysExactly};
 ghost use Rattle.rmi_cli.specs.Shown.{ShowsInput, ShowsExactly};
 ghost use Rattle.rmi_cli.specs.Told.{told_by, TellsExactly, Tells};
 ghost use Rattle.rmi_cli.specs.declared.end.RunEnd.{RunEnd as RunEnds};
 ghost use Rattle.rmi_cli.specs.declared.words.Command.{Command as Commands};
+ghost use Rattle.rmi_cli.specs.declared.words.DrillText.{DrillText as DrillTexts};
 
 use crate::answer_input::answer_input;
+use crate::drill_output::write_drill;
 use crate::end::RunEnd;
 use crate::host::Host;
 use crate::journal_input::replay_input;
@@ -78,6 +81,17 @@ pub fn run<I: Source, O: Sink, E: Sink, T: Clock>(
         (wires I.left O.held host.new.input host.new.output)
         (told_by E.held E.faults host.old.errors host.new.errors result) }
 
+    // `drill` writes the summary of the space that takes the events of a drill, and `journal` its journal, or says that an event is refused.
+    // They read nothing.
+    ensures drill { (text : DrillTexts) (seed rounds : ℕ) → AskFor words.now (Command.Drill text seed rounds) → Drills text seed rounds
+        (wires I.left O.held host.old.input host.old.output)
+        (wires I.left O.held host.new.input host.new.output)
+        (told_by E.held E.faults host.old.errors host.new.errors result) }
+    ensures drill_exact { (text : DrillTexts) (seed rounds : ℕ) → AskFor words.now (Command.Drill text seed rounds) → DrillsExactly text seed rounds
+        (wires I.left O.held host.old.input host.old.output)
+        (wires I.left O.held host.new.input host.new.output)
+        (told_by E.held E.faults host.old.errors host.new.errors result) }
+
     // No other command asks the clock, and none changes the seed.
     ensures clock { (AskFor words.now Command.Answer → ⊥) → T.given host.new.ticks ≡ T.given host.old.ticks }
     ensures seed { host.new.seed ≡ host.old.seed }
@@ -103,6 +117,10 @@ pub fn run<I: Source, O: Sink, E: Sink, T: Clock>(
         }
         Some(Command::Show) => {
             let end = show_input(alloc, &mut host.input, &mut host.output);
+            told(alloc, &mut host.errors, end)
+        }
+        Some(Command::Drill { text, seed, rounds }) => {
+            let end = write_drill(alloc, &mut host.output, text, seed, rounds);
             told(alloc, &mut host.errors, end)
         }
         None => {

@@ -1,6 +1,7 @@
 //! The words that the program is run with.
-ghost use Rattle.std.specs.Prelude.{◌≡◌, map, string_bytes, [], ◌∷◌, IsTrue, ◌↔◌, IfSome, IfNone};
+ghost use Rattle.std.specs.Prelude.{◌≡◌, map, string_bytes, ℕ, IsTrue, ◌↔◌, IfSome, IfNone};
 
+use crate::numbers::read_drill;
 use std::marker::Model;
 
 /// A list of texts, which contracts see as the list of their bytes.
@@ -26,11 +27,28 @@ pub enum Command {
     Replay,
     /// `show`: print the text of the graph that the input spells as a stream.
     Show,
+    /// `drill SEED N` or `journal SEED N`: print this text of the space that takes the events of a drill, which has a seed below 2^63 and
+    /// 1 to 1,000,000 rounds.
+    Drill {
+        text: DrillText,
+        seed: u64,
+        rounds: u64,
+    },
+}
+
+/// Which text of a drill's space is printed.
+#[derive(Clone, Copy, Debug, PartialEq, Eq)]
+pub enum DrillText {
+    /// `drill`: its summary.
+    Summary,
+    /// `journal`: its journal.
+    Journal,
 }
 
 impl Words {
-    ghost use Rattle.rmi_cli.specs.Command.{AskFor};
+    ghost use Rattle.rmi_cli.specs.Command.{AskFor, IsWord, IsWordOfDrill, word_of_text};
     ghost use Rattle.rmi_cli.specs.declared.words.Command.{Command as Commands};
+    ghost use Rattle.rmi_cli.specs.declared.words.DrillText.{DrillText as DrillTexts};
 
     /// The words of a vector. It takes no memory.
     pub fn from_vec(items: Vec<String>) -> Words
@@ -51,13 +69,46 @@ impl Words {
         } else if self.are("show") {
             Some(Command::Show)
         } else {
-            None
+            self.drill()
+        }
+    }
+
+    /// The drill that the words ask for, of the one text or the other.
+    fn drill(&self) -> Option<Command>
+        ensures asked { IfSome result (AskFor self.now) }
+        ensures none { IfNone result ((text : DrillTexts) (seed rounds : ℕ) → IsWordOfDrill self.now (word_of_text text) seed rounds → ⊥) }
+    {
+        if let Some((seed, rounds)) = self.numbers_after("drill") {
+            let text = DrillText::Summary;
+            return Some(Command::Drill { text, seed, rounds });
+        }
+        if let Some((seed, rounds)) = self.numbers_after("journal") {
+            let text = DrillText::Journal;
+            return Some(Command::Drill { text, seed, rounds });
+        }
+        None
+    }
+
+    /// The numbers of a drill, where the words are this one and these numbers.
+    fn numbers_after(&self, word: &str) -> Option<(u64, u64)>
+        ensures some { IfSome result (λ p. IsWordOfDrill self.now word.now p.0 p.1) }
+        ensures none { IfNone result ((seed rounds : ℕ) → IsWordOfDrill self.now word.now seed rounds → ⊥) }
+    {
+        match self.items.as_slice() {
+            [first, seed, rounds] => {
+                if first.as_str() == word {
+                    read_drill(seed.as_str(), rounds.as_str())
+                } else {
+                    None
+                }
+            }
+            _ => None,
         }
     }
 
     /// Whether they are exactly this word.
     fn are(&self, word: &str) -> bool
-        ensures { IsTrue result ↔ (self.now ≡ word.now ∷ []) }
+        ensures { IsTrue result ↔ IsWord self.now word.now }
     {
         match self.items.as_slice() {
             [only] => only.as_str() == word,

@@ -1,0 +1,81 @@
+//! `drill` and `journal` over the program's output.
+ghost use Rattle.std.specs.Prelude.{◌≡◌, ◌≢◌, ◌≤◌, IfOk, IfErr};
+ghost use Rattle.wire_io.specs.Wire.{Rose};
+ghost use Rattle.drill.specs.Rounds.{drill_config, drilled};
+ghost use Rattle.rmi_cli.specs.Drilled.{text_of, drill_text, TakesAll, Stops, end_of_refused, DrillEnds};
+ghost use Rattle.rmi_cli.specs.Line.{status_of_run};
+
+use crate::end::RunEnd;
+use crate::words::DrillText;
+use drill::drill;
+use history::Refused;
+use mod_utf::list::ByteList;
+use space::{Space, journal, summary};
+use std::alloc::{AllocError, Global};
+use wire_io::put::put_all;
+use wire_io::sink::Sink;
+
+/// Makes the turns of a drill in a space of its own, and writes this text of the space.
+pub fn write_drill<K: Sink>(
+    alloc: Global,
+    sink: &mut K,
+    text: DrillText,
+    seed: u64,
+    rounds: u64,
+) -> RunEnd
+    requires { rounds ≤ 1000000 }
+    ensures ends { DrillEnds seed rounds (drill_text text seed rounds) (K.held sink.old) (K.held sink.new) result }
+    ensures known { status_of_run result ≢ 1 }
+    ensures unread { status_of_run result ≢ 3 }
+    ensures write_fault { status_of_run result ≡ 4 → Rose (K.faults sink.old) (K.faults sink.new) }
+{
+    let space = match drilled_space(alloc, seed, rounds) {
+        Ok(space) => space,
+        Err(refused) => return end_of_refused(refused),
+    };
+    let written = match text_of(alloc, &space, text) {
+        Ok(written) => written,
+        Err(_) => return RunEnd::OutOfMemory,
+    };
+    match put_all(sink, written.as_slice()) {
+        Ok(()) => RunEnd::Done,
+        Err(_) => RunEnd::WriteFault,
+    }
+}
+
+/// The space that takes the events of a drill.
+fn drilled_space(alloc: Global, seed: u64, rounds: u64) -> Result<Space, Refused>
+    requires { rounds ≤ 1000000 }
+    ensures space { IfOk result (λ space. space ≡ record { configuration = drill_config; events = drilled seed rounds }) }
+    ensures all { IfOk result (λ _. TakesAll seed rounds) }
+    ensures refused { IfErr result (Stops seed rounds) }
+{
+    match drill(alloc, seed, rounds) {
+        Ok(space) => {
+            let _len = space.len();
+            Ok(space)
+        }
+        Err(refused) => Err(refused),
+    }
+}
+
+/// How a run ends where an event was refused.
+fn end_of_refused(refused: Refused) -> RunEnd
+    ensures { result ≡ end_of_refused refused }
+{
+    match refused {
+        Refused::HistoryFull => RunEnd::Refused,
+        Refused::Full(_kind) => RunEnd::Refused,
+        Refused::OutOfMemory => RunEnd::OutOfMemory,
+    }
+}
+
+/// This text of a space.
+fn text_of(alloc: Global, space: &Space, text: DrillText) -> Result<ByteList, AllocError>
+    ensures { IfOk result (λ written. written ≡ text_of text space.now.configuration space.now.events) }
+{
+    match text {
+        DrillText::Summary => summary(alloc, space),
+        DrillText::Journal => journal(alloc, space),
+    }
+}
