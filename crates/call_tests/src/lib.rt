@@ -12,6 +12,12 @@ mod method_tests;
 #[cfg(test)]
 mod remote_rows;
 #[cfg(test)]
+mod seen;
+#[cfg(test)]
 mod served_tests;
+#[cfg(test)]
+mod spaces;
+#[cfg(test)]
+mod system_rows;
 #[cfg(test)]
 mod texts;

@@ -2,52 +2,38 @@
 ghost use Rattle.std.specs.Prelude.{◌≡◌, ◌≤◌, pos, length, IsTrue};
 ghost use Rattle.mod_utf.specs.Utf.{utf};
 
-use crate::texts::{cut, listed, must, null_graph, put_digits, units_of};
+use crate::seen::{are_entries, are_invoked};
+use crate::spaces::{FIRST, space_of};
+use crate::texts::{cut, listed, moments_of, must, null_graph, put, put_digits, units_of};
 use call_dispatch::{
-    Book, ConnEnd, Kind, KindList, Outcome, OutcomeList, Recorded, RecordingWorker, Setup,
-    serve_connection,
+    Book, ConnEnd, Kind, KindList, Outcome, OutcomeList, RecordingWorker, Setup, serve_connection,
 };
 use method_hash::{Method, MethodList};
-use mod_utf::list::{ByteList, Kinds, MomentList, Units};
+use mod_utf::list::{ByteList, Kinds, Units};
 use mod_utf::utf::encoded_len;
-use object_ids::{ObjId, Uid, UidDraw};
-use ser_values::Value;
-use space::{Ask, Asked, AskedEnd, DirectPort, Space, SpaceConfig};
+use object_ids::UidDraw;
+use ser_read::read_to_end;
+use ser_values::{Graph, Value};
+use space::DirectPort;
 use std::alloc::Global;
 use std::process::Abort;
+use wire_io::Pull;
 use wire_io::mem::{MemClock, MemSink, MemSource};
-
-/// The space's identifier.
-const SPACE: Uid = Uid {
-    unique: 7,
-    time: 9,
-    count: 0,
-};
-
-/// What the space keeps to. Its one object has the number 16 and the kind 0.
-const CONFIG: SpaceConfig = SpaceConfig {
-    lease_ms: 600_000,
-    ack_ms: 300_000,
-    uid: SPACE,
-};
-
-/// The object.
-const FIRST: ObjId = ObjId {
-    number: 16,
-    space: SPACE,
-};
 
 /// The methods of the kind.
 const METHODS: &str = "echo(Ljava/lang/Object;)Ljava/lang/Object;
 add(J)J
 done()V";
 
-/// What the words of the table stand for: a Ping and its answer; a call's front up to the object, and the rest of its head for each
-/// method; a Return's front, its identifier without the count, an exception up to its message, and messages.
+/// What the words of the tables stand for: a Ping and its answer; a call's front up to the object, and the rest of its head for each
+/// method; a Return's front, its identifier without the count, an exception up to its message, and messages; pieces of references; heads
+/// of calls of the registry and of the collector, and of a new object; their methods; references of other servers; identifiers of objects,
+/// leases and clients.
 const WORDS: &str = "opening 4A524D49 0002 4B 0000 00000000
 ack 4E 0009 3132372E302E302E31 000004D2
 ping 52
 pong 53
+magic ACED0005
 call 50 ACED0005 77 22 0000000000000010 00000007 0000000000000009 0000
 echo FFFFFFFF 90BEF25F467880C4
 add FFFFFFFF DE3EC51A3025A10E
@@ -59,7 +45,33 @@ wrong 0027 6A6176612E726D692E536572766572457863657074696F6E3A2077726F6E67206F757
 absent 002B 6A6176612E726D692E556E6D61727368616C457863657074696F6E3A206E6F2073756368206D6574686F64
 proxy 73 7D 00000002 000F 6A6176612E726D692E52656D6F7465
 handler 70 78 72 0017 6A6176612E6C616E672E7265666C6563742E50726F7879 E127DA20CC1043CB 02 0001 4C 0001 68 74 0025 4C6A6176612F6C616E672F7265666C6563742F496E766F636174696F6E48616E646C65723B 70 78 70 73 72 002D 6A6176612E726D692E7365727665722E52656D6F74654F626A656374496E766F636174696F6E48616E646C6572 0000000000000002 02 0000 70 78 72 001C 6A6176612E726D692E7365727665722E52656D6F74654F626A656374 D361B4910C61331E 03 0000 70 78 70 77 32 000A 556E6963617374526566 0009 3132372E302E302E31 0000044B
-of_space 00000007 0000000000000009 0000 01 78";
+of_space 00000007 0000000000000009 0000 01 78
+registry 50 ACED0005 77 22 0000000000000000 00000000 0000000000000000 0000
+collector 50 ACED0005 77 22 0000000000000002 00000000 0000000000000000 0000
+other 50 ACED0005 77 22 0000000000000011 00000007 0000000000000009 0000
+bind 00000000 44154DC9D4E63BDF
+list 00000001 44154DC9D4E63BDF
+lookup 00000002 44154DC9D4E63BDF
+rebind 00000003 44154DC9D4E63BDF
+unbind 00000004 44154DC9D4E63BDF
+clean 00000000 F6B6898D8BF28643
+dirty 00000001 F6B6898D8BF28643
+name_a 74 0001 61
+texts 75 72 0013 5B4C6A6176612E6C616E672E537472696E673B ADD256E7E91D7B47 02 0000 70 78 70
+here 73 7D 00000002 000F 6A6176612E726D692E52656D6F7465 0003 612E42 70 78 72 0017 6A6176612E6C616E672E7265666C6563742E50726F7879 E127DA20CC1043CB 02 0001 4C 0001 68 74 0025 4C6A6176612F6C616E672F7265666C6563742F496E766F636174696F6E48616E646C65723B 70 78 70 73 72 002D 6A6176612E726D692E7365727665722E52656D6F74654F626A656374496E766F636174696F6E48616E646C6572 0000000000000002 02 0000 70 78 72 001C 6A6176612E726D692E7365727665722E52656D6F74654F626A656374 D361B4910C61331E 03 0000 70 78 70 77 32 000A 556E6963617374526566 0009 3132372E302E302E31 0000044B
+there 73 7D 00000002 000F 6A6176612E726D692E52656D6F7465 0003 612E42 70 78 72 0017 6A6176612E6C616E672E7265666C6563742E50726F7879 E127DA20CC1043CB 02 0001 4C 0001 68 74 0025 4C6A6176612F6C616E672F7265666C6563742F496E766F636174696F6E48616E646C65723B 70 78 70 73 72 002D 6A6176612E726D692E7365727665722E52656D6F74654F626A656374496E766F636174696F6E48616E646C6572 0000000000000002 02 0000 70 78 72 001C 6A6176612E726D692E7365727665722E52656D6F74654F626A656374 D361B4910C61331E 03 0000 70 78 70 77 32 000A 556E6963617374526566 0009 3132372E302E302E31 0000044C
+elsewhere 73 7D 00000002 000F 6A6176612E726D692E52656D6F7465 0003 612E42 70 78 72 0017 6A6176612E6C616E672E7265666C6563742E50726F7879 E127DA20CC1043CB 02 0001 4C 0001 68 74 0025 4C6A6176612F6C616E672F7265666C6563742F496E766F636174696F6E48616E646C65723B 70 78 70 73 72 002D 6A6176612E726D692E7365727665722E52656D6F74654F626A656374496E766F636174696F6E48616E646C6572 0000000000000002 02 0000 70 78 72 001C 6A6176612E726D692E7365727665722E52656D6F74654F626A656374 D361B4910C61331E 03 0000 70 78 70 77 32 000A 556E6963617374526566 0009 3132372E302E302E32 0000044B
+first 0000000000000010 00000007 0000000000000009 0000 01 78
+second 0000000000000011 00000007 0000000000000009 0000 01 78
+objects 75 72 0018 5B4C6A6176612E726D692E7365727665722E4F626A49443B 871300B8D02C647E 02 0000 70 78 70 00000001 73 72 0015 6A6176612E726D692E7365727665722E4F626A4944 A75EFA128DDCE55C 02 0002 4A 0006 6F626A4E756D 4C 0005 7370616365 74 0015 4C6A6176612F726D692F7365727665722F5549443B 70 78 70
+in_space 73 72 0013 6A6176612E726D692E7365727665722E554944 0F12700DBF364F12 02 0003 53 0005 636F756E74 4A 0004 74696D65 49 0006 756E69717565 70 78 70 0000 0000000000000009 00000007
+number 77 08
+ack_first 54 00000002 0000000000000002 8000
+ack_unknown 54 00000009 0000000000000009 8000
+lease 73 72 0012 6A6176612E726D692E6467632E4C65617365 B0B5E2660C4ADC34 02 0002 4A 0005 76616C7565 4C 0004 766D6964 74 0013 4C6A6176612F726D692F6467632F564D49443B 70 78 70 00000000000927C0
+client_after 73 72 0011 6A6176612E726D692E6467632E564D4944 F8865BAFA4A56DB6 02 0002 5B 0004 61646472 74 0002 5B42 4C 0003 756964 71 007E0003 70 78 70 75 72 0002 5B42 ACF317F8060854E0 02 0000 70 78 70 00000008 0102030405060708 73 71 007E0005 0005 0000000000000004 00000003
+client 73 72 0011 6A6176612E726D692E6467632E564D4944 F8865BAFA4A56DB6 02 0002 5B 0004 61646472 74 0002 5B42 4C 0003 756964 74 0015 4C6A6176612F726D692F7365727665722F5549443B 70 78 70 75 72 0002 5B42 ACF317F8060854E0 02 0000 70 78 70 00000008
+identifier 73 72 0013 6A6176612E726D692E7365727665722E554944 0F12700DBF364F12 02 0003 53 0005 636F756E74 4A 0004 74696D65 49 0006 756E69717565 70 78 70";
 
 /// What a connection gets after its opening; how its invocations come out; what it is answered after the acknowledgement; what
 /// the space is asked; the methods that are invoked, by their places; and the end.
@@ -78,6 +90,9 @@ call done call echo 70 ping | void null | return 0F 01 uid 8000 return 0F 01 uid
 call done ping call done | fault void | return 0F 02 uid 8000 exception 0001 78 78 70 pong return 0F 01 uid 8001 | begin abandon begin finish | 2 2 | Ended
 call add 77 08 0000000000000005 call add 77 08 0000000000000005 call done | 6 7 | return 17 01 uid 8000 0000000000000006 return 17 01 uid 8001 0000000000000007 return 0F 01 uid 8002 | begin finish begin finish begin finish | 1 1 2 | Ended";
 
+/// A reference of the object, as a client writes it.
+const OWN: &str = "here 0000000000000010 00000007 0000000000000009 0000 00 78";
+
 /// Appends the bytes of a word, or of hex digits.
 fn put_word(rt: &impl Abort, bytes: &mut ByteList, word: &str) {
     put_digits(rt, bytes, word);
@@ -89,14 +104,49 @@ fn put_word(rt: &impl Abort, bytes: &mut ByteList, word: &str) {
     }
 }
 
+/// Appends the bytes of a text after `=`, in which `_` is a blank; of a text so many times; or of a word.
+fn put_any(rt: &impl Abort, bytes: &mut ByteList, word: &str) {
+    if let Some(text) = word.strip_prefix('=') {
+        put_text(rt, bytes, text);
+    } else if let Some(text) = word.strip_prefix("256*") {
+        put_times(rt, bytes, text, 256);
+    } else if let Some(text) = word.strip_prefix("255*") {
+        put_times(rt, bytes, text, 255);
+    } else {
+        put_word(rt, bytes, word);
+    }
+}
+
+/// Appends the bytes of a text, in which `_` is a blank.
+fn put_text(rt: &impl Abort, bytes: &mut ByteList, text: &str) {
+    for byte in text.as_bytes() {
+        put(rt, bytes, &[if *byte == b'_' { b' ' } else { *byte }]);
+    }
+}
+
+/// Appends the bytes of a text so many times.
+fn put_times(rt: &impl Abort, bytes: &mut ByteList, text: &str, count: u32) {
+    for _ in 0..count {
+        put_text(rt, bytes, text);
+    }
+}
+
 /// The bytes of words, after those of one.
 fn bytes_of(rt: &impl Abort, alloc: Global, front: &str, words: &str) -> ByteList {
     let mut bytes = ByteList::new(alloc);
     put_word(rt, &mut bytes, front);
     for word in words.split(' ') {
-        put_word(rt, &mut bytes, word);
+        put_any(rt, &mut bytes, word);
     }
     bytes
+}
+
+/// The graph of a reference of the object, as a client wrote it.
+fn reference(rt: &impl Abort, alloc: Global) -> Option<Graph> {
+    let bytes = bytes_of(rt, alloc, "magic", OWN);
+    let mut source = MemSource::new(bytes, Kinds::new(alloc), Kinds::new(alloc));
+    let mut pull = Pull::new(&mut source);
+    read_to_end(alloc, &mut pull).ok()
 }
 
 /// How an invocation comes out: a number where it is no word.
@@ -104,6 +154,7 @@ fn outcome_of(rt: &impl Abort, alloc: Global, word: &str) -> Option<Outcome> {
     match word {
         "void" => Some(Outcome::Void),
         "null" => null_graph(rt, alloc).map(Outcome::Tree),
+        "own" => reference(rt, alloc).map(Outcome::Tree),
         "new" => Some(Outcome::NewRemote(0)),
         "new7" => Some(Outcome::NewRemote(7)),
         "old" => Some(Outcome::OldRemote(FIRST, 0)),
@@ -120,6 +171,9 @@ fn outcome_of(rt: &impl Abort, alloc: Global, word: &str) -> Option<Outcome> {
 /// How invocations come out.
 fn outcomes_of(rt: &impl Abort, alloc: Global, words: &str) -> OutcomeList {
     let mut outcomes = OutcomeList::new(alloc);
+    if words.is_empty() {
+        return outcomes;
+    }
     for word in words.split(' ') {
         match outcome_of(rt, alloc, word) {
             Some(outcome) => must(rt, outcomes.push(outcome).is_ok(), "memory"),
@@ -163,7 +217,7 @@ fn is_short(host: &Units) -> bool
 }
 
 /// What a connection is told beforehand.
-fn setup(rt: &impl Abort, alloc: Global) -> Setup
+fn setup(rt: &impl Abort, alloc: Global, binding: bool) -> Setup
     ensures draw { result.draw ≡ record { unique = pos 2; time = pos 2; drawn = 0 } }
 {
     Setup {
@@ -172,24 +226,18 @@ fn setup(rt: &impl Abort, alloc: Global) -> Setup
         peer_port: 1234,
         host: units_of(rt, alloc, "127.0.0.1"),
         port: 1099,
-        binding: false,
+        binding,
         draw: UidDraw::new(2, 2),
-        mark: [0; 8],
+        mark: [0xFA, 0xFB, 0xFC, 0xFD, 0xFE, 0xFF, 0, 1],
     }
 }
 
-/// The space of one object, which is pinned.
-fn space_of_one(rt: &impl Abort, alloc: Global) -> Space {
-    let mut space = Space::fresh(alloc, &CONFIG);
-    let pinned = true;
-    let opened = space.turn(0, 0, Ask::Open { kind: 0, pinned });
-    must(rt, opened.is_ok(), "opened");
-    space
-}
-
-/// What a line says of a connection.
+/// What a line says of a connection: what its space is beforehand, and the moments of its turns; what is written, what the space is asked, and
+/// what the worker is.
 #[derive(Clone, Copy)]
 struct Wanted<'a> {
+    ground: &'a str,
+    moments: &'a str,
     output: &'a [u8],
     entries: &'a str,
     places: &'a str,
@@ -204,15 +252,15 @@ fn serve(
     outcomes: OutcomeList,
     wanted: Wanted,
 ) -> Option<ConnEnd> {
-    let mut setup = setup(rt, alloc);
+    let mut setup = setup(rt, alloc, wanted.ground != "closed");
     if !is_short(&setup.peer_host) || !is_short(&setup.host) {
         return None;
     }
     let bytes = listed(rt, alloc, input);
     let mut source = MemSource::new(bytes, Kinds::new(alloc), Kinds::new(alloc));
     let mut sink = MemSink::new(alloc, Kinds::new(alloc));
-    let mut clock = MemClock::new(MomentList::new(alloc));
-    let mut space = space_of_one(rt, alloc);
+    let mut clock = MemClock::new(moments_of(rt, alloc, wanted.moments));
+    let mut space = space_of(rt, alloc, wanted.ground);
     let mut port = DirectPort::new(alloc, &mut space, 1);
     let mut worker = RecordingWorker::new(alloc, outcomes);
     let end = serve_connection(
@@ -232,50 +280,6 @@ fn serve(
     Some(end)
 }
 
-/// What was asked, in a word.
-fn word_of(entry: &Asked) -> &'static str {
-    match (&entry.ask, &entry.end) {
-        (Ask::Begin { object: _ }, AskedEnd::Turned(_)) => "begin",
-        (Ask::Abandon { object: _ }, AskedEnd::Abandoned(_)) => "abandon",
-        (_, AskedEnd::Turned(_)) => "finish",
-        _ => "other",
-    }
-}
-
-/// Whether these words stand for the entries, one for each.
-fn are_entries(asked: &[Asked], words: &str) -> bool {
-    let mut left = words;
-    for entry in asked {
-        let (word, rest) = cut(left, ' ');
-        if word != word_of(entry) {
-            return false;
-        }
-        left = rest;
-    }
-    left.is_empty()
-}
-
-/// The place of the method that was invoked.
-fn method_of(call: &Recorded) -> Option<u32> {
-    match call {
-        Recorded::Invoked(call, _) => Some(call.method),
-        Recorded::Unreferenced(_) => None,
-    }
-}
-
-/// Whether these are the places of the methods that were invoked, one for each.
-fn are_invoked(calls: &[Recorded], places: &str) -> bool {
-    let mut left = places;
-    for call in calls {
-        let (place, rest) = cut(left, ' ');
-        if place.parse::<u32>().ok() != method_of(call) {
-            return false;
-        }
-        left = rest;
-    }
-    left.is_empty()
-}
-
 /// Whether an end is told by this text.
 fn is_told(alloc: Global, end: Option<ConnEnd>, text: &str) -> bool {
     match end {
@@ -287,8 +291,21 @@ fn is_told(alloc: Global, end: Option<ConnEnd>, text: &str) -> bool {
     }
 }
 
-/// Serves what a line says, and checks the rest of it.
+/// Serves what a line says, over a space of one object in which no name can be bound, at the moment 0, and checks the rest of it.
 pub(crate) fn check_line(rt: &impl Abort, alloc: Global, book: &Book, line: &str) {
+    check_rest(rt, alloc, book, ("closed", ""), line);
+}
+
+/// Serves what a line says that begins with the space and the moments, and checks the rest of it.
+pub(crate) fn check_over(rt: &impl Abort, alloc: Global, book: &Book, line: &str) {
+    let (ground, rest) = cut(line, '|');
+    let (moments, rest) = cut(rest, '|');
+    check_rest(rt, alloc, book, (ground, moments), rest);
+}
+
+/// Serves what a line says over this space, at these moments, and checks the rest of it.
+fn check_rest(rt: &impl Abort, alloc: Global, book: &Book, over: (&str, &str), line: &str) {
+    let (ground, moments) = over;
     let (input, rest) = cut(line, '|');
     let (outcomes, rest) = cut(rest, '|');
     let (output, rest) = cut(rest, '|');
@@ -298,6 +315,8 @@ pub(crate) fn check_line(rt: &impl Abort, alloc: Global, book: &Book, line: &str
     let output = bytes_of(rt, alloc, "ack", output);
     let outcomes = outcomes_of(rt, alloc, outcomes);
     let wanted = Wanted {
+        ground,
+        moments,
         output: output.as_slice(),
         entries,
         places,

@@ -1,6 +1,6 @@
 //! Bytes and lists from text. A test stops where there is no memory: no helper answers an error, and none has an early end.
 use class_desc::{Item, Items, Slot};
-use mod_utf::list::{ByteList, Units};
+use mod_utf::list::{ByteList, MomentList, Units};
 use ser_values::{Builder, Graph};
 use std::alloc::Global;
 use std::process::Abort;
@@ -66,4 +66,27 @@ pub(crate) fn null_graph(rt: &impl Abort, alloc: Global) -> Option<Graph> {
     let mut items = Items::new(alloc);
     must(rt, items.push(Item::Ref(Slot::Null)).is_ok(), "memory");
     Builder::new(alloc).finish(items).ok()
+}
+
+/// The number that a text spells.
+pub(crate) fn number_of(rt: &impl Abort, text: &str) -> u32 {
+    match text.parse::<u32>() {
+        Ok(number) => number,
+        Err(_) => {
+            must(rt, false, text);
+            0
+        }
+    }
+}
+
+/// The moments that words spell.
+pub(crate) fn moments_of(rt: &impl Abort, alloc: Global, words: &str) -> MomentList {
+    let mut moments = MomentList::new(alloc);
+    if !words.is_empty() {
+        for word in words.split(' ') {
+            let moment = u64::from(number_of(rt, word));
+            must(rt, moments.push(moment).is_ok(), "memory");
+        }
+    }
+    moments
 }

@@ -215,6 +215,7 @@ fn check_end(rt: &impl Abort, alloc: Global, book: &Book, line: &str) {
         cut: "1",
         failing_reads,
         failing_writes,
+        moments: "",
     };
     let seen = serve_words(rt, alloc, book, input, outside, output);
     must(rt, is_told(alloc, seen.end, end), line);

@@ -25,6 +25,7 @@ fn check_drill(rt: &impl Abort, alloc: Global, line: &str) {
         cut: "-",
         failing_reads: "",
         failing_writes,
+        moments: "",
     };
     let _left = check_words(rt, alloc, words, "", outside, output, told);
 }

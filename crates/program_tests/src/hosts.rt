@@ -1,6 +1,6 @@
 //! What the tests run the program on. A test stops where there is no memory: no helper answers an error, and none has an early end.
-use crate::texts::{bytes_of, cut, number_of, numbers_of};
-use mod_utf::list::{ByteList, Kinds, MomentList};
+use crate::texts::{bytes_of, cut, moments_of, number_of, numbers_of};
+use mod_utf::list::{ByteList, Kinds};
 use rmi_cli::{Host, Words, run};
 use std::alloc::Global;
 use std::process::Abort;
@@ -29,12 +29,14 @@ pub(crate) fn copied(rt: &impl Abort, alloc: Global, piece: &[u8]) -> ByteList {
     bytes
 }
 
-/// How a source is cut into pieces, a length or `-`, and which of its reads and of the sink's writes fail, by their indices.
+/// How a source is cut into pieces, a length or `-`; which of its reads and of the sink's writes fail, by their indices; and the moments of the
+/// clock, all 0 where none is told.
 #[derive(Clone, Copy)]
 pub(crate) struct Outside<'a> {
     pub cut: &'a str,
     pub failing_reads: &'a str,
     pub failing_writes: &'a str,
+    pub moments: &'a str,
 }
 
 /// Nothing fails, and pieces have this length, or any.
@@ -43,6 +45,7 @@ pub(crate) fn cut_by(cut: &str) -> Outside<'_> {
         cut,
         failing_reads: "",
         failing_writes: "",
+        moments: "",
     }
 }
 
@@ -84,7 +87,7 @@ pub(crate) fn host_of(rt: &impl Abort, alloc: Global, input: &[u8], outside: Out
         input: source_of(rt, alloc, input, outside),
         output: sink_of(rt, alloc, outside.failing_writes),
         errors: sink_of(rt, alloc, ""),
-        ticks: MemClock::new(MomentList::new(alloc)),
+        ticks: MemClock::new(moments_of(rt, alloc, outside.moments)),
         seed: SEED,
     }
 }
@@ -155,17 +158,19 @@ fn check_left(rt: &impl Abort, left: usize, wanted: &str) {
 }
 
 /// Runs a line of a table, cut in one way: the input; the output; how many bytes are left, where that is told; the status and the line on
-/// the errors' sink; and the indices of the reads and of the writes that fail.
+/// the errors' sink; the indices of the reads and of the writes that fail; and the moments of the turns.
 fn check_line(rt: &impl Abort, alloc: Global, command: &str, pieces: &str, line: &str) {
     let (input, rest) = cut(line, '|');
     let (output, rest) = cut(rest, '|');
     let (left, rest) = cut(rest, '|');
     let (told, rest) = cut(rest, '|');
-    let (failing_reads, failing_writes) = cut(rest, '|');
+    let (failing_reads, rest) = cut(rest, '|');
+    let (failing_writes, moments) = cut(rest, '|');
     let outside = Outside {
         cut: pieces,
         failing_reads,
         failing_writes,
+        moments,
     };
     let found = check_words(rt, alloc, command, input, outside, output, told);
     check_left(rt, found, left);

@@ -32,4 +32,6 @@ mod system_rows;
 #[cfg(test)]
 mod texts;
 #[cfg(test)]
+mod traffic;
+#[cfg(test)]
 mod wires;

@@ -2,7 +2,8 @@
 ghost use Rattle.std.specs.Prelude.{None};
 
 use crate::hosts::{SEED, must, sink_of, words_of};
-use mod_utf::list::MomentList;
+use crate::texts::{bytes_of, cut, put_words};
+use mod_utf::list::{ByteList, Kinds, MomentList};
 use rmi_cli::{Host, run};
 use std::alloc::Global;
 use std::cell::Cell;
@@ -11,29 +12,33 @@ use wire_io::mem::MemClock;
 use wire_io::sink::Sink;
 use wire_io::source::{Failed, Source};
 
-/// An opening, a Ping, a call of `get()J`, a Ping and the end.
-const INPUT: &[u8] =
-    b"JRMI\x00\x02K\x00\x00\x00\x00\x00\x00RP\xAC\xED\x00\x05w\x22\x00\x00\x00\x00\x00\x00\x00\x11\x00\x00\x00\x07\
-\x00\x00\x00\x00\x00\x00\x00\x09\x00\x00\xFF\xFF\xFF\xFF\xE2\xCA\x1A\x08\xEB\xC0\x2A\x8DR";
+/// The messages of a connection, each with what is written before the first byte after it is asked for: a header and an endpoint, a Ping, a call of
+/// `get()J`, a lookup, its dirty and its acknowledgement, and a Ping.
+const MESSAGES: &str = "header 4B | ack
+0000 00000000 |
+ping | pong
+get | number first 0000000000000000
+registry 00000002 44154DC9D4E63BDF 74 0007 =counter | reference second proxy 000E =sample.Counter handler 0000000000000011 of_space
+dirty_made 0000000000000001 asks_lease | reference third grants_lease
+54 second |
+ping | pong";
 
-/// How many bytes are to be written before the byte of this index is asked for: the acknowledgement of 16 after the header's 7, and an
-/// answer after each message. The call has 41 bytes, and its Return 30.
-fn due(index: usize) -> usize {
-    match index {
-        0..=6 => 0,
-        7..=13 => 16,
-        14..=54 => 17,
-        55 => 47,
-        _ => 48,
-    }
-}
-
-/// A source that gives one byte a read, and counts the reads that come before what is due was written.
+/// A source that gives one byte a read, and counts the reads that come where another number of bytes was written than is due at that place.
 #[derive(Drop)]
 struct Asking<'a> {
+    input: &'a [u8],
+    due: &'a [u32],
     at: usize,
     written: &'a Cell<usize>,
     early: &'a Cell<usize>,
+}
+
+/// Whether so many bytes are due before the byte at a place is asked for.
+fn is_due(due: &[u32], at: usize, written: usize) -> bool {
+    match due.get(at) {
+        Some(count) => *count as usize == written,
+        None => false,
+    }
 }
 
 impl Source for Asking<'_> {
@@ -42,10 +47,10 @@ impl Source for Asking<'_> {
     ghost faults = { λ _. 0 };
 
     fn read(&mut self, buf: &mut [u8]) -> Result<usize, Failed> {
-        if self.written.get() != due(self.at) {
+        if !is_due(self.due, self.at, self.written.get()) {
             self.early.set(self.early.get().saturating_add(1));
         }
-        match (INPUT.get(self.at), buf.first_mut()) {
+        match (self.input.get(self.at), buf.first_mut()) {
             (Some(byte), Some(place)) => {
                 *place = *byte;
                 self.at = self.at.saturating_add(1);
@@ -78,20 +83,50 @@ impl Sink for Counting<'_> {
     fn shut(&mut self) {}
 }
 
+/// What the messages send.
+fn input_of(rt: &impl Abort, alloc: Global) -> ByteList {
+    let mut input = ByteList::new(alloc);
+    for line in MESSAGES.split('\n') {
+        let (message, _answer) = cut(line, '|');
+        put_words(rt, alloc, &mut input, message);
+    }
+    input
+}
+
+/// Appends a number so many times.
+fn put_due(rt: &impl Abort, due: &mut Kinds, count: usize, written: usize) {
+    for _ in 0..count {
+        must(rt, due.push(written as u32).is_ok(), "memory");
+    }
+}
+
+/// How many bytes are written when a line's message is taken, where so many were before. Before each of its bytes these are due.
+fn put_line(rt: &impl Abort, alloc: Global, due: &mut Kinds, before: usize, line: &str) -> usize {
+    let (message, answer) = cut(line, '|');
+    let message = bytes_of(rt, alloc, message);
+    put_due(rt, due, message.len(), before);
+    if answer.is_empty() {
+        return before;
+    }
+    before.saturating_add(bytes_of(rt, alloc, answer).len())
+}
+
+/// How many bytes are written before each byte is asked for, and before the end is.
+fn due_of(rt: &impl Abort, alloc: Global) -> Kinds {
+    let mut due = Kinds::new(alloc);
+    let mut written = 0;
+    for line in MESSAGES.split('\n') {
+        written = put_line(rt, alloc, &mut due, written, line);
+    }
+    put_due(rt, &mut due, 1, written);
+    due
+}
+
 /// Serves the input, and answers the status and how many bytes were read.
-fn serve(
-    rt: &impl Abort,
-    alloc: Global,
-    written: &Cell<usize>,
-    early: &Cell<usize>,
-) -> (u8, usize) {
+fn serve(rt: &impl Abort, alloc: Global, input: Asking<'_>, written: &Cell<usize>) -> (u8, usize) {
     let words = words_of(rt, alloc, "answer");
     let mut host = Host {
-        input: Asking {
-            at: 0,
-            written,
-            early,
-        },
+        input,
         output: Counting { written },
         errors: sink_of(rt, alloc, ""),
         ticks: MemClock::new(MomentList::new(alloc)),
@@ -101,16 +136,26 @@ fn serve(
     (status, host.input.at)
 }
 
-#[test]
-fn answers_are_written_before_more_is_read(rt: HostRuntime) {
+/// Serves the messages, and looks whether each answer was written in time.
+fn check(rt: &impl Abort, alloc: Global) {
     let written = Cell::new(0);
     let early = Cell::new(0);
-    let ended = serve(&rt, rt.alloc(), &written, &early);
-    must(
-        &rt,
-        ended == (0, INPUT.len()),
-        "the status, and all was read",
-    );
-    must(&rt, early.get() == 0, "reads before what was due");
-    must(&rt, written.get() == 48, "all was written");
+    let input = input_of(rt, alloc);
+    let due = due_of(rt, alloc);
+    let asking = Asking {
+        input: input.as_slice(),
+        due: due.as_slice(),
+        at: 0,
+        written: &written,
+        early: &early,
+    };
+    let (status, read) = serve(rt, alloc, asking, &written);
+    must(rt, status == 0, "the status");
+    must(rt, read == input.len(), "all was read");
+    must(rt, early.get() == 0, "reads where another number was due");
+}
+
+#[test]
+fn answers_are_written_before_more_is_read(rt: HostRuntime) {
+    check(&rt, rt.alloc());
 }

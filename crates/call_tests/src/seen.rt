@@ -1,0 +1,93 @@
+//! What a space and a worker were asked, as words.
+use crate::texts::cut;
+use call_dispatch::Recorded;
+use history::Refused;
+use mod_utf::list::Kinds;
+use object_ids::{FullKind, ObjId, ObjIds};
+use space::{Ask, Asked, AskedEnd};
+
+/// Whether a word is a name and the number of this object.
+fn is_numbered(object: &ObjId, name: &str, word: &str) -> bool {
+    match word.strip_prefix(name) {
+        Some(number) => number.parse::<i64>().ok() == Some(object.number),
+        None => false,
+    }
+}
+
+/// Whether a word tells the end of a call: `made` and the number of new objects; `listed` and the object that the Return lists.
+fn is_finish(made: &Kinds, listed: &ObjIds, word: &str) -> bool {
+    match listed.first() {
+        Some(object) => {
+            made.is_empty() && listed.len() == 1 && is_numbered(object, "listed", word)
+        }
+        None => match word.strip_prefix("made") {
+            Some(count) => count.parse::<usize>().ok() == Some(made.len()),
+            None => word == "finish" && made.is_empty(),
+        },
+    }
+}
+
+/// Whether a word tells what was asked.
+fn is_ask(ask: &Ask, word: &str) -> bool {
+    match ask {
+        Ask::Begin { .. } => word == "begin",
+        Ask::Abandon { .. } => word == "abandon",
+        Ask::Finish { made, listed, .. } => is_finish(made, listed, word),
+        Ask::Dirty { .. } => word == "dirty",
+        Ask::Clean { .. } => word == "clean",
+        Ask::Ack { .. } => word == "ack",
+        Ask::Bind { .. } => word == "bind",
+        Ask::Rebind { .. } => word == "rebind",
+        Ask::Unbind { .. } => word == "unbind",
+        Ask::Lookup { .. } => word == "lookup",
+        Ask::List => word == "list",
+        _ => false,
+    }
+}
+
+/// Whether a word tells an entry: what was asked; where it was refused, the limit.
+fn is_entry(entry: &Asked, word: &str) -> bool {
+    match &entry.end {
+        AskedEnd::Turned(_) => is_ask(&entry.ask, word),
+        AskedEnd::Abandoned(_) => word == "abandon",
+        AskedEnd::Refused(refused) => match refused {
+            Refused::HistoryFull => word == "history",
+            Refused::Full(kind) => word == "names" && *kind == FullKind::Names,
+            Refused::OutOfMemory => false,
+        },
+    }
+}
+
+/// Whether these words tell the entries, one for each.
+pub(crate) fn are_entries(asked: &[Asked], words: &str) -> bool {
+    let mut left = words;
+    for entry in asked {
+        let (word, rest) = cut(left, ' ');
+        if !is_entry(entry, word) {
+            return false;
+        }
+        left = rest;
+    }
+    left.is_empty()
+}
+
+/// Whether a word tells a call of the worker: the place of the method that was invoked; `gone` and the object that nobody refers to.
+fn is_call(call: &Recorded, word: &str) -> bool {
+    match call {
+        Recorded::Invoked(call, _) => word.parse::<u32>().ok() == Some(call.method),
+        Recorded::Unreferenced(object) => is_numbered(object, "gone", word),
+    }
+}
+
+/// Whether these words tell the calls of the worker, one for each.
+pub(crate) fn are_invoked(calls: &[Recorded], words: &str) -> bool {
+    let mut left = words;
+    for call in calls {
+        let (word, rest) = cut(left, ' ');
+        if !is_call(call, word) {
+            return false;
+        }
+        left = rest;
+    }
+    left.is_empty()
+}
