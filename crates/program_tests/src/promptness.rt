@@ -95,8 +95,9 @@ fn input_of(rt: &impl Abort, alloc: Global) -> ByteList {
 
 /// Appends a number so many times.
 fn put_due(rt: &impl Abort, due: &mut Kinds, count: usize, written: usize) {
+    let written = written.min(0xFFFF_FFFF) as u32;
     for _ in 0..count {
-        must(rt, due.push(written as u32).is_ok(), "memory");
+        must(rt, due.push(written).is_ok(), "memory");
     }
 }
 
