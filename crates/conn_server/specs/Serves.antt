@@ -3,6 +3,7 @@ use Rattle.std.specs.Prelude.{◌≡◌, ℕ, pos, ◌^◌, ◌≤◌, ◌<ℤ�
 use Rattle.mod_utf.specs.Utf.{utf}
 use Rattle.turn_lock.specs.declared.handles.TurnLock.{TurnLock}
 use Rattle.turn_lock.specs.Handles.{IsBranchOf}
+use Rattle.turn_lock.specs.Rule.{most_turns}
 use Rattle.turn_lock.specs.Ports.{PassWent}
 use Rattle.conn_server.specs.declared.jobs.Job.{Job}
 use Rattle.conn_server.specs.declared.jobs.Guest.{Guest}
@@ -20,7 +21,7 @@ pub record IsGuest {I O T H : Type 0} (calls : H → ℕ) (guest : Guest I O T H
 -- The job can be done at the lock.
 pub record IsJob {I O T H : Type 0} (calls : H → ℕ) (lock : TurnLock) (job : Job I O T H) : Type 0 where
   pub own : IsBranchOf lock job.pass
-  pub room : 2147483648 ≤ job.pass.room
+  pub room : most_turns ≤ job.pass.room
   pub guest : IsGuest calls job.guest
 
 -- The job was done at the lock: its pass made turns with the entries of the report, which has the job's number, and the connection was so.

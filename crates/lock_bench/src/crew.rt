@@ -2,6 +2,7 @@
 ghost use Rattle.std.specs.Prelude.{◌≡◌, ◌+◌, ◌≤◌, ◌<◌, ◌^◌};
 ghost use Rattle.std.specs.Thread.{IsSync};
 ghost use Rattle.turn_lock.specs.Handles.{IsBranchOf, IsRootOf};
+ghost use Rattle.turn_lock.specs.Rule.{most_turns};
 
 use history::{Ask, SpaceConfig};
 use object_ids::Uid;
@@ -41,7 +42,7 @@ fn ticks<P: Port>(port: &mut P, turns: u64)
 /// A pass after so many turns.
 fn work<R: Wait>(rt: &R, alloc: Global, lock: &TurnLock, mut pass: Pass, turns: u64) -> Pass
     requires own { IsBranchOf lock.now pass }
-    requires room { pass.room ≡ 2147483648 }
+    requires room { pass.room ≡ most_turns }
     requires few { turns ≤ 100000 }
     ensures { IsBranchOf lock.now result }
 {
@@ -83,7 +84,7 @@ pub(crate) fn crew<R: Threads + Wait + Sync>(
             crew(rt, alloc, lock, root, left, turns)
         },
         move || -> Pass
-            requires { IsSync R.row × IsBranchOf lock.now pass × (pass.room ≡ 2147483648) × (turns ≤ 100000) }
+            requires { IsSync R.row × IsBranchOf lock.now pass × (pass.room ≡ most_turns) × (turns ≤ 100000) }
             ensures { IsBranchOf lock.entry.now result }
         { work(rt, alloc, lock, pass, turns) },
     );

@@ -2,11 +2,16 @@
 //! many events came of it, standard error how many microseconds it took.
 #![tactic(auto)]
 
+ghost use Rattle.std.specs.Prelude.{◌≤◌, IfSome};
+
 mod crew;
 
 use crew::{crew, fresh};
+use std::alloc::Global;
 use std::process::ExitCode;
-use std::time::Instant;
+use std::sync::Wait;
+use std::thread::Threads;
+use std::time::{Clock, Instant};
 use std::{env, io};
 use turn_lock::TurnLock;
 
@@ -15,31 +20,55 @@ const MOST_THREADS: u32 = 64;
 
 const MOST_TURNS: u64 = 100_000;
 
-fn main(rt: HostRuntime) -> io::Result<ExitCode> {
-    let alloc = rt.alloc();
-    let words: Vec<String> = env::args(&rt)?.skip(1).collect(alloc)?;
-    let asked = match words.as_slice() {
-        [threads, turns] => match (threads.parse::<u32>(), turns.parse::<u64>()) {
-            (Ok(threads), Ok(turns)) => Some((threads, turns)),
-            _ => None,
-        },
+/// How many threads, and how many turns of each, where the words are two such numbers.
+fn asked(words: &[String]) -> Option<(u32, u64)>
+    ensures { IfSome result (λ p. p.1 ≤ 100000) }
+{
+    match words {
+        [threads, turns] => bounded(threads.parse::<u32>().ok()?, turns.parse::<u64>().ok()?),
         _ => None,
-    };
-    let Some((threads, turns)) = asked else {
-        eprintln!(rt; "usage: lock_bench THREADS TURNS")?;
-        return Ok(ExitCode::from(1));
-    };
-    if threads > MOST_THREADS || turns > MOST_TURNS {
-        return Ok(ExitCode::from(1));
     }
+}
+
+/// These numbers, where none is above its bound.
+fn bounded(threads: u32, turns: u64) -> Option<(u32, u64)>
+    ensures { IfSome result (λ p. p.1 ≤ 100000) }
+{
+    if threads <= MOST_THREADS && turns <= MOST_TURNS {
+        Some((threads, turns))
+    } else {
+        None
+    }
+}
+
+/// How many events came of so many threads that took so many turns each, and in how many microseconds; none where there is no memory.
+fn measured<R: Threads + Wait + Sync + Clock>(
+    rt: &R,
+    alloc: Global,
+    threads: u32,
+    turns: u64,
+) -> io::Result<Option<(u64, u128)>>
+    requires few { turns ≤ 100000 }
+{
     let Ok((lock, root)) = TurnLock::around(alloc, fresh(alloc)) else {
+        return Ok(None);
+    };
+    let start = Instant::now(rt)?;
+    let root = crew(rt, alloc, &lock, root, threads, turns);
+    let elapsed = start.elapsed(rt)?;
+    Ok(Some((lock.close(root).len(), elapsed.as_micros())))
+}
+
+fn main(rt: HostRuntime) -> io::Result<ExitCode> {
+    let words: Vec<String> = env::args(&rt)?.skip(1).collect(rt.alloc())?;
+    let Some((threads, turns)) = asked(words.as_slice()) else {
+        eprintln!(rt; "usage: lock_bench THREADS TURNS, at most {MOST_THREADS} and {MOST_TURNS}")?;
+        return Ok(ExitCode::from(1));
+    };
+    let Some((events, micros)) = measured(&rt, rt.alloc(), threads, turns)? else {
         return Ok(ExitCode::from(2));
     };
-    let start = Instant::now(&rt)?;
-    let root = crew(&rt, alloc, &lock, root, threads, turns);
-    let elapsed = start.elapsed(&rt)?;
-    let space = lock.close(root);
-    println!(rt; "{} events", space.len())?;
-    eprintln!(rt; "{}", elapsed.as_micros())?;
+    println!(rt; "{events} events")?;
+    eprintln!(rt; "{micros}")?;
     Ok(ExitCode::from(0))
 }

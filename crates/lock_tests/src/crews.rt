@@ -4,6 +4,7 @@ ghost use Rattle.std.specs.Thread.{IsSync};
 ghost use Rattle.lock_tests.specs.Started.{AllEnded, started_by};
 ghost use Rattle.space.specs.Ports.{is_started};
 ghost use Rattle.turn_lock.specs.Handles.{IsBranchOf, IsRootOf};
+ghost use Rattle.turn_lock.specs.Rule.{most_turns};
 
 use object_ids::{ObjId, Uid};
 use space::{Ask, Port, Refused, Reply, Space, SpaceConfig, Turn};
@@ -130,7 +131,7 @@ pub(crate) fn called<R: Wait>(
     object: ObjId,
 ) -> Pass
     requires own { IsBranchOf lock.now pass }
-    requires room { pass.room ≡ 2147483648 }
+    requires room { pass.room ≡ most_turns }
     requires few { count ≤ 1000000 }
     ensures { IsBranchOf lock.now result }
 {
@@ -173,7 +174,7 @@ pub(crate) fn crew<R: Threads + Wait + Sync>(
             crew(rt, alloc, lock, root, left, count, object)
         },
         move || -> Pass
-            requires { IsSync R.row × IsBranchOf lock.now pass × (pass.room ≡ 2147483648) × (count ≤ 1000000) }
+            requires { IsSync R.row × IsBranchOf lock.now pass × (pass.room ≡ most_turns) × (count ≤ 1000000) }
             ensures { IsBranchOf lock.entry.now result }
         { called(rt, alloc, lock, pass, count, object) },
     );

@@ -2,6 +2,7 @@
 ghost use Rattle.std.specs.Prelude.{◌≡◌, ◌+◌, ◌≤◌, IfSome};
 ghost use Rattle.std.specs.Thread.{IsSync};
 ghost use Rattle.turn_lock.specs.Handles.{IsBranchOf, IsRootOf};
+ghost use Rattle.turn_lock.specs.Rule.{most_turns};
 
 use crate::crews::{FIRST, crew, fresh, ticked};
 use crate::journals::are_counted;
@@ -23,7 +24,7 @@ fn must(rt: &impl Abort, holds: bool, what: &str) {
 fn branch(root: &mut Root, lock: &TurnLock) -> Option<Pass>
     requires { IsRootOf lock.now root.old }
     ensures root { IsRootOf lock.now root.new }
-    ensures pass { IfSome result (λ p. IsBranchOf lock.now p × (p.room ≡ 2147483648)) }
+    ensures pass { IfSome result (λ p. IsBranchOf lock.now p × (p.room ≡ most_turns)) }
     ensures out { IfSome result (λ _. (root.new.out ≡ root.old.out + 1) × (root.new.pass.room ≡ root.old.pass.room)) }
 {
     match root.split(lock) {

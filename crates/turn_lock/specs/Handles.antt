@@ -7,7 +7,7 @@ use Rattle.turn_lock.specs.declared.view.Stage.TheVariants.{Idle}
 use Rattle.turn_lock.specs.declared.handles.TurnLock.{TurnLock}
 use Rattle.turn_lock.specs.declared.handles.Pass.{Pass}
 use Rattle.turn_lock.specs.declared.handles.Root.{Root}
-use Rattle.turn_lock.specs.Rule.{InOrder, root, space_with}
+use Rattle.turn_lock.specs.Rule.{InOrder, most_passes, most_turns, root, space_with}
 
 -- The space round which the lock was made.
 abbrev pub opening_of : TurnLock → SpaceHistory
@@ -32,7 +32,7 @@ pub record IsPassOf (l : TurnLock) (p : Pass) : Type 0 where
   pub opened : p.seat.me.0.opening ≡ l.board.shared.key.value.events
   pub legal : IsLegal p.seat.me.0.config p.seat.me.0.seen
   pub ordered : InOrder l.board.shared.key.value p.seat.me.0
-  pub turns : p.seat.me.0.drawn + p.room ≤ 2147483648 * p.seat.me.0.parts
+  pub turns : p.seat.me.0.drawn + p.room ≤ most_turns * p.seat.me.0.parts
 
 -- A pass that was split off the root, which is one part.
 abbrev pub IsBranchOf : TurnLock → Pass → Type 0
@@ -43,14 +43,14 @@ pub record IsRootOf (l : TurnLock) (r : Root) : Type 0 where
   pub pass_is : IsPassOf l r.pass
   pub first : r.pass.seat.id ≡ 0
   pub made_are : r.pass.seat.me.0.made ≡ r.made
-  pub parts : r.pass.seat.me.0.parts + r.out ≡ 2147483649
+  pub parts : r.pass.seat.me.0.parts + r.out ≡ most_passes + 1
   pub some_out : r.out ≤ r.made
-  pub most : r.made ≤ 2147483648
-  pub turns : r.pass.seat.me.0.drawn + r.pass.room ≤ 2147483648 * ((r.made - r.out) + 1)
+  pub most : r.made ≤ most_passes
+  pub turns : r.pass.seat.me.0.drawn + r.pass.room ≤ most_turns * ((r.made - r.out) + 1)
 
 -- The root is the lock's, no pass was split from it, and it made no turn.
 pub record IsFresh (l : TurnLock) (r : Root) : Type 0 where
   pub own : IsRootOf l r
   pub knows : r.pass.seat.me.0 ≡ root (opening_of l)
   pub none_out : r.out ≡ 0
-  pub all_room : r.pass.room ≡ 2147483648
+  pub all_room : r.pass.room ≡ most_turns

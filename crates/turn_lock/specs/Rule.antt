@@ -24,6 +24,14 @@ use Rattle.turn_lock.specs.declared.view.View.{View}
 use Rattle.turn_lock.specs.declared.view.Stage.{Stage}
 use Rattle.turn_lock.specs.declared.view.Stage.TheVariants.{Idle, Drawn, Called}
 
+-- How many turns a pass makes at most.
+abbrev pub most_turns : ℕ
+most_turns = 2147483648
+
+-- How many passes a lock makes at most.
+abbrev pub most_passes : ℕ
+most_passes = 2147483648
+
 -- ---- histories
 
 -- The events of a history, the oldest first.
@@ -108,7 +116,7 @@ Knows s tail j v = KnowsOf s tail j v.number v.config v.opening v.seen v.told v.
 
 pub record Fits (s : SpaceHistory) (tail : Events) (ticket serving : ℕ) (out : Bool) (owner : ℕ → ℕ) (j : ℕ) (v : View) : Type 0 where
   pub mine : 0 < v.parts → Knows s tail j v
-  pub room : v.drawn ≤ 2147483648 * v.parts
+  pub room : v.drawn ≤ most_turns * v.parts
   pub still : v.parts ≡ 0 → v.stage ≡ Idle
   pub waits : Waits ticket serving out (s.events ++ tail) owner j v.stage
 

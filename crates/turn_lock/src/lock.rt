@@ -6,7 +6,7 @@ ghost use Rattle.history.specs.Steps.{turn_of};
 ghost use Rattle.history.specs.Table.{places};
 ghost use Rattle.space.specs.Acts.{event_of};
 ghost use Rattle.space.specs.Entries.{entry_of};
-ghost use Rattle.turn_lock.specs.Rule.{Events, InOrder, TurnedAt, TurnedBy, Settled, StartsWith, left_of, right_of, joined_of};
+ghost use Rattle.turn_lock.specs.Rule.{Events, InOrder, TurnedAt, TurnedBy, Settled, StartsWith, left_of, most_passes, most_turns, right_of, joined_of};
 ghost use Rattle.turn_lock.specs.Handles.{IsPassOf, IsBranchOf, IsFresh, IsRootOf, opening_of, view_of};
 
 use crate::handles::{Pass, Root, SplitFault, TurnLock};
@@ -21,7 +21,7 @@ use std::snapshot::Snapshot;
 use std::sync::Wait;
 
 /// How many passes a lock makes at most, and how many turns a pass.
-const MOST: u32 = 2147483648;
+const MOST: u32 = 1 << 31;
 
 impl TurnLock {
     /// A lock round a space, and its root. It is refused only for want of memory; then the space comes back.
@@ -86,9 +86,9 @@ impl Root {
         requires own { IsRootOf lock.now self.old }
         ensures root { IsRootOf lock.now self.new }
         ensures pass { MatchResult result
-            (λ p. IsBranchOf lock.now p × (p.room ≡ 2147483648) × (view_of p ≡ right_of (view_of self.old.pass)) × (view_of self.new.pass ≡ left_of (view_of self.old.pass))
+            (λ p. IsBranchOf lock.now p × (p.room ≡ most_turns) × (view_of p ≡ right_of (view_of self.old.pass)) × (view_of self.new.pass ≡ left_of (view_of self.old.pass))
             × (self.new.made ≡ self.old.made + 1) × (self.new.out ≡ self.old.out + 1) × (self.new.pass.room ≡ self.old.pass.room))
-            (λ fault. (self.old.made ≡ 2147483648) × (self.new ≡ self.old)) }
+            (λ fault. (self.old.made ≡ most_passes) × (self.new ≡ self.old)) }
         ensures ordered { InOrder (opening_of lock.now) (view_of self.new.pass) × IfOk result (λ p. InOrder (opening_of lock.now) (view_of p)) }
     {
         if self.made == MOST {

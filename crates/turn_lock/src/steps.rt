@@ -9,7 +9,7 @@ ghost use Rattle.space.specs.Acts.{event_of};
 ghost use Rattle.space.specs.Entries.{entry_of};
 ghost use Rattle.space.specs.Ports.{IsAnswerTo};
 ghost use Rattle.turn_lock.specs.declared.view.Stage.TheVariants.{Idle, Drawn, Called};
-ghost use Rattle.turn_lock.specs.Rule.{Events, MayComeTo, TurnedAt, answer_of, events_after, holding, in_hand, in_stage, space_with, told_of};
+ghost use Rattle.turn_lock.specs.Rule.{Events, MayComeTo, TurnedAt, answer_of, events_after, holding, in_hand, in_stage, most_turns, space_with, told_of};
 
 use crate::table::{
     Advance, Draw, LENGTH, LockSeat, Look, Naming, PassOver, Publish, SERVING, SharedTable, TICKET,
@@ -25,7 +25,7 @@ use std::sync::Wait;
 /// Draws a ticket.
 fn draw(shared: &SharedTable, seat: &mut LockSeat) -> u64
     requires table { (seat.old.table_id ≡ shared.now.table_id) × (shared.now.table_id.words ≡ 3) × (shared.now.table_id.slots ≡ 1) }
-    requires idle { (seat.old.me.0.stage ≡ Idle) × (seat.old.me.1 ≡ []) × (seat.old.me.0.drawn < 2147483648 * seat.old.me.0.parts) }
+    requires idle { (seat.old.me.0.stage ≡ Idle) × (seat.old.me.1 ≡ []) × (seat.old.me.0.drawn < most_turns * seat.old.me.0.parts) }
     ensures seat { (seat.new.table_id ≡ seat.old.table_id) × (seat.new.id ≡ seat.old.id) }
     ensures view { seat.new.me ≡ (record seat.old.me.0 { stage = Drawn result; drawn = seat.old.me.0.drawn + 1 }, []) }
 {
@@ -54,7 +54,7 @@ fn wait<R: Wait>(rt: &R, shared: &SharedTable, seat: &mut LockSeat, ticket: u64)
 /// Waits for its turn, and takes the space out of the slot.
 fn enter<R: Wait>(rt: &R, shared: &SharedTable, seat: &mut LockSeat) -> Space
     requires table { (seat.old.table_id ≡ shared.now.table_id) × (shared.now.table_id.words ≡ 3) × (shared.now.table_id.slots ≡ 1) }
-    requires idle { (seat.old.me.0.stage ≡ Idle) × (seat.old.me.1 ≡ []) × (seat.old.me.0.drawn < 2147483648 * seat.old.me.0.parts) }
+    requires idle { (seat.old.me.0.stage ≡ Idle) × (seat.old.me.1 ≡ []) × (seat.old.me.0.drawn < most_turns * seat.old.me.0.parts) }
     ensures seat { (seat.new.table_id ≡ seat.old.table_id) × (seat.new.id ≡ seat.old.id) }
     ensures entered { (t : ℕ) × (h : Events) × MayComeTo seat.old.me.0 h × (result ≡ space_with seat.old.me.0.config h) × (seat.new.me ≡ (in_hand seat.old.me.0 t h, (0, None) ∷ [])) }
 {
@@ -156,7 +156,7 @@ pub(crate) fn turn<R: Wait>(
     ask: Ask,
 ) -> Result<(Result<Turn, Refused>, Asked), AllocError>
     requires table { (seat.old.table_id ≡ shared.now.table_id) × (shared.now.table_id.words ≡ 3) × (shared.now.table_id.slots ≡ 1) }
-    requires idle { (seat.old.me.0.stage ≡ Idle) × (seat.old.me.1 ≡ []) × (seat.old.me.0.drawn < 2147483648 * seat.old.me.0.parts) }
+    requires idle { (seat.old.me.0.stage ≡ Idle) × (seat.old.me.1 ≡ []) × (seat.old.me.0.drawn < most_turns * seat.old.me.0.parts) }
     requires number { by ≡ seat.old.me.0.number }
     requires moment { moment < 2 ^ 62 }
     ensures seat { (seat.new.table_id ≡ seat.old.table_id) × (seat.new.id ≡ seat.old.id) × (seat.new.me.1 ≡ []) }
@@ -182,7 +182,7 @@ pub(crate) fn abandon<R: Wait>(
     object: ObjId,
 ) -> u64
     requires table { (seat.old.table_id ≡ shared.now.table_id) × (shared.now.table_id.words ≡ 3) × (shared.now.table_id.slots ≡ 1) }
-    requires idle { (seat.old.me.0.stage ≡ Idle) × (seat.old.me.1 ≡ []) × (seat.old.me.0.drawn < 2147483648 * seat.old.me.0.parts) }
+    requires idle { (seat.old.me.0.stage ≡ Idle) × (seat.old.me.1 ≡ []) × (seat.old.me.0.drawn < most_turns * seat.old.me.0.parts) }
     requires number { by ≡ seat.old.me.0.number }
     requires moment { moment < 2 ^ 62 }
     requires runs { 0 < running (places seat.old.me.0.config seat.old.me.0.seen) by object }
