@@ -217,7 +217,7 @@ fn host_of(alloc: Global, peer: SocketAddr) -> io::Result<Units>
     Ok(host)
 }
 
-/// Accepts connections over TCP, on all addresses of this machine.
+/// Accepts connections over TCP, at 127.0.0.1 alone: no other machine reaches it.
 ///
 /// Each error of the system is a fault, and so is an `accept` before `listen`.
 #[derive(Drop)]
@@ -294,7 +294,7 @@ where
         ensures listens { Listens None None self.old self.new port result }
         ensures counted { OnErr result (self.new ≡ next_count self.old) }
     {
-        match TcpListener::bind(&self.rt, SocketAddr::from(([0, 0, 0, 0], port))) {
+        match TcpListener::bind(&self.rt, SocketAddr::from(([127, 0, 0, 1], port))) {
             Ok(listener) => {
                 self.listener = Some(listener);
                 Ok(())
