@@ -13,6 +13,7 @@ mod reading;
 mod row;
 mod serving;
 mod shape;
+mod spelled;
 mod table;
 mod wanted;
 mod whole;

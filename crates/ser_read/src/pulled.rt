@@ -7,7 +7,8 @@ ghost use Rattle.ser_read.specs.declared.fault.StreamKind.TheVariants.{NegativeL
 ghost use Rattle.ser_read.specs.Here.{AreBytes, ReadsTaken, StopsTaken};
 
 use crate::fault::{StreamFault, StreamKind};
-use mod_utf::decode::{UtfFault, decode};
+use crate::spelled::spelled;
+use mod_utf::decode::UtfFault;
 use mod_utf::list::{ByteList, Units};
 use std::alloc::{AllocError, Global};
 use wire_io::pull::Pull;
@@ -185,7 +186,7 @@ fn units<S: Source>(alloc: Global, pull: &mut Pull<'_, S>, n: u64) -> Result<Uni
 {
     let start = pull.at;
     let bytes = take(alloc, pull, n)?;
-    match decode(alloc, bytes.as_slice()) {
+    match spelled(alloc, bytes.as_slice()) {
         Ok(units) => Ok(units),
         Err(UtfFault::OutOfMemory) => Err(StreamFault::OutOfMemory),
         Err(UtfFault::BadUtf { at }) => Err(StreamFault::Bad {
