@@ -7,7 +7,7 @@ use mod_utf::decode::{UtfFault, decode_onto};
 use mod_utf::list::Units;
 use std::alloc::Global;
 
-/// The text that these bytes spell, as `decode` of `mod_utf` reads it. Its memory is made at once.
+/// The text that these bytes spell, as `decode` of `mod_utf` reads it.
 pub(crate) fn spelled(alloc: Global, bytes: &[u8]) -> Result<Units, UtfFault>
     ensures err { IfErr result (λ fault. IsUnread bytes.now fault) }
     ensures value { GivesUnits result (decoded bytes.now) }
@@ -39,25 +39,17 @@ fn plain(alloc: Global, bytes: &[u8]) -> Result<Units, UtfFault>
     }
 }
 
-/// The text of characters that take one to three bytes each.
+/// The text of characters that take one to three bytes each. There is room at once for as many as are there at least.
 fn decoded(alloc: Global, bytes: &[u8]) -> Result<Units, UtfFault>
     ensures err { IfErr result (λ fault. IsUnread bytes.now fault) }
     ensures value { GivesUnits result (decoded bytes.now) }
 {
     let mut units = Units::new(alloc);
-    if units.reserve(begun(bytes)).is_err() {
+    if units.reserve(bytes.len() / 3).is_err() {
         return Err(UtfFault::OutOfMemory);
     }
     match decode_onto(&mut units, bytes) {
         Ok(()) => Ok(units),
         Err(fault) => Err(fault),
     }
-}
-
-/// How many bytes begin a unit: those that aren't 10xxxxxx.
-fn begun(bytes: &[u8]) -> usize {
-    bytes
-        .iter()
-        .filter(|byte| **byte < 0x80 || 0xC0 <= **byte)
-        .count()
 }
