@@ -1,8 +1,10 @@
 pub mod Dropped
+pub mod Indexing
 pub mod KeptLaws
 pub mod RowLaws
 pub mod Parts
 pub mod Places
+pub mod Searching
 pub mod Sifting
 pub mod Sound
 pub mod StandLaws

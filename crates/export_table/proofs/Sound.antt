@@ -122,7 +122,7 @@ is_absent : (b : Bool) → not b ≡ true → b ≡ false
 is_absent true h = absurd (cc)
 is_absent false h = refl
 
-once-filter : (p : Wait → Bool) (waits : List Wait) → each_once waits ≡ true → each_once (filter p waits) ≡ true
+pub once-filter : (p : Wait → Bool) (waits : List Wait) → each_once waits ≡ true → each_once (filter p waits) ≡ true
 once-filter p [] h = refl
 once-filter p (w ∷ waits) h =
     let two = and_parts (not (list_any (is_wait_of w.object w.uid) waits)) (each_once waits) h in
@@ -132,7 +132,7 @@ once-filter p (w ∷ waits) h =
     go true x rest = rw (x, rest) refl
     go false x rest = rest
 
-length-filter : (p : Wait → Bool) (waits : List Wait) → length (filter p waits) ≤ length waits
+pub length-filter : (p : Wait → Bool) (waits : List Wait) → length (filter p waits) ≤ length waits
 length-filter p [] = omega arith
 length-filter p (w ∷ waits) = go (p w) (length-filter p waits)
   where
@@ -166,7 +166,7 @@ shorter p (w ∷ waits) h = go (p w) h (shorter p waits) (length-filter (λ v. n
 same-wait : (o : ObjId) (u : Uid) (w : Wait) → is_wait_of o u w ≡ true → (w.object ≡ o) × (w.uid ≡ u)
 same-wait o u w h = let two = and_parts (same_id w.object o) (same_uid w.uid u) h in (same_id-equal w.object o two.0, same_uid-equal w.uid u two.1)
 
-once-push : (waits : List Wait) (v : Wait) → each_once waits ≡ true → list_any (is_wait_of v.object v.uid) waits ≡ false → each_once (waits ++ v ∷ []) ≡ true
+pub once-push : (waits : List Wait) (v : Wait) → each_once waits ≡ true → list_any (is_wait_of v.object v.uid) waits ≡ false → each_once (waits ++ v ∷ []) ≡ true
 once-push [] v o h = refl
 once-push (w ∷ waits) v o h =
     let two = and_parts (not (list_any (is_wait_of w.object w.uid) waits)) (each_once waits) o in
@@ -194,7 +194,7 @@ once-push (w ∷ waits) v o h =
     push [] a b = rw b refl
     push (x ∷ xs) a b = let two = apart_both (is_wait_of w.object w.uid x) (list_any (is_wait_of w.object w.uid) xs) a in rw two.0 (push xs two.1 b)
 
-gone-filter : (p : Wait → Bool) (waits : List Wait) → list_any p (filter (λ w. not (p w)) waits) ≡ false
+pub gone-filter : (p : Wait → Bool) (waits : List Wait) → list_any p (filter (λ w. not (p w)) waits) ≡ false
 gone-filter p [] = refl
 gone-filter p (w ∷ waits) = go (p w) refl (gone-filter p waits)
   where

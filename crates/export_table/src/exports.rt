@@ -9,7 +9,7 @@ ghost use Rattle.export_table.specs.Rows.{is_exported, kind_of, running_of, pins
 ghost use Rattle.export_table.specs.Table.{IsSound, no_room};
 
 use crate::rows::{self, Export, RowList};
-use crate::waits::{self, Wait};
+use crate::wait_list::WaitList;
 use dgc_server::Leases;
 use history::limits::{MAX_AWAITING, MAX_EXPORTS};
 use history::plain::places::id_at;
@@ -44,7 +44,7 @@ pub struct Exports {
     ack: u64,
     added: u64,
     rows: Vec<Export>,
-    waits: Vec<Wait>,
+    waits: WaitList,
 }
 
 impl Model for Exports {
@@ -58,14 +58,14 @@ impl Model for Exports {
       ack = e.ack;
       added = e.added;
       rows = e.rows.items;
-      waits = e.waits.items;
+      waits = e.waits.waits;
       room = record {
         exports = vec_capacity e.rows - vec_len e.rows;
-        waits = vec_capacity e.waits - vec_len e.waits;
+        waits = e.waits.room;
       };
     } };
 
-    ghost invariant = { λ e. IsSound e.space e.ack e.added e.rows.items e.waits.items };
+    ghost invariant = { λ e. IsSound e.space e.ack e.added e.rows.items e.waits.waits };
 }
 
 impl Exports {
@@ -81,7 +81,7 @@ impl Exports {
             ack: ack_ms,
             added: 0,
             rows: Vec::new(alloc),
-            waits: Vec::new(alloc),
+            waits: WaitList::new(alloc),
         }
     }
 
@@ -134,14 +134,14 @@ impl Exports {
     pub fn waiting(&self, now: u64) -> u32
         ensures { result ≡ length (waiting now self.now.waits) }
     {
-        waits::count(&self.waits, now) as u32
+        self.waits.count(now) as u32
     }
 
     /// Whether a reference to this object, in this return, awaits its acknowledgement at this moment.
     pub fn is_waiting(&self, id: ObjId, uid: Uid, now: u64) -> bool
         ensures { result ≡ is_waiting now id uid self.now.waits }
     {
-        waits::is_waiting(&self.waits, &id, &uid, now)
+        self.waits.is_waiting(&id, &uid, now)
     }
 
     /// How many objects are exported.
@@ -196,11 +196,11 @@ impl Exports {
         ensures exports_room { self.new.room.exports ≡ self.old.room.exports }
         ensures waits_room { self.old.room.waits ≤ self.new.room.waits + 1 }
     {
-        if waits::is_full(&self.waits, &id, &uid, now) {
+        if self.waits.is_full(&id, &uid, now) {
             return Err(ExportFault::Full(FullKind::Awaiting));
         }
         self.waits.reserve(1)?;
-        waits::list(&mut self.waits, &id, &uid, self.ack, now);
+        self.waits.list(&id, &uid, self.ack, now);
         Ok(())
     }
 
@@ -211,7 +211,7 @@ impl Exports {
         ensures exports_room { self.new.room.exports ≡ self.old.room.exports }
         ensures waits_room { self.old.room.waits ≤ self.new.room.waits }
     {
-        waits::acknowledge(&mut self.waits, &uid);
+        self.waits.acknowledge(&uid);
     }
 
     /// Pins an exported object once more.
@@ -254,8 +254,7 @@ impl Exports {
         ensures capacity { vec_capacity gone.old ≤ vec_capacity gone.new }
     {
         let before = gone.len();
-        rows::keep(&mut self.rows, &self.waits, leases, now, gone);
-        waits::forget(&mut self.waits, now);
+        rows::sift(&mut self.rows, &mut self.waits, leases, now, gone);
         drop_all(leases, &gone[before..]);
     }
 }

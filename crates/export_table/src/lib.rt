@@ -2,9 +2,12 @@
 //! withdrawn (Java RMI Specification, chapter 9).
 #![tactic(auto)]
 
+mod counts;
 mod exports;
+mod index;
 pub mod laws;
 mod rows;
+mod wait_list;
 mod waits;
 
 pub use exports::{ExportFault, Exports};

@@ -1,10 +1,12 @@
 //! Exported objects, by rising number.
-ghost use Rattle.std.specs.Prelude.{◌≡◌, ◌++◌, ◌∷◌, [], ◌+◌, ◌<◌, ◌≤◌, ◌^◌, max, length, map, filter, vec_len, vec_capacity, not, false, IsTrue, IfOk, MatchOption};
+ghost use Rattle.std.specs.Prelude.{◌≡◌, ◌++◌, ◌∷◌, [], ◌+◌, ◌<◌, ◌≤◌, ◌^◌, max, length, map, filter, vec_len, vec_capacity, not, false, IsTrue, IfOk, MatchOption, int_lt, take, drop};
+ghost use Rattle.std.specs.List.{list_all};
 ghost use Rattle.object_ids.specs.Same.{same_id};
 ghost use Rattle.dgc_server.specs.Stands.{ForEachLog};
 ghost use Rattle.export_table.specs.Rows.{is_of, is_exported, kind_of, running_of, pins_of, ids, is_rising, IsPlace, IsPart, new_row, changed, begun, ended, pinned_once, unpinned_once, is_pinned, is_row_kept, held_by, withdrawn, row_at};
+ghost use Rattle.export_table.specs.Waits.{waiting};
 
-use crate::waits::{Wait, count_of, is_awaited};
+use crate::wait_list::WaitList;
 use dgc_server::Leases;
 use mod_utf::list::{Same, Sequence};
 use object_ids::ObjId;
@@ -66,6 +68,13 @@ impl Export {
         self.id.is_same(id)
     }
 
+    /// Whether its number is below an object's.
+    fn is_below(&self, id: &ObjId) -> bool
+        ensures { result ≡ int_lt self.now.id.number id.now.number }
+    {
+        self.id.number < id.number
+    }
+
     /// Whether it was added pinned, a pin stands or a call of it runs.
     fn is_pinned(&self) -> bool
         ensures { result ≡ is_pinned self.now }
@@ -74,36 +83,54 @@ impl Export {
     }
 
     /// Whether it is kept: it is pinned, a reference to it awaits, or a client holds it.
-    fn is_row_kept(&self, waits: &[Wait], leases: &Leases, now: u64) -> bool
+    fn is_row_kept(&self, waits: &WaitList, leases: &Leases, now: u64) -> bool
         ensures { ForEachLog leases.now (λ lease moment calls.
             let held = held_by lease (max now moment) calls in
-            result ≡ is_row_kept now held waits.now self.now) }
+            result ≡ is_row_kept now held waits.now.waits self.now) }
     {
-        self.is_pinned() || is_awaited(waits, &self.id, now) || leases.is_held(self.id, now)
+        self.is_pinned() || waits.is_awaited(&self.id, now) || leases.is_held(self.id, now)
     }
 }
 
 /// Where an object stands.
 fn place_of(rows: &[Export], id: &ObjId) -> Option<usize>
+    requires { IsTrue (is_rising (ids rows.now)) }
     ensures { MatchOption result (is_exported rows.now id.now ≡ false) (IsPlace rows.now id.now) }
 {
-    for (i, row) in rows.iter().enumerate() {
-        if row.is_of(id) {
-            return Some(i);
-        }
+    let place = first_from(rows, id);
+    if place == rows.len() {
+        return None;
     }
-    None
+    if rows[place].is_of(id) {
+        Some(place)
+    } else {
+        None
+    }
 }
 
-/// Whether an object is there.
-pub fn is_exported(rows: &[Export], id: &ObjId) -> bool
-    ensures { result ≡ is_exported rows.now id.now }
+/// The place of the first row whose number is not below an object's, or behind the last row.
+fn first_from(rows: &[Export], id: &ObjId) -> usize
+    requires { IsTrue (is_rising (ids rows.now)) }
+    ensures within { result ≤ length rows.now }
+    ensures below { IsTrue (list_all (λ o. int_lt o.number id.now.number) (ids (take result rows.now))) }
+    ensures from { IsTrue (list_all (λ o. not (int_lt o.number id.now.number)) (ids (drop result rows.now))) }
 {
-    rows.iter().any(|row| row.is_of(id))
+    let mut low: usize = 0;
+    let mut high: usize = rows.len();
+    while low < high {
+        let middle = low + (high - low) / 2;
+        if rows[middle].is_below(id) {
+            low = middle + 1;
+        } else {
+            high = middle;
+        }
+    }
+    low
 }
 
 /// The kind of an object.
 pub fn kind_of(rows: &[Export], id: &ObjId) -> Option<u32>
+    requires { IsTrue (is_rising (ids rows.now)) }
     ensures { result ≡ kind_of rows.now id.now }
 {
     match place_of(rows, id) {
@@ -183,9 +210,14 @@ pub fn unpin(rows: &mut Vec<Export>, id: &ObjId)
 }
 
 /// The rows as they are at a moment, of which at most 65,536 references await.
-pub fn list(alloc: Global, rows: &[Export], waits: &[Wait], now: u64) -> Result<RowList, AllocError>
-    requires { length waits.now ≤ 65536 }
-    ensures { IfOk result (λ list. list ≡ map (row_at now waits.now) rows.now) }
+pub fn list(
+    alloc: Global,
+    rows: &[Export],
+    waits: &WaitList,
+    now: u64,
+) -> Result<RowList, AllocError>
+    requires { length waits.now.waits ≤ 65536 }
+    ensures { IfOk result (λ list. list ≡ map (row_at now waits.now.waits) rows.now) }
 {
     let mut list = RowList::new(alloc);
     for row in rows {
@@ -194,7 +226,7 @@ pub fn list(alloc: Global, rows: &[Export], waits: &[Wait], now: u64) -> Result<
             kind: row.kind,
             pinned: row.pinned,
             running: row.running,
-            awaiting: count_of(waits, &row.id, now) as u32,
+            awaiting: waits.count_of(&row.id, now) as u32,
             pins: row.pins,
         })?;
     }
@@ -203,20 +235,14 @@ pub fn list(alloc: Global, rows: &[Export], waits: &[Wait], now: u64) -> Result<
 
 /// Keeps the rows of objects that are kept, and appends the identifiers of the others, for which there is
 /// room.
-pub fn keep(
-    rows: &mut Vec<Export>,
-    waits: &[Wait],
-    leases: &Leases,
-    now: u64,
-    gone: &mut Vec<ObjId>,
-)
+fn keep(rows: &mut Vec<Export>, waits: &WaitList, leases: &Leases, now: u64, gone: &mut Vec<ObjId>)
     requires { vec_len gone.old + length rows.old.items ≤ vec_capacity gone.old }
     ensures items { ForEachLog leases.now (λ lease moment calls.
         let held = held_by lease (max now moment) calls in
-        rows.new.items ≡ filter (is_row_kept now held waits.now) rows.old.items) }
+        rows.new.items ≡ filter (is_row_kept now held waits.now.waits) rows.old.items) }
     ensures gone { ForEachLog leases.now (λ lease moment calls.
         let held = held_by lease (max now moment) calls in
-        gone.new.items ≡ gone.old.items ++ withdrawn now held waits.now rows.old.items) }
+        gone.new.items ≡ gone.old.items ++ withdrawn now held waits.now.waits rows.old.items) }
     ensures part { IsPart rows.new.items rows.old.items }
     ensures longer { vec_len gone.old ≤ vec_len gone.new }
     ensures more { vec_capacity gone.old ≤ vec_capacity gone.new }
@@ -234,6 +260,34 @@ pub fn keep(
         }
     }
     rows.truncate(kept);
+}
+
+/// Forgets the waits that ended, keeps the rows of objects that are kept, and appends the identifiers of the others, for which there is
+/// room.
+pub fn sift(
+    rows: &mut Vec<Export>,
+    waits: &mut WaitList,
+    leases: &Leases,
+    now: u64,
+    gone: &mut Vec<ObjId>,
+)
+    requires { vec_len gone.old + length rows.old.items ≤ vec_capacity gone.old }
+    ensures items { ForEachLog leases.now (λ lease moment calls.
+        let held = held_by lease (max now moment) calls in
+        rows.new.items ≡ filter (is_row_kept now held waits.old.waits) rows.old.items) }
+    ensures gone { ForEachLog leases.now (λ lease moment calls.
+        let held = held_by lease (max now moment) calls in
+        gone.new.items ≡ gone.old.items ++ withdrawn now held waits.old.waits rows.old.items) }
+    ensures part { IsPart rows.new.items rows.old.items }
+    ensures longer { vec_len gone.old ≤ vec_len gone.new }
+    ensures more { vec_capacity gone.old ≤ vec_capacity gone.new }
+    ensures len { vec_len rows.new ≤ vec_len rows.old }
+    ensures capacity { vec_capacity rows.new ≡ vec_capacity rows.old }
+    ensures waits { waits.new.waits ≡ waiting now waits.old.waits }
+    ensures waits_room { waits.new.room ≡ waits.old.room }
+{
+    waits.forget(now);
+    keep(rows, waits, leases, now, gone);
 }
 
 /// Appends an identifier for which there is room.

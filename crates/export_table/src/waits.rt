@@ -1,10 +1,9 @@
 //! References that were returned and await their acknowledgement.
-ghost use Rattle.std.specs.Prelude.{◌≡◌, ◌++◌, ◌∷◌, [], ◌+◌, ◌<◌, ◌≤◌, ◌^◌, length, max, filter, vec_len, vec_capacity, not, IsTrue, false, ◌↔◌};
-ghost use Rattle.history.specs.declared.limits.TheConstants.{MAX_AWAITING};
+ghost use Rattle.std.specs.Prelude.{◌≡◌, ◌++◌, ◌∷◌, [], ◌+◌, ◌<◌, ◌≤◌, length, filter, vec_len, vec_capacity};
 ghost use Rattle.object_ids.specs.Same.{same_id, same_uid};
-ghost use Rattle.export_table.specs.Waits.{is_wait_of, goes_on, waiting, is_waiting, is_awaited, awaiting_of, until_of, listed, acknowledged};
+ghost use Rattle.export_table.specs.Waits.{is_wait_of, goes_on, waiting, is_waiting, is_awaited, awaiting_of, until_of};
+ghost use Rattle.export_table.specs.Index.{stays, EndsNoEarlier};
 
-use history::limits::MAX_AWAITING;
 use mod_utf::list::Same;
 use object_ids::{ObjId, Uid};
 
@@ -87,15 +86,8 @@ pub fn is_waiting(waits: &[Wait], object: &ObjId, uid: &Uid, at: u64) -> bool
         .any(|wait| wait.goes_on(at) && wait.is_of(object, uid))
 }
 
-/// Whether as many references await at a moment as can be, and this one isn't among them.
-pub fn is_full(waits: &[Wait], object: &ObjId, uid: &Uid, at: u64) -> bool
-    ensures { IsTrue result ↔ ((MAX_AWAITING ≤ length (waiting at waits.now)) × (is_waiting at object.now uid.now waits.now ≡ false)) }
-{
-    count(waits, at) as u64 >= MAX_AWAITING && !is_waiting(waits, object, uid, at)
-}
-
 /// The moment at which this reference ceases to wait, 0 where it is not listed.
-fn until_of(waits: &[Wait], object: &ObjId, uid: &Uid) -> u64
+pub fn until_of(waits: &[Wait], object: &ObjId, uid: &Uid) -> u64
     ensures { result ≡ until_of object.now uid.now waits.now }
 {
     for wait in waits {
@@ -106,28 +98,8 @@ fn until_of(waits: &[Wait], object: &ObjId, uid: &Uid) -> u64
     0
 }
 
-/// Lists a reference, for which there is room: it waits for `ack` from `now` on, and no shorter than before. Waits that
-/// ended are forgotten.
-pub fn list(waits: &mut Vec<Wait>, object: &ObjId, uid: &Uid, ack: u64, now: u64)
-    requires room { vec_len waits.old < vec_capacity waits.old }
-    requires early { now + ack < 2 ^ 64 }
-    ensures items { waits.new.items ≡ listed ack now object.now uid.now waits.old.items }
-    ensures len { vec_len waits.new ≤ vec_len waits.old + 1 }
-    ensures capacity { vec_capacity waits.old ≤ vec_capacity waits.new }
-{
-    let until = (now + ack).max(until_of(waits, object, uid));
-    forget(waits, now);
-    drop_one(waits, object, uid);
-    let wait = Wait {
-        object: *object,
-        uid: *uid,
-        until,
-    };
-    put(waits, wait);
-}
-
 /// Appends a wait for which there is room.
-fn put(waits: &mut Vec<Wait>, wait: Wait)
+pub fn put(waits: &mut Vec<Wait>, wait: Wait)
     requires { vec_len waits.old < vec_capacity waits.old }
     ensures items { waits.new.items ≡ waits.old.items ++ wait ∷ [] }
     ensures len { vec_len waits.new ≡ vec_len waits.old + 1 }
@@ -136,29 +108,46 @@ fn put(waits: &mut Vec<Wait>, wait: Wait)
     waits.push_reserved(wait);
 }
 
-/// Forgets the waits that ended.
-pub fn forget(waits: &mut Vec<Wait>, now: u64)
-    ensures items { waits.new.items ≡ waiting now waits.old.items }
-    ensures len { vec_len waits.new ≤ vec_len waits.old }
-    ensures capacity { vec_capacity waits.new ≡ vec_capacity waits.old }
-{
-    waits.retain(|wait| wait.goes_on(now));
+/// Which waits stay.
+#[derive(Clone, Copy, Debug)]
+pub enum Stays {
+    /// Those that go on after a moment.
+    After(u64),
+    /// Those of other references than this one.
+    OtherReferences(ObjId, Uid),
+    /// Those of other returns than this one.
+    OtherReturns(Uid),
 }
 
-/// Forgets the wait of this object and return.
-fn drop_one(waits: &mut Vec<Wait>, object: &ObjId, uid: &Uid)
-    ensures items { waits.new.items ≡ filter (λ w. not (is_wait_of object.now uid.now w)) waits.old.items }
-    ensures len { vec_len waits.new ≤ vec_len waits.old }
-    ensures capacity { vec_capacity waits.new ≡ vec_capacity waits.old }
-{
-    waits.retain(|wait| !wait.is_of(object, uid));
+impl Stays {
+    /// Whether a wait stays.
+    pub fn has(&self, wait: &Wait) -> bool
+        ensures { result ≡ stays self.now wait.now }
+    {
+        match self {
+            Stays::After(at) => wait.goes_on(*at),
+            Stays::OtherReferences(object, uid) => !wait.is_of(object, uid),
+            Stays::OtherReturns(uid) => !wait.is_of_return(uid),
+        }
+    }
 }
 
-/// Forgets the waits of a return.
-pub fn acknowledge(waits: &mut Vec<Wait>, uid: &Uid)
-    ensures items { waits.new.items ≡ acknowledged uid.now waits.old.items }
+/// Keeps the waits that stay.
+pub fn keep(waits: &mut Vec<Wait>, which: &Stays)
+    ensures items { waits.new.items ≡ filter (stays which.now) waits.old.items }
     ensures len { vec_len waits.new ≤ vec_len waits.old }
     ensures capacity { vec_capacity waits.new ≡ vec_capacity waits.old }
 {
-    waits.retain(|wait| !wait.is_of_return(uid));
+    waits.retain(|wait| which.has(wait));
+}
+
+/// The moment at which the first of these ceases to wait; the greatest number where there is none.
+pub fn least_end(waits: &[Wait]) -> u64
+    ensures { EndsNoEarlier result waits.now }
+{
+    let mut least = u64::MAX;
+    for wait in waits {
+        least = least.min(wait.until);
+    }
+    least
 }

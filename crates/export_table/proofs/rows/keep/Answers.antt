@@ -8,7 +8,7 @@ use Rattle.export_table.proofs.rows.keep.Goals.{then-is_row_kept, else-is_row_ke
 pub loop-i-init : goal.loop-i-init
 loop-i-init c =
     let room = c.requires in record {
-      sifted = λ lease moment calls s. sifted-start (is_row_kept c.args.now (held_by lease (max c.args.now moment) calls) c.args.waits.now) c.args.rows.now.items c.args.gone.now.items;
+      sifted = λ lease moment calls s. sifted-start (is_row_kept c.args.now (held_by lease (max c.args.now moment) calls) c.args.waits.now.waits) c.args.rows.now.items c.args.gone.now.items;
       moved = moved-start c.args.rows.now.items;
       long = search rules;
       capacity = refl;
@@ -41,7 +41,7 @@ loop-i-preserved c =
     elim c.if-is_row_kept.branch [
       | then-is_row_kept w ↦ rw (w.rows-is, w.gone-is, w.kept-is) record {
         sifted = λ lease moment calls s.
-            sifted-take (is_row_kept c.args.now (held_by lease (max c.args.now moment) calls) c.args.waits.now) c.args.rows.now.items c.loop-i.rows.items c.loop-i.kept c.loop-i.i c.args.gone.now.items c.loop-i.gone.items c.index.result.now
+            sifted-take (is_row_kept c.args.now (held_by lease (max c.args.now moment) calls) c.args.waits.now.waits) c.args.rows.now.items c.loop-i.rows.items c.loop-i.kept c.loop-i.i c.args.gone.now.items c.loop-i.gone.items c.index.result.now
             (c.loop-i.invariant.sifted lease moment calls s) there c.index.ensures (sym (c.is_row_kept.ensures lease moment calls s) ∙ w.if-is_row_kept.true);
         moved = moved-take c.args.rows.now.items c.loop-i.rows.items c.loop-i.kept c.loop-i.i c.index.result.now c.loop-i.invariant.moved there c.index.ensures;
         long = c.loop-i.invariant.long;
@@ -54,7 +54,7 @@ loop-i-preserved c =
           let noted = w.note_gone.ensures.len in let capacity = w.note_gone.ensures.capacity in let longer = c.loop-i.invariant.longer in let more = c.loop-i.invariant.more in
           rw (w.rows-is, w.gone-is, w.kept-is) record {
             sifted = λ lease moment calls s. rw w.note_gone.ensures.items
-                (sifted-skip (is_row_kept c.args.now (held_by lease (max c.args.now moment) calls) c.args.waits.now) c.args.rows.now.items c.loop-i.rows.items c.loop-i.kept c.loop-i.i c.args.gone.now.items c.loop-i.gone.items c.index.result.now
+                (sifted-skip (is_row_kept c.args.now (held_by lease (max c.args.now moment) calls) c.args.waits.now.waits) c.args.rows.now.items c.loop-i.rows.items c.loop-i.kept c.loop-i.i c.args.gone.now.items c.loop-i.gone.items c.index.result.now
                 (c.loop-i.invariant.sifted lease moment calls s) there c.index.ensures (sym (c.is_row_kept.ensures lease moment calls s) ∙ w.if-is_row_kept.false));
             moved = moved-skip c.args.rows.now.items c.loop-i.rows.items c.loop-i.kept c.loop-i.i c.index.result.now c.loop-i.invariant.moved there c.index.ensures;
             long = c.loop-i.invariant.long;
@@ -70,13 +70,13 @@ returns-clause-items c lease moment calls s =
     let at_end = c.loop-i-test.false in let all = c.len-i-end.ensures in
     let len : vec_len c.args.rows.now ≡ length c.args.rows.now.items = search rules in let long = c.loop-i.invariant.moved.long in
     c.truncate.ensures.items
-    ∙ sifted-rows (is_row_kept c.args.now (held_by lease (max c.args.now moment) calls) c.args.waits.now) c.args.rows.now.items c.loop-i.rows.items c.loop-i.kept c.loop-i.i c.args.gone.now.items c.loop-i.gone.items (c.loop-i.invariant.sifted lease moment calls s) (omega arith)
+    ∙ sifted-rows (is_row_kept c.args.now (held_by lease (max c.args.now moment) calls) c.args.waits.now.waits) c.args.rows.now.items c.loop-i.rows.items c.loop-i.kept c.loop-i.i c.args.gone.now.items c.loop-i.gone.items (c.loop-i.invariant.sifted lease moment calls s) (omega arith)
 
 pub returns-clause-gone : goal.returns-clause-gone
 returns-clause-gone c lease moment calls s =
     let at_end = c.loop-i-test.false in let all = c.len-i-end.ensures in
     let len : vec_len c.args.rows.now ≡ length c.args.rows.now.items = search rules in let long = c.loop-i.invariant.moved.long in
-    sifted-gone (is_row_kept c.args.now (held_by lease (max c.args.now moment) calls) c.args.waits.now) c.args.rows.now.items c.loop-i.rows.items c.loop-i.kept c.loop-i.i c.args.gone.now.items c.loop-i.gone.items (c.loop-i.invariant.sifted lease moment calls s) (omega arith)
+    sifted-gone (is_row_kept c.args.now (held_by lease (max c.args.now moment) calls) c.args.waits.now.waits) c.args.rows.now.items c.loop-i.rows.items c.loop-i.kept c.loop-i.i c.args.gone.now.items c.loop-i.gone.items (c.loop-i.invariant.sifted lease moment calls s) (omega arith)
 
 pub returns-clause-part : goal.returns-clause-part
 returns-clause-part c =

@@ -9,7 +9,7 @@ abbrev pub invariant-loop-i : goal.invariant-loop-i
 invariant-loop-i l =
     record {
       sifted : ForEachLog l.leases (λ lease moment calls.
-          Sifted (is_row_kept l.now (held_by lease (max l.now moment) calls) l.waits) l.initial.rows.items l.rows.items l.kept l.i l.initial.gone.items l.gone.items);
+          Sifted (is_row_kept l.now (held_by lease (max l.now moment) calls) l.waits.waits) l.initial.rows.items l.rows.items l.kept l.i l.initial.gone.items l.gone.items);
       moved : Moved l.initial.rows.items l.rows.items l.kept l.i;
       long : vec_len l.rows ≡ length l.initial.rows.items;
       capacity : vec_capacity l.rows ≡ vec_capacity l.initial.rows;

@@ -15,10 +15,10 @@ invariant_of-self-2 c =
     let few = c.if-len-ge-MAX_EXPORTS.false in let counted = c.len.ensures in
     let len : vec_len c.self.inside.rows ≡ length before = search rules in
     let room : length before < MAX_EXPORTS = omega arith in
-    let P : List Export → Type 0 = λ l. IsSound c.self.inside.space c.self.inside.ack (c.self.inside.added + 1) l c.self.inside.waits.items in
+    let P : List Export → Type 0 = λ l. IsSound c.self.inside.space c.self.inside.ack (c.self.inside.added + 1) l c.self.inside.waits.waits in
     subst P
     (sym (
     c.put.ensures.items
     ∙ ap (λ l. l ++ c.new.result ∷ []) c.in_ok-reserve.ensures.items
     ∙ ap (λ x. before ++ x ∷ []) (c.new.ensures ∙ ap (λ (o : ObjId). new_row o c.args.kind c.args.pinned) c.id_at-id.ensures)))
-    (sound-added c.self.inside.space c.self.inside.ack c.self.inside.added before c.self.inside.waits.items c.args.kind c.args.pinned (omega arith) room c.self.invariant)
+    (sound-added c.self.inside.space c.self.inside.ack c.self.inside.added before c.self.inside.waits.waits c.args.kind c.args.pinned (omega arith) room c.self.invariant)

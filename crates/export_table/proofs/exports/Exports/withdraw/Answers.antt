@@ -3,7 +3,6 @@ use Rattle.std.specs.Prelude.{vec_len}
 use Rattle.std.proofs.lemmas.List.Prefix.{front_rest}
 use Rattle.object_ids.specs.declared.ids.ObjId.{ObjId}
 use Rattle.dgc_server.specs.Stands.{StandsFor}
-use Rattle.export_table.specs.declared.waits.Wait.{Wait}
 use Rattle.export_table.specs.Rows.{held_by, withdrawn, without_all}
 use Rattle.export_table.specs.Table.{ExportTable}
 use Rattle.export_table.specs.Waits.{goes_on}
@@ -13,9 +12,9 @@ use Rattle.export_table.proofs.exports.Exports.withdraw.Goals as goal
 
 pub invariant_of-self : goal.invariant_of-self
 invariant_of-self c =
-    rw c.forget.ensures.items
-    (sound-filter c.self.inside.space c.self.inside.ack c.self.inside.added c.keep.new.rows.items c.self.inside.waits.items (goes_on c.args.now)
-    (sound-part c.self.inside.space c.self.inside.ack c.self.inside.added c.self.inside.rows.items c.keep.new.rows.items c.self.inside.waits.items c.keep.ensures.part c.self.invariant))
+    rw c.sift.ensures.waits
+    (sound-filter c.self.inside.space c.self.inside.ack c.self.inside.added c.sift.new.rows.items c.self.inside.waits.waits (goes_on c.args.now)
+    (sound-part c.self.inside.space c.self.inside.ack c.self.inside.added c.self.inside.rows.items c.sift.new.rows.items c.self.inside.waits.waits c.sift.ensures.part c.self.invariant))
 
 pub returns-clause-dropped : goal.returns-clause-dropped
 returns-clause-dropped c lease moment calls s =
@@ -23,9 +22,8 @@ returns-clause-dropped c lease moment calls s =
     let held = held_by lease (max c.args.now moment) calls in
     let len : vec_len c.args.gone.now ≡ length c.args.gone.now.items = search rules in
     subst Q
-    (slice_from c.len-before.result c.deref-2.result.now
-    ∙ ap (λ (n : ℕ). drop n c.deref-2.result.now) (c.len-before.ensures ∙ len)
-    ∙ front_rest c.deref-2.result.now c.args.gone.now.items _ (c.deref-2.ensures.value ∙ c.keep.ensures.gone lease moment calls s)
-    ∙ ap (λ (waits : List Wait). withdrawn c.args.now held waits c.self.inside.rows.items) c.deref.ensures.value
+    (slice_from c.len-before.result c.deref.result.now
+    ∙ ap (λ (n : ℕ). drop n c.deref.result.now) (c.len-before.ensures ∙ len)
+    ∙ front_rest c.deref.result.now c.args.gone.now.items _ (c.deref.ensures.value ∙ c.sift.ensures.gone lease moment calls s)
     ∙ ap (λ (t : ExportTable). withdrawn c.args.now held t.waits t.rows) c.self.view_is)
     (c.drop_all.ensures lease moment calls s)

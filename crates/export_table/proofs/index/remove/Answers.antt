@@ -1,0 +1,7 @@
+use Rattle.std.proofs.Common.{sym}
+use Rattle.export_table.proofs.Indexing.{index-removed}
+use Rattle.export_table.proofs.index.remove.Goals as goal
+
+pub returns-clause-index : goal.returns-clause-index
+returns-clause-index c before after once i =
+    index-removed c.args.counts.now c.lower.new.counts c.args.references.now c.unnote.new.references c.args.wait.now (λ o. sym (c.lower.ensures.counts o)) c.unnote.ensures.references before after once i

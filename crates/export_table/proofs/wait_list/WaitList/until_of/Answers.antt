@@ -1,0 +1,13 @@
+use Rattle.std.proofs.Common.{◌≡◌, ap, sym, ◌∙◌, false}
+use Rattle.std.specs.List.{list_any}
+use Rattle.export_table.specs.Waits.{is_wait_of, until_of}
+use Rattle.export_table.specs.WaitTable.{WaitTable}
+use Rattle.export_table.proofs.Indexing.{until-none}
+use Rattle.export_table.proofs.wait_list.WaitList.until_of.Goals as goal
+
+pub returns-else-has : goal.returns-else-has
+returns-else-has c =
+    let none : list_any (is_wait_of c.args.object.now c.args.uid.now) c.self.inside.waits.items ≡ false =
+    sym (c.self.invariant.index.listed c.args.object.now c.args.uid.now) ∙ sym c.has.ensures ∙ c.if-has.false in
+    sym (until-none c.args.object.now c.args.uid.now c.self.inside.waits.items none)
+    ∙ ap (λ (t : WaitTable). until_of c.args.object.now c.args.uid.now t.waits) c.self.view_is
