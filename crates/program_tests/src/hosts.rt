@@ -81,15 +81,28 @@ pub(crate) fn sink_of(rt: &impl Abort, alloc: Global, failing: &str) -> MemSink 
     MemSink::new(alloc, numbers_of(rt, alloc, failing))
 }
 
-/// A host of this input.
-pub(crate) fn host_of(rt: &impl Abort, alloc: Global, input: &[u8], outside: Outside) -> MemHost {
+/// A host over this input and this output, with the moments that words spell.
+pub(crate) fn host_over<I, O>(
+    rt: &impl Abort,
+    alloc: Global,
+    input: I,
+    output: O,
+    moments: &str,
+) -> Host<I, O, MemSink, MemClock> {
     Host {
-        input: source_of(rt, alloc, input, outside),
-        output: sink_of(rt, alloc, outside.failing_writes),
+        input,
+        output,
         errors: sink_of(rt, alloc, ""),
-        ticks: MemClock::new(moments_of(rt, alloc, outside.moments)),
+        ticks: MemClock::new(moments_of(rt, alloc, moments)),
         seed: SEED,
     }
+}
+
+/// A host of this input.
+pub(crate) fn host_of(rt: &impl Abort, alloc: Global, input: &[u8], outside: Outside) -> MemHost {
+    let input = source_of(rt, alloc, input, outside);
+    let output = sink_of(rt, alloc, outside.failing_writes);
+    host_over(rt, alloc, input, output, outside.moments)
 }
 
 /// Appends a word.

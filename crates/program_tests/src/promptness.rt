@@ -1,14 +1,13 @@
 //! Each answer is written before the next byte is asked for.
 ghost use Rattle.std.specs.Prelude.{None};
 
-use crate::hosts::{SEED, must, sink_of, words_of};
+use crate::hosts::{host_over, must, words_of};
 use crate::texts::{bytes_of, cut, put_words};
-use mod_utf::list::{ByteList, Kinds, MomentList};
-use rmi_cli::{Host, run};
+use mod_utf::list::{ByteList, Kinds};
+use rmi_cli::run;
 use std::alloc::Global;
 use std::cell::Cell;
 use std::process::Abort;
-use wire_io::mem::MemClock;
 use wire_io::sink::Sink;
 use wire_io::source::{Failed, Source};
 
@@ -126,13 +125,7 @@ fn due_of(rt: &impl Abort, alloc: Global) -> Kinds {
 /// Serves the input, and answers the status and how many bytes were read.
 fn serve(rt: &impl Abort, alloc: Global, input: Asking<'_>, written: &Cell<usize>) -> (u8, usize) {
     let words = words_of(rt, alloc, "answer");
-    let mut host = Host {
-        input,
-        output: Counting { written },
-        errors: sink_of(rt, alloc, ""),
-        ticks: MemClock::new(MomentList::new(alloc)),
-        seed: SEED,
-    };
+    let mut host = host_over(rt, alloc, input, Counting { written }, "");
     let status = run(alloc, &words, &mut host);
     (status, host.input.at)
 }
