@@ -1,5 +1,5 @@
 //! Calls of an exported object: what is written, what the space is asked, what is invoked, and how the connection ends.
-ghost use Rattle.std.specs.Prelude.{◌≡◌, ◌≤◌, pos, length, IsTrue};
+ghost use Rattle.std.specs.Prelude.{◌≡◌, ◌≤◌, pos, length};
 ghost use Rattle.mod_utf.specs.Utf.{utf};
 
 use crate::seen::{are_entries, are_invoked};
@@ -14,7 +14,7 @@ use mod_utf::utf::encoded_len;
 use object_ids::UidDraw;
 use ser_read::read_to_end;
 use ser_values::{Graph, Value};
-use space::DirectPort;
+use space::{DirectPort, Space};
 use std::alloc::Global;
 use std::process::Abort;
 use wire_io::Pull;
@@ -209,22 +209,26 @@ pub(crate) fn book(rt: &impl Abort, alloc: Global) -> Option<Book> {
     Book::new(alloc, kinds).ok()
 }
 
-/// Whether a host has few enough bytes.
-fn is_short(host: &Units) -> bool
-    ensures { IsTrue result → length (utf host.now) ≤ 255 }
+/// The text `127.0.0.1`, which has few enough bytes for a host.
+fn this_host(rt: &impl Abort, alloc: Global) -> Units
+    ensures { length (utf result) ≤ 255 }
 {
-    encoded_len(host) <= 255
+    let host = units_of(rt, alloc, "127.0.0.1");
+    assert!(rt; encoded_len(&host) <= 255, "a short host");
+    host
 }
 
 /// What a connection is told beforehand.
 fn setup(rt: &impl Abort, alloc: Global, binding: bool) -> Setup
     ensures draw { result.draw ≡ record { unique = pos 2; time = pos 2; drawn = 0 } }
+    ensures peer_host { length (utf result.peer_host) ≤ 255 }
+    ensures host { length (utf result.host) ≤ 255 }
 {
     Setup {
         by: 1,
-        peer_host: units_of(rt, alloc, "127.0.0.1"),
+        peer_host: this_host(rt, alloc),
         peer_port: 1234,
-        host: units_of(rt, alloc, "127.0.0.1"),
+        host: this_host(rt, alloc),
         port: 1099,
         binding,
         draw: UidDraw::new(2, 2),
@@ -243,6 +247,83 @@ struct Wanted<'a> {
     places: &'a str,
 }
 
+/// What a connection is served over.
+#[derive(Drop)]
+struct Wires {
+    source: MemSource,
+    sink: MemSink,
+    clock: MemClock,
+}
+
+/// The streams of a client that sends these bytes, and a clock of these moments.
+fn wires_of(rt: &impl Abort, alloc: Global, input: &[u8], moments: &str) -> Wires {
+    let bytes = listed(rt, alloc, input);
+    Wires {
+        source: MemSource::new(bytes, Kinds::new(alloc), Kinds::new(alloc)),
+        sink: MemSink::new(alloc, Kinds::new(alloc)),
+        clock: MemClock::new(moments_of(rt, alloc, moments)),
+    }
+}
+
+/// Whether these words tell a port's entries.
+fn are_asked(rt: &impl Abort, alloc: Global, port: DirectPort<'_>, entries: &str) -> bool {
+    let asked = port.into_asked().to_list(alloc).expect(rt, "memory");
+    are_entries(asked.as_slice(), entries)
+}
+
+/// Serves a connection, and answers how it ended, where the space is asked what it should be.
+fn serve_at(
+    rt: &impl Abort,
+    alloc: Global,
+    book: &Book,
+    setup: &mut Setup,
+    wires: &mut Wires,
+    space: &mut Space,
+    worker: &mut RecordingWorker,
+    entries: &str,
+) -> ConnEnd
+    requires peer_host { length (utf setup.old.peer_host) ≤ 255 }
+    requires host { length (utf setup.old.host) ≤ 255 }
+    requires draw { setup.old.draw ≡ record { unique = pos 2; time = pos 2; drawn = 0 } }
+    requires calls { worker.old.calls ≡ 0 }
+{
+    let mut port = DirectPort::new(alloc, space, 1);
+    let end = serve_connection(
+        alloc,
+        &mut wires.source,
+        &mut wires.sink,
+        &mut wires.clock,
+        &mut port,
+        worker,
+        book,
+        setup,
+    );
+    must(rt, are_asked(rt, alloc, port, entries), "asked");
+    end
+}
+
+/// Serves a connection that sends these bytes, and answers how it ended, where what is written and asked is as it is wanted.
+fn serve_over(
+    rt: &impl Abort,
+    alloc: Global,
+    book: &Book,
+    input: &[u8],
+    wanted: Wanted,
+    space: &mut Space,
+    worker: &mut RecordingWorker,
+) -> ConnEnd
+    requires calls { worker.old.calls ≡ 0 }
+{
+    let mut setup = setup(rt, alloc, wanted.ground != "closed");
+    let mut wires = wires_of(rt, alloc, input, wanted.moments);
+    let entries = wanted.entries;
+    let end = serve_at(
+        rt, alloc, book, &mut setup, &mut wires, space, worker, entries,
+    );
+    must(rt, wires.sink.held() == wanted.output, "written");
+    end
+}
+
 /// Serves a connection that sends these bytes, and answers how it ended, where all else is as it is wanted.
 fn serve(
     rt: &impl Abort,
@@ -251,44 +332,18 @@ fn serve(
     input: &[u8],
     outcomes: OutcomeList,
     wanted: Wanted,
-) -> Option<ConnEnd> {
-    let mut setup = setup(rt, alloc, wanted.ground != "closed");
-    if !is_short(&setup.peer_host) || !is_short(&setup.host) {
-        return None;
-    }
-    let bytes = listed(rt, alloc, input);
-    let mut source = MemSource::new(bytes, Kinds::new(alloc), Kinds::new(alloc));
-    let mut sink = MemSink::new(alloc, Kinds::new(alloc));
-    let mut clock = MemClock::new(moments_of(rt, alloc, wanted.moments));
-    let mut space = space_of(rt, alloc, wanted.ground);
-    let mut port = DirectPort::new(alloc, &mut space, 1);
+) -> ConnEnd {
     let mut worker = RecordingWorker::new(alloc, outcomes);
-    let end = serve_connection(
-        alloc,
-        &mut source,
-        &mut sink,
-        &mut clock,
-        &mut port,
-        &mut worker,
-        book,
-        &mut setup,
-    );
-    let asked = port.into_asked().to_list(alloc).ok()?;
-    must(rt, are_entries(asked.as_slice(), wanted.entries), "asked");
+    let mut space = space_of(rt, alloc, wanted.ground);
+    let end = serve_over(rt, alloc, book, input, wanted, &mut space, &mut worker);
     must(rt, are_invoked(worker.recorded(), wanted.places), "invoked");
-    must(rt, sink.held() == wanted.output, "written");
-    Some(end)
+    end
 }
 
 /// Whether an end is told by this text.
-fn is_told(alloc: Global, end: Option<ConnEnd>, text: &str) -> bool {
-    match end {
-        Some(end) => match format!(in alloc; "{end:?}") {
-            Ok(told) => told.as_str() == text,
-            Err(_) => false,
-        },
-        None => false,
-    }
+fn is_told(rt: &impl Abort, alloc: Global, end: ConnEnd, text: &str) -> bool {
+    let told = format!(in alloc; "{end:?}").expect(rt, "memory");
+    told.as_str() == text
 }
 
 /// Serves what a line says, over a space of one object in which no name can be bound, at the moment 0, and checks the rest of it.
@@ -322,7 +377,7 @@ fn check_rest(rt: &impl Abort, alloc: Global, book: &Book, over: (&str, &str), l
         places,
     };
     let found = serve(rt, alloc, book, input.as_slice(), outcomes, wanted);
-    must(rt, is_told(alloc, found, end), line);
+    must(rt, is_told(rt, alloc, found, end), line);
 }
 
 #[test]
