@@ -1,18 +1,20 @@
 //! Connections that are served without the program: how they end, what workers are asked, and what turns calls make.
-use crate::hosts::{Outside, SEED, cut_by, must, sink_of, source_of};
+ghost use Rattle.std.specs.Prelude.{◌≡◌};
+
+use crate::hosts::{Outside, cut_by, must};
+use crate::setups::{Numbers, Wires, setup, wires_of};
 use crate::texts::{bytes_of, cut, number_of, put_words};
 use call_dispatch::{
     Book, ConnEnd, Kind, KindList, OutcomeList, Recorded, RecordingWorker, serve_connection,
 };
 use method_hash::{Method, MethodList};
-use mod_utf::list::{MomentList, Units};
+use mod_utf::list::Units;
 use mod_utf::utf::encoded_len;
 use object_ids::Uid;
-use rmi_cli::setup_of;
 use space::{Ask, Asked, AskedEnd, DirectPort, Space, SpaceConfig};
 use std::alloc::Global;
 use std::process::Abort;
-use wire_io::mem::MemClock;
+use wire_io::mem::MemSink;
 
 /// What the space keeps to. Its one object has the number 16 and the kind 0.
 const CONFIG: SpaceConfig = SpaceConfig {
@@ -25,31 +27,31 @@ const CONFIG: SpaceConfig = SpaceConfig {
     },
 };
 
-/// What is seen of a connection: how it ended, what was written in how many writes, how many calls the worker was asked for, how many
-/// arguments and nodes the first one had, how many entries the port has, and whether the last of two gives a call up.
+/// What every connection is told.
+const NUMBERS: Numbers = Numbers {
+    by: 1,
+    port: 1099,
+    peer_port: 1234,
+    binding: false,
+};
+
+/// What is seen of a connection: how it ended, how many calls the worker was asked for, how many arguments and nodes the first one had, and what
+/// the port has.
 #[derive(Clone, Copy)]
 struct Seen {
     end: ConnEnd,
-    writes: u64,
-    is_written: bool,
     calls: usize,
     values: usize,
     nodes: u32,
-    entries: usize,
-    given_up: bool,
+    port: Entries,
 }
 
-/// Nothing.
-const NOTHING: Seen = Seen {
-    end: ConnEnd::OutOfMemory,
-    writes: 0,
-    is_written: false,
-    calls: 0,
-    values: 0,
-    nodes: 0,
-    entries: 0,
-    given_up: false,
-};
+/// How many entries a port has, and whether the last of two gives a call up.
+#[derive(Clone, Copy)]
+struct Entries {
+    count: usize,
+    given_up: bool,
+}
 
 /// The space of one object, which is pinned.
 fn space_of_one(rt: &impl Abort, alloc: Global) -> Space {
@@ -61,23 +63,20 @@ fn space_of_one(rt: &impl Abort, alloc: Global) -> Space {
 }
 
 /// The book of one kind.
-fn book_of(rt: &impl Abort, alloc: Global, kind: Kind) -> Option<Book> {
-    if kind.methods.len() > 1000 || encoded_len(&kind.interface) > 255 {
-        return None;
-    }
+fn book_of(rt: &impl Abort, alloc: Global, kind: Kind) -> Book {
+    assert!(rt; kind.methods.len() <= 1000, "few methods");
+    assert!(rt; encoded_len(&kind.interface) <= 255, "a short name");
     let mut kinds = KindList::new(alloc);
     must(rt, kinds.push(kind).is_ok(), "memory");
-    Book::new(alloc, kinds).ok()
+    Book::new(alloc, kinds).expect(rt, "a book")
 }
 
 /// Methods of this text, so many times.
 fn methods_of(rt: &impl Abort, alloc: Global, text: &[u8], count: u32) -> MethodList {
     let mut methods = MethodList::new(alloc);
     for _ in 0..count {
-        match Method::parse(alloc, text) {
-            Ok(method) => must(rt, methods.push(method).is_ok(), "memory"),
-            Err(_) => must(rt, false, "a method"),
-        }
+        let method = Method::parse(alloc, text).expect(rt, "a method");
+        must(rt, methods.push(method).is_ok(), "memory");
     }
     methods
 }
@@ -91,47 +90,53 @@ fn kind_of(rt: &impl Abort, alloc: Global, words: &str, count: u32) -> Kind {
     }
 }
 
-/// Serves the client at 127.0.0.1, port 1234, which sends these bytes and gets these.
-fn serve(
+/// What a port has.
+fn entries_of(rt: &impl Abort, alloc: Global, port: DirectPort<'_>) -> Entries {
+    let asked = port.into_asked().to_list(alloc).expect(rt, "memory");
+    Entries {
+        count: asked.len(),
+        given_up: is_given_up(asked.as_slice()),
+    }
+}
+
+/// Serves the client at 127.0.0.1, port 1234, over a space and a worker that was asked nothing yet.
+fn serve_at(
     rt: &impl Abort,
     alloc: Global,
     book: &Book,
-    input: &[u8],
-    outside: Outside,
-    output: &[u8],
-) -> Seen {
-    let Ok(mut setup) = setup_of(alloc, &SEED) else {
-        return NOTHING;
-    };
-    let mut source = source_of(rt, alloc, input, outside);
-    let mut sink = sink_of(rt, alloc, outside.failing_writes);
-    let mut clock = MemClock::new(MomentList::new(alloc));
-    let mut space = space_of_one(rt, alloc);
-    let mut port = DirectPort::new(alloc, &mut space, 1);
-    let mut worker = RecordingWorker::new(alloc, OutcomeList::new(alloc));
+    wires: &mut Wires,
+    space: &mut Space,
+    worker: &mut RecordingWorker,
+) -> (ConnEnd, Entries)
+    requires calls { worker.old.calls ≡ 0 }
+{
+    let mut setup = setup(rt, alloc, NUMBERS);
+    let mut port = DirectPort::new(alloc, space, 1);
     let end = serve_connection(
         alloc,
-        &mut source,
-        &mut sink,
-        &mut clock,
+        &mut wires.source,
+        &mut wires.sink,
+        &mut wires.clock,
         &mut port,
-        &mut worker,
+        worker,
         book,
         &mut setup,
     );
+    (end, entries_of(rt, alloc, port))
+}
+
+/// Serves a client over a space of one object.
+fn serve(rt: &impl Abort, alloc: Global, book: &Book, wires: &mut Wires) -> Seen {
+    let mut space = space_of_one(rt, alloc);
+    let mut worker = RecordingWorker::new(alloc, OutcomeList::new(alloc));
+    let (end, port) = serve_at(rt, alloc, book, wires, &mut space, &mut worker);
     let (values, nodes) = first_of(worker.recorded());
-    let Ok(asked) = port.into_asked().to_list(alloc) else {
-        return NOTHING;
-    };
     Seen {
         end,
-        writes: sink.writes(),
-        is_written: sink.held() == output,
         calls: worker.recorded().len(),
         values,
         nodes,
-        entries: asked.len(),
-        given_up: is_given_up(asked.as_slice()),
+        port,
     }
 }
 
@@ -157,32 +162,12 @@ fn is_given_up(asked: &[Asked]) -> bool {
     }
 }
 
-/// Serves the client that sends what words spell, and gets what words spell.
-fn serve_words(
-    rt: &impl Abort,
-    alloc: Global,
-    book: &Book,
-    input: &str,
-    outside: Outside,
-    output: &str,
-) -> Seen {
-    let input = bytes_of(rt, alloc, input);
-    let output = bytes_of(rt, alloc, output);
-    serve(
-        rt,
-        alloc,
-        book,
-        input.as_slice(),
-        outside,
-        output.as_slice(),
-    )
-}
-
 /// Serves the client that calls a method of object 16, from its hash on.
 fn serve_call(rt: &impl Abort, alloc: Global, book: &Book, call: &str) -> Seen {
     let mut input = bytes_of(rt, alloc, "opening head");
     put_words(rt, alloc, &mut input, call);
-    serve(rt, alloc, book, input.as_slice(), cut_by("-"), &[])
+    let mut wires = wires_of(rt, alloc, input.as_slice(), cut_by("-"));
+    serve(rt, alloc, book, &mut wires)
 }
 
 /// The input, the output, in how many writes, the indices of the reads and of the writes that fail, and the end.
@@ -197,11 +182,21 @@ header 4C ping | | 1 | | 0 | WriteFault { sent: 0 }
 header 4D | | 1 | | 0 | WriteFault { sent: 0 }";
 
 /// Whether an end has this text.
-fn is_told(alloc: Global, end: ConnEnd, text: &str) -> bool {
-    match format!(in alloc; "{end:?}") {
-        Ok(told) => told.as_str() == text,
-        Err(_) => false,
-    }
+fn is_told(rt: &impl Abort, alloc: Global, end: ConnEnd, text: &str) -> bool {
+    let told = format!(in alloc; "{end:?}").expect(rt, "memory");
+    told.as_str() == text
+}
+
+/// What a client that sends what words spell is served over.
+fn wires_of_words(rt: &impl Abort, alloc: Global, input: &str, outside: Outside) -> Wires {
+    let input = bytes_of(rt, alloc, input);
+    wires_of(rt, alloc, input.as_slice(), outside)
+}
+
+/// Whether a sink holds what words spell.
+fn is_written(rt: &impl Abort, alloc: Global, sink: &MemSink, output: &str) -> bool {
+    let output = bytes_of(rt, alloc, output);
+    sink.held() == output.as_slice()
 }
 
 /// Serves what a line says, byte by byte.
@@ -217,23 +212,21 @@ fn check_end(rt: &impl Abort, alloc: Global, book: &Book, line: &str) {
         failing_writes,
         moments: "",
     };
-    let seen = serve_words(rt, alloc, book, input, outside, output);
-    must(rt, is_told(alloc, seen.end, end), line);
-    must(rt, seen.is_written, line);
-    must(rt, seen.writes == u64::from(number_of(rt, writes)), line);
-    must(rt, seen.entries == 0, line);
+    let mut wires = wires_of_words(rt, alloc, input, outside);
+    let seen = serve(rt, alloc, book, &mut wires);
+    must(rt, is_told(rt, alloc, seen.end, end), line);
+    must(rt, is_written(rt, alloc, &wires.sink, output), line);
+    let wanted = u64::from(number_of(rt, writes));
+    must(rt, wires.sink.writes() == wanted, line);
+    must(rt, seen.port.count == 0, line);
 }
 
 #[test]
 fn each_connection_has_its_end(rt: HostRuntime) {
     let kind = kind_of(&rt, rt.alloc(), "=f()V", 1);
-    match book_of(&rt, rt.alloc(), kind) {
-        Some(book) => {
-            for line in ENDS.split('\n') {
-                check_end(&rt, rt.alloc(), &book, line);
-            }
-        }
-        None => must(&rt, false, "book"),
+    let book = book_of(&rt, rt.alloc(), kind);
+    for line in ENDS.split('\n') {
+        check_end(&rt, rt.alloc(), &book, line);
     }
 }
 
@@ -256,8 +249,8 @@ fn check_seen(rt: &impl Abort, seen: Seen, told: &str) {
     must(rt, seen.calls == number_of(rt, calls) as usize, told);
     must(rt, seen.values == number_of(rt, values) as usize, told);
     must(rt, seen.nodes == number_of(rt, nodes), told);
-    must(rt, seen.given_up == (given_up == "given up"), told);
-    must(rt, seen.entries == 2, told);
+    must(rt, seen.port.given_up == (given_up == "given up"), told);
+    must(rt, seen.port.count == 2, told);
 }
 
 /// Serves the call of a line, in a book with its method.
@@ -266,13 +259,8 @@ fn check_call(rt: &impl Abort, alloc: Global, line: &str) {
     let (count, rest) = cut(rest, '|');
     let (call, told) = cut(rest, '|');
     let kind = kind_of(rt, alloc, text, number_of(rt, count));
-    match book_of(rt, alloc, kind) {
-        Some(book) => {
-            let seen = serve_call(rt, alloc, &book, call);
-            check_seen(rt, seen, told);
-        }
-        None => must(rt, false, line),
-    }
+    let book = book_of(rt, alloc, kind);
+    check_seen(rt, serve_call(rt, alloc, &book, call), told);
 }
 
 #[test]

@@ -26,6 +26,8 @@ mod replays;
 #[cfg(test)]
 mod served;
 #[cfg(test)]
+mod setups;
+#[cfg(test)]
 mod shows;
 #[cfg(test)]
 mod system_rows;

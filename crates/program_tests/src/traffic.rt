@@ -1,19 +1,17 @@
 //! Connections of Java 17 clients to one space, one after the other, as they were recorded.
-ghost use Rattle.std.specs.Prelude.{◌≡◌, ◌≤◌, pos, length, IsTrue};
+ghost use Rattle.std.specs.Prelude.{◌≡◌, ◌≤◌, pos, length};
 ghost use Rattle.mod_utf.specs.Utf.{utf};
 
-use crate::hosts::{cut_by, must, sink_of, source_of};
+use crate::hosts::{cut_by, must};
+use crate::setups::{Numbers, Wires, setup, wires_of};
 use crate::system_rows::RECORDED;
 use crate::texts::{bytes_of, cut, number_of};
 use call_dispatch::{Book, ConnEnd, Setup, serve_connection};
-use mod_utf::list::{MomentList, Units};
-use mod_utf::utf::encoded_len;
-use object_ids::{Uid, UidDraw};
+use object_ids::Uid;
 use sample_app::{SampleWorker, sample_book, sample_space};
 use space::{Ask, DirectPort, Space, SpaceConfig};
 use std::alloc::Global;
 use std::process::Abort;
-use wire_io::mem::MemClock;
 
 /// What the space keeps to.
 const CONFIG: SpaceConfig = SpaceConfig {
@@ -34,46 +32,6 @@ const CONNECTIONS: &str =
 3 | 21099 | 33986 | 4A524D4900024B00093132372E302E302E310000000050ACED00057722000000000000000000000000000000000000000000000000000044154DC9D4E63BDF7400046563686F737D00000002000F6A6176612E726D692E52656D6F7465000E73616D706C652E436F756E74657270787200176A6176612E6C616E672E7265666C6563742E50726F7879E127DA20CC1043CB0200014C0001687400254C6A6176612F6C616E672F7265666C6563742F496E766F636174696F6E48616E646C65723B7078707372002D6A6176612E726D692E7365727665722E52656D6F74654F626A656374496E766F636174696F6E48616E646C65720000000000000002020000707872001C6A6176612E726D692E7365727665722E52656D6F74654F626A656374D361B4910C61331E0300007078707732000A556E696361737452656600093132372E302E302E310000526B000000000000001300000007000000000000000900000078 | 4E00093132372E302E302E31000084C251ACED0005770F020000000800000000000000068000737200186A6176612E726D692E52656D6F7465457863657074696F6EB88C9D4EDEE47A220200014C000664657461696C7400154C6A6176612F6C616E672F5468726F7761626C653B70787200136A6176612E696F2E494F457863657074696F6E6C8073646525F0AB02000070787200136A6176612E6C616E672E457863657074696F6ED0FD1F3E1A3B1CC402000070787200136A6176612E6C616E672E5468726F7761626C65D5C635273977B8CB0300014C000D64657461696C4D6573736167657400124C6A6176612F6C616E672F537472696E673B7078707400246A6176612E726D692E416C7265616479426F756E64457863657074696F6E3A206563686F7870
 4 | 21099 | 34000 | 4A524D4900024B00093132372E302E302E310000000050ACED000577220000000000000002000000000000000000000000000000000000F6B6898D8BF28643757200185B4C6A6176612E726D692E7365727665722E4F626A49443B871300B8D02C647E02000070787000000001737200156A6176612E726D692E7365727665722E4F626A4944A75EFA128DDCE55C0200024A00066F626A4E756D4C000573706163657400154C6A6176612F726D692F7365727665722F5549443B7078700000000000000013737200136A6176612E726D692E7365727665722E5549440F12700DBF364F12020003530005636F756E744A000474696D65490006756E69717565707870000000000000000000090000000777088000000000000004737200116A6176612E726D692E6467632E564D4944F8865BAFA4A56DB60200025B0004616464727400025B424C000375696471007E0003707870757200025B42ACF317F8060854E0020000707870000000082659A885A75F335B7371007E00058001000001A219F67C3AB11DD80B770100 | 4E00093132372E302E302E31000084D051ACED0005770F010000000900000000000000068000";
 
-/// The text `127.0.0.1`.
-fn this_host(rt: &impl Abort, alloc: Global) -> Units {
-    let mut units = Units::new(alloc);
-    for byte in "127.0.0.1".as_bytes() {
-        must(rt, units.push(u16::from(*byte)).is_ok(), "memory");
-    }
-    units
-}
-
-/// Whether a host has few enough bytes.
-fn is_short(host: &Units) -> bool
-    ensures { IsTrue result → length (utf host.now) ≤ 255 }
-{
-    encoded_len(host) <= 255
-}
-
-/// Which connection this is, and the ports of the server and of the client.
-#[derive(Clone, Copy)]
-struct Numbers {
-    by: u32,
-    port: u32,
-    peer_port: u32,
-}
-
-/// What a connection is told beforehand. Names may be bound.
-fn setup(rt: &impl Abort, alloc: Global, numbers: Numbers) -> Setup
-    ensures draw { (result.draw.time ≡ pos 6) × (result.draw.drawn ≡ 0) }
-{
-    Setup {
-        by: numbers.by,
-        peer_host: this_host(rt, alloc),
-        peer_port: numbers.peer_port.cast_signed(),
-        host: this_host(rt, alloc),
-        port: numbers.port.cast_signed(),
-        binding: true,
-        draw: UidDraw::new(numbers.by.wrapping_add(5).cast_signed(), 6),
-        mark: [0; 8],
-    }
-}
-
 /// What the connections share: the kinds, the space, and the worker.
 #[derive(Drop)]
 struct Server {
@@ -83,14 +41,38 @@ struct Server {
 }
 
 /// A server of the sample.
-fn server_of(alloc: Global) -> Option<Server> {
-    let space = sample_space(alloc, &CONFIG).ok()?;
-    let book = sample_book(alloc).ok()?;
-    Some(Server {
-        book,
-        space,
+fn server_of(rt: &impl Abort, alloc: Global) -> Server {
+    Server {
+        book: sample_book(alloc).expect(rt, "memory"),
+        space: sample_space(alloc, &CONFIG).expect(rt, "memory"),
         worker: SampleWorker::new(alloc),
-    })
+    }
+}
+
+/// Serves the connection of this number.
+fn serve_at(
+    alloc: Global,
+    server: &mut Server,
+    setup: &mut Setup,
+    wires: &mut Wires,
+    by: u32,
+) -> ConnEnd
+    requires draw { (setup.old.draw.time ≡ pos 6) × (setup.old.draw.drawn ≡ 0) }
+    requires peer_host { length (utf setup.old.peer_host) ≤ 255 }
+    requires host { length (utf setup.old.host) ≤ 255 }
+    requires calls { server.old.worker.calls ≤ 1000 }
+{
+    let mut port = DirectPort::new(alloc, &mut server.space, by);
+    serve_connection(
+        alloc,
+        &mut wires.source,
+        &mut wires.sink,
+        &mut wires.clock,
+        &mut port,
+        &mut server.worker,
+        &server.book,
+        setup,
+    )
 }
 
 /// Serves a client that sends these bytes, after a tick, and answers how it ended, where it gets these.
@@ -102,26 +84,12 @@ fn serve(
     input: &[u8],
     output: &[u8],
 ) -> ConnEnd {
-    let mut setup = setup(rt, alloc, numbers);
-    if !is_short(&setup.peer_host) || !is_short(&setup.host) || server.worker.calls > 1000 {
-        return ConnEnd::OutOfMemory;
-    }
     must(rt, server.space.turn(0, 0, Ask::Tick).is_ok(), "a tick");
-    let mut source = source_of(rt, alloc, input, cut_by("-"));
-    let mut sink = sink_of(rt, alloc, "");
-    let mut clock = MemClock::new(MomentList::new(alloc));
-    let mut port = DirectPort::new(alloc, &mut server.space, numbers.by);
-    let end = serve_connection(
-        alloc,
-        &mut source,
-        &mut sink,
-        &mut clock,
-        &mut port,
-        &mut server.worker,
-        &server.book,
-        &mut setup,
-    );
-    must(rt, sink.held() == output, "written");
+    assert!(rt; server.worker.calls <= 1000, "few calls");
+    let mut setup = setup(rt, alloc, numbers);
+    let mut wires = wires_of(rt, alloc, input, cut_by("-"));
+    let end = serve_at(alloc, server, &mut setup, &mut wires, numbers.by);
+    must(rt, wires.sink.held() == output, "written");
     end
 }
 
@@ -135,6 +103,7 @@ fn check_line(rt: &impl Abort, alloc: Global, server: &mut Server, line: &str) {
         by: number_of(rt, by),
         port: number_of(rt, port),
         peer_port: number_of(rt, peer_port),
+        binding: true,
     };
     check(rt, alloc, server, numbers, input, output);
 }
@@ -167,6 +136,7 @@ fn check_first(rt: &impl Abort, alloc: Global, server: &mut Server) {
         by: 1,
         port: 1099,
         peer_port: 1234,
+        binding: true,
     };
     let (input, rest) = cut(RECORDED, '|');
     let (output, _told) = cut(rest, '|');
@@ -175,13 +145,9 @@ fn check_first(rt: &impl Abort, alloc: Global, server: &mut Server) {
 
 #[test]
 fn recorded_clients_are_answered_over_one_space(rt: HostRuntime) {
-    match server_of(rt.alloc()) {
-        Some(mut server) => {
-            check_first(&rt, rt.alloc(), &mut server);
-            for line in CONNECTIONS.split('\n') {
-                check_line(&rt, rt.alloc(), &mut server, line);
-            }
-        }
-        None => must(&rt, false, "memory"),
+    let mut server = server_of(&rt, rt.alloc());
+    check_first(&rt, rt.alloc(), &mut server);
+    for line in CONNECTIONS.split('\n') {
+        check_line(&rt, rt.alloc(), &mut server, line);
     }
 }
