@@ -2,12 +2,12 @@
 ghost use Rattle.std.specs.Prelude.{◌≡◌, ◌∷◌, ◌++◌, [], ℕ, List, length, OnErr, OnOk};
 ghost use Rattle.std.specs.Int.{w16, w32, w64, to_be_bytes, cast_unsigned, from_bool};
 ghost use Rattle.std.specs.List.{flat_map};
-ghost use Rattle.mod_utf.specs.Utf.{utf};
+ghost use Rattle.mod_utf.specs.Utf.{unit_bytes, utf};
 ghost use Rattle.ser_write.specs.Canonical.{Begins};
 
 use mod_utf::list::{ByteList, Units};
-use mod_utf::utf::encode;
-use std::alloc::{AllocError, Global};
+use mod_utf::utf::encoded_len;
+use std::alloc::AllocError;
 
 /// Appends a byte.
 pub(crate) fn put_byte(out: &mut ByteList, byte: u8) -> Result<(), AllocError>
@@ -116,30 +116,53 @@ impl Spelled for bool {
     }
 }
 
+/// Appends the bytes that spell a unit.
+fn put_unit(out: &mut ByteList, unit: u16) -> Result<(), AllocError>
+    ensures written { OnOk result (out.new ≡ out.old ++ unit_bytes unit) }
+    ensures kept { OnErr result (Begins out.old out.new) }
+{
+    if 0 < unit && unit < 0x80 {
+        put_byte(out, unit as u8)
+    } else if unit < 0x800 {
+        out.append(&[0xC0 + (unit / 64) as u8, 0x80 + (unit % 64) as u8])
+    } else {
+        out.append(&[
+            0xE0 + (unit / 4096) as u8,
+            0x80 + (unit / 64 % 64) as u8,
+            0x80 + (unit % 64) as u8,
+        ])
+    }
+}
+
+/// Appends the bytes that spell units.
+fn put_units(out: &mut ByteList, units: &[u16]) -> Result<(), AllocError>
+    ensures written { OnOk result (out.new ≡ out.old ++ utf units.now) }
+    ensures kept { OnErr result (Begins out.old out.new) }
+{
+    for unit in units {
+        put_unit(out, *unit)?;
+    }
+    Ok(())
+}
+
 /// Appends a text with a length of 16 bits.
-pub(crate) fn put_short_text(
-    alloc: Global,
-    out: &mut ByteList,
-    text: &Units,
-) -> Result<(), AllocError>
+pub(crate) fn put_short_text(out: &mut ByteList, text: &Units) -> Result<(), AllocError>
     ensures written { OnOk result (out.new ≡ out.old ++ (to_be_bytes w16 (length (utf text.now)) ++ utf text.now)) }
     ensures kept { OnErr result (Begins out.old out.new) }
 {
-    let bytes = encode(alloc, text)?;
-    put_16(out, bytes.len())?;
-    out.append(bytes.as_slice())
+    let len = encoded_len(text) as usize;
+    out.reserve(len)?;
+    put_16(out, len)?;
+    put_units(out, text.as_slice())
 }
 
 /// Appends a text with a length of 64 bits.
-pub(crate) fn put_long_text(
-    alloc: Global,
-    out: &mut ByteList,
-    text: &Units,
-) -> Result<(), AllocError>
+pub(crate) fn put_long_text(out: &mut ByteList, text: &Units) -> Result<(), AllocError>
     ensures written { OnOk result (out.new ≡ out.old ++ (to_be_bytes w64 (length (utf text.now)) ++ utf text.now)) }
     ensures kept { OnErr result (Begins out.old out.new) }
 {
-    let bytes = encode(alloc, text)?;
-    (bytes.len() as u64).put(out)?;
-    out.append(bytes.as_slice())
+    let len = encoded_len(text);
+    out.reserve(len as usize)?;
+    len.put(out)?;
+    put_units(out, text.as_slice())
 }

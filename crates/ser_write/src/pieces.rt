@@ -89,28 +89,24 @@ pub(crate) fn code_of(node: &Node) -> u8
 }
 
 /// Appends a text, with a length of 64 bits where 16 don't do.
-pub(crate) fn put_text(alloc: Global, out: &mut ByteList, text: &Units) -> Result<(), AllocError>
+pub(crate) fn put_text(out: &mut ByteList, text: &Units) -> Result<(), AllocError>
     ensures written { OnOk result (out.new ≡ out.old ++ text_bytes text.now) }
     ensures kept { OnErr result (Begins out.old out.new) }
 {
     if encoded_len(text) < 65536 {
-        put_short_text(alloc, out, text)
+        put_short_text(out, text)
     } else {
-        put_long_text(alloc, out, text)
+        put_long_text(out, text)
     }
 }
 
 /// Appends the names of a proxy's interfaces.
-pub(crate) fn put_names(
-    alloc: Global,
-    out: &mut ByteList,
-    names: &[Units],
-) -> Result<(), AllocError>
+pub(crate) fn put_names(out: &mut ByteList, names: &[Units]) -> Result<(), AllocError>
     ensures written { OnOk result (out.new ≡ out.old ++ flat_map short_bytes names.now) }
     ensures kept { OnErr result (Begins out.old out.new) }
 {
     for name in names {
-        put_short_text(alloc, out, name)?;
+        put_short_text(out, name)?;
     }
     Ok(())
 }

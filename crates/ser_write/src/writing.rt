@@ -90,7 +90,7 @@ fn put_before(
         Node::Text(_) => Ok(next),
         Node::Proxy(_) => Ok(next),
         Node::Desc(desc) => {
-            put_short_text(alloc, out, &desc.name)?;
+            put_short_text(out, &desc.name)?;
             desc.suid.put(out)?;
             Ok(next)
         }
@@ -116,7 +116,7 @@ fn put_after(
 {
     match node {
         Node::Text(text) => {
-            put_text(alloc, out, text)?;
+            put_text(out, text)?;
             Ok(next)
         }
         Node::Desc(desc) => {
@@ -129,7 +129,7 @@ fn put_after(
         }
         Node::Proxy(proxy) => {
             put_32(out, proxy.names.len())?;
-            put_names(alloc, out, proxy.names.as_slice())?;
+            put_names(out, proxy.names.as_slice())?;
             let next = put_items(alloc, out, nodes, next, proxy.note.as_slice(), left)?;
             put_byte(out, 0x78)?;
             put_slot(alloc, out, nodes, next, proxy.parent, left)
@@ -188,7 +188,7 @@ fn put_fields(
     let mut next = next;
     for field in fields {
         put_byte(out, field.code.letter())?;
-        put_short_text(alloc, out, &field.name)?;
+        put_short_text(out, &field.name)?;
         if !is_primitive(field.code) {
             next = put_slot(alloc, out, nodes, next, field.type_text, left)?;
         }
