@@ -1,17 +1,25 @@
 //! What an object holds of one of its classes, found by the class's name.
-ghost use Rattle.std.specs.Prelude.{◌≡◌, length, option_map, position};
+ghost use Rattle.std.specs.Prelude.{◌≡◌, length, option_map, position, IfOk};
 ghost use Rattle.class_desc.specs.declared.field.TypeCode.TheVariants as types;
 ghost use Rattle.java_shapes.specs.Objects.{same_text, is_field, value_of, node_at, text_in, named_in, parent_in, held_within, held_in, own_in, own_at, as_slot, as_short, as_int, as_long, array_in, array_at, as_bytes, as_refs};
 
 use class_desc::{ClassDesc, FieldDesc, Slot, SlotList, TypeCode};
 use mod_utf::list::{ByteList, Units};
 use ser_values::{Node, Part, Value, Values};
+use std::alloc::{AllocError, Global};
 
 /// What an object holds of one of its classes: the class's description, and the object's part of it.
 #[derive(Clone, Copy)]
 pub(crate) struct ClassPart<'a> {
     pub desc: &'a ClassDesc,
     pub part: &'a Part,
+}
+
+/// A copy of a text, in memory of its own size.
+pub(crate) fn copy_text(alloc: Global, text: &Units) -> Result<Units, AllocError>
+    ensures { IfOk result (λ copy. copy ≡ text.now) }
+{
+    Units::from_slice(alloc, text.as_slice())
 }
 
 /// Whether a text is this one of ASCII characters.

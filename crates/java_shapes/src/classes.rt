@@ -7,6 +7,7 @@ ghost use Rattle.ser_values.specs.Builder.{number_of};
 ghost use Rattle.java_shapes.specs.Objects.{node_at, text_at};
 ghost use Rattle.java_shapes.specs.Put.{IsClassAt, NamesText, NamesType, NameTypes, Puts, desc_with, field_with, no_codebase};
 
+use crate::class_part::copy_text;
 use class_desc::{
     ClassDesc, FieldDesc, FieldList, Item, Items, KnownClass, PartField, Slot, SlotList,
     is_primitive, known,
@@ -21,7 +22,7 @@ fn field_with(alloc: Global, field: &PartField, text: Slot) -> Result<FieldDesc,
 {
     Ok(FieldDesc {
         code: field.code,
-        name: field.name.copy(alloc)?,
+        name: copy_text(alloc, &field.name)?,
         type_text: text,
     })
 }
@@ -111,7 +112,7 @@ fn put_type(alloc: Global, b: &mut Builder, field: &PartField) -> Result<Slot, B
     if is_primitive(field.code) {
         return Ok(Slot::Null);
     }
-    let text = field.type_text.copy(alloc)?;
+    let text = copy_text(alloc, &field.type_text)?;
     put_shared(b, text)
 }
 

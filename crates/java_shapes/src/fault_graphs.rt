@@ -6,6 +6,7 @@ ghost use Rattle.ser_values.specs.declared.node.Node.TheVariants as loose;
 ghost use Rattle.java_shapes.specs.Fault.{class_node, fault_classes, fault_items, fault_nodes, fault_text};
 ghost use Rattle.java_shapes.specs.Throwable.{fault_text_at};
 
+use crate::class_part::copy_text;
 use crate::classes::desc_of;
 use crate::faults::fault_parts;
 use class_desc::{Item, Items, KnownClass, Slot};
@@ -13,6 +14,9 @@ use mod_utf::list::Units;
 use mod_utf::utf::encoded_len;
 use ser_values::{Graph, Node, NodeList};
 use std::alloc::{AllocError, Global};
+
+/// How many nodes the graph of a fault has.
+const NODES: usize = 8;
 
 /// Adds the description of a known class.
 pub(crate) fn add_class(
@@ -72,10 +76,11 @@ fn fault_nodes(alloc: Global, message: &Units) -> Result<NodeList, AllocError>
     ensures { IfOk result (λ nodes. nodes ≡ fault_nodes message.now) }
 {
     let mut nodes = NodeList::new(alloc);
+    nodes.reserve(NODES)?;
     add_classes(alloc, &mut nodes)?;
     let parts = fault_parts(alloc, Slot::Node(7))?;
     nodes.push(Node::Object { class: 0, parts })?;
-    add_text(&mut nodes, message.copy(alloc)?)?;
+    add_text(&mut nodes, copy_text(alloc, message)?)?;
     Ok(nodes)
 }
 

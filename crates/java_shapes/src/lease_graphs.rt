@@ -13,6 +13,9 @@ use object_ids::{Uid, Vmid};
 use ser_values::{Graph, Node, NodeList, PartList, Value, Values};
 use std::alloc::{AllocError, Global};
 
+/// How many nodes the graph of a lease has.
+const NODES: usize = 11;
+
 /// Adds the lease with its class, the first nodes; its client is node 6.
 fn add_lease(alloc: Global, nodes: &mut NodeList, value: &i64) -> Result<(), AllocError>
     requires { nodes.old ≡ [] }
@@ -102,10 +105,15 @@ fn lease_nodes(alloc: Global, value: &i64, vmid: &Vmid) -> Result<NodeList, Allo
     ensures { IfOk result (λ nodes. nodes ≡ lease_nodes value.now vmid.now) }
 {
     let mut nodes = NodeList::new(alloc);
+    nodes.reserve(NODES)?;
     add_lease(alloc, &mut nodes, value)?;
     add_vmid_class(alloc, &mut nodes)?;
     add_vmid(alloc, &mut nodes)?;
-    add_addr(alloc, &mut nodes, vmid.addr().copy(alloc)?)?;
+    add_addr(
+        alloc,
+        &mut nodes,
+        ByteList::from_slice(alloc, vmid.addr().as_slice())?,
+    )?;
     let uid = vmid.uid();
     add_uid(alloc, &mut nodes, &uid)?;
     Ok(nodes)

@@ -28,7 +28,7 @@ fn client_of(alloc: Global, addr: &ByteList, uid: Uid) -> Result<Vmid, ShapeFaul
     if addr.len() > 255 {
         return Err(ShapeFault::WrongShape);
     }
-    match Vmid::new(addr.copy(alloc)?, uid) {
+    match Vmid::new(ByteList::from_slice(alloc, addr.as_slice())?, uid) {
         Some(vmid) => Ok(vmid),
         None => Err(ShapeFault::WrongShape),
     }

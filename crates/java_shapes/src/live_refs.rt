@@ -11,7 +11,7 @@ ghost use Rattle.java_shapes.specs.Proxies.{HandlerAt, ProxyAt, ProxyClassAt, in
 ghost use Rattle.java_shapes.specs.Put.{Grows, IsPutRefusal, Puts};
 ghost use Rattle.java_shapes.specs.RefNotes.{plain_kind, ref_note, tail_bytes, text_bytes, truth_byte};
 
-use crate::class_part::is_text;
+use crate::class_part::{copy_text, is_text};
 use crate::classes::{no_codebase, put_class, put_object};
 use crate::faults::{empty_part, reference};
 use crate::ref_views::LiveRef;
@@ -21,6 +21,9 @@ use mod_utf::utf::encode;
 use object_ids::objid_bytes;
 use ser_values::{BuildFault, Builder, Part, PartList, ValueList};
 use std::alloc::{AllocError, Global};
+
+/// How many bytes there is room for when a note is begun: as many as most of them have.
+const NOTE_ROOM: usize = 64;
 
 /// The last bytes of a reference's note: its port, its object and its flag.
 fn tail_bytes(reference: &LiveRef) -> [u8; 27]
@@ -41,6 +44,7 @@ fn note_with(alloc: Global, host: &[u8], tail: &[u8]) -> Result<ByteList, AllocE
     ensures { IfOk result (λ bytes. bytes ≡ plain_kind ++ (text_bytes host.now ++ tail.now)) }
 {
     let mut note = ByteList::new(alloc);
+    note.reserve(NOTE_ROOM)?;
     note.append(&[0, 10])?;
     note.append(b"UnicastRef")?;
     note.append(&(host.len() as u16).to_be_bytes())?;
@@ -92,11 +96,11 @@ fn interfaces(alloc: Global, interface: &Units) -> Result<NameList, AllocError>
 {
     let mut names = NameList::new(alloc);
     if is_text(interface, "java.rmi.Remote") {
-        names.push(interface.copy(alloc)?)?;
+        names.push(copy_text(alloc, interface)?)?;
         return Ok(names);
     }
     names.push(Units::from_ascii(alloc, b"java.rmi.Remote")?)?;
-    names.push(interface.copy(alloc)?)?;
+    names.push(copy_text(alloc, interface)?)?;
     Ok(names)
 }
 

@@ -15,6 +15,9 @@ use mod_utf::utf::encoded_len;
 use ser_values::{Graph, Node, NodeList};
 use std::alloc::{AllocError, Global};
 
+/// How many nodes the graph of a reference has.
+const NODES: usize = 7;
+
 /// Adds a proxy of an interface with its classes, the first nodes; its handler is node 6.
 fn add_proxy(alloc: Global, nodes: &mut NodeList, interface: &Units) -> Result<(), AllocError>
     requires { nodes.old ≡ [] }
@@ -59,6 +62,7 @@ fn noted_nodes(alloc: Global, interface: &Units, note: ByteList) -> Result<NodeL
     ensures { IfOk result (λ nodes. nodes ≡ noted_nodes interface.now note) }
 {
     let mut nodes = NodeList::new(alloc);
+    nodes.reserve(NODES)?;
     add_proxy(alloc, &mut nodes, interface)?;
     add_handler_classes(alloc, &mut nodes)?;
     add_handler(alloc, &mut nodes, note)?;

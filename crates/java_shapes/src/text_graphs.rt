@@ -4,6 +4,7 @@ ghost use Rattle.class_desc.specs.declared.slot.Slot.TheVariants as slots;
 ghost use Rattle.java_shapes.specs.Ids.{texts_at};
 ghost use Rattle.java_shapes.specs.TextsGraph.{CanBeText, array_first, slots_from, text_nodes, texts_items, texts_nodes};
 
+use crate::class_part::copy_text;
 use crate::fault_graphs::{add_class, add_text, look};
 use class_desc::{Item, Items, KnownClass, Slot, SlotList};
 use mod_utf::list::{NameList, Units};
@@ -47,7 +48,7 @@ fn add_texts(alloc: Global, nodes: &mut NodeList, names: &[Units]) -> Result<(),
     ensures { OnOk result (nodes.new ≡ nodes.old ++ text_nodes names.now) }
 {
     for name in names {
-        add_text(nodes, name.copy(alloc)?)?;
+        add_text(nodes, copy_text(alloc, name)?)?;
     }
     Ok(())
 }

@@ -3,7 +3,7 @@ ghost use Rattle.java_shapes.specs.Ids.{texts_at};
 ghost use Rattle.java_shapes.specs.Objects.{each, text_at};
 ghost use Rattle.java_shapes.specs.Views.{Views};
 
-use crate::class_part::{node_at, refs_at, text_in};
+use crate::class_part::{copy_text, node_at, refs_at, text_in};
 use crate::fault::ShapeFault;
 use class_desc::Slot;
 use mod_utf::list::{NameList, Units};
@@ -15,7 +15,7 @@ fn text_at(alloc: Global, nodes: &[Node], slot: Slot) -> Result<Units, ShapeFaul
     ensures { Views result (text_at nodes.now slot) }
 {
     match text_in(node_at(nodes, slot)) {
-        Some(text) => Ok(text.copy(alloc)?),
+        Some(text) => Ok(copy_text(alloc, text)?),
         None => Err(ShapeFault::WrongShape),
     }
 }
