@@ -15,6 +15,9 @@ use ser_values::{Graph, Value};
 use ser_write::{put_primitive, write_blocks_onto, write_items_after};
 use std::alloc::{AllocError, Global};
 
+/// How many bytes there is room for when a return is begun: as many as most of them have.
+const RETURN_ROOM: usize = 1024;
+
 /// What a return carries.
 #[derive(Debug, Drop)]
 pub enum Body {
@@ -92,7 +95,9 @@ pub fn return_bytes(
     ensures written { IfOk result (λ bytes. bytes ≡ return_message normal uid body.now) }
     ensures spelled { IfOk result (λ bytes. ∥ ReturnBytes normal uid body.now bytes ∥₁) }
 {
-    let mut out = ByteList::from_slice(alloc, &[0x51, 0xAC, 0xED, 0x00, 0x05])?;
+    let mut out = ByteList::new(alloc);
+    out.reserve(RETURN_ROOM)?;
+    out.append(&[0x51, 0xAC, 0xED, 0x00, 0x05])?;
     put_body(alloc, &mut out, &return_front(normal, uid), body)?;
     look_at(out.as_slice());
     Ok(out)
