@@ -1,5 +1,6 @@
 pub mod Dropped
 pub mod Indexing
+pub mod Kept
 pub mod KeptLaws
 pub mod RowLaws
 pub mod Parts

@@ -1,5 +1,5 @@
 //! Exported objects, by rising number.
-ghost use Rattle.std.specs.Prelude.{◌≡◌, ◌++◌, ◌∷◌, [], ◌+◌, ◌<◌, ◌≤◌, ◌^◌, max, length, map, filter, vec_len, vec_capacity, not, false, IsTrue, IfOk, MatchOption, int_lt, take, drop};
+ghost use Rattle.std.specs.Prelude.{◌≡◌, ◌++◌, ◌∷◌, [], ◌+◌, ◌<◌, ◌≤◌, ◌^◌, max, length, map, filter, vec_len, vec_capacity, not, true, false, IsTrue, IfOk, MatchOption, int_lt, take, drop};
 ghost use Rattle.std.specs.List.{list_all};
 ghost use Rattle.object_ids.specs.Same.{same_id};
 ghost use Rattle.dgc_server.specs.Stands.{ForEachLog};
@@ -262,8 +262,22 @@ fn keep(rows: &mut Vec<Export>, waits: &WaitList, leases: &Leases, now: u64, gon
     rows.truncate(kept);
 }
 
+/// Whether each object is kept. It only reads.
+fn is_each_kept(rows: &[Export], waits: &WaitList, leases: &Leases, now: u64) -> bool
+    ensures { result ≡ true → ForEachLog leases.now (λ lease moment calls.
+        let held = held_by lease (max now moment) calls in
+        list_all (is_row_kept now held waits.now.waits) rows.now ≡ true) }
+{
+    for row in rows {
+        if !row.is_row_kept(waits, leases, now) {
+            return false;
+        }
+    }
+    true
+}
+
 /// Forgets the waits that ended, keeps the rows of objects that are kept, and appends the identifiers of the others, for which there is
-/// room.
+/// room. Where each is kept it moves no row.
 pub fn sift(
     rows: &mut Vec<Export>,
     waits: &mut WaitList,
@@ -287,7 +301,9 @@ pub fn sift(
     ensures waits_room { waits.new.room ≡ waits.old.room }
 {
     waits.forget(now);
-    keep(rows, waits, leases, now, gone);
+    if !is_each_kept(rows, waits, leases, now) {
+        keep(rows, waits, leases, now, gone);
+    }
 }
 
 /// Appends an identifier for which there is room.
