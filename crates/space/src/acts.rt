@@ -16,7 +16,7 @@ ghost use Rattle.export_table.specs.Waits.{listed_each};
 use event_log::EventLog;
 use export_table::Exports;
 use history::{Ask, Event, Withdrawal};
-use object_ids::{ObjId, Uid};
+use object_ids::{ObjId, ObjIds, Uid};
 use std::alloc::{AllocError, Global};
 
 /// The objects of the withdrawals that are still to be told as gone, with room for so many more.
@@ -208,6 +208,17 @@ fn await_all(exports: &mut Exports, now: u64, objects: &[ObjId], uid: &Uid)
             Ok(()) => {}
             Err(_refused) => {}
         }
+    }
+}
+
+/// The objects that a turn tells as gone. Where there are none, the memory that was ready for them is given back.
+pub(crate) fn gone_ids(alloc: Global, gone: Vec<ObjId>) -> ObjIds
+    ensures { result ≡ gone.items }
+{
+    if gone.is_empty() {
+        ObjIds::new(alloc)
+    } else {
+        ObjIds::from_vec(gone)
     }
 }
 

@@ -4,7 +4,7 @@ ghost use Rattle.history.specs.Steps.{Step};
 ghost use Rattle.space.specs.Acts.{event_of};
 ghost use Rattle.space.specs.Whole.{IsWhole, IsWholeWith};
 
-use crate::acts::{act, note_withdrawn};
+use crate::acts::{act, gone_ids, note_withdrawn};
 use crate::asks::{is_effective, room_refusal, stood_for, told_after};
 use crate::names::settle;
 use crate::prepared::prepare;
@@ -15,7 +15,7 @@ use event_log::EventLog;
 use export_table::Exports;
 use history::plain::limits::units_of;
 use history::{Ask, Refused, SpaceConfig, Turn, Withdrawal};
-use object_ids::{ObjId, ObjIds};
+use object_ids::ObjId;
 use rmi_registry::Names;
 use std::alloc::Global;
 
@@ -117,7 +117,7 @@ impl Tables {
         self.added += ready.opened;
         self.units += units_of(ask);
         self.moment = now;
-        let gone = ObjIds::from_vec(ready.gone);
+        let gone = gone_ids(self.alloc, ready.gone);
         let reply = ready.reply;
         Ok(Turn { place, reply, gone })
     }

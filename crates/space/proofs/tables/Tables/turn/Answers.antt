@@ -150,12 +150,12 @@ returns-clause-taken c =
     (c.in_ok-settle.ensures {u = tt}).refusal (c.in_ok-settle.ensures {u = tt}).ok)
     time (has-withdrawn c.settle.new.leases c.withdraw.new.leases (acted c.stood_for-stood.result c.is_effective-effective.result c.max-now.result c.args.ask.now c.room_in_table.new.exports) c.act.new.exports c.withdraw.new.self c.max-now.result c.in_ok-ready.ready.gone.items c.withdraw.new.gone.items
     c.act.ensures c.withdraw.ensures.kept c.withdraw.ensures.gone c.withdraw.ensures.dropped)
-    c.len-place.result c.in_ok-ready.ready.reply c.from_vec-gone.result (c.args.self.now.events.items ++ (event_of c.args.by c.args.moment c.args.ask.now) ∷ [])
+    c.len-place.result c.in_ok-ready.ready.reply c.gone_ids-gone.result (c.args.self.now.events.items ++ (event_of c.args.by c.args.moment c.args.ask.now) ∷ [])
     (place ∙ ap length c.room_for_event.ensures.events) refl
     (c.in_ok-ready.ensures.reply ∙ ap (λ (t : ExportTable). reply_at c.args.self.now.config c.args.self.now.added t.rows (names_in c.args.self.now.names) c.stood_for-stood.result c.is_effective-effective.result c.args.ask.now) (sym c.room_in_table.ensures.rest)
     ∙ ap (λ ns. reply_at c.args.self.now.config c.args.self.now.added c.room_in_table.new.exports.rows ns c.stood_for-stood.result c.is_effective-effective.result c.args.ask.now) c.requires.whole.2.names
     ∙ ap (λ o. reply_at c.args.self.now.config c.args.self.now.added c.room_in_table.new.exports.rows (names (places c.args.self.now.config c.args.self.now.events.items)) o c.is_effective-effective.result c.args.ask.now) (c.stood_for-stood.ensures ∙ stood-is (places c.args.self.now.config c.args.self.now.events.items) c.args.self.now.names c.args.ask.now c.requires.whole.2))
-    (c.in_ok-ready.ensures.gone ∙ ap (λ l. map (λ (w : Withdrawal). w.object) (drop c.args.self.now.told l)) c.deref-2.ensures.value) c.from_vec-gone.ensures
+    (c.in_ok-ready.ensures.gone ∙ ap (λ l. map (λ (w : Withdrawal). w.object) (drop c.args.self.now.told l)) c.deref-2.ensures.value) c.gone_ids-gone.ensures
 
 pub returns-clause-with_event : goal.returns-clause-with_event
 returns-clause-with_event c =
