@@ -34,6 +34,4 @@ mod system_rows;
 #[cfg(test)]
 mod texts;
 #[cfg(test)]
-mod traffic;
-#[cfg(test)]
 mod wires;

@@ -1,0 +1,176 @@
+//! Links in memory that wait for one another.
+ghost use Rattle.std.specs.Prelude.{◌≡◌, IfSome};
+
+use mod_utf::list::Kinds;
+use std::alloc::Global;
+use std::sync::Arc;
+use std::sync::atomic::{AtomicU64, Ordering};
+use std::thread::yield_now;
+use wire_io::{Failed, Link, Listener, MemClock, MemListener, MemSink, MemSource, Sink, Source};
+
+/// The most looks of a source that waits.
+const LOOKS: u32 = 10_000_000;
+
+/// How many links were served to their end.
+type Ended = Arc<AtomicU64, Global>;
+
+/// Whether so many links were served to their end, after a wait for them.
+fn are_ended(ended: &Ended, wanted: u64) -> bool {
+    for _ in 0..LOOKS {
+        if ended.load(Ordering::SeqCst) >= wanted {
+            return true;
+        }
+        yield_now();
+    }
+    false
+}
+
+/// A source that gives its bytes once so many other links were served to their end. It waits for at most `LOOKS` looks, and then gives none.
+#[derive(Drop)]
+pub(crate) struct GatedSource {
+    source: MemSource,
+    ended: Ended,
+    wanted: u64,
+}
+
+impl Source for GatedSource {
+    ghost use Rattle.std.specs.Prelude.{None};
+
+    ghost left = { λ s. None };
+
+    ghost faults = { λ s. s.source.faults };
+
+    fn read(&mut self, buf: &mut [u8]) -> Result<usize, Failed> {
+        if !are_ended(&self.ended, self.wanted) {
+            return Ok(0);
+        }
+        match self.source.read(buf) {
+            Ok(count) => Ok(count),
+            Err(failed) => Err(failed),
+        }
+    }
+
+    fn shut(&mut self) {
+        self.source.shut();
+    }
+}
+
+/// A sink that notes when it is shut, which is when its link was served to its end.
+#[derive(Drop)]
+pub(crate) struct GatedSink {
+    sink: MemSink,
+    ended: Ended,
+}
+
+impl GatedSink {
+    /// The bytes that it took.
+    pub(crate) fn held(&self) -> &[u8] {
+        self.sink.held()
+    }
+}
+
+impl Sink for GatedSink {
+    ghost use Rattle.std.specs.Prelude.{Some};
+
+    ghost held = { λ s. Some s.sink.held };
+
+    ghost faults = { λ s. s.sink.faults };
+
+    fn write(&mut self, piece: &[u8]) -> Result<usize, Failed> {
+        self.sink.write(piece)
+    }
+
+    fn shut(&mut self) {
+        self.sink.shut();
+        let _before = self.ended.fetch_add(1, Ordering::SeqCst);
+    }
+}
+
+/// A listener over links in memory, each of which waits until so many others were served.
+#[derive(Drop)]
+pub(crate) struct Gated {
+    links: MemListener,
+    wanted: Kinds,
+    ended: Ended,
+    faults: u64,
+}
+
+impl Gated {
+    /// The listener of these links, which wait for so many others each; None where there is no memory.
+    pub(crate) fn new(alloc: Global, links: MemListener, wanted: Kinds) -> Option<Gated> {
+        let ended = Arc::new(alloc, AtomicU64::new(0)).ok()?;
+        Some(Gated {
+            links,
+            wanted,
+            ended,
+            faults: 0,
+        })
+    }
+
+    /// For how many others the next link waits.
+    fn next_wanted(&self) -> u64 {
+        match self.wanted.as_slice().get(self.links.accepted()) {
+            Some(wanted) => u64::from(*wanted),
+            None => 0,
+        }
+    }
+
+    /// The next link, if there is one and memory for it.
+    fn next(&mut self) -> Option<Link<GatedSource, GatedSink, MemClock>>
+        ensures source { IfSome result (λ link. link.source.source.faults ≡ 0) }
+        ensures sink { IfSome result (λ link. link.sink.sink.faults ≡ 0) }
+        ensures faults { self.new.faults ≡ self.old.faults }
+    {
+        let wanted = self.next_wanted();
+        let there = Arc::try_clone(&self.ended).ok()?;
+        let here = Arc::try_clone(&self.ended).ok()?;
+        let Link {
+            source,
+            sink,
+            clock,
+            host,
+            port,
+        } = self.links.accept().ok()?;
+        Some(Link {
+            source: GatedSource {
+                source,
+                ended: there,
+                wanted,
+            },
+            sink: GatedSink { sink, ended: here },
+            clock,
+            host,
+            port,
+        })
+    }
+}
+
+impl Listener for Gated {
+    ghost use Rattle.std.specs.Prelude.{None};
+
+    type In = GatedSource;
+
+    type Out = GatedSink;
+
+    type Ticks = MemClock;
+
+    ghost ports = { λ g. None };
+
+    ghost accepted = { λ g. None };
+
+    ghost faults = { λ g. g.faults };
+
+    fn listen(&mut self, _port: u16) -> Result<(), Failed> {
+        Ok(())
+    }
+
+    fn accept(&mut self) -> Result<Link<GatedSource, GatedSink, MemClock>, Failed> {
+        match self.next() {
+            Some(link) => Ok(link),
+            None => {
+                self.faults = self.faults.saturating_add(1);
+                Err(Failed)
+            }
+        }
+    }
+}

@@ -1,0 +1,17 @@
+//! Tests of the server with the sample's crew: links that are served at once, one after another, and many together, all in memory.
+#![tactic(auto)]
+
+#[cfg(test)]
+mod gates;
+#[cfg(test)]
+mod histories;
+#[cfg(test)]
+mod many;
+#[cfg(test)]
+mod recorded;
+#[cfg(test)]
+mod rows;
+#[cfg(test)]
+mod servers;
+#[cfg(test)]
+mod texts;

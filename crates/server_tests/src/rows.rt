@@ -1,0 +1,67 @@
+//! Links that are served at once, and a listener that has too few.
+use crate::histories::begins_so;
+use crate::servers::{ReportOf, served};
+use crate::texts::must;
+use conn_server::Stop;
+use std::alloc::Global;
+use std::process::Abort;
+use std::sync::Wait;
+use std::thread::Threads;
+
+// A line is a link: for how many others it waits to be served before it sends anything; the peer's port; the moments of its clock; what the client
+// sends; what it gets; and the connection's end.
+
+/// Two clients that add 1 to the same counter. Which is first is left open.
+const ADDING: &str =
+    "0 | 1234 | 500 | opening add_one FF | ack number +5 first 00000000000000 ? | BadMessage { byte: 255, at: 62 }
+0 | 1234 | 400 | opening add_one | ack number +5 first 00000000000000 ? | Ended";
+
+/// The last bytes that the two first links got.
+fn last_bytes<'t, R: Wait + Sync>(report: &ReportOf<'t, R>) -> (u8, u8) {
+    match report.links.as_slice() {
+        [one, two] => (
+            one.sink.held().last().copied().unwrap_or(0),
+            two.sink.held().last().copied().unwrap_or(0),
+        ),
+        _ => (0, 0),
+    }
+}
+
+#[test]
+fn two_links_add_to_one_counter(rt: HostRuntime) {
+    match served(&rt, rt.alloc(), 2, 1099, Stop::All, ADDING) {
+        Some(report) => {
+            let told = last_bytes(&report);
+            must(&rt, told == (1, 2) || told == (2, 1), "one after the other");
+            let first = "events 12 units 12 now 500\n";
+            must(&rt, begins_so(rt.alloc(), &report.space, first), first);
+        }
+        None => must(&rt, false, "memory"),
+    }
+}
+
+/// A client that sends nothing before the one that comes after it was served.
+const AT_ONCE: &str =
+    "1 | 1234 | 0 | opening add_one ping | ack number +5 first 0000000000000002 pong | Ended
+0 | 1234 | 0 | opening add_one | ack number +5 first 0000000000000001 | Ended";
+
+#[test]
+fn two_links_at_once(rt: HostRuntime) {
+    let told = served(&rt, rt.alloc(), 2, 1099, Stop::All, AT_ONCE);
+    must(&rt, told.is_some(), "memory");
+}
+
+/// The links are those that there are, and end as ever.
+const TOO_FEW: &str = "0 | 1234 | 0 | opening ping ping | ack pong pong | Ended
+1 | 1234 | 0 | opening add_one 82 | ack number +5 first 0000000000000001 | BadMessage { byte: 130, at: 62 }";
+
+#[test]
+fn fewer_links_than_were_to_be(rt: HostRuntime) {
+    match served(&rt, rt.alloc(), 3, 1099, Stop::AcceptFault, TOO_FEW) {
+        Some(report) => {
+            let first = "events 10 units 10 now 0\n";
+            must(&rt, begins_so(rt.alloc(), &report.space, first), first);
+        }
+        None => must(&rt, false, "memory"),
+    }
+}

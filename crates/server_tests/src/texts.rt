@@ -1,0 +1,129 @@
+//! Bytes from text. A test stops where there is no memory: no helper answers an error, and none has an early end.
+use mod_utf::list::{ByteList, MomentList, Units};
+use std::alloc::Global;
+use std::process::Abort;
+
+/// What words stand for: an opening, and its acknowledgement to the peer 127.0.0.1, port 1234; a Ping and its answer; calls of the counter,
+/// which is object 17, and of the maker, which is object 18; what Returns begin with; pieces of calls of the collector, of an object's and of
+/// a client's identifier.
+const WORDS: &str = "opening 4A524D49 0002 4B 0000 00000000
+ack 4E 0009 3132372E302E302E31 000004D2
+ping 52
+pong 53
+add_one 50 ACED0005 77 2A 0000000000000011 00000007 0000000000000009 0000 FFFFFFFF DE3EC51A3025A10E 0000000000000001
+make 50 ACED0005 77 22 0000000000000012 00000007 0000000000000009 0000 FFFFFFFF ACE0B5D2A70B1A38
+number 51 ACED0005 77 17 01
+first 0000000000000006 8000
+acknowledge 54
+dirty 50 ACED0005 77 22 0000000000000002 0000000000000000000000000000 00000001 F6B6898D8BF28643
+clean 50 ACED0005 77 22 0000000000000002 0000000000000000000000000000 00000000 F6B6898D8BF28643
+objects 75 72 0018 5B4C6A6176612E726D692E7365727665722E4F626A49443B 871300B8D02C647E 02 0000 70 78 70 00000001 73 72 0015 6A6176612E726D692E7365727665722E4F626A4944 A75EFA128DDCE55C 02 0002 4A 0006 6F626A4E756D 4C 0005 7370616365 74 0015 4C6A6176612F726D692F7365727665722F5549443B 70 78 70
+in_space 73 72 0013 6A6176612E726D692E7365727665722E554944 0F12700DBF364F12 02 0003 53 0005 636F756E74 4A 0004 74696D65 49 0006 756E69717565 70 78 70 0000 0000000000000009 00000007
+lease 73 72 0012 6A6176612E726D692E6467632E4C65617365 B0B5E2660C4ADC34 02 0002 4A 0005 76616C7565 4C 0004 766D6964 74 0013 4C6A6176612F726D692F6467632F564D49443B 70 78 70 00000000000927C0
+client 73 72 0011 6A6176612E726D692E6467632E564D4944 F8865BAFA4A56DB6 02 0002 5B 0004 61646472 74 0002 5B42 4C 0003 756964 71 007E0003 70 78 70 75 72 0002 5B42 ACF317F8060854E0 02 0000 70 78 70
+of_client 73 71 007E0005 0005 0000000000000004 00000003
+strong 77 01 01
+weak 77 01 00";
+
+/// Stops where this does not hold, and says what it is.
+pub(crate) fn must(rt: &impl Abort, holds: bool, what: &str) {
+    assert!(rt; holds, "{what}");
+}
+
+/// What stands before the separator, and what after it, each without blanks around it.
+pub(crate) fn cut(text: &str, separator: char) -> (&str, &str) {
+    let (front, rest) = text.split_once(separator).unwrap_or((text, ""));
+    (front.trim(), rest.trim())
+}
+
+/// The number that a text spells.
+pub(crate) fn number_of(rt: &impl Abort, text: &str) -> u32 {
+    match text.parse::<u32>() {
+        Ok(number) => number,
+        Err(_) => {
+            must(rt, false, text);
+            0
+        }
+    }
+}
+
+/// The value of a hexadecimal digit in capitals.
+fn digit_of(character: u8) -> Option<u8> {
+    match character {
+        b'0'..=b'9' => Some(character - b'0'),
+        b'A'..=b'F' => Some(character - b'A' + 10),
+        _ => None,
+    }
+}
+
+/// Appends a piece.
+fn put(rt: &impl Abort, bytes: &mut ByteList, piece: &[u8]) {
+    must(rt, bytes.append(piece).is_ok(), "memory");
+}
+
+/// Appends the bytes that hexadecimal digits spell, two for each. Any other character counts for nothing.
+fn put_digits(rt: &impl Abort, bytes: &mut ByteList, digits: &str) {
+    let mut half = None;
+    for character in digits.as_bytes() {
+        match (half, digit_of(*character)) {
+            (None, low) => half = low,
+            (Some(high), Some(low)) => {
+                put(rt, bytes, &[(high << 4) | low]);
+                half = None;
+            }
+            (Some(_), None) => {}
+        }
+    }
+}
+
+/// The digits that a word stands for; where it is none, the word itself.
+fn digits_of(word: &str) -> &str {
+    for line in WORDS.split('\n') {
+        let (name, digits) = cut(line, ' ');
+        if name == word {
+            return digits;
+        }
+    }
+    word
+}
+
+/// Appends what a word stands for: after `+` a number to which that of the connection is added, in four bytes.
+fn put_word(rt: &impl Abort, bytes: &mut ByteList, word: &str, by: u32) {
+    match word.strip_prefix('+') {
+        Some(number) => {
+            let sum = number_of(rt, number).wrapping_add(by);
+            put(rt, bytes, &sum.to_be_bytes());
+        }
+        None => put_digits(rt, bytes, digits_of(word)),
+    }
+}
+
+/// What words stand for, on the connection of this number.
+pub(crate) fn bytes_of(rt: &impl Abort, alloc: Global, words: &str, by: u32) -> ByteList {
+    let mut bytes = ByteList::new(alloc);
+    for word in words.split(' ') {
+        put_word(rt, &mut bytes, word, by);
+    }
+    bytes
+}
+
+/// The moments that words spell.
+pub(crate) fn moments_of(rt: &impl Abort, alloc: Global, words: &str) -> MomentList {
+    let mut moments = MomentList::new(alloc);
+    if !words.is_empty() {
+        for word in words.split(' ') {
+            let moment = u64::from(number_of(rt, word));
+            must(rt, moments.push(moment).is_ok(), "memory");
+        }
+    }
+    moments
+}
+
+/// The text `127.0.0.1`.
+pub(crate) fn this_host(rt: &impl Abort, alloc: Global) -> Units {
+    let mut units = Units::new(alloc);
+    for byte in "127.0.0.1".as_bytes() {
+        must(rt, units.push(u16::from(*byte)).is_ok(), "memory");
+    }
+    units
+}
