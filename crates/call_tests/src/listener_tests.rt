@@ -1,9 +1,11 @@
 //! A listener over links in memory.
 ghost use Rattle.std.specs.List.{AllByRecursion};
+ghost use Rattle.std.specs.Prelude.{◌≤◌, length};
+ghost use Rattle.mod_utf.specs.Utf.{utf};
 ghost use Rattle.wire_io.specs.Links.{IsNew};
 
 use crate::texts::{listed, must, units_of};
-use mod_utf::list::{Kinds, MomentList};
+use mod_utf::list::{Kinds, MomentList, Units};
 use mod_utf::utf::encoded_len;
 use std::alloc::Global;
 use std::process::Abort;
@@ -12,41 +14,47 @@ use wire_io::listener::{Listener, MemLink, MemLinks, MemListener};
 use wire_io::mem::{MemClock, MemSink, MemSource};
 use wire_io::source::Source;
 
-/// Adds a link to a peer of this port, which sends these bytes.
-fn add_link(rt: &impl Abort, alloc: Global, links: &mut MemLinks, bytes: &[u8], port: i32)
-    ensures { AllByRecursion IsNew links.old → AllByRecursion IsNew links.new }
+/// The text `127.0.0.1`, which has few enough bytes for a host.
+fn peer_host(rt: &impl Abort, alloc: Global) -> Units
+    ensures { length (utf result) ≤ 255 }
 {
     let host = units_of(rt, alloc, "127.0.0.1");
-    if encoded_len(&host) > 255 {
-        return;
-    }
+    assert!(rt; encoded_len(&host) <= 255, "a short host");
+    host
+}
+
+/// A link to a peer of this port, which sends these bytes.
+fn link_of(rt: &impl Abort, alloc: Global, bytes: &[u8], port: i32) -> MemLink
+    ensures { IsNew result }
+{
     let bytes = listed(rt, alloc, bytes);
-    let added = links.push(Link {
+    Link {
         source: MemSource::new(bytes, Kinds::new(alloc), Kinds::new(alloc)),
         sink: MemSink::new(alloc, Kinds::new(alloc)),
         clock: MemClock::new(MomentList::new(alloc)),
-        host,
+        host: peer_host(rt, alloc),
         port,
-    });
-    must(rt, added.is_ok(), "memory");
+    }
 }
 
-/// The port of a link and how many bytes it has left, or 0 where none was accepted.
-fn told_of(accepted: Option<MemLink>) -> (i32, usize) {
-    match accepted {
-        Some(mut link) => {
-            link.source.shut();
-            (link.port, link.source.left().len())
-        }
-        None => (0, 0),
-    }
+/// Two links.
+fn two_links(rt: &impl Abort, alloc: Global) -> MemLinks
+    ensures { AllByRecursion IsNew result }
+{
+    let mut links = MemLinks::new(alloc);
+    let first = links.push(link_of(rt, alloc, b"abc", 7));
+    must(rt, first.is_ok(), "memory");
+    let second = links.push(link_of(rt, alloc, b"", 9));
+    must(rt, second.is_ok(), "memory");
+    links
 }
 
 /// Accepts a link, and looks at the port and at how many bytes it has left.
 fn check_accept(rt: &impl Abort, listener: &mut MemListener, port: i32, left: usize) {
-    let told = told_of(listener.accept().ok());
-    must(rt, told.0 == port, "port");
-    must(rt, told.1 == left, "left");
+    let mut link = listener.accept().expect(rt, "a link");
+    link.source.shut();
+    must(rt, link.port == port, "port");
+    must(rt, link.source.left().len() == left, "left");
 }
 
 /// Looks at what a listener listened on, and how many links and faults it gave.
@@ -58,14 +66,11 @@ fn check_counts(rt: &impl Abort, listener: &MemListener) {
 
 #[test]
 fn links_come_in_order_and_then_none(rt: HostRuntime) {
-    let mut links = MemLinks::new(rt.alloc());
-    add_link(&rt, rt.alloc(), &mut links, b"abc", 7);
-    add_link(&rt, rt.alloc(), &mut links, b"", 9);
-    let mut listener = MemListener::new(rt.alloc(), links);
+    let mut listener = MemListener::new(rt.alloc(), two_links(&rt, rt.alloc()));
     must(&rt, listener.listen(1099).is_ok(), "listen");
     check_accept(&rt, &mut listener, 7, 3);
     check_accept(&rt, &mut listener, 9, 0);
-    check_accept(&rt, &mut listener, 0, 0);
-    check_accept(&rt, &mut listener, 0, 0);
+    must(&rt, listener.accept().is_err(), "no third link");
+    must(&rt, listener.accept().is_err(), "and none later");
     check_counts(&rt, &listener);
 }

@@ -85,20 +85,18 @@ fn wanted_of(rt: &impl Abort, alloc: Global, wanted: &str) -> ByteList {
 /// Appends the text of a fault.
 fn put_fault(rt: &impl Abort, alloc: Global, out: &mut ByteList, fault: FrameFault) {
     match fault {
-        FrameFault::Stream(fault) => match format!(in alloc; "{fault}") {
-            Ok(text) => put(rt, out, text.as_bytes()),
-            Err(_) => must(rt, false, "memory"),
-        },
+        FrameFault::Stream(fault) => {
+            let text = format!(in alloc; "{fault}").expect(rt, "memory");
+            put(rt, out, text.as_bytes());
+        }
         _ => must(rt, false, "a fault of a stream"),
     }
 }
 
 /// Appends what is written of a call.
 fn put_call(rt: &impl Abort, alloc: Global, out: &mut ByteList, head: CallHead, graph: &Graph) {
-    match call_bytes(alloc, head, graph) {
-        Ok(bytes) => put(rt, out, bytes.as_slice()),
-        Err(_) => must(rt, false, "memory"),
-    }
+    let bytes = call_bytes(alloc, head, graph).expect(rt, "memory");
+    put(rt, out, bytes.as_slice());
 }
 
 /// Appends what is written of a call that is read, or the text of its fault.
@@ -118,12 +116,24 @@ fn put_again(
     }
 }
 
-/// Reads the call that digits spell, of a method, and writes it again.
-fn rewritten(rt: &impl Abort, alloc: Global, digits: &str, method: &Method) -> ByteList {
-    let mut out = ByteList::new(alloc);
+/// Reads the call that digits spell, of this method, and appends what is written of it.
+fn put_rewritten(
+    rt: &impl Abort,
+    alloc: Global,
+    out: &mut ByteList,
+    digits: &str,
+    method: &Method,
+) {
     let mut source = source_of(rt, alloc, MAGIC, digits);
     let mut pull = Pull::new(&mut source);
-    put_again(rt, alloc, &mut out, &mut pull, method);
+    put_again(rt, alloc, out, &mut pull, method);
+}
+
+/// What is written of the call that digits spell, of a method of this text.
+fn rewritten(rt: &impl Abort, alloc: Global, digits: &str, text: &str) -> ByteList {
+    let method = Method::parse(alloc, text.as_bytes()).expect(rt, text);
+    let mut out = ByteList::new(alloc);
+    put_rewritten(rt, alloc, &mut out, digits, &method);
     out
 }
 
@@ -131,14 +141,9 @@ fn rewritten(rt: &impl Abort, alloc: Global, digits: &str, method: &Method) -> B
 fn check_call(rt: &impl Abort, alloc: Global, line: &str) {
     let (text, rest) = cut(line, ':');
     let (digits, wanted) = cut(rest, ':');
-    match Method::parse(alloc, text.as_bytes()) {
-        Ok(method) => {
-            let found = rewritten(rt, alloc, digits, &method);
-            let wanted = wanted_of(rt, alloc, wanted);
-            must(rt, found.as_slice() == wanted.as_slice(), line);
-        }
-        Err(_) => must(rt, false, line),
-    }
+    let found = rewritten(rt, alloc, digits, text);
+    let wanted = wanted_of(rt, alloc, wanted);
+    must(rt, found.as_slice() == wanted.as_slice(), line);
 }
 
 #[test]
@@ -158,12 +163,12 @@ const UID: Uid = Uid {
 const UID_BYTES: &str = "00000006 0000000000000006 8000";
 
 /// What a return holds, by its name.
-fn body_of(rt: &impl Abort, alloc: Global, name: &str) -> Option<Body> {
+fn body_of(rt: &impl Abort, alloc: Global, name: &str) -> Body {
     match name {
-        "void" => Some(Body::Void),
-        "five" => Some(Body::Prim(Value::J(5))),
-        "truth" => Some(Body::Prim(Value::Z(true))),
-        _ => null_graph(rt, alloc).map(Body::Tree),
+        "void" => Body::Void,
+        "five" => Body::Prim(Value::J(5)),
+        "truth" => Body::Prim(Value::Z(true)),
+        _ => Body::Tree(null_graph(rt, alloc)),
     }
 }
 
@@ -173,12 +178,18 @@ five | normal | 77 17 01 | 0000000000000005
 truth | normal | 77 10 01 | 01
 null | exceptional | 77 0F 02 | 70";
 
-/// Whether these bytes are written of a return.
-fn is_written(alloc: Global, normal: bool, body: &Body, wanted: &[u8]) -> bool {
-    match return_bytes(alloc, normal, UID, body) {
-        Ok(bytes) => bytes.as_slice() == wanted,
-        Err(_) => false,
-    }
+/// What is written of a return of this name.
+fn written(rt: &impl Abort, alloc: Global, normal: bool, name: &str) -> ByteList {
+    let body = body_of(rt, alloc, name);
+    return_bytes(alloc, normal, UID, &body).expect(rt, "memory")
+}
+
+/// What is to be written of a return, before and after its identifier.
+fn wanted_return(rt: &impl Abort, alloc: Global, front: &str, back: &str) -> ByteList {
+    let mut wanted = bytes_of(rt, alloc, "51ACED0005", front);
+    put_digits(rt, &mut wanted, UID_BYTES);
+    put_digits(rt, &mut wanted, back);
+    wanted
 }
 
 /// Looks at what is written of a return.
@@ -186,18 +197,9 @@ fn check_return(rt: &impl Abort, alloc: Global, line: &str) {
     let (name, rest) = cut(line, '|');
     let (kind, rest) = cut(rest, '|');
     let (front, back) = cut(rest, '|');
-    let mut wanted = bytes_of(rt, alloc, "51ACED0005", front);
-    put_digits(rt, &mut wanted, UID_BYTES);
-    put_digits(rt, &mut wanted, back);
-    let normal = kind == "normal";
-    match body_of(rt, alloc, name) {
-        Some(body) => must(
-            rt,
-            is_written(alloc, normal, &body, wanted.as_slice()),
-            line,
-        ),
-        None => must(rt, false, line),
-    }
+    let wanted = wanted_return(rt, alloc, front, back);
+    let found = written(rt, alloc, kind == "normal", name);
+    must(rt, found.as_slice() == wanted.as_slice(), line);
 }
 
 #[test]

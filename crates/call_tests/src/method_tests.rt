@@ -1,5 +1,5 @@
 //! Method texts and their hashes.
-use crate::texts::{cut, listed, must, put};
+use crate::texts::{cut, listed, must, number_of, put};
 use class_desc::TypeCode;
 use method_hash::{Method, MethodFault, fold_hash, hash};
 use mod_utf::list::ByteList;
@@ -70,23 +70,22 @@ writeChars(Ljava/lang/String;)V -4633508766419883461
 writeUTF(Ljava/lang/String;)V 1504297677398557983";
 
 /// The hash of a text's method.
-fn hash_of(alloc: Global, text: &str) -> Option<i64> {
-    match Method::parse(alloc, text.as_bytes()) {
-        Ok(method) => Some(hash(&method)),
-        Err(_) => None,
-    }
+fn hash_of(rt: &impl Abort, alloc: Global, text: &str) -> i64 {
+    let method = Method::parse(alloc, text.as_bytes()).expect(rt, text);
+    hash(&method)
+}
+
+/// Looks whether a text's method has the hash that a line tells.
+fn check_hash(rt: &impl Abort, alloc: Global, line: &str) {
+    let (text, number) = cut(line, ' ');
+    let wanted = number.parse::<i64>().expect(rt, line);
+    must(rt, hash_of(rt, alloc, text) == wanted, line);
 }
 
 #[test]
 fn hashes_are_javas(rt: HostRuntime) {
     for line in HASHES.split('\n') {
-        let (text, number) = line.split_once(' ').unwrap_or((line, ""));
-        let found = hash_of(rt.alloc(), text);
-        must(
-            &rt,
-            found.is_some() && number.parse::<i64>().ok() == found,
-            line,
-        );
+        check_hash(&rt, rt.alloc(), line);
     }
 }
 
@@ -114,33 +113,34 @@ a()[[V 5
 a()L; 4
 a()La 5";
 
-/// Where a text breaks; None where it doesn't.
-fn break_of(alloc: Global, text: &[u8]) -> Option<usize> {
+/// Where a text breaks; 1,000,000 where it doesn't.
+fn break_of(alloc: Global, text: &[u8]) -> usize {
     match Method::parse(alloc, text) {
-        Err(MethodFault::BadDescriptor { at }) => Some(at),
-        _ => None,
+        Err(MethodFault::BadDescriptor { at }) => at,
+        _ => 1_000_000,
     }
+}
+
+/// Looks whether a text breaks where a line tells.
+fn check_break(rt: &impl Abort, alloc: Global, line: &str) {
+    let (text, at) = cut(line, ' ');
+    let wanted = number_of(rt, at) as usize;
+    must(rt, break_of(alloc, text.as_bytes()) == wanted, line);
 }
 
 #[test]
 fn other_texts_break_where_no_method_goes_on(rt: HostRuntime) {
     for line in BROKEN.split('\n') {
-        let (text, at) = line.split_once(' ').unwrap_or((line, ""));
-        let found = break_of(rt.alloc(), text.as_bytes());
-        must(
-            &rt,
-            found.is_some() && at.parse::<usize>().ok() == found,
-            line,
-        );
+        check_break(&rt, rt.alloc(), line);
     }
 }
 
-/// A piece so many times, between a start and an end, and where that breaks, if it does.
-const LIMITS: &str = "|255|n|()V|
+/// A piece so many times, between a start and an end, and where that breaks: at 1,000,000 where it doesn't.
+const LIMITS: &str = "|255|n|()V|1000000
 |256|n|()V|255
-a(|255|J|)V|
+a(|255|J|)V|1000000
 a(|256|J|)V|257
-a(L|65529|x|;)V|
+a(L|65529|x|;)V|1000000
 a(L|65530|x|;)V|65532";
 
 /// A text of a start, so many pieces alike, and an end.
@@ -153,7 +153,7 @@ fn text_of(
     end: &str,
 ) -> ByteList {
     let mut text = listed(rt, alloc, start.as_bytes());
-    for _ in 0..count.parse::<u32>().unwrap_or(0) {
+    for _ in 0..number_of(rt, count) {
         put(rt, &mut text, piece.as_bytes());
     }
     put(rt, &mut text, end.as_bytes());
@@ -167,8 +167,8 @@ fn check_limit(rt: &impl Abort, alloc: Global, line: &str) {
     let (piece, rest) = cut(rest, '|');
     let (end, at) = cut(rest, '|');
     let text = text_of(rt, alloc, start, count, piece, end);
-    let found = break_of(alloc, text.as_slice());
-    must(rt, found == at.parse::<usize>().ok(), line);
+    let wanted = number_of(rt, at) as usize;
+    must(rt, break_of(alloc, text.as_slice()) == wanted, line);
 }
 
 #[test]
@@ -197,10 +197,8 @@ fn check_parts(rt: &impl Abort, method: &Method) {
 
 #[test]
 fn the_parts_of_a_method_are_told(rt: HostRuntime) {
-    match Method::parse(rt.alloc(), b"put(ILa/B;[[J)Z") {
-        Ok(method) => check_parts(&rt, &method),
-        Err(_) => must(&rt, false, "a method"),
-    }
+    let method = Method::parse(rt.alloc(), b"put(ILa/B;[[J)Z").expect(&rt, "a method");
+    check_parts(&rt, &method);
 }
 
 #[test]

@@ -1,6 +1,5 @@
 //! Outcomes that are remote objects: what is written and asked.
 use crate::served_tests::{book, check_line};
-use crate::texts::must;
 
 /// As in `served_tests`: a new object, and one that is exported, of the kind 0; of a kind that is no place in the book; and of methods that
 /// answer a number or nothing.
@@ -15,12 +14,8 @@ call echo 70 call echo 70 | new old | return 0F 01 uid 8000 proxy 0003 612E42 ha
 
 #[test]
 fn remote_outcomes_are_returned(rt: HostRuntime) {
-    match book(&rt, rt.alloc()) {
-        Some(book) => {
-            for line in LINES.split('\n') {
-                check_line(&rt, rt.alloc(), &book, line);
-            }
-        }
-        None => must(&rt, false, "book"),
+    let book = book(&rt, rt.alloc());
+    for line in LINES.split('\n') {
+        check_line(&rt, rt.alloc(), &book, line);
     }
 }

@@ -142,71 +142,67 @@ fn bytes_of(rt: &impl Abort, alloc: Global, front: &str, words: &str) -> ByteLis
 }
 
 /// The graph of a reference of the object, as a client wrote it.
-fn reference(rt: &impl Abort, alloc: Global) -> Option<Graph> {
+fn reference(rt: &impl Abort, alloc: Global) -> Graph {
     let bytes = bytes_of(rt, alloc, "magic", OWN);
     let mut source = MemSource::new(bytes, Kinds::new(alloc), Kinds::new(alloc));
     let mut pull = Pull::new(&mut source);
-    read_to_end(alloc, &mut pull).ok()
+    read_to_end(alloc, &mut pull).expect(rt, "a reference")
 }
 
 /// How an invocation comes out: a number where it is no word.
-fn outcome_of(rt: &impl Abort, alloc: Global, word: &str) -> Option<Outcome> {
+fn outcome_of(rt: &impl Abort, alloc: Global, word: &str) -> Outcome {
     match word {
-        "void" => Some(Outcome::Void),
-        "null" => null_graph(rt, alloc).map(Outcome::Tree),
-        "own" => reference(rt, alloc).map(Outcome::Tree),
-        "new" => Some(Outcome::NewRemote(0)),
-        "new7" => Some(Outcome::NewRemote(7)),
-        "old" => Some(Outcome::OldRemote(FIRST, 0)),
-        "old7" => Some(Outcome::OldRemote(FIRST, 7)),
-        "fault" => Some(Outcome::Fault(units_of(rt, alloc, "x"))),
-        "memory" => Some(Outcome::OutOfMemory),
-        _ => {
-            let number = word.parse::<i64>().ok()?;
-            Some(Outcome::Prim(Value::J(number)))
-        }
+        "void" => Outcome::Void,
+        "null" => Outcome::Tree(null_graph(rt, alloc)),
+        "own" => Outcome::Tree(reference(rt, alloc)),
+        "new" => Outcome::NewRemote(0),
+        "new7" => Outcome::NewRemote(7),
+        "old" => Outcome::OldRemote(FIRST, 0),
+        "old7" => Outcome::OldRemote(FIRST, 7),
+        "fault" => Outcome::Fault(units_of(rt, alloc, "x")),
+        "memory" => Outcome::OutOfMemory,
+        _ => Outcome::Prim(Value::J(word.parse::<i64>().expect(rt, word))),
     }
 }
 
 /// How invocations come out.
 fn outcomes_of(rt: &impl Abort, alloc: Global, words: &str) -> OutcomeList {
     let mut outcomes = OutcomeList::new(alloc);
-    if words.is_empty() {
-        return outcomes;
-    }
     for word in words.split(' ') {
-        match outcome_of(rt, alloc, word) {
-            Some(outcome) => must(rt, outcomes.push(outcome).is_ok(), "memory"),
-            None => must(rt, false, word),
+        if !word.is_empty() {
+            let outcome = outcome_of(rt, alloc, word);
+            must(rt, outcomes.push(outcome).is_ok(), "memory");
         }
     }
     outcomes
 }
 
-/// The kind of the object.
-fn kind(rt: &impl Abort, alloc: Global) -> Kind {
+/// The methods of the kind.
+fn methods(rt: &impl Abort, alloc: Global) -> MethodList {
     let mut methods = MethodList::new(alloc);
     for line in METHODS.split('\n') {
-        match Method::parse(alloc, line.as_bytes()) {
-            Ok(method) => must(rt, methods.push(method).is_ok(), "memory"),
-            Err(_) => must(rt, false, line),
-        }
+        let method = Method::parse(alloc, line.as_bytes()).expect(rt, line);
+        must(rt, methods.push(method).is_ok(), "memory");
     }
+    methods
+}
+
+/// The kind of the object.
+fn kind(rt: &impl Abort, alloc: Global) -> Kind {
     Kind {
         interface: units_of(rt, alloc, "a.B"),
-        methods,
+        methods: methods(rt, alloc),
     }
 }
 
 /// The book of the one kind.
-pub(crate) fn book(rt: &impl Abort, alloc: Global) -> Option<Book> {
+pub(crate) fn book(rt: &impl Abort, alloc: Global) -> Book {
     let kind = kind(rt, alloc);
-    if encoded_len(&kind.interface) > 65535 || kind.methods.len() != 3 {
-        return None;
-    }
+    assert!(rt; kind.methods.len() == 3, "the methods");
+    assert!(rt; encoded_len(&kind.interface) <= 255, "a short name");
     let mut kinds = KindList::new(alloc);
     must(rt, kinds.push(kind).is_ok(), "memory");
-    Book::new(alloc, kinds).ok()
+    Book::new(alloc, kinds).expect(rt, "a book")
 }
 
 /// The text `127.0.0.1`, which has few enough bytes for a host.
@@ -382,12 +378,8 @@ fn check_rest(rt: &impl Abort, alloc: Global, book: &Book, over: (&str, &str), l
 
 #[test]
 fn calls_are_served(rt: HostRuntime) {
-    match book(&rt, rt.alloc()) {
-        Some(book) => {
-            for line in LINES.split('\n') {
-                check_line(&rt, rt.alloc(), &book, line);
-            }
-        }
-        None => must(&rt, false, "book"),
+    let book = book(&rt, rt.alloc());
+    for line in LINES.split('\n') {
+        check_line(&rt, rt.alloc(), &book, line);
     }
 }

@@ -54,18 +54,19 @@ pub(crate) fn space_of(rt: &impl Abort, alloc: Global, ground: &str) -> Space {
     space
 }
 
-/// Binds a name of one unit to the object.
-fn bind(rt: &impl Abort, alloc: Global, space: &mut Space, unit: u16) {
+/// A name of one unit.
+fn name_of(rt: &impl Abort, alloc: Global, unit: u16) -> Name {
     let mut units = Units::new(alloc);
     must(rt, units.push(unit).is_ok(), "memory");
-    match Name::new(units) {
-        Ok(name) => {
-            let object = FIRST;
-            let bound = space.turn(0, 0, Ask::Bind { name, object });
-            must(rt, bound.is_ok(), "bound");
-        }
-        Err(_) => must(rt, false, "a name"),
-    }
+    Name::new(units).expect(rt, "a name")
+}
+
+/// Binds a name of one unit to the object.
+fn bind(rt: &impl Abort, alloc: Global, space: &mut Space, unit: u16) {
+    let name = name_of(rt, alloc, unit);
+    let object = FIRST;
+    let bound = space.turn(0, 0, Ask::Bind { name, object });
+    must(rt, bound.is_ok(), "bound");
 }
 
 /// Binds 4,096 names.
@@ -85,21 +86,19 @@ fn ids_of(rt: &impl Abort, alloc: Global, count: u32) -> ObjIds {
 }
 
 /// A dirty of these objects.
-fn dirty_of(alloc: Global, objects: &ObjIds) -> Option<Ask> {
-    Some(Ask::Dirty {
-        client: Vmid::new(ByteList::new(alloc), SPACE)?,
+fn dirty_of(rt: &impl Abort, alloc: Global, objects: &ObjIds) -> Ask {
+    Ask::Dirty {
+        client: Vmid::new(ByteList::new(alloc), SPACE).expect(rt, "a client"),
         number: 1,
         asked: 1,
-        objects: objects.copy(alloc).ok()?,
-    })
+        objects: objects.copy(alloc).expect(rt, "memory"),
+    }
 }
 
 /// Makes a dirty of these objects, which takes a unit more than there are of them.
 fn dirty(rt: &impl Abort, alloc: Global, space: &mut Space, objects: &ObjIds) {
-    match dirty_of(alloc, objects) {
-        Some(ask) => must(rt, space.turn(0, 0, ask).is_ok(), "dirty"),
-        None => must(rt, false, "memory"),
-    }
+    let made = space.turn(0, 0, dirty_of(rt, alloc, objects));
+    must(rt, made.is_ok(), "dirty");
 }
 
 /// Fills the history of a space of one event until so many of its 4,194,304 units are left.

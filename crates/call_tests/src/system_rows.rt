@@ -1,6 +1,5 @@
 //! Calls of the registry and of the collector, which every server has of itself; calls while the space is full; and how long references live.
 use crate::served_tests::{book, check_over};
-use crate::texts::must;
 use std::alloc::Global;
 use std::process::Abort;
 
@@ -51,13 +50,9 @@ closed | | call echo 70 collector clean objects 0000000000000011 in_space number
 
 /// Serves each line of a table.
 fn check_lines(rt: &impl Abort, alloc: Global, lines: &str) {
-    match book(rt, alloc) {
-        Some(book) => {
-            for line in lines.split('\n') {
-                check_over(rt, alloc, &book, line);
-            }
-        }
-        None => must(rt, false, "book"),
+    let book = book(rt, alloc);
+    for line in lines.split('\n') {
+        check_over(rt, alloc, &book, line);
     }
 }
 

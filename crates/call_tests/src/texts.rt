@@ -62,21 +62,15 @@ pub(crate) fn put_digits(rt: &impl Abort, bytes: &mut ByteList, digits: &str) {
 }
 
 /// The graph of null.
-pub(crate) fn null_graph(rt: &impl Abort, alloc: Global) -> Option<Graph> {
+pub(crate) fn null_graph(rt: &impl Abort, alloc: Global) -> Graph {
     let mut items = Items::new(alloc);
     must(rt, items.push(Item::Ref(Slot::Null)).is_ok(), "memory");
-    Builder::new(alloc).finish(items).ok()
+    Builder::new(alloc).finish(items).expect(rt, "a graph")
 }
 
 /// The number that a text spells.
 pub(crate) fn number_of(rt: &impl Abort, text: &str) -> u32 {
-    match text.parse::<u32>() {
-        Ok(number) => number,
-        Err(_) => {
-            must(rt, false, text);
-            0
-        }
-    }
+    text.parse::<u32>().expect(rt, text)
 }
 
 /// The moments that words spell.
