@@ -1,5 +1,7 @@
 //! What `answer` writes, and how it ends.
-use crate::hosts::{check_fronts, check_table, cut_by, host_of, is_line, must, run_line, sink_of};
+use crate::hosts::{
+    MemHost, check_fronts, check_table, cut_by, host_of, is_line, must, run_line, sink_of,
+};
 use crate::texts::bytes_of;
 use std::alloc::Global;
 use std::process::Abort;
@@ -82,10 +84,15 @@ fn each_failing_read_and_write_ends_the_connection(rt: HostRuntime) {
     check_table(&rt, rt.alloc(), "answer", "-", FAILING_WRITES);
 }
 
+/// A host of an opening.
+fn opening_host(rt: &impl Abort, alloc: Global) -> MemHost {
+    let input = bytes_of(rt, alloc, "opening");
+    host_of(rt, alloc, input.as_slice(), cut_by("-"))
+}
+
 /// Runs words that are no command line.
 fn check_usage(rt: &impl Abort, alloc: Global, line: &str) {
-    let input = bytes_of(rt, alloc, "opening");
-    let mut host = host_of(rt, alloc, input.as_slice(), cut_by("-"));
+    let mut host = opening_host(rt, alloc);
     let status = run_line(rt, alloc, line, &mut host);
     must(rt, status == 1, line);
     must(rt, is_line(host.errors.held(), "usage"), line);
@@ -122,8 +129,7 @@ fn other_words_are_no_command_line(rt: HostRuntime) {
 
 /// Runs a word where the line on errors can't be written.
 fn check_untold(rt: &impl Abort, alloc: Global, word: &str, wanted: u8) {
-    let input = bytes_of(rt, alloc, "opening");
-    let mut host = host_of(rt, alloc, input.as_slice(), cut_by("-"));
+    let mut host = opening_host(rt, alloc);
     host.errors = sink_of(rt, alloc, "0");
     let status = run_line(rt, alloc, word, &mut host);
     must(rt, status == wanted, word);

@@ -12,33 +12,26 @@ use std::process::Abort;
 use wire_io::mem::MemSource;
 use wire_io::pull::Pull;
 
-/// The host of one acknowledgement.
-fn host_of(rt: &impl Abort, alloc: Global) -> Units {
-    let mut units = Units::new(alloc);
-    must(rt, units.append(&[0x61, 0xE9, 0]).is_ok(), "memory");
-    units
+/// Looks whether these words are the acknowledgement to a host of these units and a port.
+fn check_ack(rt: &impl Abort, alloc: Global, units: &[u16], port: i32, words: &str) {
+    let mut host = Units::new(alloc);
+    must(rt, host.append(units).is_ok(), "memory");
+    must(rt, is_ack(rt, alloc, &host, port, words), words);
 }
 
-/// Looks whether these words are the acknowledgement to a host and a port.
-fn check_ack(rt: &impl Abort, alloc: Global, host: &Units, port: i32, words: &str) {
+/// Whether these words are the acknowledgement to a host and a port.
+fn is_ack(rt: &impl Abort, alloc: Global, host: &Units, port: i32, words: &str) -> bool {
+    assert!(rt; encoded_len(host) <= 255, "a short host");
+    let found = ack_bytes(alloc, host, port).expect(rt, "memory");
     let wanted = bytes_of(rt, alloc, words);
-    if encoded_len(host) > 255 {
-        must(rt, false, words);
-        return;
-    }
-    match ack_bytes(alloc, host, port) {
-        Ok(bytes) => must(rt, bytes.as_slice() == wanted.as_slice(), words),
-        Err(_) => must(rt, false, "memory"),
-    }
+    found.as_slice() == wanted.as_slice()
 }
 
 #[test]
 fn acknowledgement_tells_host_and_port(rt: HostRuntime) {
-    let host = host_of(&rt, rt.alloc());
     let named = "4E 0005 61 C3A9 C080 000004D2";
-    check_ack(&rt, rt.alloc(), &host, 1234, named);
-    let host = Units::new(rt.alloc());
-    check_ack(&rt, rt.alloc(), &host, -2, "4E 0000 FFFFFFFE");
+    check_ack(&rt, rt.alloc(), &[0x61, 0xE9, 0], 1234, named);
+    check_ack(&rt, rt.alloc(), &[], -2, "4E 0000 FFFFFFFE");
 }
 
 /// What reading a code answers: the code, or 0 at the end of input; and the position of a byte that is none.
@@ -66,11 +59,15 @@ fn check_codes(rt: &impl Abort, pull: &mut Pull<'_, MemSource>) {
     }
 }
 
+/// A source of a header, an endpoint and codes.
+fn parts(rt: &impl Abort, alloc: Global) -> MemSource {
+    let bytes = bytes_of(rt, alloc, "header 4B 0102 258*FF 4*FF 52 54 50 51");
+    source_of(rt, alloc, bytes.as_slice(), cut_by("-"))
+}
+
 #[test]
 fn parts_are_read_in_turn(rt: HostRuntime) {
-    let words = "header 4B 0102 258*FF 4*FF 52 54 50 51";
-    let bytes = bytes_of(&rt, rt.alloc(), words);
-    let mut source = source_of(&rt, rt.alloc(), bytes.as_slice(), cut_by("-"));
+    let mut source = parts(&rt, rt.alloc());
     let mut pull = Pull::new(&mut source);
     let header = read_header(&mut pull);
     must(&rt, header == Ok(Protocol::Stream), "header");

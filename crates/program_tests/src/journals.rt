@@ -100,10 +100,8 @@ withdrawn 17 place 6
 
 /// Reads a line, which spells an event or none.
 fn check_event(rt: &impl Abort, alloc: Global, line: &str, spelled: bool) {
-    match read_event(alloc, SPACE, line.as_bytes()) {
-        Ok(event) => must(rt, event.is_some() == spelled, line),
-        Err(_) => must(rt, false, "memory"),
-    }
+    let event = read_event(alloc, SPACE, line.as_bytes()).expect(rt, "memory");
+    must(rt, event.is_some() == spelled, line);
 }
 
 /// Reads lines, each of which spells an event or none.
@@ -120,19 +118,18 @@ fn events_are_read(rt: HostRuntime) {
     check_events(&rt, rt.alloc(), NO_EVENTS, false);
 }
 
-/// Writes the event of a line again.
-fn put_again(alloc: Global, written: &mut ByteList, line: &str) -> bool {
-    match read_event(alloc, SPACE, line.as_bytes()) {
-        Ok(Some(event)) => put_event_line(written, SPACE, &event).is_ok(),
-        _ => false,
-    }
+/// Appends what is written of the event of a line.
+fn put_again(rt: &impl Abort, alloc: Global, written: &mut ByteList, line: &str) {
+    let event = read_event(alloc, SPACE, line.as_bytes()).expect(rt, "memory");
+    let event = event.expect(rt, line);
+    put_event_line(written, SPACE, &event).expect(rt, "memory");
 }
 
 #[test]
 fn events_are_written(rt: HostRuntime) {
     let mut written = ByteList::new(rt.alloc());
     for line in EVENTS.split('\n') {
-        must(&rt, put_again(rt.alloc(), &mut written, line), line);
+        put_again(&rt, rt.alloc(), &mut written, line);
     }
     let lines = written.as_slice().strip_suffix(b"\n");
     must(&rt, lines == Some(EVENTS.as_bytes()), "events");
@@ -188,30 +185,30 @@ fn put_outline(out: &mut ByteList, client: &Vmid, name: &Name) -> Result<(), All
 }
 
 /// The client of the outline.
-fn client(rt: &impl Abort, alloc: Global) -> Option<Vmid> {
+fn client(rt: &impl Abort, alloc: Global) -> Vmid {
     let mut addr = ByteList::new(alloc);
     put(rt, &mut addr, &[0xAA]);
-    Vmid::new(addr, object(1, 5).space)
+    Vmid::new(addr, object(1, 5).space).expect(rt, "a client")
 }
 
 /// The name of the outline.
-fn name(rt: &impl Abort, alloc: Global) -> Option<Name> {
+fn name(rt: &impl Abort, alloc: Global) -> Name {
     let mut units = Units::new(alloc);
     must(rt, units.append(&[0xD800, 0x22, 0x61]).is_ok(), "memory");
-    Name::new(units).ok()
+    Name::new(units).expect(rt, "a name")
 }
 
-/// Appends a first line, and lines of an outline, and answers whether there was memory.
-fn is_put(rt: &impl Abort, alloc: Global, out: &mut ByteList) -> bool {
-    match (client(rt, alloc), name(rt, alloc)) {
-        (Some(client), Some(name)) => put_outline(out, &client, &name).is_ok(),
-        _ => false,
-    }
+/// The outline, as it is written.
+fn outline(rt: &impl Abort, alloc: Global, client: &Vmid, name: &Name) -> ByteList {
+    let mut out = ByteList::new(alloc);
+    put_outline(&mut out, client, name).expect(rt, "memory");
+    out
 }
 
 #[test]
 fn lines_are_written(rt: HostRuntime) {
-    let mut out = ByteList::new(rt.alloc());
-    must(&rt, is_put(&rt, rt.alloc(), &mut out), "memory");
+    let client = client(&rt, rt.alloc());
+    let name = name(&rt, rt.alloc());
+    let out = outline(&rt, rt.alloc(), &client, &name);
     must(&rt, out.as_slice() == OUTLINE.as_bytes(), "lines");
 }
