@@ -2,12 +2,17 @@
 #![tactic(auto)]
 
 use rmi_cli::{Host, Words, run};
-use std::io::ErrorKind;
+use std::io::{ErrorKind, Read, Write};
+use std::net::{Net, TcpListener, TcpStream};
 use std::process::ExitCode;
 use std::random::RandomSource;
+use std::sync::Wait;
+use std::thread::Threads;
+use std::time::Clock;
 use std::{env, io};
 use wire_io::edge::{StdClock, StdSink, StdSource};
 use wire_io::put::put_all;
+use wire_io::tcp::TcpListen;
 
 /// The status where the words are no command line.
 const USAGE: u8 = 1;
@@ -19,22 +24,35 @@ fn words_of(rt: &HostRuntime) -> io::Result<Words> {
     Ok(Words::from_vec(env::args(rt)?.skip(1).collect(rt.alloc())?))
 }
 
-/// Runs the program on its standard streams and their buffers, and answers its status.
-fn run_process(rt: &HostRuntime, words: &Words) -> io::Result<u8> {
+/// Runs the program on these streams and over TCP, and answers its status.
+fn run_process<R, I, O, E>(
+    rt: &R,
+    words: &Words,
+    input: I,
+    output: O,
+    errors: E,
+) -> io::Result<u8>
+where
+    R: Threads + Wait + Sync + AllocGlobal + RandomSource + Clock + Net<Listener = TcpListener, Stream = TcpStream>,
+    I: Read + Drop,
+    O: Write + Drop,
+    E: Write + Drop,
+{
     let alloc = rt.alloc();
     let seed = [word(rt)?, word(rt)?, word(rt)?, word(rt)?];
     let mut host = Host {
-        input: StdSource::new(alloc, rt.stdin())?,
-        output: StdSink::new(rt.stdout()),
-        errors: StdSink::new(rt.stderr()),
+        input: StdSource::new(alloc, input)?,
+        output: StdSink::new(output),
+        errors: StdSink::new(errors),
         ticks: StdClock::new(rt),
+        listener: TcpListen::new(alloc, rt),
         seed,
     };
-    Ok(run(alloc, words, &mut host))
+    Ok(run(rt, alloc, words, &mut host))
 }
 
 /// A word by chance.
-fn word(rt: &HostRuntime) -> io::Result<u64> {
+fn word(rt: &impl RandomSource) -> io::Result<u64> {
     let mut bytes = [0; 8];
     rt.fill_bytes(&mut bytes)?;
     Ok(u64::from_be_bytes(bytes))
@@ -44,7 +62,7 @@ fn word(rt: &HostRuntime) -> io::Result<u64> {
 /// it is 5, and where a word is no UTF-8, 1; nothing is read or written then but the line that says so.
 fn main(rt: HostRuntime) -> ExitCode {
     let ran = match words_of(&rt) {
-        Ok(words) => run_process(&rt, &words),
+        Ok(words) => run_process(&rt, &words, rt.stdin(), rt.stdout(), rt.stderr()),
         Err(e) if e.kind() == ErrorKind::InvalidData => {
             let _ = put_all(&mut StdSink::new(rt.stderr()), b"usage\n");
             return ExitCode::from(USAGE);

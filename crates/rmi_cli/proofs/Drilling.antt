@@ -108,6 +108,8 @@ drills_exactly text seed rounds old new told (ends.Refused, e, inl tells, left) 
 }
 drills_exactly text seed rounds old new told (ends.TooLarge limit, e, inl tells, left) = absurd e
 drills_exactly text seed rounds old new told (ends.NotShown fault, e, inl tells, left) = absurd e
+drills_exactly text seed rounds old new told (ends.ListenFault, e, inl tells, left) = absurd e
+drills_exactly text seed rounds old new told (ends.AcceptFault, e, inl tells, left) = absurd e
 drills_exactly text seed rounds old new told (ends.ReadFault, e, inl tells, left) = absurd e
 drills_exactly text seed rounds old new told (ends.WriteFault, e, inl tells, left) = record {
   all = λ all. inr (inl tells.0);

@@ -220,6 +220,8 @@ within old new told ends.Refused (taken, whole, refused, held) tells input answe
 within old new told (ends.TooLarge limit) (is, (front, long, most, front_is), held) tells input answer left short replays known =
     absurd (omega (arith, front_short input front new.left (sym left ∙ front_is), long, short))
 within old new told (ends.NotShown fault) e tells input answer left short replays known = absurd e
+within old new told ends.ListenFault e tells input answer left short replays known = absurd e
+within old new told ends.AcceptFault e tells input answer left short replays known = absurd e
 within old new told ends.ReadFault e tells input answer left short replays known = inr (inl tells.0)
 within old new told ends.WriteFault e tells input answer left short replays known = inr (inr (inl tells.0))
 within old new told ends.OutOfMemory e tells input answer left short replays known = inr (inr (inr tells.0))
@@ -237,6 +239,8 @@ past old new told ends.Refused (taken, whole, refused, held) tells input left lo
 past old new told (ends.TooLarge limit) (is, front, held) tells input left long =
     let P : ℕ → Type 0 = λ n. TellsExactly told (ends.TooLarge n) in inl (subst P is tells, held)
 past old new told (ends.NotShown fault) e tells input left long = absurd e
+past old new told ends.ListenFault e tells input left long = absurd e
+past old new told ends.AcceptFault e tells input left long = absurd e
 past old new told ends.ReadFault e tells input left long = inr (inl tells.0)
 past old new told ends.WriteFault e tells input left long = inr (inr (inl tells.0))
 past old new told ends.OutOfMemory e tells input left long = inr (inr (inr tells.0))

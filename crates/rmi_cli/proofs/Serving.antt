@@ -1,8 +1,7 @@
 -- What serving one connection over a space of its own says.
-use Rattle.std.proofs.Common.{◌≡◌, ℕ, List, [], ◌++◌, Option, Some, refl, ap, sym, subst, ◌∙◌, inl, append-nil}
+use Rattle.std.proofs.Common.{◌≡◌, Bool, ℕ, List, [], ◌++◌, Option, Some, refl, ap, sym, subst, ◌∙◌, inl, append-nil}
 use Rattle.std.specs.List.{flat_map}
 use Rattle.wire_io.specs.Wire.{Wires, with_end, with_front-nothing, with_end-nothing, Gave-nothing}
-use Rattle.history.specs.declared.asks.SpaceConfig.{SpaceConfig}
 use Rattle.space.specs.Built.{SpaceHistory}
 use Rattle.space.specs.Ports.{Went}
 use Rattle.space.specs.Ties.{Leads}
@@ -19,11 +18,9 @@ use Rattle.call_dispatch.specs.Tape.{Tick, tape}
 use Rattle.call_dispatch.specs.Progress.{Served, Settles}
 use Rattle.sample_app.specs.Opened.{sample_events}
 use Rattle.sample_app.specs.Does as sample
-use Rattle.rmi_cli.specs.Answer.{answer_terms, answer_space, IsOnly, ServesOne, ServesExactly}
-
--- the sample space
-abbrev pub opened_space : SpaceConfig → SpaceHistory
-opened_space config = record { configuration = config; events = sample_events config }
+use Rattle.rmi_cli.specs.Answer.{answer_terms, IsOnly, ServesOne, ServesExactly}
+use Rattle.rmi_cli.specs.Opening.{served_space, served_opening}
+use Rattle.rmi_cli.specs.declared.terms.Terms.{Terms as ServedTerms}
 
 -- A dialogue on these terms, before which so much was drawn, is one on the same.
 dialogue_is : (terms terms2 : Terms) (drawn drawn2 : ℕ) (c : Course) (rest : Option (List ℕ)) (end : ConnEnd) → terms ≡ terms2 → drawn ≡ drawn2
@@ -34,21 +31,21 @@ dialogue_is terms terms2 drawn drawn2 c rest end same none dialogue =
     subst P same (subst Q none dialogue)
 
 -- The events of the connection's turns follow those of the sample space.
-went_is : (seed : List ℕ) (by : ℕ) (s s2 : SpaceHistory) (asked asked2 : List Asked) (acts : List Act) → by ≡ 1 → s ≡ opened_space (answer_space seed)
-    → asked ≡ [] → asked2 ≡ asked ++ flat_map entries acts → Leads by s asked s2 asked2 → Went (answer_space seed) 1 (sample_events (answer_space seed)) (flat_map entries acts) s2.events
-went_is seed by s s2 asked asked2 acts one fresh none led leads =
+went_is : (seed : List ℕ) (given : ServedTerms) (by : ℕ) (s s2 : SpaceHistory) (asked asked2 : List Asked) (acts : List Act) → by ≡ 1 → s ≡ served_opening seed given
+    → asked ≡ [] → asked2 ≡ asked ++ flat_map entries acts → Leads by s asked s2 asked2 → Went (served_space seed given) 1 (sample_events (served_space seed given)) (flat_map entries acts) s2.events
+went_is seed given by s s2 asked asked2 acts one fresh none led leads =
     let same : leads.more ≡ flat_map entries acts = ap (λ l. l ++ leads.more) (sym none) ∙ sym leads.longer ∙ led ∙ ap (λ l. l ++ flat_map entries acts) none in
     let P : SpaceHistory → Type 0 = λ x. Went x.configuration by x.events leads.more s2.events in
-    let Q : ℕ → Type 0 = λ n. Went (answer_space seed) n (sample_events (answer_space seed)) leads.more s2.events in
-    let R : List Asked → Type 0 = λ l. Went (answer_space seed) 1 (sample_events (answer_space seed)) l s2.events in
+    let Q : ℕ → Type 0 = λ n. Went (served_space seed given) n (sample_events (served_space seed given)) leads.more s2.events in
+    let R : List Asked → Type 0 = λ l. Went (served_space seed given) 1 (sample_events (served_space seed given)) l s2.events in
     subst R same (subst Q one (subst P fresh leads.went))
 
 -- What settles a course on these terms settles it on the same.
-only_is : (terms : Terms) (seed : List ℕ) (start now : Spot) (c : Course) (result : ConnEnd) → terms ≡ answer_terms seed → start.drawn ≡ 0
-    → Settles terms start now c result → IsOnly seed start.wires now.wires c result
+only_is : (terms : Terms) (seed : List ℕ) (binding : Bool) (start now : Spot) (c : Course) (result : ConnEnd) → terms ≡ answer_terms seed binding → start.drawn ≡ 0
+    → Settles terms start now c result → IsOnly seed binding start.wires now.wires c result
 unfolding Settles
-only_is terms seed start now c result same none settles other rest end t t2 told dialogue settled settled2 answers =
-    settles other rest end t t2 told (dialogue_is (answer_terms seed) terms 0 start.drawn other (Some rest) end (sym same) (sym none) dialogue) settled settled2 answers
+only_is terms seed binding start now c result same none settles other rest end t t2 told dialogue settled settled2 answers =
+    settles other rest end t t2 told (dialogue_is (answer_terms seed binding) terms 0 start.drawn other (Some rest) end (sym same) (sym none) dialogue) settled settled2 answers
 
 -- What a worker tells that had counted nothing is counted from no numbers on.
 counted_is : (before after : Option States) (numbers numbers2 : States) (told : List Call) → before ≡ Some numbers → numbers ≡ [] → after ≡ Some numbers2
@@ -59,51 +56,51 @@ counted_is before after numbers numbers2 told is none is2 leads =
     subst Q is2 (subst P (is ∙ ap Some none) leads)
 
 -- A connection that was served on the terms of the seed, over the sample space and by a sample worker that had counted nothing.
-pub serves_one : (seed : List ℕ) (terms : Terms) (start now : Spot) (by : ℕ) (s s2 : SpaceHistory) (numbers numbers2 : States) (end : ConnEnd)
-    → terms ≡ answer_terms seed → start.drawn ≡ 0 → start.side.asked ≡ [] → by ≡ 1
-    → s ≡ opened_space (answer_space seed) → Leads by s start.side.asked s2 now.side.asked → Served sample.May sample.Moves terms start now end
+pub serves_one : (seed : List ℕ) (given : ServedTerms) (terms : Terms) (start now : Spot) (by : ℕ) (s s2 : SpaceHistory) (numbers numbers2 : States) (end : ConnEnd)
+    → terms ≡ answer_terms seed given.binding → start.drawn ≡ 0 → start.side.asked ≡ [] → by ≡ 1
+    → s ≡ served_opening seed given → Leads by s start.side.asked s2 now.side.asked → Served sample.May sample.Moves terms start now end
     → start.side.state ≡ Some numbers → numbers ≡ [] → now.side.state ≡ Some numbers2
-    → ServesOne seed start.wires now.wires start.side.given now.side.given end
-serves_one seed terms start now by s s2 numbers numbers2 end same none empty one opened leads served told uncounted told2 = record {
+    → ServesOne seed given start.wires now.wires start.side.given now.side.given end
+serves_one seed given terms start now by s s2 numbers numbers2 end same none empty one opened leads served told uncounted told2 = record {
   course = served.course;
   left = served.talks.goes.left;
   held = served.talks.goes.held;
-  dialogue = dialogue_is terms (answer_terms seed) start.drawn 0 served.course now.wires.left end same none served.talks.dialogue;
-  only = only_is terms seed start now served.course end same none served.settles;
+  dialogue = dialogue_is terms (answer_terms seed given.binding) start.drawn 0 served.course now.wires.left end same none served.talks.dialogue;
+  only = only_is terms seed given.binding start now served.course end same none served.settles;
   given = served.talks.goes.led.given;
   events = s2.events;
-  went = went_is seed by s s2 start.side.asked now.side.asked served.course.acts one opened empty served.talks.goes.led.asked leads;
+  went = went_is seed given by s s2 start.side.asked now.side.asked served.course.acts one opened empty served.talks.goes.led.asked leads;
   may_all = served.talks.goes.led.may_all;
   numbers = numbers2;
   counted = counted_is start.side.state now.side.state numbers numbers2 (flat_map calls served.course.acts) told uncounted told2 served.talks.goes.led.state;
 }
 
 -- It went as each settled dialogue of its input says that has no acts.
-pub serves_exactly : (may : Invocation → Outcome → Type 0) (moves : States → Call → States → Type 0) (seed : List ℕ) (terms : Terms) (start now : Spot) (result : ConnEnd)
-    → terms ≡ answer_terms seed → start.drawn ≡ 0 → Served may moves terms start now result → ServesExactly seed start.wires now.wires result
+pub serves_exactly : (may : Invocation → Outcome → Type 0) (moves : States → Call → States → Type 0) (seed : List ℕ) (given : ServedTerms) (terms : Terms) (start now : Spot) (result : ConnEnd)
+    → terms ≡ answer_terms seed given.binding → start.drawn ≡ 0 → Served may moves terms start now result → ServesExactly seed given start.wires now.wires result
 unfolding ServesExactly
-serves_exactly may moves seed terms start now result same none served other rest end told dialogue quiet settled settled2 =
-    let given : List Tick = tape served.course.acts in
-    let answers : tape served.course.acts ++ [] ≡ tape other.acts ++ given = append-nil given ∙ sym (ap (λ a. tape a ++ given) quiet) in
-    let went = only_is terms seed start now served.course result same none served.settles other rest end [] given told dialogue settled settled2 answers in
+serves_exactly may moves seed given terms start now result same none served other rest end told dialogue quiet settled settled2 =
+    let ticks : List Tick = tape served.course.acts in
+    let answers : tape served.course.acts ++ [] ≡ tape other.acts ++ ticks = append-nil ticks ∙ sym (ap (λ a. tape a ++ ticks) quiet) in
+    let went = only_is terms seed given.binding start now served.course result same none served.settles other rest end [] ticks told dialogue settled settled2 answers in
     (went.0, went.2, served.talks.goes.held ∙ ap (λ (x : Course). with_end start.wires.held x.written) went.1)
 
 -- No memory was there at all.
-pub memory_at_once : (seed : List ℕ) (start : Wires) (given : Option (List ℕ)) → ServesOne seed start start given given OutOfMemory
-memory_at_once seed start given = record {
+pub memory_at_once : (seed : List ℕ) (terms : ServedTerms) (start : Wires) (given : Option (List ℕ)) → ServesOne seed terms start start given given OutOfMemory
+memory_at_once seed terms start given = record {
   course = took [];
   left = sym (with_front-nothing start.left);
   held = sym (with_end-nothing start.held);
   dialogue = (nothing, took [], tt, refl, inl ([], refl, inl refl, refl));
   only = λ other rest end t t2 told dialogue settled settled2 answers. absurd settled2;
   given = Gave-nothing given;
-  events = sample_events (answer_space seed);
+  events = sample_events (served_space seed terms);
   went = refl;
   may_all = tt;
   numbers = [];
   counted = refl;
 }
 
-pub memory_unsettled : (seed : List ℕ) (start : Wires) → ServesExactly seed start start OutOfMemory
+pub memory_unsettled : (seed : List ℕ) (terms : ServedTerms) (start : Wires) → ServesExactly seed terms start start OutOfMemory
 unfolding ServesExactly
-memory_unsettled seed start other rest end told dialogue quiet settled settled2 = absurd settled2
+memory_unsettled seed terms start other rest end told dialogue quiet settled settled2 = absurd settled2

@@ -145,6 +145,8 @@ ends_exactly old new (ends.NotShown fault) (is_fault, stops_at, held) = record {
   past = λ input f told long stops.
       ended_at old new fault (faults.TooLarge Bytes stream_bytes) f (going_on (stream_at stream_bytes (take stream_bytes input))) held (is_fault.past input told long) stops;
 }
+ends_exactly old new ends.ListenFault e = absurd e
+ends_exactly old new ends.AcceptFault e = absurd e
 ends_exactly old new ends.ReadFault e = absurd e
 ends_exactly old new ends.WriteFault e = record {
   stream = λ nodes items input told short is. inr (inr (inl refl));

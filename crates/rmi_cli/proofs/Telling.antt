@@ -6,7 +6,7 @@ use Rattle.wire_io.specs.declared.put.PutFault.{PutFault}
 use Rattle.rmi_cli.specs.Line.{line_of, status_of_run}
 use Rattle.rmi_cli.specs.Told.{Told, Took, told_line, Tells}
 use Rattle.rmi_cli.specs.declared.end.RunEnd.{RunEnd}
-use Rattle.rmi_cli.specs.declared.end.RunEnd.TheVariants.{Usage, Answered, Done, BadLine, Refused, TooLarge, NotShown, ReadFault, WriteFault, OutOfMemory}
+use Rattle.rmi_cli.specs.declared.end.RunEnd.TheVariants.{Usage, Answered, Done, BadLine, Refused, TooLarge, NotShown, ListenFault, AcceptFault, ReadFault, WriteFault, OutOfMemory}
 
 pub took : (result : Result (Unit {0}) PutFault) (told : Told) (bytes : List ℕ) → OnOk result (told.after ≡ with_end told.before bytes)
     → IfErr result (λ e. (e.sent < length bytes) × (told.after ≡ with_end told.before (take e.sent bytes)))
@@ -23,6 +23,8 @@ line_told (BadLine line) not = refl
 line_told Refused not = refl
 line_told (TooLarge limit) not = refl
 line_told (NotShown fault) not = refl
+line_told ListenFault not = refl
+line_told AcceptFault not = refl
 line_told ReadFault not = refl
 line_told WriteFault not = refl
 line_told OutOfMemory not = refl

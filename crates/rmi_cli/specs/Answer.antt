@@ -1,9 +1,8 @@
 -- What `rmi answer` does.
-use Rattle.std.specs.Prelude.{◌≡◌, ℕ, ◌+◌, ◌%◌, ◌^◌, ℤ, pos, false, codes, ◌⊎◌, List, [], ◌++◌, slice_index, Option, Some}
+use Rattle.std.specs.Prelude.{◌≡◌, Bool, ℕ, ◌+◌, ◌%◌, ◌^◌, pos, codes, ◌⊎◌, List, [], ◌++◌, slice_index, Option, Some}
 use Rattle.std.specs.List.{flat_map}
-use Rattle.std.specs.Int.{w32, w64, cast_signed, to_be_bytes}
+use Rattle.std.specs.Int.{w64, to_be_bytes}
 use Rattle.wire_io.specs.Wire.{Wires, with_front, with_end, Gave}
-use Rattle.history.specs.declared.asks.SpaceConfig.{SpaceConfig}
 use Rattle.history.specs.declared.asks.Event.{Event}
 use Rattle.space.specs.Ports.{Went}
 use Rattle.call_dispatch.specs.declared.end.ConnEnd.{ConnEnd}
@@ -16,69 +15,59 @@ use Rattle.call_dispatch.specs.Dialogue.{Dialogue}
 use Rattle.sample_app.specs.Kinds.{sample_kinds}
 use Rattle.sample_app.specs.Opened.{sample_events}
 use Rattle.sample_app.specs.Does as sample
+use Rattle.rmi_cli.specs.Opening.{low_signed, served_space}
 use Rattle.rmi_cli.specs.Told.{Told, TellsExactly, Tells}
 use Rattle.rmi_cli.specs.declared.end.RunEnd.TheVariants.{Answered}
+use Rattle.rmi_cli.specs.declared.terms.Terms.{Terms as ServedTerms}
 
--- the low 32 bits of a word, as a signed number
-abbrev pub low_signed : ℕ → ℤ
-low_signed word = cast_signed w32 (word % 2 ^ 32)
-
--- The terms of the connection, by the seed: it has the number 1, its peer is 127.0.0.1, port 1234, its own end is 127.0.0.1, port 1099,
--- clients may not bind names, and the kinds of objects are the sample's.
-abbrev pub answer_terms : List ℕ → Terms
-answer_terms seed = record {
+-- The terms of the connection, by the seed and by whether clients may bind names: it has the number 1, its peer is 127.0.0.1, port 1234, its own
+-- end is 127.0.0.1, port 1099, and the kinds of objects are the sample's.
+abbrev pub answer_terms : List ℕ → Bool → Terms
+answer_terms seed binding = record {
   by = 1;
   peer_host = codes "127.0.0.1";
   peer_port = pos 1234;
   host = codes "127.0.0.1";
   port = pos 1099;
-  binding = false;
+  binding = binding;
   mark = to_be_bytes w64 (slice_index seed 2);
   unique = low_signed ((slice_index seed 0 + 1) % 2 ^ 64);
   time = pos (slice_index seed 1 % 2 ^ 61);
   kinds = sample_kinds;
 }
 
--- What the space keeps to, by the seed: leases of 600,000 milliseconds, and 300,000 to acknowledge a result.
-abbrev pub answer_space : List ℕ → SpaceConfig
-answer_space seed = record {
-  lease_ms = 600000;
-  ack_ms = 300000;
-  uid = record { unique = low_signed (slice_index seed 2); time = pos (slice_index seed 3 % 2 ^ 61); count = pos 0 };
-}
-
 -- This course is the only one of its input and of what the outside answered: where the input was told and a settled dialogue stands for it,
 -- in which the outside's answers begin as those that were given here, as far as both go, the connection went so, unless something outside failed.
-abbrev pub IsOnly : List ℕ → Wires → Wires → Course → ConnEnd → Type 0
-IsOnly seed old new course result = (other : Course) (rest : List ℕ) (end : ConnEnd) (t t2 : List Tick)
-    → old.left ≡ Some (other.taken ++ rest) → Dialogue (answer_terms seed) 0 other (Some rest) end → IsSettled end → IsSettled result
+abbrev pub IsOnly : List ℕ → Bool → Wires → Wires → Course → ConnEnd → Type 0
+IsOnly seed binding old new course result = (other : Course) (rest : List ℕ) (end : ConnEnd) (t t2 : List Tick)
+    → old.left ≡ Some (other.taken ++ rest) → Dialogue (answer_terms seed binding) 0 other (Some rest) end → IsSettled end → IsSettled result
     → tape course.acts ++ t ≡ tape other.acts ++ t2 → (result ≡ end) × (course ≡ other) × (new.left ≡ Some rest)
 
--- One connection was served: what was taken, done and written is a dialogue with the end, on the terms of the seed, before which nothing was
+-- One connection was served: what was taken, done and written is a dialogue with the end, on terms by the seed and the words, before which nothing was
 -- drawn, and the only one of the input and the outside's answers. The clock gave the moments of its turns, and these are, one after the other, steps
 -- of the sample space's history. Each invocation came out as one of a sample object may, and the calls of the worker count from no numbers on.
-pub record ServesOne (seed : List ℕ) (old new : Wires) (gave gave2 : Option (List ℕ)) (end : ConnEnd) : Type 0 where
+pub record ServesOne (seed : List ℕ) (terms : ServedTerms) (old new : Wires) (gave gave2 : Option (List ℕ)) (end : ConnEnd) : Type 0 where
   pub course : Course
   pub left : old.left ≡ with_front course.taken new.left
   pub held : new.held ≡ with_end old.held course.written
-  pub dialogue : Dialogue (answer_terms seed) 0 course new.left end
-  pub only : IsOnly seed old new course end
+  pub dialogue : Dialogue (answer_terms seed terms.binding) 0 course new.left end
+  pub only : IsOnly seed terms.binding old new course end
   pub given : Gave gave gave2 (flat_map moments course.acts)
   pub events : List Event
-  pub went : Went (answer_space seed) 1 (sample_events (answer_space seed)) (flat_map entries course.acts) events
+  pub went : Went (served_space seed terms) 1 (sample_events (served_space seed terms)) (flat_map entries course.acts) events
   pub may_all : MayAll sample.May (flat_map calls course.acts)
   pub numbers : States
   pub counted : Moves sample.Moves [] (flat_map calls course.acts) numbers
 
 -- Where a settled dialogue without acts stands for the input that was told, the connection went so, unless something outside failed.
-unfoldable pub ServesExactly : List ℕ → Wires → Wires → ConnEnd → Type 0
-ServesExactly seed old new result = (other : Course) (rest : List ℕ) (end : ConnEnd)
-    → old.left ≡ Some (other.taken ++ rest) → Dialogue (answer_terms seed) 0 other (Some rest) end → other.acts ≡ [] → IsSettled end → IsSettled result
+unfoldable pub ServesExactly : List ℕ → ServedTerms → Wires → Wires → ConnEnd → Type 0
+ServesExactly seed terms old new result = (other : Course) (rest : List ℕ) (end : ConnEnd)
+    → old.left ≡ Some (other.taken ++ rest) → Dialogue (answer_terms seed terms.binding) 0 other (Some rest) end → other.acts ≡ [] → IsSettled end → IsSettled result
     → (result ≡ end) × (new.left ≡ Some rest) × (new.held ≡ with_end old.held other.written)
 
 -- One connection was served, and its end is told.
-abbrev pub Answers : List ℕ → Wires → Wires → Option (List ℕ) → Option (List ℕ) → Told → Type 0
-Answers seed old new given given2 told = (end : ConnEnd) × ServesOne seed old new given given2 end × Tells told (Answered end)
+abbrev pub Answers : List ℕ → ServedTerms → Wires → Wires → Option (List ℕ) → Option (List ℕ) → Told → Type 0
+Answers seed terms old new given given2 told = (end : ConnEnd) × ServesOne seed terms old new given given2 end × Tells told (Answered end)
 
 -- The outside failed: reading, writing or memory.
 abbrev pub IsOutside : ℕ → Type 0
@@ -86,7 +75,7 @@ IsOutside status = (status ≡ 3) ⊎ ((status ≡ 4) ⊎ (status ≡ 5))
 
 -- Where a settled dialogue that neither makes a turn nor invokes anything stands for the input that was told, it is the one that was had: its
 -- rest is left, its output was written, and its end is told; unless the outside failed.
-unfoldable pub AnswersExactly : List ℕ → Wires → Wires → Told → Type 0
-AnswersExactly seed old new told = (other : Course) (rest : List ℕ) (end : ConnEnd)
-    → old.left ≡ Some (other.taken ++ rest) → Dialogue (answer_terms seed) 0 other (Some rest) end → other.acts ≡ [] → IsSettled end
+unfoldable pub AnswersExactly : List ℕ → ServedTerms → Wires → Wires → Told → Type 0
+AnswersExactly seed terms old new told = (other : Course) (rest : List ℕ) (end : ConnEnd)
+    → old.left ≡ Some (other.taken ++ rest) → Dialogue (answer_terms seed terms.binding) 0 other (Some rest) end → other.acts ≡ [] → IsSettled end
     → (TellsExactly told (Answered end) × (new.left ≡ Some rest) × (new.held ≡ with_end old.held other.written)) ⊎ IsOutside told.status

@@ -1,13 +1,36 @@
 -- The command lines of the program.
 use Rattle.std.specs.Prelude.{◌≡◌, ℕ, ◌<◌, ◌≤◌, ◌^◌, codes, decimal, List, [], ◌∷◌}
+use Rattle.rmi_cli.specs.Terms.{AreGivenBy, SpellsUpTo}
+use Rattle.rmi_cli.specs.declared.terms.ServeWords.{ServeWords}
+use Rattle.rmi_cli.specs.declared.terms.Terms.{Terms}
 use Rattle.rmi_cli.specs.declared.words.Command.{Command}
-use Rattle.rmi_cli.specs.declared.words.Command.TheVariants.{Answer, Replay, Show, Drill}
+use Rattle.rmi_cli.specs.declared.words.Command.TheVariants.{Answer, Serve, Replay, Show, Drill}
 use Rattle.rmi_cli.specs.declared.words.DrillText.{DrillText}
 use Rattle.rmi_cli.specs.declared.words.DrillText.TheVariants.{Summary, Journal}
 
 -- These words are a word alone.
 abbrev pub IsWord : List (List ℕ) → List ℕ → Type 0
 IsWord words word = words ≡ word ∷ []
+
+-- These words are `answer`, and up to three words that give its terms.
+pub record IsAnswer (terms : Terms) (words : List (List ℕ)) : Type 0 where
+  pub rest : List (List ℕ)
+  pub words_are : words ≡ codes "answer" ∷ rest
+  pub terms_are : AreGivenBy terms rest
+
+-- What `serve` is told by a word for the port, a word for the count, and up to three words that give its terms.
+pub record IsToldBy (port count : List ℕ) (serve : ServeWords) (rest : List (List ℕ)) : Type 0 where
+  pub port_is : SpellsUpTo 65535 serve.port port
+  pub count_is : SpellsUpTo 65535 serve.count count
+  pub terms_are : AreGivenBy serve.terms rest
+
+-- These words are `serve`, and the words for what it is told.
+pub record IsServe (serve : ServeWords) (words : List (List ℕ)) : Type 0 where
+  pub port : List ℕ
+  pub count : List ℕ
+  pub rest : List (List ℕ)
+  pub words_are : words ≡ codes "serve" ∷ port ∷ count ∷ rest
+  pub told : IsToldBy port count serve rest
 
 -- The numbers of a drill: a seed below 2^63, and 1 to 1,000,000 rounds.
 pub record AreInRange (seed rounds : ℕ) : Type 0 where
@@ -27,7 +50,8 @@ word_of_text Journal = codes "journal"
 
 -- These words ask for the command.
 abbrev pub AskFor : List (List ℕ) → Command → Type 0
-AskFor words Answer = IsWord words (codes "answer")
+AskFor words (Answer terms) = IsAnswer terms words
+AskFor words (Serve serve) = IsServe serve words
 AskFor words Replay = IsWord words (codes "replay")
 AskFor words Show = IsWord words (codes "show")
 AskFor words (Drill text seed rounds) = IsWordOfDrill words (word_of_text text) seed rounds

@@ -15,7 +15,7 @@ use Rattle.rmi_cli.specs.Told.{Told, TellsExactly, Tells}
 use Rattle.rmi_cli.specs.declared.words.DrillText.{DrillText}
 use Rattle.rmi_cli.specs.declared.words.DrillText.TheVariants.{Summary, Journal}
 use Rattle.rmi_cli.specs.declared.end.RunEnd.{RunEnd}
-use Rattle.rmi_cli.specs.declared.end.RunEnd.TheVariants.{Done, Usage, Answered, BadLine, Refused as RefusedTurn, TooLarge, NotShown, ReadFault, WriteFault, OutOfMemory}
+use Rattle.rmi_cli.specs.declared.end.RunEnd.TheVariants.{Done, Usage, Answered, BadLine, Refused as RefusedTurn, TooLarge, NotShown, ListenFault, AcceptFault, ReadFault, WriteFault, OutOfMemory}
 
 -- this text of a history: its summary, or its journal
 abbrev pub text_of : DrillText → SpaceConfig → List Event → List ℕ
@@ -61,6 +61,8 @@ DrillEnds seed rounds text held held2 (BadLine line) = ⊥
 DrillEnds seed rounds text held held2 RefusedTurn = IsStopped seed rounds × (held2 ≡ held)
 DrillEnds seed rounds text held held2 (TooLarge limit) = ⊥
 DrillEnds seed rounds text held held2 (NotShown fault) = ⊥
+DrillEnds seed rounds text held held2 ListenFault = ⊥
+DrillEnds seed rounds text held held2 AcceptFault = ⊥
 DrillEnds seed rounds text held held2 ReadFault = ⊥
 DrillEnds seed rounds text held held2 WriteFault =
     (sent : ℕ) × TakesAll seed rounds × (sent < length text) × (held2 ≡ with_end held (take sent text))

@@ -2,8 +2,12 @@ pub mod Answer
 pub mod Batches
 pub mod Command
 pub mod Drilled
+pub mod Limits
 pub mod Line
+pub mod Opening
 pub mod Replay
 pub mod Replayed
+pub mod ServedLinks
 pub mod Shown
+pub mod Terms
 pub mod Told

@@ -6,7 +6,7 @@ use Rattle.ser_read.specs.declared.fault.StreamFault.{StreamFault}
 use Rattle.ser_read.specs.declared.fault.StreamFault.TheVariants as faults
 use Rattle.ser_read.specs.Words as streams
 use Rattle.rmi_cli.specs.declared.end.RunEnd.{RunEnd}
-use Rattle.rmi_cli.specs.declared.end.RunEnd.TheVariants.{Usage, Answered, Done, BadLine, Refused, TooLarge, NotShown, ReadFault, WriteFault, OutOfMemory}
+use Rattle.rmi_cli.specs.declared.end.RunEnd.TheVariants.{Usage, Answered, Done, BadLine, Refused, TooLarge, NotShown, ListenFault, AcceptFault, ReadFault, WriteFault, OutOfMemory}
 
 -- The words of a run's end.
 abbrev pub line_of : RunEnd → List ℕ
@@ -17,6 +17,8 @@ line_of (BadLine line) = codes "bad line " ++ decimal line
 line_of Refused = codes "refused"
 line_of (TooLarge limit) = codes "too large bytes at " ++ decimal limit
 line_of (NotShown fault) = streams.words_of fault
+line_of ListenFault = codes "listen fault"
+line_of AcceptFault = codes "accept fault"
 line_of ReadFault = codes "read fault"
 line_of WriteFault = codes "write fault"
 line_of OutOfMemory = codes "out of memory"
@@ -38,6 +40,8 @@ status_of_run (BadLine line) = 2
 status_of_run Refused = 6
 status_of_run (TooLarge limit) = 6
 status_of_run (NotShown fault) = status_of_fault fault
+status_of_run ListenFault = 3
+status_of_run AcceptFault = 3
 status_of_run ReadFault = 3
 status_of_run WriteFault = 4
 status_of_run OutOfMemory = 5

@@ -7,7 +7,7 @@ use Rattle.rmi_cli.specs.Told.{Told, TellsExactly, Tells}
 use Rattle.rmi_cli.specs.declared.outlines.ReplayFault.{ReplayFault}
 use Rattle.rmi_cli.specs.declared.outlines.ReplayFault.TheVariants as faults
 use Rattle.rmi_cli.specs.declared.end.RunEnd.{RunEnd}
-use Rattle.rmi_cli.specs.declared.end.RunEnd.TheVariants.{Done, Usage, Answered, BadLine, Refused, TooLarge, NotShown, ReadFault, WriteFault, OutOfMemory}
+use Rattle.rmi_cli.specs.declared.end.RunEnd.TheVariants.{Done, Usage, Answered, BadLine, Refused, TooLarge, NotShown, ListenFault, AcceptFault, ReadFault, WriteFault, OutOfMemory}
 
 -- how many bytes a journal has at most
 abbrev pub journal_bytes : ℕ
@@ -34,6 +34,8 @@ ReplayEnds old new Refused = (input : List ℕ) × TakesWhole old new input × I
 ReplayEnds old new (TooLarge limit) =
     (limit ≡ journal_bytes) × ((front : List ℕ) × (journal_bytes < length front) × (length front ≤ journal_bytes + 4096) × (old.left ≡ with_front front new.left)) × (new.held ≡ old.held)
 ReplayEnds old new (NotShown fault) = ⊥
+ReplayEnds old new ListenFault = ⊥
+ReplayEnds old new AcceptFault = ⊥
 ReplayEnds old new ReadFault = TakesFront old new
 ReplayEnds old new WriteFault =
     (input : List ℕ) × (output : List ℕ) × (sent : ℕ) × TakesWhole old new input × Outlines input output

@@ -19,7 +19,7 @@ use Rattle.rmi_cli.specs.Answer.{IsOutside}
 use Rattle.rmi_cli.specs.Line.{status_of_run}
 use Rattle.rmi_cli.specs.Told.{Told, TellsExactly, Tells}
 use Rattle.rmi_cli.specs.declared.end.RunEnd.{RunEnd}
-use Rattle.rmi_cli.specs.declared.end.RunEnd.TheVariants.{Done, Usage, Answered, BadLine, Refused, TooLarge, NotShown, ReadFault, WriteFault, OutOfMemory}
+use Rattle.rmi_cli.specs.declared.end.RunEnd.TheVariants.{Done, Usage, Answered, BadLine, Refused, TooLarge, NotShown, ListenFault, AcceptFault, ReadFault, WriteFault, OutOfMemory}
 
 -- how many bytes a stream has at most
 abbrev pub stream_bytes : ℕ
@@ -59,6 +59,8 @@ ShowEnds old new (BadLine line) = ⊥
 ShowEnds old new Refused = ⊥
 ShowEnds old new (TooLarge limit) = ⊥
 ShowEnds old new (NotShown fault) = IsFaultOf old.left fault × StopsAt old.left new.left fault × (new.held ≡ old.held)
+ShowEnds old new ListenFault = ⊥
+ShowEnds old new AcceptFault = ⊥
 ShowEnds old new ReadFault = ⊥
 ShowEnds old new WriteFault =
     (nodes : List Node) × (items : List Item) × (sent : ℕ) × TakesGraph old.left new.left nodes items

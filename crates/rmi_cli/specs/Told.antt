@@ -3,7 +3,7 @@ use Rattle.std.specs.Prelude.{◌≡◌, ◌≢◌, ℕ, ◌<◌, ◌⊎◌, Lis
 use Rattle.wire_io.specs.Wire.{with_end, Rose}
 use Rattle.rmi_cli.specs.Line.{line_of, status_of_run}
 use Rattle.rmi_cli.specs.declared.end.RunEnd.{RunEnd}
-use Rattle.rmi_cli.specs.declared.end.RunEnd.TheVariants.{Usage, Answered, Done, BadLine, Refused, TooLarge, NotShown, ReadFault, WriteFault, OutOfMemory}
+use Rattle.rmi_cli.specs.declared.end.RunEnd.TheVariants.{Usage, Answered, Done, BadLine, Refused, TooLarge, NotShown, ListenFault, AcceptFault, ReadFault, WriteFault, OutOfMemory}
 
 -- What a run answered, and what it did to the errors' sink: what that held, where it tells it, and its count of faults, before and after.
 pub record Told : Type 0 where
@@ -38,6 +38,8 @@ told_line (BadLine line) = line_of (BadLine line) ++ 10 ∷ []
 told_line Refused = line_of Refused ++ 10 ∷ []
 told_line (TooLarge limit) = line_of (TooLarge limit) ++ 10 ∷ []
 told_line (NotShown fault) = line_of (NotShown fault) ++ 10 ∷ []
+told_line ListenFault = line_of ListenFault ++ 10 ∷ []
+told_line AcceptFault = line_of AcceptFault ++ 10 ∷ []
 told_line ReadFault = line_of ReadFault ++ 10 ∷ []
 told_line WriteFault = line_of WriteFault ++ 10 ∷ []
 told_line OutOfMemory = line_of OutOfMemory ++ 10 ∷ []

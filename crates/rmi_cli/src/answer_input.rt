@@ -1,22 +1,22 @@
 //! `answer` over the program's input and output.
-ghost use Rattle.std.specs.Prelude.{◌≡◌, ◌≤◌, ◌%◌, ◌^◌, codes, IfOk, length};
+ghost use Rattle.std.specs.Prelude.{◌≡◌, codes, IfOk};
 ghost use Rattle.wire_io.specs.Wire.{Rose, wires};
 ghost use Rattle.call_dispatch.specs.End.{IsWriteFault};
 ghost use Rattle.call_dispatch.specs.Terms.{terms_of};
 ghost use Rattle.sample_app.specs.Kinds.{sample_kinds};
-ghost use Rattle.sample_app.specs.Opened.{sample_events};
-ghost use Rattle.rmi_cli.specs.Answer.{low_signed, answer_terms, answer_space, ServesOne, ServesExactly};
+ghost use Rattle.rmi_cli.specs.Answer.{answer_terms, ServesOne, ServesExactly};
+ghost use Rattle.rmi_cli.specs.Opening.{served_opening};
+ghost use Rattle.rmi_cli.specs.Terms.{IsInRange};
 
+use crate::opening::{low_half, moment_of, opened_space};
+use crate::terms::Terms;
 use call_dispatch::{Book, ConnEnd, Setup, serve_connection};
 use mod_utf::list::Units;
-use object_ids::{Uid, UidDraw};
-use sample_app::{SampleWorker, sample_book, sample_space};
-use space::{DirectPort, Space, SpaceConfig};
+use object_ids::UidDraw;
+use sample_app::{SampleWorker, sample_book};
+use space::{DirectPort, Space};
 use std::alloc::{AllocError, Global};
 use wire_io::{Clock, Sink, Source};
-
-/// Below this a moment is drawn from the seed, in milliseconds.
-const MOMENTS: u64 = 1 << 61;
 
 /// What a connection is told beforehand, the kinds of objects that it knows, and the space where its turns are made.
 #[derive(Drop)]
@@ -34,16 +34,18 @@ pub fn answer_input<S: Source, K: Sink, C: Clock>(
     sink: &mut K,
     clock: &mut C,
     seed: &[u64; 4],
+    terms: Terms,
 ) -> ConnEnd
-    ensures serves { ServesOne seed.now
+    requires { IsInRange terms }
+    ensures serves { ServesOne seed.now terms
         (wires S.left K.held source.old sink.old) (wires S.left K.held source.new sink.new)
         (C.given clock.old) (C.given clock.new) result }
-    ensures exact { ServesExactly seed.now
+    ensures exact { ServesExactly seed.now terms
         (wires S.left K.held source.old sink.old) (wires S.left K.held source.new sink.new) result }
     ensures read_fault { result ≡ ConnEnd.ReadFault → Rose (S.faults source.old) (S.faults source.new) }
     ensures write_fault { IsWriteFault result → Rose (K.faults sink.old) (K.faults sink.new) }
 {
-    let mut ground = match ground_of(alloc, seed) {
+    let mut ground = match ground_of(alloc, seed, terms) {
         Ok(ground) => ground,
         Err(_) => return ConnEnd::OutOfMemory,
     };
@@ -62,30 +64,21 @@ pub fn answer_input<S: Source, K: Sink, C: Clock>(
 }
 
 /// What the connection is told beforehand, the sample kinds and the sample space.
-fn ground_of(alloc: Global, seed: &[u64; 4]) -> Result<Ground, AllocError>
-    ensures terms { IfOk result (λ ground. terms_of ground.book ground.setup ≡ answer_terms seed.now) }
+fn ground_of(alloc: Global, seed: &[u64; 4], terms: Terms) -> Result<Ground, AllocError>
+    requires { IsInRange terms }
+    ensures terms { IfOk result (λ ground. terms_of ground.book ground.setup ≡ answer_terms seed.now terms.binding) }
     ensures drawn { IfOk result (λ ground. ground.setup.draw.drawn ≡ 0) }
-    ensures space { IfOk result (λ ground. ground.space ≡ record { configuration = answer_space seed.now; events = sample_events (answer_space seed.now) }) }
+    ensures space { IfOk result (λ ground. ground.space ≡ served_opening seed.now terms) }
 {
-    let setup = setup_of(alloc, seed)?;
+    let setup = setup_of(alloc, seed, terms.binding)?;
     let book = sample_book(alloc)?;
-    let space = space_of(alloc, seed)?;
+    let space = opened_space(alloc, seed, terms)?;
     Ok(Ground { setup, book, space })
 }
 
-/// The sample space that the seed gives.
-fn space_of(alloc: Global, seed: &[u64; 4]) -> Result<Space, AllocError>
-    ensures { IfOk result (λ space. space ≡ record { configuration = answer_space seed.now; events = sample_events (answer_space seed.now) }) }
-{
-    match sample_space(alloc, &config_of(seed)) {
-        Ok(space) => Ok(space),
-        Err(_refused) => Err(AllocError),
-    }
-}
-
-/// What the connection is told beforehand.
-pub fn setup_of(alloc: Global, seed: &[u64; 4]) -> Result<Setup, AllocError>
-    ensures terms { IfOk result (λ setup. terms_of sample_kinds setup ≡ answer_terms seed.now) }
+/// What the connection is told beforehand, where clients may bind names or not.
+pub fn setup_of(alloc: Global, seed: &[u64; 4], binding: bool) -> Result<Setup, AllocError>
+    ensures terms { IfOk result (λ setup. terms_of sample_kinds setup ≡ answer_terms seed.now binding) }
     ensures drawn { IfOk result (λ setup. setup.draw.drawn ≡ 0) }
 {
     Ok(Setup {
@@ -94,35 +87,13 @@ pub fn setup_of(alloc: Global, seed: &[u64; 4]) -> Result<Setup, AllocError>
         peer_port: 1234,
         host: this_host(alloc)?,
         port: 1099,
-        binding: false,
+        binding,
         draw: UidDraw::new(
             low_half(seed[0].wrapping_add(1)),
-            (seed[1] % MOMENTS) as i64,
+            moment_of(seed[1]) as i64,
         ),
         mark: seed[2].to_be_bytes(),
     })
-}
-
-/// What the space keeps to.
-fn config_of(seed: &[u64; 4]) -> SpaceConfig
-    ensures { result ≡ answer_space seed.now }
-{
-    SpaceConfig {
-        lease_ms: 600_000,
-        ack_ms: 300_000,
-        uid: Uid {
-            unique: low_half(seed[2]),
-            time: (seed[3] % MOMENTS) as i64,
-            count: 0,
-        },
-    }
-}
-
-/// The low 32 bits of a word, as a signed number.
-fn low_half(word: u64) -> i32
-    ensures { result ≡ low_signed word }
-{
-    ((word % (1 << 32)) as u32).cast_signed()
 }
 
 /// The text `127.0.0.1`.

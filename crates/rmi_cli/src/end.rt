@@ -23,6 +23,10 @@ pub enum RunEnd {
     TooLarge { limit: u64 },
     /// The input could not be read as a stream.
     NotShown(StreamFault),
+    /// The port could not be listened on.
+    ListenFault,
+    /// A link could not be accepted.
+    AcceptFault,
     /// Reading the input failed.
     ReadFault,
     /// Writing the output failed.
@@ -46,7 +50,7 @@ impl RunEnd {
             RunEnd::Usage => 1,
             RunEnd::BadLine { line: _ } => 2,
             RunEnd::NotShown(fault) => status_of_fault(fault),
-            RunEnd::ReadFault => 3,
+            RunEnd::ListenFault | RunEnd::AcceptFault | RunEnd::ReadFault => 3,
             RunEnd::WriteFault => 4,
             RunEnd::OutOfMemory => 5,
             RunEnd::Refused | RunEnd::TooLarge { limit: _ } => 6,
@@ -89,6 +93,8 @@ impl fmt::Display for RunEnd {
             RunEnd::Refused => write!(f, "refused"),
             RunEnd::TooLarge { limit } => write!(f, "too large bytes at {limit}"),
             RunEnd::NotShown(fault) => write!(f, "{fault}"),
+            RunEnd::ListenFault => write!(f, "listen fault"),
+            RunEnd::AcceptFault => write!(f, "accept fault"),
             RunEnd::ReadFault => write!(f, "read fault"),
             RunEnd::WriteFault => write!(f, "write fault"),
             RunEnd::OutOfMemory => write!(f, "out of memory"),

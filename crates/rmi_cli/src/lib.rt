@@ -7,9 +7,12 @@ mod end;
 mod host;
 mod journal_input;
 mod numbers;
+mod opening;
 mod outlines;
 mod program;
+mod serve_input;
 mod stream_input;
+mod terms;
 mod words;
 
 pub use answer_input::setup_of;
@@ -19,4 +22,5 @@ pub use journal_input::JOURNAL_BYTES;
 pub use outlines::{ReplayFault, replay};
 pub use program::run;
 pub use stream_input::STREAM_BYTES;
+pub use terms::{ServeWords, Terms};
 pub use words::{Command, DrillText, Words};

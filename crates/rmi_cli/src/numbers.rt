@@ -4,6 +4,9 @@ ghost use Rattle.journal.specs.Numbers.{BeginsPlainly};
 ghost use Rattle.journal.specs.Reading.{Finds};
 ghost use Rattle.journal.specs.Grammar.{SpellsBelow};
 ghost use Rattle.rmi_cli.specs.Command.{AreInRange};
+ghost use Rattle.rmi_cli.specs.Terms.{SpellsUpTo};
+
+use history::limits::MAX_DURATION;
 
 /// How many rounds a drill has at most.
 const MAX_ROUNDS: u64 = 1_000_000;
@@ -48,5 +51,34 @@ pub(crate) fn read_drill(seed: &str, rounds: &str) -> Option<(u64, u64)>
         Some((first, second))
     } else {
         None
+    }
+}
+
+/// The number, 1 to this one, that a word spells.
+fn read_up_to(word: &str, most: u64) -> Option<u64>
+    ensures { Finds (SpellsUpTo most) result word.now }
+{
+    let number = read_number(word)?;
+    if 1 <= number && number <= most {
+        Some(number)
+    } else {
+        None
+    }
+}
+
+/// The number of milliseconds, 1 to 2^40, that a word spells.
+pub(crate) fn read_duration(word: &str) -> Option<u64>
+    ensures { Finds (SpellsUpTo (2 ^ 40)) result word.now }
+{
+    read_up_to(word, MAX_DURATION)
+}
+
+/// The number, 1 to 65535, that a word spells.
+pub(crate) fn read_small(word: &str) -> Option<u16>
+    ensures { Finds (SpellsUpTo 65535) result word.now }
+{
+    match read_up_to(word, 65_535) {
+        Some(number) => Some(number as u16),
+        None => None,
     }
 }

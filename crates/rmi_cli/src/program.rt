@@ -1,11 +1,13 @@
 //! All that the program does.
-ghost use Rattle.std.specs.Prelude.{◌≡◌, ◌↔◌, ◌⊎◌, ℕ, IfOk};
+ghost use Rattle.std.specs.Prelude.{◌≡◌, ◌≢◌, ◌↔◌, ◌⊎◌, ℕ, IfOk};
 ghost use Rattle.wire_io.specs.Wire.{Rose, wires};
 ghost use Rattle.rmi_cli.specs.Answer.{Answers, AnswersExactly};
 ghost use Rattle.rmi_cli.specs.Command.{AskFor};
 ghost use Rattle.rmi_cli.specs.Drilled.{Drills, DrillsExactly};
+ghost use Rattle.rmi_cli.specs.Limits.{IsInLimits};
 ghost use Rattle.rmi_cli.specs.Line.{status_of_run};
 ghost use Rattle.rmi_cli.specs.Replayed.{ReplaysInput, ReplaysExactly};
+ghost use Rattle.rmi_cli.specs.ServedLinks.{IsSampleLink, Serving, serve_plan, heard};
 ghost use Rattle.rmi_cli.specs.Shown.{ShowsInput, ShowsExactly};
 ghost use Rattle.rmi_cli.specs.Told.{told_by, TellsExactly, Tells};
 ghost use Rattle.rmi_cli.specs.declared.end.RunEnd.{RunEnd as RunEnds};
@@ -17,10 +19,16 @@ use crate::drill_output::write_drill;
 use crate::end::RunEnd;
 use crate::host::Host;
 use crate::journal_input::replay_input;
+use crate::serve_input::serve_input;
+use crate::terms::{ServeWords, Terms};
 use crate::stream_input::show_input;
 use crate::words::{Command, Words};
+use sample_server::SampleHand;
 use std::alloc::Global;
+use std::sync::Wait;
+use std::thread::Threads;
 use wire_io::clock::Clock;
+use wire_io::listener::Listener;
 use wire_io::put::put_all;
 use wire_io::sink::Sink;
 use wire_io::source::Source;
@@ -32,17 +40,19 @@ use wire_io::source::Source;
 /// | 0 | the command ended well |
 /// | 1 | exactly where the words are no command line; nothing is read or written then |
 /// | 2 | the input is not what the command reads |
-/// | 3, 4 | only where reading the input, or writing the output, failed |
+/// | 3 | only where reading the input failed, or at `serve` the listener |
+/// | 4 | only where writing the output failed |
 /// | 5 | for want of memory |
 /// | 6 | at a limit |
 ///
 /// One line on the errors' sink tells the end, but that all was done, which no line tells. That it could not be written changes nothing.
 /// Where there is no memory for the line, the status is 5, and the line is that of want of memory.
 #[tactic(auto, using(crate::proofs::Telling::took))]
-pub fn run<I: Source, O: Sink, E: Sink, T: Clock>(
+pub fn run<R: Threads + Wait + Sync, I: Source, O: Sink, E: Sink, T: Clock, L: Listener>(
+    rt: &R,
     alloc: Global,
     words: &Words,
-    host: &mut Host<I, O, E, T>,
+    host: &mut Host<I, O, E, T, L>,
 ) -> u8
     // Other words are no command line.
     ensures usage { (result ≡ 1) ↔ ((command : Commands) → AskFor words.now command → ⊥) }
@@ -50,13 +60,25 @@ pub fn run<I: Source, O: Sink, E: Sink, T: Clock>(
         × (O.held host.new.output ≡ O.held host.old.output) }
     ensures usage_line { result ≡ 1 → TellsExactly (told_by E.held E.faults host.old.errors host.new.errors result) RunEnds.Usage }
 
-    // `answer` serves one connection over a space of its own: what was taken, done and written is a dialogue, whose end is told.
-    ensures answer { AskFor words.now Command.Answer → Answers host.old.seed
+    // `answer` serves one connection over a space of its own, on the terms that the words give: what was taken, done and written is a dialogue, whose
+    // end is told.
+    ensures answer { (terms : Terms) → AskFor words.now (Command.Answer terms) → Answers host.old.seed terms
         (wires I.left O.held host.old.input host.old.output)
         (wires I.left O.held host.new.input host.new.output)
         (T.given host.old.ticks) (T.given host.new.ticks)
         (told_by E.held E.faults host.old.errors host.new.errors result) }
-    ensures exact { AskFor words.now Command.Answer → AnswersExactly host.old.seed
+    ensures exact { (terms : Terms) → AskFor words.now (Command.Answer terms) → AnswersExactly host.old.seed terms
+        (wires I.left O.held host.old.input host.old.output)
+        (wires I.left O.held host.new.input host.new.output)
+        (told_by E.held E.faults host.old.errors host.new.errors result) }
+
+    // `serve` serves the links that are accepted at its port, and at no other, each in a thread, over one space of its own. However these take
+    // turns, the one history that is left is legal and goes on from the opening; at each of its events the collector kept what there was a reason to
+    // keep, and withdrew the rest; each link has a report of a dialogue over its own bytes, whose turns stand at their places in that history; and no
+    // event is of anybody else. The outline of that history is written, and the end is told. Nothing is read.
+    ensures serves { (serve : ServeWords) → AskFor words.now (Command.Serve serve) → Serving {H = SampleHand R}
+        (IsSampleLink L.In.left L.Out.held L.Ticks.given (serve_plan host.old.seed serve))
+        host.old.seed serve (heard L.ports L.accepted host.old.listener) (heard L.ports L.accepted host.new.listener)
         (wires I.left O.held host.old.input host.old.output)
         (wires I.left O.held host.new.input host.new.output)
         (told_by E.held E.faults host.old.errors host.new.errors result) }
@@ -92,40 +114,115 @@ pub fn run<I: Source, O: Sink, E: Sink, T: Clock>(
         (wires I.left O.held host.new.input host.new.output)
         (told_by E.held E.faults host.old.errors host.new.errors result) }
 
-    // No other command asks the clock, and none changes the seed.
-    ensures clock { (AskFor words.now Command.Answer → ⊥) → T.given host.new.ticks ≡ T.given host.old.ticks }
+    // No other command asks the clock, none but `serve` the listener, and none changes the seed.
+    ensures clock { ((terms : Terms) → AskFor words.now (Command.Answer terms) → ⊥) → T.given host.new.ticks ≡ T.given host.old.ticks }
+    ensures network { ((serve : ServeWords) → AskFor words.now (Command.Serve serve) → ⊥) → host.new.listener ≡ host.old.listener }
     ensures seed { host.new.seed ≡ host.old.seed }
 
     // The outside's failures.
-    ensures read_fault { result ≡ 3 → Rose (I.faults host.old.input) (I.faults host.new.input) }
+    ensures read_fault { ((serve : ServeWords) → AskFor words.now (Command.Serve serve) → ⊥) → result ≡ 3 → Rose (I.faults host.old.input) (I.faults host.new.input) }
+    ensures network_fault { (serve : ServeWords) → AskFor words.now (Command.Serve serve) → result ≡ 3 → Rose (L.faults host.old.listener) (L.faults host.new.listener) }
     ensures write_fault { result ≡ 4 → Rose (O.faults host.old.output) (O.faults host.new.output) }
 {
     match words.command() {
-        Some(Command::Answer) => {
+        Some(command) => obey(rt, alloc, command, host),
+        None => {
+            let _ = put_all(&mut host.errors, b"usage\n");
+            1
+        }
+    }
+}
+
+/// Does what a command says, and answers the status of the process, with the clauses of `run`.
+#[tactic(auto, using(crate::proofs::Telling::took))]
+fn obey<R: Threads + Wait + Sync, I: Source, O: Sink, E: Sink, T: Clock, L: Listener>(
+    rt: &R,
+    alloc: Global,
+    command: Command,
+    host: &mut Host<I, O, E, T, L>,
+) -> u8
+    requires limits { IsInLimits command }
+    ensures known { result ≢ 1 }
+    ensures answer { (terms : Terms) → command ≡ Command.Answer terms → Answers host.old.seed terms
+        (wires I.left O.held host.old.input host.old.output)
+        (wires I.left O.held host.new.input host.new.output)
+        (T.given host.old.ticks) (T.given host.new.ticks)
+        (told_by E.held E.faults host.old.errors host.new.errors result) }
+    ensures exact { (terms : Terms) → command ≡ Command.Answer terms → AnswersExactly host.old.seed terms
+        (wires I.left O.held host.old.input host.old.output)
+        (wires I.left O.held host.new.input host.new.output)
+        (told_by E.held E.faults host.old.errors host.new.errors result) }
+    ensures serves { (serve : ServeWords) → command ≡ Command.Serve serve → Serving {H = SampleHand R}
+        (IsSampleLink L.In.left L.Out.held L.Ticks.given (serve_plan host.old.seed serve))
+        host.old.seed serve (heard L.ports L.accepted host.old.listener) (heard L.ports L.accepted host.new.listener)
+        (wires I.left O.held host.old.input host.old.output)
+        (wires I.left O.held host.new.input host.new.output)
+        (told_by E.held E.faults host.old.errors host.new.errors result) }
+    ensures replay { command ≡ Command.Replay → ReplaysInput
+        (wires I.left O.held host.old.input host.old.output)
+        (wires I.left O.held host.new.input host.new.output)
+        (told_by E.held E.faults host.old.errors host.new.errors result) }
+    ensures replay_exact { command ≡ Command.Replay → ReplaysExactly
+        (wires I.left O.held host.old.input host.old.output)
+        (wires I.left O.held host.new.input host.new.output)
+        (told_by E.held E.faults host.old.errors host.new.errors result) }
+    ensures show { command ≡ Command.Show → ShowsInput
+        (wires I.left O.held host.old.input host.old.output)
+        (wires I.left O.held host.new.input host.new.output)
+        (told_by E.held E.faults host.old.errors host.new.errors result) }
+    ensures show_exact { command ≡ Command.Show → ShowsExactly
+        (wires I.left O.held host.old.input host.old.output)
+        (wires I.left O.held host.new.input host.new.output)
+        (told_by E.held E.faults host.old.errors host.new.errors result) }
+    ensures drill { (text : DrillTexts) (seed rounds : ℕ) → command ≡ Command.Drill text seed rounds → Drills text seed rounds
+        (wires I.left O.held host.old.input host.old.output)
+        (wires I.left O.held host.new.input host.new.output)
+        (told_by E.held E.faults host.old.errors host.new.errors result) }
+    ensures drill_exact { (text : DrillTexts) (seed rounds : ℕ) → command ≡ Command.Drill text seed rounds → DrillsExactly text seed rounds
+        (wires I.left O.held host.old.input host.old.output)
+        (wires I.left O.held host.new.input host.new.output)
+        (told_by E.held E.faults host.old.errors host.new.errors result) }
+    ensures clock { ((terms : Terms) → command ≡ Command.Answer terms → ⊥) → T.given host.new.ticks ≡ T.given host.old.ticks }
+    ensures network { ((serve : ServeWords) → command ≡ Command.Serve serve → ⊥) → host.new.listener ≡ host.old.listener }
+    ensures seed { host.new.seed ≡ host.old.seed }
+    ensures read_fault { ((serve : ServeWords) → command ≡ Command.Serve serve → ⊥) → result ≡ 3 → Rose (I.faults host.old.input) (I.faults host.new.input) }
+    ensures network_fault { (serve : ServeWords) → command ≡ Command.Serve serve → result ≡ 3 → Rose (L.faults host.old.listener) (L.faults host.new.listener) }
+    ensures write_fault { result ≡ 4 → Rose (O.faults host.old.output) (O.faults host.new.output) }
+{
+    match command {
+        Command::Answer(terms) => {
             let end = answer_input(
                 alloc,
                 &mut host.input,
                 &mut host.output,
                 &mut host.ticks,
                 &host.seed,
+                terms,
             );
             told(alloc, &mut host.errors, RunEnd::Answered(end))
         }
-        Some(Command::Replay) => {
+        Command::Serve(serve) => {
+            let served = serve_input(
+                rt,
+                alloc,
+                &mut host.listener,
+                &mut host.output,
+                &host.seed,
+                &serve,
+            );
+            told(alloc, &mut host.errors, served.end)
+        }
+        Command::Replay => {
             let end = replay_input(alloc, &mut host.input, &mut host.output);
             told(alloc, &mut host.errors, end)
         }
-        Some(Command::Show) => {
+        Command::Show => {
             let end = show_input(alloc, &mut host.input, &mut host.output);
             told(alloc, &mut host.errors, end)
         }
-        Some(Command::Drill { text, seed, rounds }) => {
+        Command::Drill { text, seed, rounds } => {
             let end = write_drill(alloc, &mut host.output, text, seed, rounds);
             told(alloc, &mut host.errors, end)
-        }
-        None => {
-            let _ = put_all(&mut host.errors, b"usage\n");
-            1
         }
     }
 }

@@ -1,7 +1,10 @@
 //! The words that the program is run with.
 ghost use Rattle.std.specs.Prelude.{◌≡◌, map, string_bytes, ℕ, IsTrue, ◌↔◌, IfSome, IfNone};
+ghost use Rattle.journal.specs.Reading.{Finds};
+ghost use Rattle.rmi_cli.specs.Command.{IsToldBy};
 
-use crate::numbers::read_drill;
+use crate::numbers::{read_drill, read_small};
+use crate::terms::{ServeWords, Terms, read_terms};
 use std::marker::Model;
 
 /// A list of texts, which contracts see as the list of their bytes.
@@ -21,8 +24,10 @@ impl Model for Words {
 /// What the words ask for.
 #[derive(Clone, Copy, Debug, PartialEq, Eq)]
 pub enum Command {
-    /// `answer`: serve the input and the output as one connection.
-    Answer,
+    /// `answer [BINDING] [LEASE] [ACK]`: serve the input and the output as one connection, on these terms.
+    Answer(Terms),
+    /// `serve PORT COUNT [BINDING] [LEASE] [ACK]`: serve this many links at this port, on these terms.
+    Serve(ServeWords),
     /// `replay`: print the outline of the history that the input spells as a journal.
     Replay,
     /// `show`: print the text of the graph that the input spells as a stream.
@@ -46,7 +51,7 @@ pub enum DrillText {
 }
 
 impl Words {
-    ghost use Rattle.rmi_cli.specs.Command.{AskFor, IsWord, IsWordOfDrill, word_of_text};
+    ghost use Rattle.rmi_cli.specs.Command.{AskFor, IsAnswer, IsServe, IsWord, IsWordOfDrill, word_of_text};
     ghost use Rattle.rmi_cli.specs.declared.words.Command.{Command as Commands};
     ghost use Rattle.rmi_cli.specs.declared.words.DrillText.{DrillText as DrillTexts};
 
@@ -62,14 +67,38 @@ impl Words {
         ensures asked { IfSome result (AskFor self.now) }
         ensures none { IfNone result ((command : Commands) → AskFor self.now command → ⊥) }
     {
-        if self.are("answer") {
-            Some(Command::Answer)
-        } else if self.are("replay") {
+        if self.are("replay") {
             Some(Command::Replay)
         } else if self.are("show") {
             Some(Command::Show)
+        } else if let Some(terms) = self.answer() {
+            Some(Command::Answer(terms))
+        } else if let Some(serve) = self.serve() {
+            Some(Command::Serve(serve))
         } else {
             self.drill()
+        }
+    }
+
+    /// The terms of `answer`, where the words are this command.
+    fn answer(&self) -> Option<Terms>
+        ensures { Finds IsAnswer result self.now }
+    {
+        match self.items.as_slice() {
+            [first, rest @ ..] if first.as_str() == "answer" => read_terms(rest),
+            _ => None,
+        }
+    }
+
+    /// What `serve` is told, where the words are this command.
+    fn serve(&self) -> Option<ServeWords>
+        ensures { Finds IsServe result self.now }
+    {
+        match self.items.as_slice() {
+            [first, port, count, rest @ ..] if first.as_str() == "serve" => {
+                read_serve(port.as_str(), count.as_str(), rest)
+            }
+            _ => None,
         }
     }
 
@@ -115,4 +144,14 @@ impl Words {
             _ => false,
         }
     }
+}
+
+/// What `serve` is told by a port, a count, and the words that give its terms.
+fn read_serve(port: &str, count: &str, terms: &[String]) -> Option<ServeWords>
+    ensures { Finds (IsToldBy port.now count.now) result (map string_bytes terms.now) }
+{
+    let port = read_small(port)?;
+    let count = read_small(count)?;
+    let terms = read_terms(terms)?;
+    Some(ServeWords { port, count, terms })
 }

@@ -4,14 +4,14 @@ use Rattle.rmi_cli.proofs.answer_input.answer_input.Goals as goal
 
 pub returns-clause-serves : goal.returns-clause-serves
 returns-clause-serves g c =
-    serves_one _ _ _ _ _ _ _ _ _ _ c.in-Ok.ensures.terms c.in-Ok.ensures.drawn c.new-port.ensures.values.2 c.new-port.ensures.values.1 (c.new-port.ensures.values.0 ∙ c.in-Ok.ensures.space)
+    serves_one _ _ _ _ _ _ _ _ _ _ _ c.in-Ok.ensures.terms c.in-Ok.ensures.drawn c.new-port.ensures.values.2 c.new-port.ensures.values.1 (c.new-port.ensures.values.0 ∙ c.in-Ok.ensures.space)
     c.serve_connection.ensures.leads.2 c.serve_connection.ensures.dialogue refl c.new-worker.ensures.counters refl
 
 pub returns-clause-exact : goal.returns-clause-exact
-returns-clause-exact g c = serves_exactly _ _ _ _ _ _ _ c.in-Ok.ensures.terms c.in-Ok.ensures.drawn c.serve_connection.ensures.dialogue
+returns-clause-exact g c = serves_exactly _ _ _ _ _ _ _ _ c.in-Ok.ensures.terms c.in-Ok.ensures.drawn c.serve_connection.ensures.dialogue
 
 pub returns-in-Err-clause-serves : goal.returns-in-Err-clause-serves
-returns-in-Err-clause-serves g c = memory_at_once _ _ _
+returns-in-Err-clause-serves g c = memory_at_once _ _ _ _
 
 pub returns-in-Err-clause-exact : goal.returns-in-Err-clause-exact
-returns-in-Err-clause-exact g c = memory_unsettled _ _
+returns-in-Err-clause-exact g c = memory_unsettled _ _ _

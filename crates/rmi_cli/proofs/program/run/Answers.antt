@@ -1,23 +1,60 @@
-use Rattle.std.proofs.Common.{refl}
-use Rattle.rmi_cli.proofs.DrillWords.{no_drill, drills_asked}
-use Rattle.rmi_cli.proofs.Drilling.{drills_exactly}
-use Rattle.rmi_cli.proofs.Exactly.{told_settles}
-use Rattle.rmi_cli.proofs.Once.{replays_exactly}
-use Rattle.rmi_cli.proofs.ShownOnce.{shows_exactly}
-use Rattle.rmi_cli.specs.declared.words.Command.TheVariants.{Answer, Replay, Show, Drill}
+use Rattle.std.proofs.Common.{subst}
+use Rattle.rmi_cli.proofs.Named.{asked_fits}
+use Rattle.rmi_cli.proofs.Asked.{asked_once}
+use Rattle.rmi_cli.specs.Command.{AskFor}
+use Rattle.rmi_cli.specs.declared.words.Command.TheVariants.{Answer, Serve, Replay, Show, Drill}
 use Rattle.rmi_cli.proofs.program.run.Goals as goal
 
-pub returns-in-Some-Answer-clause-exact : goal.returns-in-Some-Answer-clause-exact
-returns-in-Some-Answer-clause-exact g c is = told_settles _ _ _ _ _ c.answer_input-end.ensures.exact c.told.ensures.told
+pub obey-requires-clause-limits : goal.obey-requires-clause-limits
+obey-requires-clause-limits g c κs within = asked_fits _ _ c.in-Some.ensures.asked
 
-pub returns-in-Some-Replay-clause-replay_exact : goal.returns-in-Some-Replay-clause-replay_exact
-returns-in-Some-Replay-clause-replay_exact g c is = replays_exactly _ _ _ _ c.replay_input-end.ensures.ends c.told-in-Some-Replay.ensures.told
+pub returns-in-Some-clause-answer : goal.returns-in-Some-clause-answer
+returns-in-Some-clause-answer g c terms is = c.obey.ensures.answer terms (asked_once _ _ (Answer terms) c.in-Some.ensures.asked is)
+
+pub returns-in-Some-clause-exact : goal.returns-in-Some-clause-exact
+returns-in-Some-clause-exact g c terms is = c.obey.ensures.exact terms (asked_once _ _ (Answer terms) c.in-Some.ensures.asked is)
+
+pub returns-in-Some-clause-serves : goal.returns-in-Some-clause-serves
+returns-in-Some-clause-serves g c serve is = c.obey.ensures.serves serve (asked_once _ _ (Serve serve) c.in-Some.ensures.asked is)
+
+pub returns-in-Some-clause-replay : goal.returns-in-Some-clause-replay
+returns-in-Some-clause-replay g c is = c.obey.ensures.replay (asked_once _ _ Replay c.in-Some.ensures.asked is)
+
+pub returns-in-Some-clause-replay_exact : goal.returns-in-Some-clause-replay_exact
+returns-in-Some-clause-replay_exact g c is = c.obey.ensures.replay_exact (asked_once _ _ Replay c.in-Some.ensures.asked is)
+
+pub returns-in-Some-clause-show : goal.returns-in-Some-clause-show
+returns-in-Some-clause-show g c is = c.obey.ensures.show (asked_once _ _ Show c.in-Some.ensures.asked is)
+
+pub returns-in-Some-clause-show_exact : goal.returns-in-Some-clause-show_exact
+returns-in-Some-clause-show_exact g c is = c.obey.ensures.show_exact (asked_once _ _ Show c.in-Some.ensures.asked is)
+
+pub returns-in-Some-clause-drill : goal.returns-in-Some-clause-drill
+returns-in-Some-clause-drill g c text seed rounds is = c.obey.ensures.drill text seed rounds (asked_once _ _ (Drill text seed rounds) c.in-Some.ensures.asked is)
+
+pub returns-in-Some-clause-drill_exact : goal.returns-in-Some-clause-drill_exact
+returns-in-Some-clause-drill_exact g c text seed rounds is = c.obey.ensures.drill_exact text seed rounds (asked_once _ _ (Drill text seed rounds) c.in-Some.ensures.asked is)
+
+pub returns-in-Some-clause-network_fault : goal.returns-in-Some-clause-network_fault
+returns-in-Some-clause-network_fault g c serve is = c.obey.ensures.network_fault serve (asked_once _ _ (Serve serve) c.in-Some.ensures.asked is)
+
+pub returns-in-Some-clause-clock : goal.returns-in-Some-clause-clock
+returns-in-Some-clause-clock g c not = c.obey.ensures.clock (λ terms is. not terms (subst (AskFor _) is c.in-Some.ensures.asked))
+
+pub returns-in-Some-clause-network : goal.returns-in-Some-clause-network
+returns-in-Some-clause-network g c not = c.obey.ensures.network (λ serve is. not serve (subst (AskFor _) is c.in-Some.ensures.asked))
+
+pub returns-in-Some-clause-read_fault : goal.returns-in-Some-clause-read_fault
+returns-in-Some-clause-read_fault g c not = c.obey.ensures.read_fault (λ serve is. not serve (subst (AskFor _) is c.in-Some.ensures.asked))
 
 pub returns-in-None-clause-answer : goal.returns-in-None-clause-answer
-returns-in-None-clause-answer g c is = absurd (c.in-None.ensures.none Answer is)
+returns-in-None-clause-answer g c terms is = absurd (c.in-None.ensures.none (Answer terms) is)
 
 pub returns-in-None-clause-exact : goal.returns-in-None-clause-exact
-returns-in-None-clause-exact g c is = absurd (c.in-None.ensures.none Answer is)
+returns-in-None-clause-exact g c terms is = absurd (c.in-None.ensures.none (Answer terms) is)
+
+pub returns-in-None-clause-serves : goal.returns-in-None-clause-serves
+returns-in-None-clause-serves g c serve is = absurd (c.in-None.ensures.none (Serve serve) is)
 
 pub returns-in-None-clause-replay : goal.returns-in-None-clause-replay
 returns-in-None-clause-replay g c is = absurd (c.in-None.ensures.none Replay is)
@@ -28,29 +65,8 @@ returns-in-None-clause-replay_exact g c is = absurd (c.in-None.ensures.none Repl
 pub returns-in-None-clause-show : goal.returns-in-None-clause-show
 returns-in-None-clause-show g c is = absurd (c.in-None.ensures.none Show is)
 
-pub returns-in-Some-Show-clause-show_exact : goal.returns-in-Some-Show-clause-show_exact
-returns-in-Some-Show-clause-show_exact g c is = shows_exactly _ _ _ _ c.show_input-end.ensures.exact c.told-in-Some-Show.ensures.told
-
 pub returns-in-None-clause-show_exact : goal.returns-in-None-clause-show_exact
 returns-in-None-clause-show_exact g c is = absurd (c.in-None.ensures.none Show is)
-
-pub returns-in-Some-Answer-clause-drill : goal.returns-in-Some-Answer-clause-drill
-returns-in-Some-Answer-clause-drill g c text seed rounds is = absurd (no_drill _ _ (rw c.in-Some-Answer.field-0-is at c.in-Some-Answer.ensures.asked) text seed rounds is)
-
-pub returns-in-Some-Answer-clause-drill_exact : goal.returns-in-Some-Answer-clause-drill_exact
-returns-in-Some-Answer-clause-drill_exact g c text seed rounds is = absurd (no_drill _ _ (rw c.in-Some-Answer.field-0-is at c.in-Some-Answer.ensures.asked) text seed rounds is)
-
-pub returns-in-Some-Replay-clause-drill : goal.returns-in-Some-Replay-clause-drill
-returns-in-Some-Replay-clause-drill g c text seed rounds is = absurd (no_drill _ _ (rw c.in-Some-Replay.field-0-is at c.in-Some-Replay.ensures.asked) text seed rounds is)
-
-pub returns-in-Some-Replay-clause-drill_exact : goal.returns-in-Some-Replay-clause-drill_exact
-returns-in-Some-Replay-clause-drill_exact g c text seed rounds is = absurd (no_drill _ _ (rw c.in-Some-Replay.field-0-is at c.in-Some-Replay.ensures.asked) text seed rounds is)
-
-pub returns-in-Some-Show-clause-drill : goal.returns-in-Some-Show-clause-drill
-returns-in-Some-Show-clause-drill g c text seed rounds is = absurd (no_drill _ _ (rw c.in-Some-Show.field-0-is at c.in-Some-Show.ensures.asked) text seed rounds is)
-
-pub returns-in-Some-Show-clause-drill_exact : goal.returns-in-Some-Show-clause-drill_exact
-returns-in-Some-Show-clause-drill_exact g c text seed rounds is = absurd (no_drill _ _ (rw c.in-Some-Show.field-0-is at c.in-Some-Show.ensures.asked) text seed rounds is)
 
 pub returns-in-None-clause-drill : goal.returns-in-None-clause-drill
 returns-in-None-clause-drill g c text seed rounds is = absurd (c.in-None.ensures.none (Drill text seed rounds) is)
@@ -58,28 +74,5 @@ returns-in-None-clause-drill g c text seed rounds is = absurd (c.in-None.ensures
 pub returns-in-None-clause-drill_exact : goal.returns-in-None-clause-drill_exact
 returns-in-None-clause-drill_exact g c text seed rounds is = absurd (c.in-None.ensures.none (Drill text seed rounds) is)
 
-pub returns-in-Some-Drill-clause-answer : goal.returns-in-Some-Drill-clause-answer
-returns-in-Some-Drill-clause-answer g c is = absurd (no_drill _ _ is c.in-Some-Drill.text c.in-Some-Drill.seed c.in-Some-Drill.rounds (rw c.in-Some-Drill.field-0-is at c.in-Some-Drill.ensures.asked))
-
-pub returns-in-Some-Drill-clause-exact : goal.returns-in-Some-Drill-clause-exact
-returns-in-Some-Drill-clause-exact g c is = absurd (no_drill _ _ is c.in-Some-Drill.text c.in-Some-Drill.seed c.in-Some-Drill.rounds (rw c.in-Some-Drill.field-0-is at c.in-Some-Drill.ensures.asked))
-
-pub returns-in-Some-Drill-clause-replay : goal.returns-in-Some-Drill-clause-replay
-returns-in-Some-Drill-clause-replay g c is = absurd (no_drill _ _ is c.in-Some-Drill.text c.in-Some-Drill.seed c.in-Some-Drill.rounds (rw c.in-Some-Drill.field-0-is at c.in-Some-Drill.ensures.asked))
-
-pub returns-in-Some-Drill-clause-replay_exact : goal.returns-in-Some-Drill-clause-replay_exact
-returns-in-Some-Drill-clause-replay_exact g c is = absurd (no_drill _ _ is c.in-Some-Drill.text c.in-Some-Drill.seed c.in-Some-Drill.rounds (rw c.in-Some-Drill.field-0-is at c.in-Some-Drill.ensures.asked))
-
-pub returns-in-Some-Drill-clause-show : goal.returns-in-Some-Drill-clause-show
-returns-in-Some-Drill-clause-show g c is = absurd (no_drill _ _ is c.in-Some-Drill.text c.in-Some-Drill.seed c.in-Some-Drill.rounds (rw c.in-Some-Drill.field-0-is at c.in-Some-Drill.ensures.asked))
-
-pub returns-in-Some-Drill-clause-show_exact : goal.returns-in-Some-Drill-clause-show_exact
-returns-in-Some-Drill-clause-show_exact g c is = absurd (no_drill _ _ is c.in-Some-Drill.text c.in-Some-Drill.seed c.in-Some-Drill.rounds (rw c.in-Some-Drill.field-0-is at c.in-Some-Drill.ensures.asked))
-
-pub returns-in-Some-Drill-clause-drill : goal.returns-in-Some-Drill-clause-drill
-returns-in-Some-Drill-clause-drill g c text seed rounds is =
-    drills_asked _ c.in-Some-Drill.text text c.in-Some-Drill.seed c.in-Some-Drill.rounds seed rounds _ _ _ (rw c.in-Some-Drill.field-0-is at c.in-Some-Drill.ensures.asked) is (c.write_drill-end.result, c.write_drill-end.ensures.ends, c.told-in-Some-Drill.ensures.told, refl)
-
-pub returns-in-Some-Drill-clause-drill_exact : goal.returns-in-Some-Drill-clause-drill_exact
-returns-in-Some-Drill-clause-drill_exact g c text seed rounds is =
-    drills_exactly text seed rounds _ _ _ (drills_asked _ c.in-Some-Drill.text text c.in-Some-Drill.seed c.in-Some-Drill.rounds seed rounds _ _ _ (rw c.in-Some-Drill.field-0-is at c.in-Some-Drill.ensures.asked) is (c.write_drill-end.result, c.write_drill-end.ensures.ends, c.told-in-Some-Drill.ensures.told, refl))
+pub returns-in-None-clause-network_fault : goal.returns-in-None-clause-network_fault
+returns-in-None-clause-network_fault g c serve is = absurd (c.in-None.ensures.none (Serve serve) is)

@@ -1,0 +1,210 @@
+//! `serve` over the program's listener and output.
+ghost use Rattle.std.specs.Prelude.{◌≡◌, ◌≢◌, ◌≤◌, codes, length, IfOk, IfSome};
+ghost use Rattle.mod_utf.specs.Utf.{utf};
+ghost use Rattle.wire_io.specs.Wire.{Rose};
+ghost use Rattle.history.specs.Outline.{outline};
+ghost use Rattle.turn_lock.specs.Handles.{IsFresh, opening_of};
+ghost use Rattle.sample_app.specs.Kinds.{sample_kinds};
+ghost use Rattle.rmi_cli.specs.Line.{status_of_run};
+ghost use Rattle.rmi_cli.specs.Opening.{served_opening};
+ghost use Rattle.rmi_cli.specs.Terms.{IsServed};
+ghost use Rattle.rmi_cli.specs.ServedLinks.{serve_plan, heard, IsSampleLink, ListensAlone, ServesLinks, EndsServed, ServeEnds};
+
+use crate::end::RunEnd;
+use crate::opening::opened_space;
+use crate::terms::ServeWords;
+use call_dispatch::Book;
+use conn_server::{Report, ServePlan, Stop, serve};
+use mod_utf::list::Units;
+use sample_app::sample_book;
+use sample_server::{SampleCrew, SampleHand};
+use space::{Space, outline};
+use std::alloc::{AllocError, Global};
+use std::sync::Wait;
+use std::thread::Threads;
+use turn_lock::{Root, TurnLock};
+use wire_io::put::put_all;
+use wire_io::{Listener, Sink};
+
+/// What was served, where it came to that, and how the run ends.
+#[derive(Drop)]
+pub struct Served<I, O, T, H> {
+    pub end: RunEnd,
+    pub report: Option<Report<I, O, T, H>>,
+}
+
+/// What links are served with: who does the calls, the kinds of objects, what the server is told, and the sample space in its lock.
+#[derive(Drop)]
+struct Stage<'t, R: Wait + Sync> {
+    crew: SampleCrew<'t, R>,
+    book: Book,
+    plan: ServePlan,
+    lock: TurnLock,
+    root: Root,
+}
+
+/// Listens on the port, serves as many links over a sample space of its own, and writes the outline of the space that is left. Identifiers are made
+/// from the seed.
+pub fn serve_input<'t, R: Threads + Wait + Sync, L: Listener, K: Sink>(
+    rt: &'t R,
+    alloc: Global,
+    listener: &mut L,
+    sink: &mut K,
+    seed: &[u64; 4],
+    words: &ServeWords,
+) -> Served<L::In, L::Out, L::Ticks, SampleHand<'t, R>>
+    requires { IsServed words.now }
+    ensures served { IfSome result.report (ServesLinks (IsSampleLink L.In.left L.Out.held L.Ticks.given (serve_plan seed.now words.now))
+        (served_opening seed.now words.now.terms) words.now.count (L.accepted listener.old) (L.accepted listener.new)) }
+    ensures alone { ListensAlone words.now.port (heard L.ports L.accepted listener.old) (heard L.ports L.accepted listener.new) result.report }
+    ensures ends { ServeEnds (K.held sink.old) (K.held sink.new) result.report result.end }
+    ensures known { status_of_run result.end ≢ 1 }
+    ensures fault { status_of_run result.end ≡ 3 → Rose (L.faults listener.old) (L.faults listener.new) }
+    ensures write_fault { status_of_run result.end ≡ 4 → Rose (K.faults sink.old) (K.faults sink.new) }
+{
+    match stage_of(rt, alloc, seed, words) {
+        Ok(stage) => serve_on(rt, alloc, listener, sink, stage, words.port),
+        Err(_refused) => unserved(RunEnd::OutOfMemory),
+    }
+}
+
+/// Listens on the port, serves the links, and writes the outline.
+fn serve_on<'t, R: Threads + Wait + Sync, L: Listener, K: Sink>(
+    rt: &'t R,
+    alloc: Global,
+    listener: &mut L,
+    sink: &mut K,
+    stage: Stage<'t, R>,
+    port: u16,
+) -> Served<L::In, L::Out, L::Ticks, SampleHand<'t, R>>
+    requires fresh { IsFresh stage.lock stage.root }
+    requires few { stage.plan.count ≤ 65535 }
+    requires host { length (utf stage.plan.host) ≤ 255 }
+    requires book { stage.book ≡ sample_kinds }
+    ensures served { IfSome result.report (ServesLinks (IsSampleLink L.In.left L.Out.held L.Ticks.given stage.entry.plan)
+        (opening_of stage.entry.lock) stage.entry.plan.count (L.accepted listener.old) (L.accepted listener.new)) }
+    ensures alone { ListensAlone port (heard L.ports L.accepted listener.old) (heard L.ports L.accepted listener.new) result.report }
+    ensures ends { ServeEnds (K.held sink.old) (K.held sink.new) result.report result.end }
+    ensures known { status_of_run result.end ≢ 1 }
+    ensures fault { status_of_run result.end ≡ 3 → Rose (L.faults listener.old) (L.faults listener.new) }
+    ensures write_fault { status_of_run result.end ≡ 4 → Rose (K.faults sink.old) (K.faults sink.new) }
+{
+    if listener.listen(port).is_err() {
+        return unserved(RunEnd::ListenFault);
+    }
+    let report = serve_links(rt, alloc, listener, stage);
+    let end = print_outline(alloc, sink, &report.space, report.stop);
+    Served {
+        end,
+        report: Some(report),
+    }
+}
+
+/// Serves the links that the listener gives.
+fn serve_links<'t, R: Threads + Wait + Sync, L: Listener>(
+    rt: &'t R,
+    alloc: Global,
+    listener: &mut L,
+    stage: Stage<'t, R>,
+) -> Report<L::In, L::Out, L::Ticks, SampleHand<'t, R>>
+    requires fresh { IsFresh stage.lock stage.root }
+    requires few { stage.plan.count ≤ 65535 }
+    requires host { length (utf stage.plan.host) ≤ 255 }
+    requires book { stage.book ≡ sample_kinds }
+    ensures served { ServesLinks (IsSampleLink L.In.left L.Out.held L.Ticks.given stage.entry.plan)
+        (opening_of stage.entry.lock) stage.entry.plan.count (L.accepted listener.old) (L.accepted listener.new) result }
+    ensures ports { L.ports listener.new ≡ L.ports listener.old }
+    ensures fault { result.stop ≡ Stop.AcceptFault → Rose (L.faults listener.old) (L.faults listener.new) }
+    ensures faults { L.faults listener.old ≤ L.faults listener.new }
+{
+    let Stage {
+        crew,
+        book,
+        plan,
+        lock,
+        root,
+    } = stage;
+    serve(rt, alloc, listener, &crew, &book, lock, root, &plan)
+}
+
+/// Nothing was served.
+fn unserved<I, O, T, H>(end: RunEnd) -> Served<I, O, T, H>
+    ensures { (result.end ≡ end) × (result.report ≡ None) }
+{
+    Served { end, report: None }
+}
+
+/// Writes the outline of the space that is left, and answers how the run ends: as the stop says where that isn't All, and else as the writing does.
+fn print_outline<K: Sink>(alloc: Global, sink: &mut K, space: &Space, stop: Stop) -> RunEnd
+    ensures ends { EndsServed (K.held sink.old) (K.held sink.new) (outline space.now.configuration space.now.events) stop result }
+    ensures fault { result ≡ RunEnd.WriteFault → Rose (K.faults sink.old) (K.faults sink.new) }
+{
+    let written = match outline(alloc, space) {
+        Ok(text) => match put_all(sink, text.as_slice()) {
+            Ok(()) => RunEnd::Done,
+            Err(_) => RunEnd::WriteFault,
+        },
+        Err(_refused) => RunEnd::OutOfMemory,
+    };
+    match stop {
+        Stop::All => written,
+        Stop::AcceptFault => RunEnd::AcceptFault,
+        Stop::OutOfMemory => RunEnd::OutOfMemory,
+    }
+}
+
+/// What links are served with.
+fn stage_of<'t, R: Wait + Sync>(
+    rt: &'t R,
+    alloc: Global,
+    seed: &[u64; 4],
+    words: &ServeWords,
+) -> Result<Stage<'t, R>, AllocError>
+    requires { IsServed words.now }
+    ensures book { IfOk result (λ stage. stage.book ≡ sample_kinds) }
+    ensures plan { IfOk result (λ stage. stage.plan ≡ serve_plan seed.now words.now) }
+    ensures fresh { IfOk result (λ stage. IsFresh stage.lock stage.root) }
+    ensures opening { IfOk result (λ stage. opening_of stage.lock ≡ served_opening seed.now words.now.terms) }
+{
+    let crew = SampleCrew::new(rt, alloc)?;
+    let book = sample_book(alloc)?;
+    let plan = plan_of(alloc, seed, words)?;
+    let (lock, root) = lock_of(alloc, seed, words)?;
+    Ok(Stage {
+        crew,
+        book,
+        plan,
+        lock,
+        root,
+    })
+}
+
+/// The sample space in its lock, and the lock's root.
+fn lock_of(
+    alloc: Global,
+    seed: &[u64; 4],
+    words: &ServeWords,
+) -> Result<(TurnLock, Root), AllocError>
+    requires { IsServed words.now }
+    ensures fresh { IfOk result (λ t. IsFresh t.0 t.1) }
+    ensures opening { IfOk result (λ t. opening_of t.0 ≡ served_opening seed.now words.now.terms) }
+{
+    let space = opened_space(alloc, seed, words.terms)?;
+    match TurnLock::around(alloc, space) {
+        Ok(made) => Ok(made),
+        Err(_space) => Err(AllocError),
+    }
+}
+
+/// What the server is told.
+fn plan_of(alloc: Global, seed: &[u64; 4], words: &ServeWords) -> Result<ServePlan, AllocError>
+    ensures { IfOk result (λ plan. plan ≡ serve_plan seed.now words.now) }
+{
+    Ok(ServePlan {
+        count: u32::from(words.count),
+        host: Units::from_ascii(alloc, b"127.0.0.1")?,
+        port: i32::from(words.port),
+        binding: words.terms.binding,
+        seed: *seed,
+    })
+}
