@@ -451,9 +451,9 @@ fn a_clock_that_fails_gives_its_last_moment(rt: HostRuntime) {
 }
 
 /// How many bytes are taken of these up to a limit: 99,999 where they pass it.
-fn taken_of(rt: &impl Abort, alloc: Global, bytes: &[u8], limit: usize) -> usize {
+fn taken_of(rt: &impl Abort, alloc: Global, bytes: &[u8], limit: u16) -> usize {
     let mut source = source_of(rt, alloc, bytes, "3 0 4096", "");
-    match take_whole(alloc, &mut source, limit) {
+    match take_whole(alloc, &mut source, usize::from(limit)) {
         Ok(taken) => taken.len(),
         Err(_) => 99_999,
     }
@@ -462,7 +462,7 @@ fn taken_of(rt: &impl Abort, alloc: Global, bytes: &[u8], limit: usize) -> usize
 /// Takes the bytes that words spell, up to a limit.
 fn check_whole(rt: &impl Abort, alloc: Global, words: &str, limit: u16, wanted: usize) {
     let bytes = bytes_of(rt, alloc, words);
-    let found = taken_of(rt, alloc, bytes.as_slice(), usize::from(limit));
+    let found = taken_of(rt, alloc, bytes.as_slice(), limit);
     must(rt, found == wanted, words);
 }
 
