@@ -5,6 +5,7 @@ use rmi_cli::{Host, Words, run};
 use std::io;
 use std::process::ExitCode;
 use wire_io::edge::{StdClock, StdSink, StdSource};
+use wire_io::tcp::TcpListen;
 
 fn main(rt: HostRuntime) -> io::Result<ExitCode> {
     let alloc = rt.alloc();
@@ -15,7 +16,8 @@ fn main(rt: HostRuntime) -> io::Result<ExitCode> {
         output: StdSink::new(rt.stdout()),
         errors: StdSink::new(rt.stderr()),
         ticks: StdClock::new(&rt),
+        listener: TcpListen::new(alloc, &rt),
         seed: [1, 2, 3, 4],
     };
-    Ok(ExitCode::from(run(alloc, &Words::from_vec(words), &mut host)))
+    Ok(ExitCode::from(run(&rt, alloc, &Words::from_vec(words), &mut host)))
 }

@@ -1,5 +1,5 @@
 //! What `answer` writes, and how it ends.
-use crate::hosts::{
+use crate::hosts::{Runs, 
     MemHost, check_fronts, check_table, cut_by, host_of, is_line, must, run_line, sink_of,
 };
 use crate::texts::bytes_of;
@@ -91,7 +91,7 @@ fn opening_host(rt: &impl Abort, alloc: Global) -> MemHost {
 }
 
 /// Runs words that are no command line.
-fn check_usage(rt: &impl Abort, alloc: Global, line: &str) {
+fn check_usage(rt: &impl Runs, alloc: Global, line: &str) {
     let mut host = opening_host(rt, alloc);
     let status = run_line(rt, alloc, line, &mut host);
     must(rt, status == 1, line);
@@ -128,7 +128,7 @@ fn other_words_are_no_command_line(rt: HostRuntime) {
 }
 
 /// Runs a word where the line on errors can't be written.
-fn check_untold(rt: &impl Abort, alloc: Global, word: &str, wanted: u8) {
+fn check_untold(rt: &impl Runs, alloc: Global, word: &str, wanted: u8) {
     let mut host = opening_host(rt, alloc);
     host.errors = sink_of(rt, alloc, "0");
     let status = run_line(rt, alloc, word, &mut host);

@@ -1,5 +1,5 @@
 //! What `drill` and `journal` print.
-use crate::hosts::{Outside, check_words, copied, cut_by, host_of, must, run_line};
+use crate::hosts::{Runs, Outside, check_words, copied, cut_by, host_of, must, run_line};
 use crate::texts::cut;
 use journal::split_line;
 use mod_utf::list::ByteList;
@@ -17,7 +17,7 @@ drill 1 1 | | 4 write fault | 0
 journal 1 1 | | 4 write fault | 0";
 
 /// Runs a line of the table.
-fn check_drill(rt: &impl Abort, alloc: Global, line: &str) {
+fn check_drill(rt: &impl Runs, alloc: Global, line: &str) {
     let (words, rest) = cut(line, '|');
     let (output, rest) = cut(rest, '|');
     let (told, failing_writes) = cut(rest, '|');
@@ -38,7 +38,7 @@ fn each_drill_is_printed(rt: HostRuntime) {
 }
 
 /// What words print over an input.
-fn printed(rt: &impl Abort, alloc: Global, words: &str, input: &[u8]) -> ByteList {
+fn printed(rt: &impl Runs, alloc: Global, words: &str, input: &[u8]) -> ByteList {
     let mut host = host_of(rt, alloc, input, cut_by("-"));
     let status = run_line(rt, alloc, words, &mut host);
     must(rt, status == 0, words);

@@ -4,10 +4,23 @@ use mod_utf::list::{ByteList, Kinds};
 use rmi_cli::{Host, Words, run};
 use std::alloc::Global;
 use std::process::Abort;
+use std::sync::Wait;
+use std::thread::Threads;
+use wire_io::listener::{MemLinks, MemListener};
 use wire_io::mem::{MemClock, MemSink, MemSource};
 
 /// A host over streams in memory.
-pub(crate) type MemHost = Host<MemSource, MemSink, MemSink, MemClock>;
+pub(crate) type MemHost = Host<MemSource, MemSink, MemSink, MemClock, MemListener>;
+
+/// What the program runs on: it may start threads and wait, and a test may stop.
+pub(crate) trait Runs: Abort + Threads + Wait + Sync {}
+
+impl<R: Abort + Threads + Wait + Sync> Runs for R {}
+
+/// A network that gives no connections.
+pub(crate) fn silent(alloc: Global) -> MemListener {
+    MemListener::new(alloc, MemLinks::new(alloc))
+}
 
 /// The seed of the tests' hosts.
 pub(crate) const SEED: [u64; 4] = [5, 6, 7, 9];
@@ -88,12 +101,13 @@ pub(crate) fn host_over<I, O>(
     input: I,
     output: O,
     moments: &str,
-) -> Host<I, O, MemSink, MemClock> {
+) -> Host<I, O, MemSink, MemClock, MemListener> {
     Host {
         input,
         output,
         errors: sink_of(rt, alloc, ""),
         ticks: MemClock::new(moments_of(rt, alloc, moments)),
+        listener: silent(alloc),
         seed: SEED,
     }
 }
@@ -125,9 +139,9 @@ pub(crate) fn words_of(rt: &impl Abort, alloc: Global, line: &str) -> Words {
 }
 
 /// Runs the program with the words of a line over this host, and answers its status.
-pub(crate) fn run_line(rt: &impl Abort, alloc: Global, line: &str, host: &mut MemHost) -> u8 {
+pub(crate) fn run_line(rt: &impl Runs, alloc: Global, line: &str, host: &mut MemHost) -> u8 {
     let words = words_of(rt, alloc, line);
-    run(alloc, &words, host)
+    run(rt, alloc, &words, host)
 }
 
 /// Whether these bytes are a line, or nothing where the line is empty.
@@ -147,7 +161,7 @@ fn check_host(rt: &impl Abort, host: &MemHost, output: &[u8], line: &str) {
 /// Runs the program with one word over this input, and looks whether it wrote this output and ended as told, by a status and a line.
 /// It answers how many bytes are left.
 pub(crate) fn check(
-    rt: &impl Abort,
+    rt: &impl Runs,
     alloc: Global,
     command: &str,
     input: &[u8],
@@ -172,7 +186,7 @@ fn check_left(rt: &impl Abort, left: usize, wanted: &str) {
 
 /// Runs a line of a table, cut in one way: the input; the output; how many bytes are left, where that is told; the status and the line on
 /// the errors' sink; the indices of the reads and of the writes that fail; and the moments of the turns.
-fn check_line(rt: &impl Abort, alloc: Global, command: &str, pieces: &str, line: &str) {
+fn check_line(rt: &impl Runs, alloc: Global, command: &str, pieces: &str, line: &str) {
     let (input, rest) = cut(line, '|');
     let (output, rest) = cut(rest, '|');
     let (left, rest) = cut(rest, '|');
@@ -191,7 +205,7 @@ fn check_line(rt: &impl Abort, alloc: Global, command: &str, pieces: &str, line:
 
 /// Runs the program over the bytes that words spell.
 pub(crate) fn check_words(
-    rt: &impl Abort,
+    rt: &impl Runs,
     alloc: Global,
     command: &str,
     input: &str,
@@ -213,7 +227,7 @@ pub(crate) fn check_words(
 }
 
 /// Runs each line of a table, cut in each of these ways.
-pub(crate) fn check_table(rt: &impl Abort, alloc: Global, command: &str, cuts: &str, table: &str) {
+pub(crate) fn check_table(rt: &impl Runs, alloc: Global, command: &str, cuts: &str, table: &str) {
     for line in table.split('\n') {
         for pieces in cuts.split(' ') {
             check_line(rt, alloc, command, pieces, line);
@@ -222,7 +236,7 @@ pub(crate) fn check_table(rt: &impl Abort, alloc: Global, command: &str, cuts: &
 }
 
 /// Runs `answer` over the first so many bytes, which is cut short.
-fn check_front(rt: &impl Abort, alloc: Global, front: &[u8], cut: &str, output: &[u8]) {
+fn check_front(rt: &impl Runs, alloc: Global, front: &[u8], cut: &str, output: &[u8]) {
     let len = front.len();
     match format!(in alloc; "2 truncated at {len}") {
         Ok(told) => {
@@ -235,7 +249,7 @@ fn check_front(rt: &impl Abort, alloc: Global, front: &[u8], cut: &str, output: 
 
 /// Runs `answer` over each front of some words, from a length on, which is cut short.
 pub(crate) fn check_fronts(
-    rt: &impl Abort,
+    rt: &impl Runs,
     alloc: Global,
     words: &str,
     from: usize,

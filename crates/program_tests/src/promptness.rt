@@ -1,7 +1,7 @@
 //! Each answer is written before the next byte is asked for.
 ghost use Rattle.std.specs.Prelude.{None};
 
-use crate::hosts::{host_over, must, words_of};
+use crate::hosts::{Runs, host_over, must, words_of};
 use crate::texts::{bytes_of, cut, put_words};
 use mod_utf::list::{ByteList, Kinds};
 use rmi_cli::run;
@@ -123,15 +123,15 @@ fn due_of(rt: &impl Abort, alloc: Global) -> Kinds {
 }
 
 /// Serves the input, and answers the status and how many bytes were read.
-fn serve(rt: &impl Abort, alloc: Global, input: Asking<'_>, written: &Cell<usize>) -> (u8, usize) {
+fn serve(rt: &impl Runs, alloc: Global, input: Asking<'_>, written: &Cell<usize>) -> (u8, usize) {
     let words = words_of(rt, alloc, "answer");
     let mut host = host_over(rt, alloc, input, Counting { written }, "");
-    let status = run(alloc, &words, &mut host);
+    let status = run(rt, alloc, &words, &mut host);
     (status, host.input.at)
 }
 
 /// Serves the messages, and looks whether each answer was written in time.
-fn check(rt: &impl Abort, alloc: Global) {
+fn check(rt: &impl Runs, alloc: Global) {
     let written = Cell::new(0);
     let early = Cell::new(0);
     let input = input_of(rt, alloc);

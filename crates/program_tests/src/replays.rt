@@ -1,5 +1,5 @@
 //! What `replay` prints, and how it ends.
-use crate::hosts::{check, check_table, copied, cut_by, must, put};
+use crate::hosts::{Runs, check, check_table, copied, cut_by, must, put};
 use std::alloc::Global;
 use std::process::Abort;
 
@@ -427,7 +427,7 @@ object 16 kind 1 pinned running 0 awaiting 0 held 0 names 0
 withdrawn 17 place 7";
 
 /// Replays a journal that has an outline, of which the last LF was left out here, whole and in pieces of 7 bytes.
-fn check_outline(rt: &impl Abort, alloc: Global, journal: &str, outline: &str) {
+fn check_outline(rt: &impl Runs, alloc: Global, journal: &str, outline: &str) {
     let mut output = copied(rt, alloc, outline.as_bytes());
     put(rt, &mut output, b"\n");
     for cut in "- 7".split(' ') {

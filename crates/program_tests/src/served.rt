@@ -1,5 +1,5 @@
 //! Calls of the sample's objects, from their bytes to those that answer them.
-use crate::hosts::{check, check_fronts, check_table, cut_by, put};
+use crate::hosts::{Runs, check, check_fronts, check_table, cut_by, put};
 use crate::texts::{bytes_of, cut, number_of, push};
 use mod_utf::list::ByteList;
 use std::alloc::Global;
@@ -61,7 +61,7 @@ fn changed(rt: &impl Abort, alloc: Global, at: usize) -> ByteList {
 }
 
 /// Serves a changed call byte by byte. A changed number comes back.
-fn check_changed(rt: &impl Abort, alloc: Global, input: &[u8], written: &str, told: &str) {
+fn check_changed(rt: &impl Runs, alloc: Global, input: &[u8], written: &str, told: &str) {
     let mut output = bytes_of(rt, alloc, written);
     if told == "0 ended" {
         put(rt, &mut output, input.get(56..).unwrap_or(&[]));
@@ -71,7 +71,7 @@ fn check_changed(rt: &impl Abort, alloc: Global, input: &[u8], written: &str, to
 }
 
 /// Serves the calls of a line, and answers the place after them, where they begin at this one.
-fn check_places(rt: &impl Abort, alloc: Global, line: &str, from: u32) -> u32 {
+fn check_places(rt: &impl Runs, alloc: Global, line: &str, from: u32) -> u32 {
     let (places, rest) = cut(line, '|');
     let (written, told) = cut(rest, '|');
     let (first, last) = cut(places, ' ');

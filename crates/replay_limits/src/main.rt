@@ -10,7 +10,9 @@ use rmi_cli::{Host, Words, run};
 use std::alloc::{AllocError, Global};
 use std::io;
 use std::io::Write;
-use wire_io::{MemClock, MemSink, MemSource};
+use std::sync::Wait;
+use std::thread::Threads;
+use wire_io::{MemClock, MemLinks, MemListener, MemSink, MemSource};
 
 const FIRST_LINE: &[u8] = b"space 600000 300000 7 9\n";
 
@@ -102,7 +104,8 @@ fn paired(alloc: Global) -> Result<ByteList, AllocError> {
 }
 
 /// Replays a journal with a further piece, and prints what is written and answered.
-fn show<W: Write>(
+fn show<R: Threads + Wait + Sync, W: Write>(
+    rt: &R,
     alloc: Global,
     out: &mut W,
     what: &str,
@@ -116,33 +119,42 @@ fn show<W: Write>(
         output: MemSink::new(alloc, Kinds::new(alloc)),
         errors: MemSink::new(alloc, Kinds::new(alloc)),
         ticks: MemClock::new(MomentList::new(alloc)),
+        listener: MemListener::new(alloc, MemLinks::new(alloc)),
         seed: [0; 4],
     };
-    let status = run(alloc, &Words::from_vec(words), &mut host);
+    let status = run(rt, alloc, &Words::from_vec(words), &mut host);
     writeln!(out, "{what}: {status}")?;
     out.write_all(host.output.held())?;
     out.write_all(host.errors.held())
 }
 
 /// The last units of a history: they are enough for a tick, and not for one more dirty.
-fn history<W: Write>(alloc: Global, out: &mut W) -> io::Result<()> {
+fn history<R: Threads + Wait + Sync, W: Write>(
+    rt: &R,
+    alloc: Global,
+    out: &mut W,
+) -> io::Result<()> {
     let journal = nearly_full(alloc)?;
     let dirty = long_dirty(alloc)?;
-    show(alloc, out, "History 4128832", &journal, b"1 0 tick\n")?;
-    show(alloc, out, "History 4194368", &journal, dirty.as_slice())
+    show(rt, alloc, out, "History 4128832", &journal, b"1 0 tick\n")?;
+    show(rt, alloc, out, "History 4194368", &journal, dirty.as_slice())
 }
 
 /// A pair that is remembered is taken, so that the line after it is told as bad; one more pair is refused.
-fn pairs<W: Write>(alloc: Global, out: &mut W) -> io::Result<()> {
+fn pairs<R: Threads + Wait + Sync, W: Write>(
+    rt: &R,
+    alloc: Global,
+    out: &mut W,
+) -> io::Result<()> {
     let journal = paired(alloc)?;
     let again = b"1 0 clean -@0/0/0 2 strong 16\ntack\n";
     let more = b"1 0 clean -@512/0/0 1 strong 16\n";
-    show(alloc, out, "Pairs 262144", &journal, again)?;
-    show(alloc, out, "Pairs 262145", &journal, more)
+    show(rt, alloc, out, "Pairs 262144", &journal, again)?;
+    show(rt, alloc, out, "Pairs 262145", &journal, more)
 }
 
 fn main(rt: HostRuntime) -> io::Result<()> {
     let mut out = rt.stdout();
-    history(rt.alloc(), &mut out)?;
-    pairs(rt.alloc(), &mut out)
+    history(&rt, rt.alloc(), &mut out)?;
+    pairs(&rt, rt.alloc(), &mut out)
 }
