@@ -35,3 +35,5 @@ mod system_rows;
 mod texts;
 #[cfg(test)]
 mod wires;
+#[cfg(test)]
+mod words;
