@@ -1,6 +1,6 @@
 //! What `answer` writes, and how it ends.
-use crate::hosts::{Runs, 
-    MemHost, check_fronts, check_table, cut_by, host_of, is_line, must, run_line, sink_of,
+use crate::hosts::{
+    MemHost, Runs, check_fronts, check_table, cut_by, host_of, is_line, must, run_line, sink_of,
 };
 use crate::texts::bytes_of;
 use std::alloc::Global;

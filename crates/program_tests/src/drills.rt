@@ -1,5 +1,5 @@
 //! What `drill` and `journal` print.
-use crate::hosts::{Runs, Outside, check_words, copied, cut_by, host_of, must, run_line};
+use crate::hosts::{Outside, Runs, check_words, copied, cut_by, host_of, must, run_line};
 use crate::texts::cut;
 use journal::split_line;
 use mod_utf::list::ByteList;

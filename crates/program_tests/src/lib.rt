@@ -26,6 +26,8 @@ mod replays;
 #[cfg(test)]
 mod served;
 #[cfg(test)]
+mod serves;
+#[cfg(test)]
 mod setups;
 #[cfg(test)]
 mod shows;

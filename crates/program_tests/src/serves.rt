@@ -1,0 +1,157 @@
+//! Connections in memory that the program serves.
+ghost use Rattle.std.specs.Prelude.{◌≤◌, length, IsTrue};
+ghost use Rattle.mod_utf.specs.Utf.{utf};
+
+use crate::hosts::{MemHost, Runs, cut_by, host_of, is_line, must, put, run_line, sink_of};
+use crate::texts::{bytes_of, cut, number_of};
+use mod_utf::list::{ByteList, Kinds, MomentList, Units};
+use mod_utf::utf::encoded_len;
+use std::alloc::Global;
+use std::marker::Model;
+use std::process::Abort;
+use wire_io::mem::{MemClock, MemSink, MemSource};
+use wire_io::{Link, MemLinks, MemListener};
+
+// A line is a run: the program's words; which of the output's writes fail; what each connection sends, between commas; how many connections are
+// taken; the status and the line on the errors' sink; the first line of the outline, where one is printed; and the line of an object that was made.
+
+/// One connection, well or with bytes that are no message; two, of which one has a counter made and never tells that it came; fewer than were to be
+/// served; and an output that fails.
+const RUNS: &str = "serve 1099 1 | | opening ping | 1 | 0 | events 7 units 7 now 0 |
+serve 1099 1 open 5 6 | | opening FF | 1 | 0 | events 7 units 7 now 0 |
+serve 1099 2 | | opening make, opening ping | 2 | 0 | events 10 units 11 now 0 | object 19 kind 1 free running 0 awaiting 1 held 0 names 0
+serve 1099 1 | | opening ping, opening ping | 1 | 0 | events 7 units 7 now 0 |
+serve 1099 3 closed | | opening ping, opening ping | 2 | 3 accept fault | events 8 units 8 now 0 |
+serve 1099 1 | 0 | opening ping | 1 | 4 write fault | |";
+
+/// The outline's lines of the sample's objects.
+const OBJECTS: &[u8] = b"object 16 kind 0 pinned running 0 awaiting 0 held 0 names 1
+object 17 kind 1 pinned running 0 awaiting 0 held 0 names 1
+object 18 kind 2 pinned running 0 awaiting 0 held 0 names 1
+";
+
+/// The outline's lines of the sample's names.
+const NAMES: &[u8] = b"name \"echo\" 16
+name \"counter\" 17
+name \"maker\" 18
+";
+
+/// Appends a line, where it isn't empty.
+fn put_line(rt: &impl Abort, bytes: &mut ByteList, line: &str) {
+    if !line.is_empty() {
+        put(rt, bytes, line.as_bytes());
+        put(rt, bytes, b"\n");
+    }
+}
+
+/// What is printed, by the outline's first line and the line of an object that was made.
+fn outline_of(rt: &impl Abort, alloc: Global, first: &str, made: &str) -> ByteList {
+    let mut bytes = ByteList::new(alloc);
+    if !first.is_empty() {
+        put_line(rt, &mut bytes, first);
+        put(rt, &mut bytes, OBJECTS);
+        put_line(rt, &mut bytes, made);
+        put(rt, &mut bytes, NAMES);
+    }
+    bytes
+}
+
+/// Whether a host has few enough bytes.
+fn is_short(host: &Units) -> bool
+    ensures { IsTrue result → length (utf host.now) ≤ 255 }
+{
+    encoded_len(host) <= 255
+}
+
+/// Connections of which no half failed yet.
+#[derive(Drop)]
+struct Network {
+    links: MemLinks,
+}
+
+impl Model for Network {
+    ghost use Rattle.std.specs.Prelude.{ℕ, length};
+    ghost use Rattle.std.specs.List.{AllByRecursion};
+    ghost use Rattle.wire_io.specs.Links.{IsNew};
+
+    ghost Value = { ℕ };
+
+    ghost view = { λ n. length n.links };
+
+    ghost invariant = { λ n. AllByRecursion IsNew n.links };
+}
+
+impl Network {
+    /// No connections.
+    fn new(alloc: Global) -> Network {
+        let links = MemLinks::new(alloc);
+        Network { links }
+    }
+
+    /// Adds a connection that sends these bytes.
+    fn add(&mut self, rt: &impl Abort, alloc: Global, words: &str) {
+        let Ok(host) = Units::from_ascii(alloc, b"127.0.0.1") else {
+            return must(rt, false, "memory");
+        };
+        if !is_short(&host) {
+            return;
+        }
+        let bytes = bytes_of(rt, alloc, words);
+        let added = self.links.push(Link {
+            source: MemSource::new(bytes, Kinds::new(alloc), Kinds::new(alloc)),
+            sink: MemSink::new(alloc, Kinds::new(alloc)),
+            clock: MemClock::new(MomentList::new(alloc)),
+            host,
+            port: 1234,
+        });
+        must(rt, added.is_ok(), "memory");
+    }
+
+    /// The listener that gives these connections.
+    fn listener(self, alloc: Global) -> MemListener {
+        let Network { links } = self;
+        MemListener::new(alloc, links)
+    }
+}
+
+/// The listener that gives the connections of a line.
+fn listener_of(rt: &impl Abort, alloc: Global, inputs: &str) -> MemListener {
+    let mut network = Network::new(alloc);
+    for input in inputs.split(',') {
+        network.add(rt, alloc, input);
+    }
+    network.listener(alloc)
+}
+
+/// Looks at what a host holds after a run.
+fn check_after(rt: &impl Abort, host: &MemHost, taken: u32, told: &str, output: &[u8]) {
+    must(rt, is_line(host.errors.held(), told), told);
+    must(rt, host.output.held() == output, "output");
+    must(rt, host.listener.accepted() == taken as usize, "accepted");
+    must(rt, host.listener.ports() == [1099].as_slice(), "ports");
+}
+
+/// Runs a line.
+fn check_run(rt: &impl Runs, alloc: Global, line: &str) {
+    let (words, rest) = cut(line, '|');
+    let (failing, rest) = cut(rest, '|');
+    let (inputs, rest) = cut(rest, '|');
+    let (taken, rest) = cut(rest, '|');
+    let (told, rest) = cut(rest, '|');
+    let (first, made) = cut(rest, '|');
+    let (status, told) = cut(told, ' ');
+    let mut host = host_of(rt, alloc, b"", cut_by("-"));
+    host.output = sink_of(rt, alloc, failing);
+    host.listener = listener_of(rt, alloc, inputs);
+    let ended = run_line(rt, alloc, words, &mut host);
+    must(rt, u32::from(ended) == number_of(rt, status), line);
+    let output = outline_of(rt, alloc, first, made);
+    check_after(rt, &host, number_of(rt, taken), told, output.as_slice());
+}
+
+#[test]
+fn connections_are_served_and_the_outline_is_printed(rt: HostRuntime) {
+    for line in RUNS.split('\n') {
+        check_run(&rt, rt.alloc(), line);
+    }
+}
