@@ -29,13 +29,24 @@ pub fn sample_space(alloc: Global, config: &SpaceConfig) -> Result<Space, Refuse
     ensures err { IfErr result (λ refused. refused ≡ OutOfMemory) }
 {
     let mut space = Space::fresh(alloc, config);
-    open(&mut space, 0)?;
-    open(&mut space, 1)?;
-    open(&mut space, 2)?;
-    bind(alloc, &mut space, config, b"echo", 16)?;
-    bind(alloc, &mut space, config, b"counter", 17)?;
-    bind(alloc, &mut space, config, b"maker", 18)?;
-    Ok(space)
+    match furnish(alloc, &mut space, config) {
+        Ok(()) => Ok(space),
+        Err(refused) => Err(refused),
+    }
+}
+
+/// Opens the sample's objects in a space without events, and binds their names. It is refused only for want of memory.
+fn furnish(alloc: Global, space: &mut Space, config: &SpaceConfig) -> Result<(), Refused>
+    requires fresh { space.old ≡ record { configuration = config.now; events = [] } }
+    ensures ok { OnOk result (space.new ≡ record { configuration = config.now; events = sample_events config.now }) }
+    ensures err { IfErr result (λ refused. refused ≡ OutOfMemory) }
+{
+    open(space, 0)?;
+    open(space, 1)?;
+    open(space, 2)?;
+    bind(alloc, space, config, b"echo", 16)?;
+    bind(alloc, space, config, b"counter", 17)?;
+    bind(alloc, space, config, b"maker", 18)
 }
 
 /// Opens an object of a kind, which is kept for good. It is refused only for want of memory, where no limit is met.
