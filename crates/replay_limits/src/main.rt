@@ -137,15 +137,18 @@ fn history<R: Threads + Wait + Sync, W: Write>(
     let journal = nearly_full(alloc)?;
     let dirty = long_dirty(alloc)?;
     show(rt, alloc, out, "History 4128832", &journal, b"1 0 tick\n")?;
-    show(rt, alloc, out, "History 4194368", &journal, dirty.as_slice())
+    show(
+        rt,
+        alloc,
+        out,
+        "History 4194368",
+        &journal,
+        dirty.as_slice(),
+    )
 }
 
 /// A pair that is remembered is taken, so that the line after it is told as bad; one more pair is refused.
-fn pairs<R: Threads + Wait + Sync, W: Write>(
-    rt: &R,
-    alloc: Global,
-    out: &mut W,
-) -> io::Result<()> {
+fn pairs<R: Threads + Wait + Sync, W: Write>(rt: &R, alloc: Global, out: &mut W) -> io::Result<()> {
     let journal = paired(alloc)?;
     let again = b"1 0 clean -@0/0/0 2 strong 16\ntack\n";
     let more = b"1 0 clean -@512/0/0 1 strong 16\n";

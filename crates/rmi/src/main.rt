@@ -25,15 +25,15 @@ fn words_of(rt: &HostRuntime) -> io::Result<Words> {
 }
 
 /// Runs the program on these streams and over TCP, and answers its status.
-fn run_process<R, I, O, E>(
-    rt: &R,
-    words: &Words,
-    input: I,
-    output: O,
-    errors: E,
-) -> io::Result<u8>
+fn run_process<R, I, O, E>(rt: &R, words: &Words, input: I, output: O, errors: E) -> io::Result<u8>
 where
-    R: Threads + Wait + Sync + AllocGlobal + RandomSource + Clock + Net<Listener = TcpListener, Stream = TcpStream>,
+    R: Threads
+        + Wait
+        + Sync
+        + AllocGlobal
+        + RandomSource
+        + Clock
+        + Net<Listener = TcpListener, Stream = TcpStream>,
     I: Read + Drop,
     O: Write + Drop,
     E: Write + Drop,

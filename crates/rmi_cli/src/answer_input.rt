@@ -88,10 +88,7 @@ pub fn setup_of(alloc: Global, seed: &[u64; 4], binding: bool) -> Result<Setup, 
         host: this_host(alloc)?,
         port: 1099,
         binding,
-        draw: UidDraw::new(
-            low_half(seed[0].wrapping_add(1)),
-            moment_of(seed[1]) as i64,
-        ),
+        draw: UidDraw::new(low_half(seed[0].wrapping_add(1)), moment_of(seed[1]) as i64),
         mark: seed[2].to_be_bytes(),
     })
 }
