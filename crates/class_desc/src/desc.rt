@@ -16,7 +16,7 @@ pub const BLOCK_DATA: u8 = 8;
 pub const ENUM: u8 = 16;
 
 /// The description of a class (`TC_CLASSDESC`, section 6.4.1).
-#[derive(Debug, Drop)]
+#[derive(Debug)]
 pub struct ClassDesc {
     /// The class's name.
     pub name: Units,
@@ -32,8 +32,25 @@ pub struct ClassDesc {
     pub parent: Slot,
 }
 
+// Written out, so that whoever owns one has one call at each exit, and not the drop of each field.
+impl Drop for ClassDesc {
+    fn drop(self) {
+        let ClassDesc {
+            name,
+            suid: _,
+            flags: _,
+            fields,
+            note,
+            parent: _,
+        } = self;
+        drop(name);
+        drop(fields);
+        drop(note);
+    }
+}
+
 /// The description of a dynamic proxy class (`TC_PROXYCLASSDESC`, section 6.4.1).
-#[derive(Debug, Drop)]
+#[derive(Debug)]
 pub struct ProxyDesc {
     /// The names of the class's interfaces.
     pub names: NameList,
@@ -41,4 +58,17 @@ pub struct ProxyDesc {
     pub note: Items,
     /// The superclass's description.
     pub parent: Slot,
+}
+
+// Written out, so that whoever owns one has one call at each exit, and not the drop of each field.
+impl Drop for ProxyDesc {
+    fn drop(self) {
+        let ProxyDesc {
+            names,
+            note,
+            parent: _,
+        } = self;
+        drop(names);
+        drop(note);
+    }
 }

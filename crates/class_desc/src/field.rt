@@ -31,7 +31,7 @@ pub enum TypeCode {
 }
 
 /// A field of a class.
-#[derive(Debug, Drop)]
+#[derive(Debug)]
 pub struct FieldDesc {
     /// The field's type.
     pub code: TypeCode,
@@ -39,6 +39,18 @@ pub struct FieldDesc {
     pub name: Units,
     /// The text that names the type of a reference field; null for a primitive one.
     pub type_text: Slot,
+}
+
+// Written out, so that whoever owns one has one call at each exit, and not the drop of each field.
+impl Drop for FieldDesc {
+    fn drop(self) {
+        let FieldDesc {
+            code: _,
+            name,
+            type_text: _,
+        } = self;
+        drop(name);
+    }
 }
 
 /// A list of fields.

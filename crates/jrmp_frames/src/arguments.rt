@@ -33,12 +33,32 @@ pub enum Arg {
 pub type ArgList = Sequence<Arg>;
 
 /// The arguments of a call in the order of the method's parameters, and the graph in which their references stand.
-#[derive(Debug, Drop)]
+#[derive(Debug)]
 pub struct Arguments {
     /// What the call's stream holds after the head of the call.
     pub graph: Graph,
     /// One argument for each parameter.
     pub values: ArgList,
+}
+
+// Written out, so that whoever owns one has one call at each exit, and not the drop of each field.
+impl Drop for Arguments {
+    fn drop(self) {
+        let Arguments { graph, values } = self;
+        drop(graph);
+        drop(values);
+    }
+}
+
+impl Arguments {
+    /// The graph. It takes no memory.
+    pub fn into_graph(self) -> Graph
+        ensures { result ≡ self.graph }
+    {
+        let Arguments { graph, values } = self;
+        drop(values);
+        graph
+    }
 }
 
 /// What is wanted of a stream for a parameter of this type: bytes, or a reference.

@@ -43,7 +43,7 @@ impl From<AllocError> for MethodFault {
 
 /// A remote method, as its text says it: a name, the types of the parameters in parentheses, and the type of the result, as in
 /// `add(J)J`.
-#[derive(Debug, Drop)]
+#[derive(Debug)]
 pub struct Method {
     /// Its name: 1 to 255 bytes.
     pub name: ByteList,
@@ -54,6 +54,21 @@ pub struct Method {
     /// Its text, of at most 65,535 bytes.
     pub text: ByteList,
     pub ghost spelled: { ∥ IsMethod text name params result ∥₁ },
+}
+
+// Written out, so that whoever owns one has one call at each exit, and not the drop of each field.
+impl Drop for Method {
+    fn drop(self) {
+        let Method {
+            name,
+            params,
+            result: _,
+            text,
+        } = self;
+        drop(name);
+        drop(params);
+        drop(text);
+    }
 }
 
 /// A list of methods.

@@ -1,7 +1,6 @@
--- Numbers, byte by byte.
-use Rattle.std.proofs.Common.{◌≡◌, ◌-◌, ◌++◌, inl, inr, sym, ◌∙◌, append_assoc, length-append, ℕ, ◌+◌, ◌*◌, ◌<◌, ◌≤◌, ap, List, [], ◌∷◌, length, take, drop, true, false, nat_lt, Result, Ok, Err, refl, arith}
+-- Bytes, and those that are left.
+use Rattle.std.proofs.Common.{◌≡◌, ◌-◌, ◌++◌, inl, inr, sym, ◌∙◌, append_assoc, length-append, ℕ, ◌+◌, ◌<◌, ◌≤◌, ap, List, length, take, drop, true, false, nat_lt, Result, Ok, Err, refl, arith}
 use Rattle.std.proofs.lemmas.Bool.{lt-ltb, le-ltb}
-use Rattle.std.specs.Int.{w16, w32, w64, from_be_bytes}
 use Rattle.std.proofs.lemmas.Bool.{cases_lt}
 use Rattle.std.proofs.lemmas.List.{length-take, take-append-drop, append-nil}
 use Rattle.std.proofs.lemmas.List as lists
@@ -10,40 +9,13 @@ use Rattle.ser_read.specs.declared.fault.StreamFault.TheVariants as faults
 use Rattle.ser_read.specs.declared.fault.Large.TheVariants as larges
 use Rattle.ser_read.specs.declared.fault.StreamFault.{StreamFault}
 use Rattle.ser_read.specs.Here.{Fails}
-use Rattle.ser_values.specs.Reading.{◌>>=◌, Fault, byte_at, take_at, number_at, short}
+use Rattle.ser_values.specs.Reading.{◌>>=◌, Fault, take_at, short}
 
 pub takes_all : (n : ℕ) (bs : List ℕ) → n ≤ length bs → take_at n bs ≡ Ok (take n bs, drop n bs)
 takes_all n bs le = let k : nat_lt (length bs) n ≡ false = le-ltb _ _ le in rw k refl
 
 pub takes_short : (n : ℕ) (bs : List ℕ) → length bs < n → take_at n bs ≡ Err short
 takes_short n bs lt = let k : nat_lt (length bs) n ≡ true = lt-ltb _ _ lt in rw k refl
-
-pub two_is : (bs : List ℕ) → number_at w16 bs ≡ (byte_at bs >>= λ a. byte_at a.1 >>= λ b. Ok (from_be_bytes w16 (a.0 ∷ b.0 ∷ []), b.1))
-two_is [] = refl
-two_is (a ∷ []) = refl
-two_is (a ∷ b ∷ bs) = let h : take_at 2 (a ∷ b ∷ bs) ≡ Ok (a ∷ b ∷ [], bs) = takes_all 2 (a ∷ b ∷ bs) (omega arith) in rw h refl
-
-pub four_is : (bs : List ℕ) → number_at w32 bs ≡ (byte_at bs >>= λ a. byte_at a.1 >>= λ b. byte_at b.1 >>= λ c. byte_at c.1 >>= λ d. Ok (from_be_bytes w32 (a.0 ∷ b.0 ∷ c.0 ∷ d.0 ∷ []), d.1))
-four_is [] = refl
-four_is (a ∷ []) = refl
-four_is (a ∷ b ∷ []) = refl
-four_is (a ∷ b ∷ c ∷ []) = refl
-four_is (a ∷ b ∷ c ∷ d ∷ bs) = let h : take_at 4 (a ∷ b ∷ c ∷ d ∷ bs) ≡ Ok (a ∷ b ∷ c ∷ d ∷ [], bs) = takes_all 4 (a ∷ b ∷ c ∷ d ∷ bs) (omega arith) in rw h refl
-
-pub eight_is : (bs : List ℕ) → number_at w64 bs ≡ (number_at w32 bs >>= λ a. number_at w32 a.1 >>= λ b. Ok (a.0 * 4294967296 + b.0, b.1))
-eight_is (a ∷ b ∷ c ∷ d ∷ e ∷ f ∷ g ∷ h ∷ bs) =
-    let one : take_at 8 (a ∷ b ∷ c ∷ d ∷ e ∷ f ∷ g ∷ h ∷ bs) ≡ Ok (a ∷ b ∷ c ∷ d ∷ e ∷ f ∷ g ∷ h ∷ [], bs) = takes_all 8 (a ∷ b ∷ c ∷ d ∷ e ∷ f ∷ g ∷ h ∷ bs) (omega arith) in
-    let high : take_at 4 (a ∷ b ∷ c ∷ d ∷ e ∷ f ∷ g ∷ h ∷ bs) ≡ Ok (a ∷ b ∷ c ∷ d ∷ [], e ∷ f ∷ g ∷ h ∷ bs) = takes_all 4 (a ∷ b ∷ c ∷ d ∷ e ∷ f ∷ g ∷ h ∷ bs) (omega arith) in
-    let low : take_at 4 (e ∷ f ∷ g ∷ h ∷ bs) ≡ Ok (e ∷ f ∷ g ∷ h ∷ [], bs) = takes_all 4 (e ∷ f ∷ g ∷ h ∷ bs) (omega arith) in
-    rw (one, high, low) (ap (λ n. Ok (n, bs)) (omega arith))
-eight_is [] = refl
-eight_is (a ∷ []) = refl
-eight_is (a ∷ b ∷ []) = refl
-eight_is (a ∷ b ∷ c ∷ []) = refl
-eight_is (a ∷ b ∷ c ∷ d ∷ []) = refl
-eight_is (a ∷ b ∷ c ∷ d ∷ e ∷ []) = refl
-eight_is (a ∷ b ∷ c ∷ d ∷ e ∷ f ∷ []) = refl
-eight_is (a ∷ b ∷ c ∷ d ∷ e ∷ f ∷ g ∷ []) = refl
 
 -- ---- bytes, piece by piece
 

@@ -1,6 +1,7 @@
 -- Where steps of reading end at a fault.
-use Rattle.std.proofs.Common.{◌≡◌, if◌then◌else◌, ℕ, suc, ◌+◌, ◌-◌, ◌<◌, ◌≤◌, Bool, false, ◌&&◌, nat_eq, nat_lt, eqb, List, [], ◌∷◌, length, drop, get_or, Ok, Err, refl, sym, ap, subst, ◌∙◌, arith, inl, inr, drop-cons, add-one}
+use Rattle.std.proofs.Common.{◌≡◌, if◌then◌else◌, ℕ, suc, ◌+◌, ◌-◌, ◌<◌, ◌≤◌, Bool, false, ◌&&◌, nat_eq, nat_lt, eqb, List, [], ◌∷◌, length, take, drop, get_or, Ok, Err, refl, sym, ap, subst, ◌∙◌, arith, inl, inr, drop-cons, add-one}
 use Rattle.std.proofs.lemmas.Bool.{cases_lt, le-ltb}
+use Rattle.std.proofs.lemmas.List.{length-take-le}
 use Rattle.std.specs.Int.{Width}
 use Rattle.mod_utf.specs.Decoding.{decoded}
 use Rattle.wire_io.specs.Pulled.{Place}
@@ -47,6 +48,13 @@ units_here end n at bs e = let h : end - length bs ≡ at = omega arith in ap (�
 
 pub units_stop : {p q : Place} {e : StreamFault} (n : ℕ) → Breaks p q e (λ end. take_at n) → Breaks p q e (λ end. units_at end n)
 units_stop {p} n h = breaks_said (λ end bs here. units_here end n p.at bs here) (first _ h)
+
+pub units_stop_by : {p q : Place} {e : StreamFault} {m : ℕ} (n : ℕ) → Breaks p q e (λ end. take_at m) → m ≡ n → Breaks p q e (λ end. units_at end n)
+units_stop_by {p} {q} {e} n h is = units_stop n (subst (λ (k : ℕ). Breaks p q e (λ end. take_at k)) is h)
+
+-- so many of some bytes
+pub front_long : (n k : ℕ) (bytes : List ℕ) → k ≡ n → n ≤ length bytes → length (take k bytes) ≡ n
+front_long n k bytes same within = rw same (length-take-le n bytes within)
 
 pub units_bad : {p q : Place} {bytes : List ℕ} {at : ℕ} (n : ℕ) → decoded bytes ≡ Err at → Reads short p q (λ end. take_at n) (λ rest. (bytes, rest)) → Breaks p q (faults.Bad kinds.BadUtf (p.at + at)) (λ end. units_at end n)
 units_bad {p} {q} {bytes} {at} n is h = breaks_said (λ end bs here. units_here end n p.at bs here) (later _ h (bad_here kinds.BadUtf (p.at + at) tt (λ end bs here. rw is refl)))

@@ -1,5 +1,5 @@
 //! Bytes, numbers and texts from a Pull.
-ghost use Rattle.std.specs.Prelude.{◌≡◌, ◌++◌, ◌^◌, OnOk};
+ghost use Rattle.std.specs.Prelude.{◌≡◌, ◌++◌, ◌^◌, ◌≤◌, true, length, OnOk};
 ghost use Rattle.std.specs.Int.{w16, w32, w64};
 ghost use Rattle.ser_values.specs.Reading.{byte_at, take_at, number_at, size_at, units_at, short_at, long_at};
 ghost use Rattle.ser_read.specs.declared.fault.StreamFault.TheVariants.{Bad};
@@ -17,6 +17,9 @@ use wire_io::source::Source;
 /// How many bytes are asked for at once at most: for as many a Pull makes room at once, so a piece is not moved while it grows.
 const PIECE: u64 = 0x1000;
 
+/// How many bytes of a text are few.
+const FEW: u16 = 64;
+
 /// The next byte.
 pub(crate) fn byte<S: Source>(pull: &mut Pull<'_, S>) -> Result<u8, StreamFault>
     ensures lent { pull.new.source.ghost_name ≡ pull.old.source.ghost_name }
@@ -26,15 +29,35 @@ pub(crate) fn byte<S: Source>(pull: &mut Pull<'_, S>) -> Result<u8, StreamFault>
     Ok(pull.byte()?)
 }
 
+/// Bytes are numbers of 8 bits.
+fn see(bytes: &[u8])
+    ensures { AreBytes bytes.now }
+{
+    for byte in bytes {
+        let _seen = *byte;
+    }
+}
+
+/// Takes the next bytes into the whole of `buf`.
+fn fill<S: Source>(pull: &mut Pull<'_, S>, buf: &mut [u8]) -> Result<(), StreamFault>
+    ensures lent { pull.new.source.ghost_name ≡ pull.old.source.ghost_name }
+    ensures reads { ReadsTaken S.left S.faults pull.old pull.new result (λ end. take_at (length buf.old)) (λ x rest. (buf.new, rest)) }
+    ensures stops { StopsTaken S.left S.faults pull.old pull.new result (λ end. take_at (length buf.old)) }
+{
+    pull.take_into(buf)?;
+    see(buf);
+    Ok(())
+}
+
 /// The next two bytes as a number, the highest first.
 pub(crate) fn two<S: Source>(pull: &mut Pull<'_, S>) -> Result<u16, StreamFault>
     ensures lent { pull.new.source.ghost_name ≡ pull.old.source.ghost_name }
     ensures reads { ReadsTaken S.left S.faults pull.old pull.new result (λ end. number_at w16) (λ x rest. (x, rest)) }
     ensures stops { StopsTaken S.left S.faults pull.old pull.new result (λ end. number_at w16) }
 {
-    let a = byte(pull)?;
-    let b = byte(pull)?;
-    Ok(u16::from_be_bytes([a, b]))
+    let mut bytes = [0; 2];
+    fill(pull, &mut bytes)?;
+    Ok(u16::from_be_bytes(bytes))
 }
 
 /// The next four bytes as a number, the highest first.
@@ -43,11 +66,9 @@ pub(crate) fn four<S: Source>(pull: &mut Pull<'_, S>) -> Result<u32, StreamFault
     ensures reads { ReadsTaken S.left S.faults pull.old pull.new result (λ end. number_at w32) (λ x rest. (x, rest)) }
     ensures stops { StopsTaken S.left S.faults pull.old pull.new result (λ end. number_at w32) }
 {
-    let a = byte(pull)?;
-    let b = byte(pull)?;
-    let c = byte(pull)?;
-    let d = byte(pull)?;
-    Ok(u32::from_be_bytes([a, b, c, d]))
+    let mut bytes = [0; 4];
+    fill(pull, &mut bytes)?;
+    Ok(u32::from_be_bytes(bytes))
 }
 
 /// The next eight bytes as a number, the highest first.
@@ -56,9 +77,9 @@ pub(crate) fn eight<S: Source>(pull: &mut Pull<'_, S>) -> Result<u64, StreamFaul
     ensures reads { ReadsTaken S.left S.faults pull.old pull.new result (λ end. number_at w64) (λ x rest. (x, rest)) }
     ensures stops { StopsTaken S.left S.faults pull.old pull.new result (λ end. number_at w64) }
 {
-    let high = four(pull)?;
-    let low = four(pull)?;
-    Ok(u64::from(high) * 0x1_0000_0000 + u64::from(low))
+    let mut bytes = [0; 8];
+    fill(pull, &mut bytes)?;
+    Ok(u64::from_be_bytes(bytes))
 }
 
 /// A count of fields: below 2^15, or `NegativeLength` at its first byte.
@@ -116,15 +137,6 @@ fn negative_length(at: u64) -> StreamFault
     StreamFault::Bad {
         kind: StreamKind::NegativeLength,
         at,
-    }
-}
-
-/// Bytes are numbers of 8 bits.
-fn see(bytes: &[u8])
-    ensures { AreBytes bytes.now }
-{
-    for byte in bytes {
-        let _seen = *byte;
     }
 }
 
@@ -196,6 +208,40 @@ fn units<S: Source>(alloc: Global, pull: &mut Pull<'_, S>, n: u64) -> Result<Uni
     }
 }
 
+/// Whether so many bytes of a text are few.
+fn is_few(n: u16) -> bool
+    ensures { result ≡ true → n ≤ 64 }
+{
+    n <= FEW
+}
+
+/// A text of few bytes of modified UTF, as [`units`] reads it: its bytes need no memory of their own.
+#[tactic(auto, unfolding(ser_values::specs::Reading::units_at))]
+fn few_units<S: Source>(alloc: Global, pull: &mut Pull<'_, S>, n: u16) -> Result<Units, StreamFault>
+    requires { n ≤ 64 }
+    ensures lent { pull.new.source.ghost_name ≡ pull.old.source.ghost_name }
+    ensures reads { ReadsTaken S.left S.faults pull.old pull.new result (λ end. units_at end n) (λ x rest. (x, rest)) }
+    ensures stops { StopsTaken S.left S.faults pull.old pull.new result (λ end. units_at end n) }
+{
+    let start = pull.at;
+    let mut buf = [0; 64];
+    let bytes = &mut buf[..usize::from(n)];
+    fill(pull, bytes)?;
+    match spelled(alloc, bytes) {
+        Ok(units) => Ok(units),
+        Err(fault) => match fault {
+            UtfFault::OutOfMemory => Err(StreamFault::OutOfMemory),
+            UtfFault::BadUtf { at } => {
+                let at = start + at as u64;
+                Err(StreamFault::Bad {
+                    kind: StreamKind::BadUtf,
+                    at,
+                })
+            }
+        },
+    }
+}
+
 /// A text with a length of 16 bits.
 #[tactic(auto, unfolding(ser_values::specs::Reading::short_at))]
 pub(crate) fn short_text<S: Source>(
@@ -207,7 +253,11 @@ pub(crate) fn short_text<S: Source>(
     ensures stops { StopsTaken S.left S.faults pull.old pull.new result (λ end. short_at end) }
 {
     let n = two(pull)?;
-    units(alloc, pull, u64::from(n))
+    if is_few(n) {
+        few_units(alloc, pull, n)
+    } else {
+        units(alloc, pull, u64::from(n))
+    }
 }
 
 /// A text with a length of 64 bits.

@@ -99,10 +99,17 @@ fn slot_in<S: Source>(
 ///
 /// At a fault a call has taken exactly the bytes that show it; where a read failed or there was no memory, none that could be left out.
 /// Every later call answers the same refusal and takes nothing.
-#[derive(Drop)]
 pub struct Reader {
     stand: Stand,
     refused: Option<StreamFault>,
+}
+
+// Written out, so that whoever owns one has one call at each exit, and not the drop of each field.
+impl Drop for Reader {
+    fn drop(self) {
+        let Reader { stand, refused: _ } = self;
+        drop(stand);
+    }
 }
 
 impl Model for Reader {
@@ -256,14 +263,15 @@ impl Reader {
         ensures left { self.refused ≡ None → IfErr result (λ fault. (fault ≡ Bad BlockLeft pull.now.at) × (self.stand.block ≢ 0)) }
         ensures gives { self.refused ≡ None → WantGives (env S.left pull.now).after (λ graph. (graph.nodes, graph.items)) result (close_at pull.now.at self.stand) }
     {
-        if let Some(fault) = self.refused {
+        let Reader { stand, refused } = self;
+        if let Some(fault) = refused {
             return Err(fault);
         }
         let Stand {
             table,
             items,
             block,
-        } = self.stand;
+        } = stand;
         if block > 0 {
             return Err(bad(StreamKind::BlockLeft, pull.at));
         }

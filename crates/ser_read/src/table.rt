@@ -10,6 +10,9 @@ use ser_values::limits::{NODES, PARTS};
 use ser_values::{Node, NodeList, Place, elements_in, fits_node, is_desc, is_text};
 use std::alloc::{AllocError, Global};
 
+/// For how many nodes there is room at least when one is added: as many as most streams have.
+const ROOM: usize = 16;
+
 /// The nodes so far. One that is still being read stands there empty, and is written over when it was read.
 #[derive(Drop)]
 pub(crate) struct Table {
@@ -75,8 +78,8 @@ impl Table {
         ensures below { IfOk result (λ number. number < length self.new.nodes.items) }
     {
         let number = self.nodes.len() as u32;
-        self.elements.reserve(1)?;
-        self.nodes.reserve(1)?;
+        self.elements.reserve(ROOM)?;
+        self.nodes.reserve(ROOM)?;
         self.elements.push_reserved(elements_in(&node));
         self.nodes.push_reserved(node);
         Ok(number)

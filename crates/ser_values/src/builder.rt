@@ -24,10 +24,17 @@ const NO_NODE: u32 = 0xFFFF_FFFF;
 
 /// Loose nodes, which contracts see as the list of them: the k-th that is made, from 0, has the slot `Node(k)`.
 /// A slot that is handed in may name a node that is made later.
-#[derive(Drop)]
 pub struct Builder {
     alloc: Global,
     nodes: Vec<Node>,
+}
+
+// Written out, so that whoever owns one has one call at each exit, and not the drop of each field.
+impl Drop for Builder {
+    fn drop(self) {
+        let Builder { alloc: _, nodes } = self;
+        drop(nodes);
+    }
 }
 
 impl Model for Builder {

@@ -13,11 +13,20 @@ use mod_utf::list::{Same, TryCopy};
 use std::alloc::{AllocError, Global};
 
 /// The nodes of a stream in the order of their handles, and its items. Every node is reached from the items.
-#[derive(Debug, Drop)]
+#[derive(Debug)]
 pub struct Graph {
     nodes: NodeList,
     items: Items,
     pub ghost numbered: { ∥ IsGraph nodes items ∥₁ },
+}
+
+// Written out, so that whoever owns one has one call at each exit, and not the drop of each field.
+impl Drop for Graph {
+    fn drop(self) {
+        let Graph { nodes, items } = self;
+        drop(nodes);
+        drop(items);
+    }
 }
 
 impl Graph {
@@ -35,7 +44,8 @@ impl Graph {
         ensures nodes { result.0 ≡ self.nodes }
         ensures items { result.1 ≡ self.items }
     {
-        (self.nodes, self.items)
+        let Graph { nodes, items } = self;
+        (nodes, items)
     }
 
     /// The node of a number; None from the count on.

@@ -5,7 +5,7 @@ use class_desc::{ClassDesc, ProxyDesc};
 use mod_utf::list::{Sequence, Units};
 
 /// What has a handle in a stream. It names other nodes by their numbers.
-#[derive(Debug, Drop)]
+#[derive(Debug)]
 pub enum Node {
     /// A string.
     Text(Units),
@@ -40,6 +40,21 @@ pub enum Node {
         /// The text that names the constant.
         name: u32,
     },
+}
+
+// Written out, so that whoever owns one has one call at each exit, and not the drop of each variant.
+impl Drop for Node {
+    fn drop(self) {
+        match self {
+            Node::Text(text) => drop(text),
+            Node::Desc(desc) => drop(desc),
+            Node::Proxy(desc) => drop(desc),
+            Node::Object { class: _, parts } => drop(parts),
+            Node::Array { class: _, values } => drop(values),
+            Node::Class { class: _ } => {},
+            Node::Enum { class: _, name: _ } => {},
+        }
+    }
 }
 
 /// A list of nodes.

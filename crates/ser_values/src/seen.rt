@@ -17,11 +17,25 @@ pub(crate) enum Mark {
 }
 
 /// The nodes that have handles, in their order, and the descriptions among them that are unread.
-#[derive(Debug, Drop)]
+#[derive(Debug)]
 pub(crate) struct Seen {
     pub(crate) order: Vec<u32>,
     pub(crate) unread: Vec<u32>,
     pub(crate) marks: Vec<Mark>,
+}
+
+// Written out, so that whoever owns one has one call at each exit, and not the drop of each field.
+impl Drop for Seen {
+    fn drop(self) {
+        let Seen {
+            order,
+            unread,
+            marks,
+        } = self;
+        drop(order);
+        drop(unread);
+        drop(marks);
+    }
 }
 
 impl Seen {
@@ -101,5 +115,19 @@ impl Seen {
         if let Some(number) = self.unread.pop() {
             self.marks[number as usize] = Mark::Done;
         }
+    }
+
+    /// The nodes that have handles, in their order.
+    pub(crate) fn into_order(self) -> Vec<u32>
+        ensures { result.items ≡ self.order.items }
+    {
+        let Seen {
+            order,
+            unread,
+            marks,
+        } = self;
+        drop(unread);
+        drop(marks);
+        order
     }
 }

@@ -31,7 +31,7 @@ pub enum Value {
 }
 
 /// The elements of an array. Floats and doubles are carried as their bits, unread.
-#[derive(Debug, Drop)]
+#[derive(Debug)]
 pub enum Values {
     /// Elements of `byte[]`, as their bits.
     Bytes(ByteList),
@@ -53,13 +53,39 @@ pub enum Values {
     Refs(SlotList),
 }
 
+// Written out, so that whoever owns one has one call at each exit, and not the drop of each variant.
+impl Drop for Values {
+    fn drop(self) {
+        match self {
+            Values::Bytes(values) => drop(values),
+            Values::Chars(values) => drop(values),
+            Values::Doubles(values) => drop(values),
+            Values::Floats(values) => drop(values),
+            Values::Ints(values) => drop(values),
+            Values::Longs(values) => drop(values),
+            Values::Shorts(values) => drop(values),
+            Values::Bools(values) => drop(values),
+            Values::Refs(values) => drop(values),
+        }
+    }
+}
+
 /// What an object holds of one class of its chain.
-#[derive(Debug, Drop)]
+#[derive(Debug)]
 pub struct Part {
     /// The values of the class's fields, in their order.
     pub values: ValueList,
     /// What the class's own write method wrote.
     pub note: Items,
+}
+
+// Written out, so that whoever owns one has one call at each exit, and not the drop of each field.
+impl Drop for Part {
+    fn drop(self) {
+        let Part { values, note } = self;
+        drop(values);
+        drop(note);
+    }
 }
 
 /// A list of fields' values.

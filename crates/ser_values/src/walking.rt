@@ -282,12 +282,5 @@ pub(crate) fn walk(
             return Ok(None);
         }
     }
-    let Seen {
-        order,
-        unread,
-        marks,
-    } = seen;
-    drop(unread);
-    drop(marks);
-    Ok(Some(order))
+    Ok(Some(seen.into_order()))
 }

@@ -58,12 +58,26 @@ pub type MemLinks = Sequence<MemLink>;
 ///
 /// It tells the ports that it was told to listen on and the links that it gave. A call that finds no memory to note that fails too.
 /// What it notes of a link is a snapshot, which takes no bytes and is known to contracts alone.
-#[derive(Drop)]
 pub struct MemListener {
     links: vec::IntoIter<MemLink>,
     accepted: Vec<Snapshot<MemLink>>,
     ports: U16List,
     faults: u64,
+}
+
+// Written out, so that whoever owns one has one call at each exit, and not the drop of each field.
+impl Drop for MemListener {
+    fn drop(self) {
+        let MemListener {
+            links,
+            accepted,
+            ports,
+            faults: _,
+        } = self;
+        drop(links);
+        drop(accepted);
+        drop(ports);
+    }
 }
 
 impl Model for MemListener {

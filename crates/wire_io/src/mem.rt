@@ -15,7 +15,6 @@ use std::marker::Model;
 /// Its reads are counted from 0, up to `u64::MAX`, where the count stands still. A read whose index stands in `failing`
 /// fails and takes nothing; so no read past the index `u32::MAX` fails. Any other read gives at most as many bytes as
 /// stand in `cuts` at its index, and 1 where 0 stands there. Past the end of `cuts` it gives all that it is asked for.
-#[derive(Drop)]
 pub struct MemSource {
     bytes: ByteList,
     taken: usize,
@@ -23,6 +22,23 @@ pub struct MemSource {
     failing: Kinds,
     reads: u64,
     faults: u64,
+}
+
+// Written out, so that whoever owns one has one call at each exit, and not the drop of each field.
+impl Drop for MemSource {
+    fn drop(self) {
+        let MemSource {
+            bytes,
+            taken: _,
+            cuts,
+            failing,
+            reads: _,
+            faults: _,
+        } = self;
+        drop(bytes);
+        drop(cuts);
+        drop(failing);
+    }
 }
 
 impl Model for MemSource {
@@ -141,12 +157,25 @@ fn give(bytes: &[u8], most: usize, buf: &mut [u8]) -> usize
 /// Its writes are counted from 0, up to `u64::MAX`, where the count stands still. A write whose index stands in
 /// `failing` fails; so no write past the index `u32::MAX` fails for that. Any other write takes its whole piece, or
 /// fails where there is no memory to keep it. A write that fails takes nothing.
-#[derive(Drop)]
 pub struct MemSink {
     bytes: ByteList,
     failing: Kinds,
     writes: u64,
     faults: u64,
+}
+
+// Written out, so that whoever owns one has one call at each exit, and not the drop of each field.
+impl Drop for MemSink {
+    fn drop(self) {
+        let MemSink {
+            bytes,
+            failing,
+            writes: _,
+            faults: _,
+        } = self;
+        drop(bytes);
+        drop(failing);
+    }
 }
 
 impl Model for MemSink {
@@ -226,10 +255,17 @@ impl Sink for MemSink {
 /// the list is empty, and 2^62 - 1 in place of a greater moment.
 ///
 /// It tells what it gave for the first 2^64 - 2 calls.
-#[derive(Drop)]
 pub struct MemClock {
     moments: MomentList,
     calls: u64,
+}
+
+// Written out, so that whoever owns one has one call at each exit, and not the drop of each field.
+impl Drop for MemClock {
+    fn drop(self) {
+        let MemClock { moments, calls: _ } = self;
+        drop(moments);
+    }
 }
 
 impl Model for MemClock {

@@ -40,7 +40,7 @@ pub struct Pull<'s, S> {
 }
 
 impl<'s, S: Source> Pull<'s, S> {
-    ghost use Rattle.wire_io.specs.Pulled.{place, GivesByte, GivesBytes, GivesFront, AppendsSome};
+    ghost use Rattle.wire_io.specs.Pulled.{place, with_bytes, GivesByte, GivesBytes, GivesFront, AppendsSome};
 
     /// At position 0, with no mark.
     pub fn new(source: &'s mut S) -> Pull<'s, S>
@@ -130,6 +130,40 @@ impl<'s, S: Source> Pull<'s, S> {
             }
         }
         Ok(ByteList::from_vec(bytes))
+    }
+
+    /// Takes the next bytes into the whole of `buf`. The source is asked for these bytes and for no more, but for the one that shows a limit.
+    ///
+    /// It answers as so many calls of [`Pull::byte`] would, and takes no memory. After an answer other than `Ok` a front of the bytes was
+    /// taken and is lost, and the position is behind it.
+    pub fn take_into(&mut self, buf: &mut [u8]) -> Result<(), PullEnd>
+        ensures gives { GivesBytes (place S.left S.faults self.old) (place S.left S.faults self.new) (length buf.old) (with_bytes buf.new result) }
+        ensures lent { self.new.source.ghost_name ≡ self.old.source.ghost_name }
+    {
+        let mut done = 0;
+        while done < buf.len() {
+            match self.fill_some(&mut buf[done..]) {
+                Ok(count) => done += count,
+                Err(end) => return Err(end),
+            }
+        }
+        Ok(())
+    }
+
+    /// Takes into the front of `buf` what one read gives before the stop, and answers how many bytes that is.
+    fn fill_some(&mut self, buf: &mut [u8]) -> Result<usize, PullEnd>
+        requires { 0 < length buf.old }
+        ensures gives { GivesFront (place S.left S.faults self.old) (place S.left S.faults self.new) buf.new result }
+        ensures lent { self.new.source.ghost_name ≡ self.old.source.ghost_name }
+    {
+        if self.at == self.stop {
+            return match self.byte() {
+                Ok(_) => unreachable!(),
+                Err(end) => Err(end),
+            };
+        }
+        let most = buf.len().min((self.stop - self.at) as usize);
+        self.fill(&mut buf[..most])
     }
 
     /// Appends what one read gives of the next `wanted` bytes. It makes room for at most 4,096 bytes behind those that

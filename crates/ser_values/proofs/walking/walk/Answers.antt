@@ -37,4 +37,4 @@ returns c =
     let empty : length c.loop-task.stack.items ≡ 0 = grind (arith, common_steps) in
     let none = nil_of c.loop-task.stack.items empty in
     let told = rw none at c.loop-task.invariant.told in
-    sym (run_none c.args.loose.now.nodes.now c.loop-task.seen.unread.items c.loop-task.seen.order.items) ∙ told
+    rw c.into_order.ensures (sym (run_none c.args.loose.now.nodes.now c.loop-task.seen.unread.items c.loop-task.seen.order.items) ∙ told)
