@@ -262,7 +262,7 @@ awaited-forgotten t o ws =
     list_any-filter (λ w. goes_on t w && same_id w.object o) (goes_on t) ws
     ∙ list_any-same (λ w. goes_on t w && (goes_on t w && same_id w.object o)) (λ w. goes_on t w && same_id w.object o) (λ w. twice (goes_on t w) (same_id w.object o)) ws
 
-kept-forgotten : (t : ℕ) (held : ObjId → Bool) (ws : List Wait) (x : Export) → is_row_kept t held (waiting t ws) x ≡ is_row_kept t held ws x
+pub kept-forgotten : (t : ℕ) (held : ObjId → Bool) (ws : List Wait) (x : Export) → is_row_kept t held (waiting t ws) x ≡ is_row_kept t held ws x
 kept-forgotten t held ws x = ap (λ b. is_pinned x || b || held x.id) (awaited-forgotten t x.id ws)
 
 pub rows-forgotten : (t : ℕ) (held : ObjId → Bool) (ws : List Wait) (rows : List Export) → filter (is_row_kept t held (waiting t ws)) rows ≡ filter (is_row_kept t held ws) rows

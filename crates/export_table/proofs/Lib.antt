@@ -12,3 +12,4 @@ pub mod StandLaws
 pub mod ThereLaws
 pub mod WaitLaws
 pub mod WaitSteps
+pub mod Doubts

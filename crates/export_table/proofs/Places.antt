@@ -78,7 +78,7 @@ changed-none f o (x ∷ xs) h = go (is_of o x) h (changed-none f o xs)
     go true h rest = absurd (cc)
     go false h rest = ap (λ l. x ∷ l) (rest h)
 
-later-apart : (o : ObjId) (d : Export) (ys : List Export) → is_of o d ≡ true → list_all (λ p. int_lt d.id.number p.number) (ids ys) ≡ true → is_exported ys o ≡ false
+pub later-apart : (o : ObjId) (d : Export) (ys : List Export) → is_of o d ≡ true → list_all (λ p. int_lt d.id.number p.number) (ids ys) ≡ true → is_exported ys o ≡ false
 later-apart o d [] e h = refl
 later-apart o d (y ∷ ys) e h =
     let two = and_parts (int_lt d.id.number y.id.number) (list_all (λ p. int_lt d.id.number p.number) (ids ys)) h in

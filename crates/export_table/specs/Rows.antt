@@ -86,6 +86,18 @@ held_by lease t calls o = is_held lease t calls o
 abbrev pub withdrawn : ℕ → (ObjId → Bool) → List Wait → List Export → List ObjId
 withdrawn t held waits rows = ids (filter (λ x. not (is_row_kept t held waits x)) rows)
 
+-- The object is among these.
+abbrev pub is_among : List ObjId → Export → Bool
+is_among os x = list_any (same_id x.id) os
+
+-- Each object that is not kept is among these.
+abbrev pub is_settled_but : List ObjId → ℕ → (ObjId → Bool) → List Wait → List Export → Bool
+is_settled_but os t held waits rows = list_all (λ x. is_among os x || is_row_kept t held waits x) rows
+
+-- Each of these objects that is exported is kept.
+abbrev pub is_each_kept : List ObjId → ℕ → (ObjId → Bool) → List Wait → List Export → Bool
+is_each_kept os t held waits rows = list_all (λ x. not (is_among os x) || is_row_kept t held waits x) rows
+
 -- A call as if it had named none of these objects.
 abbrev pub without_all : List ObjId → Call → Call
 without_all os x = record x { objects = filter (λ y. not (list_any (λ o. same_id y o) os)) x.objects }

@@ -1,5 +1,5 @@
 -- References that were returned and await their acknowledgement: each is of an object and of the return that had it.
-use Rattle.std.specs.Prelude.{ℕ, ◌+◌, max, Bool, true, not, ◌&&◌, List, [], ◌∷◌, ◌++◌, filter, find, nat_lt, option_map, unwrap_or}
+use Rattle.std.specs.Prelude.{ℕ, ◌+◌, max, Bool, true, not, ◌&&◌, List, [], ◌∷◌, ◌++◌, map, filter, find, nat_lt, option_map, unwrap_or}
 use Rattle.std.specs.List.{list_any}
 use Rattle.object_ids.specs.declared.ids.Uid.{Uid}
 use Rattle.object_ids.specs.declared.ids.ObjId.{ObjId}
@@ -49,6 +49,17 @@ listed_each ack t uid (o ∷ os) waits = listed_each ack t uid os (listed ack t 
 -- The waits once a return is acknowledged.
 abbrev pub acknowledged : Uid → List Wait → List Wait
 acknowledged u waits = filter (λ w. not (same_uid w.uid u)) waits
+
+-- Those that have ended at the moment t, and those of a return.
+abbrev pub over : ℕ → List Wait → List Wait
+over t waits = filter (λ w. not (goes_on t w)) waits
+
+abbrev pub of_return : Uid → List Wait → List Wait
+of_return u waits = filter (λ w. same_uid w.uid u) waits
+
+-- The objects of waits.
+abbrev pub objects : List Wait → List ObjId
+objects waits = map (λ w. w.object) waits
 
 -- Each object and return wait once.
 abbrev pub each_once : List Wait → Bool

@@ -4,8 +4,9 @@ ghost use Rattle.history.specs.declared.limits.TheConstants.{MAX_EXPORTS, MAX_AW
 ghost use Rattle.history.specs.Places.{id_at};
 ghost use Rattle.object_ids.specs.declared.ids.FullKind.TheVariants.{Exports as FullExports, Awaiting as FullAwaiting};
 ghost use Rattle.dgc_server.specs.Stands.{StandsFor, ForEachLog};
-ghost use Rattle.export_table.specs.Waits.{waiting, is_waiting, listed, acknowledged};
-ghost use Rattle.export_table.specs.Rows.{is_exported, kind_of, running_of, pins_of, ids, is_rising, new_row, changed, begun, ended, pinned_once, unpinned_once, is_row_kept, held_by, withdrawn, without_all, row_at};
+ghost use Rattle.export_table.specs.Waits.{waiting, goes_on, over, of_return, objects, is_waiting, listed, acknowledged};
+ghost use Rattle.std.specs.List.{list_any};
+ghost use Rattle.export_table.specs.Rows.{is_exported, kind_of, running_of, pins_of, ids, is_rising, new_row, changed, begun, ended, pinned_once, unpinned_once, is_row_kept, is_settled_but, held_by, withdrawn, without_all, row_at};
 ghost use Rattle.export_table.specs.Table.{IsSound, no_room};
 
 use crate::rows::{self, Export, RowList};
@@ -144,6 +145,27 @@ impl Exports {
         self.waits.is_waiting(&id, &uid, now)
     }
 
+    /// Whether the wait of some reference has ended at this moment.
+    pub fn has_ended(&self, now: u64) -> bool
+        ensures { result ≡ list_any (λ w. not (goes_on now w)) self.now.waits }
+    {
+        self.waits.has_ended(now)
+    }
+
+    /// The objects of the references whose waits have ended at this moment.
+    pub fn ended(&self, alloc: Global, now: u64) -> Result<Vec<ObjId>, AllocError>
+        ensures { IfOk result (λ os. os.items ≡ objects (over now self.now.waits)) }
+    {
+        self.waits.ended(alloc, now)
+    }
+
+    /// The objects of the references in a return that await their acknowledgement.
+    pub fn of_return(&self, alloc: Global, uid: Uid) -> Result<Vec<ObjId>, AllocError>
+        ensures { IfOk result (λ os. os.items ≡ objects (of_return uid self.now.waits)) }
+    {
+        self.waits.of_return(alloc, &uid)
+    }
+
     /// How many objects are exported.
     pub fn count(&self) -> u32
         ensures value { result ≡ length self.now.rows }
@@ -256,6 +278,40 @@ impl Exports {
         let before = gone.len();
         rows::sift(&mut self.rows, &mut self.waits, leases, now, gone);
         drop_all(leases, &gone[before..]);
+    }
+
+    /// Does what `withdraw` does, where each object that isn't kept at this moment is among `doubtful`: it looks at no other, unless one
+    /// of these goes. It takes no memory.
+    pub fn withdraw_among(
+        &mut self,
+        now: u64,
+        leases: &mut Leases,
+        doubtful: &[ObjId],
+        gone: &mut Vec<ObjId>,
+    )
+        requires room { vec_len gone.old + length self.old.rows ≤ vec_capacity gone.old }
+        requires among { ForEachLog leases.old (λ lease moment calls.
+            let held = held_by lease (max now moment) calls in
+            is_settled_but doubtful.now now held self.old.waits self.old.rows ≡ true) }
+        ensures kept { ForEachLog leases.old (λ lease moment calls.
+            let held = held_by lease (max now moment) calls in
+            let rows = filter (is_row_kept now held self.old.waits) self.old.rows in
+            let waits = waiting now self.old.waits in
+            self.new ≡ record self.old { rows = rows; waits = waits; room = self.new.room }) }
+        ensures gone { ForEachLog leases.old (λ lease moment calls.
+            let held = held_by lease (max now moment) calls in
+            gone.new.items ≡ gone.old.items ++ withdrawn now held self.old.waits self.old.rows) }
+        ensures dropped { ForEachLog leases.old (λ lease moment calls.
+            let held = held_by lease (max now moment) calls in
+            let dropped = withdrawn now held self.old.waits self.old.rows in
+            StandsFor lease leases.new moment (map (without_all dropped) calls)) }
+        ensures exports_room { self.old.room.exports ≤ self.new.room.exports }
+        ensures waits_room { self.old.room.waits ≤ self.new.room.waits }
+        ensures capacity { vec_capacity gone.old ≤ vec_capacity gone.new }
+    {
+        let told = gone.len();
+        rows::sift_among(&mut self.rows, &mut self.waits, leases, now, doubtful, gone);
+        drop_all(leases, &gone[told..]);
     }
 }
 

@@ -1,9 +1,9 @@
 //! Exported objects, by rising number.
-ghost use Rattle.std.specs.Prelude.{◌≡◌, ◌++◌, ◌∷◌, [], ◌+◌, ◌<◌, ◌≤◌, ◌^◌, max, length, map, filter, vec_len, vec_capacity, not, true, false, IsTrue, IfOk, MatchOption, int_lt, take, drop};
+ghost use Rattle.std.specs.Prelude.{◌≡◌, ◌++◌, ◌∷◌, [], ◌+◌, ◌<◌, ◌≤◌, ◌^◌, ◌||◌, max, length, map, filter, vec_len, vec_capacity, not, true, false, IsTrue, IfOk, MatchOption, int_lt, take, drop};
 ghost use Rattle.std.specs.List.{list_all};
 ghost use Rattle.object_ids.specs.Same.{same_id};
 ghost use Rattle.dgc_server.specs.Stands.{ForEachLog};
-ghost use Rattle.export_table.specs.Rows.{is_of, is_exported, kind_of, running_of, pins_of, ids, is_rising, IsPlace, IsPart, new_row, changed, begun, ended, pinned_once, unpinned_once, is_pinned, is_row_kept, held_by, withdrawn, row_at};
+ghost use Rattle.export_table.specs.Rows.{is_of, is_exported, kind_of, running_of, pins_of, ids, is_rising, IsPlace, IsPart, new_row, changed, begun, ended, pinned_once, unpinned_once, is_pinned, is_row_kept, is_settled_but, is_each_kept, held_by, withdrawn, row_at};
 ghost use Rattle.export_table.specs.Waits.{waiting};
 
 use crate::wait_list::WaitList;
@@ -303,6 +303,68 @@ pub fn sift(
     waits.forget(now);
     if !is_each_kept(rows, waits, leases, now) {
         keep(rows, waits, leases, now, gone);
+    }
+}
+
+/// Does what `sift` does, where each object that isn't kept is among these: no other is looked at, unless one of them goes.
+pub fn sift_among(
+    rows: &mut Vec<Export>,
+    waits: &mut WaitList,
+    leases: &Leases,
+    now: u64,
+    objects: &[ObjId],
+    gone: &mut Vec<ObjId>,
+)
+    requires rising { IsTrue (is_rising (ids rows.old.items)) }
+    requires room { vec_len gone.old + length rows.old.items ≤ vec_capacity gone.old }
+    requires among { ForEachLog leases.now (λ lease moment calls.
+        let held = held_by lease (max now moment) calls in
+        is_settled_but objects.now now held waits.old.waits rows.old.items ≡ true) }
+    ensures items { ForEachLog leases.now (λ lease moment calls.
+        let held = held_by lease (max now moment) calls in
+        rows.new.items ≡ filter (is_row_kept now held waits.old.waits) rows.old.items) }
+    ensures gone { ForEachLog leases.now (λ lease moment calls.
+        let held = held_by lease (max now moment) calls in
+        gone.new.items ≡ gone.old.items ++ withdrawn now held waits.old.waits rows.old.items) }
+    ensures part { IsPart rows.new.items rows.old.items }
+    ensures longer { vec_len gone.old ≤ vec_len gone.new }
+    ensures more { vec_capacity gone.old ≤ vec_capacity gone.new }
+    ensures len { vec_len rows.new ≤ vec_len rows.old }
+    ensures capacity { vec_capacity rows.new ≡ vec_capacity rows.old }
+    ensures waits { waits.new.waits ≡ waiting now waits.old.waits }
+    ensures waits_room { waits.new.room ≡ waits.old.room }
+{
+    waits.forget(now);
+    if !are_kept(rows, waits, leases, now, objects) {
+        keep(rows, waits, leases, now, gone);
+    }
+}
+
+/// Whether each of these objects that is there is kept. It only reads.
+fn are_kept(rows: &[Export], waits: &WaitList, leases: &Leases, now: u64, objects: &[ObjId]) -> bool
+    requires rising { IsTrue (is_rising (ids rows.now)) }
+    ensures { result ≡ true → ForEachLog leases.now (λ lease moment calls.
+        let held = held_by lease (max now moment) calls in
+        is_each_kept objects.now now held waits.now.waits rows.now ≡ true) }
+{
+    for object in objects {
+        if !stays(rows, waits, leases, now, object) {
+            return false;
+        }
+    }
+    true
+}
+
+/// Whether an object, if it is there, is kept.
+fn stays(rows: &[Export], waits: &WaitList, leases: &Leases, now: u64, object: &ObjId) -> bool
+    requires rising { IsTrue (is_rising (ids rows.now)) }
+    ensures { result ≡ true → ForEachLog leases.now (λ lease moment calls.
+        let held = held_by lease (max now moment) calls in
+        is_each_kept (object.now ∷ []) now held waits.now.waits rows.now ≡ true) }
+{
+    match place_of(rows, object) {
+        Some(i) => rows[i].is_row_kept(waits, leases, now),
+        None => true,
     }
 }
 

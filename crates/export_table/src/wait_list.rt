@@ -1,8 +1,8 @@
 //! The references that await their acknowledgement, with an index of them.
-ghost use Rattle.std.specs.Prelude.{◌≡◌, ◌++◌, ◌∷◌, [], ◌+◌, ◌<◌, ◌≤◌, ◌^◌, length, filter, not, true, false, IsTrue, IsOk, OnOk, OnErr, ◌↔◌};
+ghost use Rattle.std.specs.Prelude.{◌≡◌, ◌++◌, ◌∷◌, [], ◌+◌, ◌<◌, ◌≤◌, ◌^◌, length, filter, not, true, false, IsTrue, IsOk, IfOk, OnOk, OnErr, ◌↔◌};
 ghost use Rattle.std.specs.List.{list_any};
 ghost use Rattle.history.specs.declared.limits.TheConstants.{MAX_AWAITING};
-ghost use Rattle.export_table.specs.Waits.{is_wait_of, waiting, is_waiting, is_awaited, awaiting_of, until_of, listed, acknowledged};
+ghost use Rattle.export_table.specs.Waits.{is_wait_of, goes_on, waiting, over, of_return, objects, is_waiting, is_awaited, awaiting_of, until_of, listed, acknowledged};
 ghost use Rattle.export_table.specs.Index.{stays};
 
 use crate::counts::{Counts, References, count_of, has};
@@ -163,6 +163,35 @@ impl WaitList {
         }
         self.keep(Stays::After(now));
         self.next = waits::least_end(&self.waits);
+    }
+
+    /// Whether some wait has ended at a moment.
+    pub fn has_ended(&self, at: u64) -> bool
+        ensures { result ≡ list_any (λ w. not (goes_on at w)) self.now.waits }
+    {
+        if at < self.next {
+            false
+        } else {
+            waits::has_ended(&self.waits, at)
+        }
+    }
+
+    /// The objects of the waits that have ended at a moment. Where none has, it looks at no wait.
+    pub fn ended(&self, alloc: Global, at: u64) -> Result<Vec<ObjId>, AllocError>
+        ensures { IfOk result (λ os. os.items ≡ objects (over at self.now.waits)) }
+    {
+        if at < self.next {
+            Ok(Vec::new(alloc))
+        } else {
+            waits::objects_that_go(alloc, &self.waits, &Stays::After(at))
+        }
+    }
+
+    /// The objects of the waits of a return.
+    pub fn of_return(&self, alloc: Global, uid: &Uid) -> Result<Vec<ObjId>, AllocError>
+        ensures { IfOk result (λ os. os.items ≡ objects (of_return uid.now self.now.waits)) }
+    {
+        waits::objects_that_go(alloc, &self.waits, &Stays::OtherReturns(*uid))
     }
 
     /// Forgets the wait of this object and return, if it is listed.

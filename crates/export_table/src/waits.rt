@@ -1,11 +1,13 @@
 //! References that were returned and await their acknowledgement.
-ghost use Rattle.std.specs.Prelude.{◌≡◌, ◌++◌, ◌∷◌, [], ◌+◌, ◌<◌, ◌≤◌, length, filter, vec_len, vec_capacity};
+ghost use Rattle.std.specs.Prelude.{◌≡◌, ◌++◌, ◌∷◌, [], ◌+◌, ◌<◌, ◌≤◌, length, filter, map, not, IfOk, vec_len, vec_capacity};
+ghost use Rattle.std.specs.List.{list_any};
 ghost use Rattle.object_ids.specs.Same.{same_id, same_uid};
 ghost use Rattle.export_table.specs.Waits.{is_wait_of, goes_on, waiting, is_waiting, is_awaited, awaiting_of, until_of};
 ghost use Rattle.export_table.specs.Index.{stays, EndsNoEarlier};
 
 use mod_utf::list::Same;
 use object_ids::{ObjId, Uid};
+use std::alloc::{AllocError, Global};
 
 /// A reference to an object that was returned, and awaits its acknowledgement (Java RMI Specification,
 /// chapter 10: `DgcAck`).
@@ -130,6 +132,28 @@ impl Stays {
             Stays::OtherReturns(uid) => !wait.is_of_return(uid),
         }
     }
+}
+
+/// The objects of the waits that don't stay.
+pub fn objects_that_go(
+    alloc: Global,
+    waits: &[Wait],
+    which: &Stays,
+) -> Result<Vec<ObjId>, AllocError>
+    ensures { IfOk result (λ objects. objects.items ≡ map (λ w. w.object) (filter (λ w. not (stays which.now w)) waits.now)) }
+{
+    waits
+        .iter()
+        .filter(|wait| !which.has(wait))
+        .map(|wait| wait.object)
+        .collect(alloc)
+}
+
+/// Whether some wait has ended at a moment.
+pub fn has_ended(waits: &[Wait], at: u64) -> bool
+    ensures { result ≡ list_any (λ w. not (goes_on at w)) waits.now }
+{
+    waits.iter().any(|wait| !wait.goes_on(at))
 }
 
 /// Keeps the waits that stay.

@@ -8,10 +8,12 @@ pub mod BalanceLaws
 pub mod Bindings
 pub mod Clients
 pub mod CollectLaws
+pub mod Doubting
 pub mod EndLaws
 pub mod FirstLaws
 pub mod Found
 pub mod Fresh
+pub mod Holding
 pub mod Keeping
 pub mod LegalLaws
 pub mod LimitLaws
@@ -29,6 +31,7 @@ pub mod Refusals
 pub mod Room
 pub mod RowLaws
 pub mod RunSteps
+pub mod Settling
 pub mod StepsLaws
 pub mod SummaryLaws
 pub mod TextLaws

@@ -133,7 +133,7 @@ pub record HasActed (config : SpaceConfig) (events : List Event) (e : Event) (le
   pub told_leases : ForEachLogBy (max e.moment moment) leases (λ lease calls. StandsFor lease leases1 (max e.moment moment) (call_with (is_exported exports.rows) (max e.moment moment) e.ask ++ calls))
   pub act : t ≡ acted (stood_for (places config events) e.ask) effective (max e.moment moment) e.ask exports
 
-is-acted : (config : SpaceConfig) (events : List Event) (e : Event) (leases leases1 : LeaseTable) (exports t : ExportTable) (runs : List Run) (withdrawn : List Withdrawal) (told opened used moment : ℕ) (effective : Bool) →
+pub is-acted : (config : SpaceConfig) (events : List Event) (e : Event) (leases leases1 : LeaseTable) (exports t : ExportTable) (runs : List Run) (withdrawn : List Withdrawal) (told opened used moment : ℕ) (effective : Bool) →
     HasActed config events e leases leases1 exports t runs withdrawn told opened used moment effective → IsActed config events e leases1 t (acted_runs effective e.by e.ask runs)
 is-acted config events e leases leases1 exports t runs withdrawn told opened used moment effective a =
     let k = a.asked.keeps in
@@ -309,6 +309,6 @@ pub memory-step : (config : SpaceConfig) (events events' : List Event) (e : Even
 memory-step config events events' e refused r s = inr (ap (λ x. Err x) r, s)
 
 -- What holds in any case holds of a refusal.
-pub whole-err : {T E A B C : Type 0} (r : Result T E) → A → B → C → OnErr r (A × B × C)
-whole-err (Ok x) a b d = tt
-whole-err (Err e) a b d = (a, b, d)
+pub whole-err : {T E A B C D : Type 0} (r : Result T E) → A → B → C → D → OnErr r (A × B × C × D)
+whole-err (Ok x) a b d f = tt
+whole-err (Err e) a b d f = (a, b, d, f)

@@ -5,6 +5,7 @@ pub mod AskedRows
 pub mod AskedViews
 pub mod Balance
 pub mod Built
+pub mod Doubts
 pub mod Entries
 pub mod Faults
 pub mod Kept

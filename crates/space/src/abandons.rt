@@ -8,6 +8,7 @@ ghost use Rattle.history.specs.Table.{places};
 ghost use Rattle.space.specs.Acts.{event_of};
 
 use crate::acts::{note_withdrawn, put_event};
+use crate::doubts::{takes_time, withdraw};
 use crate::runs::drop_first;
 use crate::turns::Space;
 use history::{Ask, Event};
@@ -31,12 +32,18 @@ impl Space {
     {
         let now = moment.max(self.tables.moment);
         let place = self.tables.events.len() as u64;
+        let all = takes_time(&self.tables.exports, self.tables.due, now);
         self.tables.leases.lapse(now);
         self.tables.exports.end(object);
         drop_first(&mut self.tables.runs, by, &object);
-        self.tables
-            .exports
-            .withdraw(now, &mut self.tables.leases, &mut self.tables.scratch);
+        withdraw(
+            &mut self.tables.exports,
+            &mut self.tables.leases,
+            now,
+            all,
+            &[object],
+            &mut self.tables.scratch,
+        );
         note_withdrawn(&mut self.tables.withdrawn, &self.tables.scratch, 0, place);
         self.tables.scratch.clear();
         self.tables.units += 1;

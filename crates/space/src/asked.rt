@@ -15,7 +15,7 @@ pub enum AskedEnd {
 }
 
 /// The entry of a turn: what a connection asked at a moment, in milliseconds, and how that ended.
-#[derive(Debug, Drop)]
+#[derive(Debug)]
 pub struct Asked {
     /// The moment that was handed in.
     pub moment: u64,
@@ -23,6 +23,19 @@ pub struct Asked {
     pub ask: Ask,
     /// How it ended.
     pub end: AskedEnd,
+}
+
+// Written out, so that whoever owns one has one call at each exit, and not the drop of each field.
+impl Drop for Asked {
+    fn drop(self) {
+        let Asked {
+            moment: _,
+            ask,
+            end,
+        } = self;
+        drop(ask);
+        drop(end);
+    }
 }
 
 /// A list of entries.

@@ -15,11 +15,24 @@ use std::marker::Model;
 /// one, an Ack, each with nothing told as gone, and a call that was ended without an answer) takes 64 bytes, and each other one a box
 /// beside. Contracts see it as an `AskedRecord`: the list of its entries, how many of them it has room for, and whether it has a box to
 /// spare.
-#[derive(Debug, Drop)]
+#[derive(Debug)]
 pub struct AskedLog {
     alloc: Global,
     rows: Vec<AskedRow>,
     spare: Option<Box<Asked>>,
+}
+
+// Written out, so that whoever owns one has one call at each exit, and not the drop of each field.
+impl Drop for AskedLog {
+    fn drop(self) {
+        let AskedLog {
+            alloc: _,
+            rows,
+            spare,
+        } = self;
+        drop(rows);
+        drop(spare);
+    }
 }
 
 impl Model for AskedLog {

@@ -11,6 +11,8 @@ pub mod asked_view;
 mod asks;
 mod calls;
 pub mod direct_port;
+mod doubts;
+mod due;
 pub mod journal_text;
 pub mod laws;
 pub mod lists;

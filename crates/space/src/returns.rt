@@ -69,7 +69,7 @@ fn of_lookup(
     Ok(found)
 }
 
-fn listed(alloc: Global, object: Option<ObjId>) -> Result<Vec<ObjId>, AllocError>
+pub(crate) fn listed(alloc: Global, object: Option<ObjId>) -> Result<Vec<ObjId>, AllocError>
     ensures { IfOk result (λ objects. objects.items ≡ option_to_list object) }
 {
     let mut objects = Vec::new(alloc);

@@ -6,6 +6,8 @@ ghost use Rattle.space.specs.Whole.{IsWhole, IsWholeWith};
 
 use crate::acts::{act, gone_ids, note_withdrawn};
 use crate::asks::{is_effective, room_refusal, stood_for, told_after};
+use crate::doubts::withdraw;
+use crate::due::due_after;
 use crate::names::settle;
 use crate::prepared::prepare;
 use crate::rooms::{room_for_event, room_for_gone, room_in_table};
@@ -46,6 +48,8 @@ pub struct Tables {
     pub told: usize,
     /// How many objects were ever exported.
     pub added: u64,
+    /// No lease ends before this moment.
+    pub due: u64,
     /// Empty between two calls, with room for every exported object.
     pub scratch: Vec<ObjId>,
 }
@@ -110,8 +114,22 @@ impl Tables {
         );
         act_on_runs(&mut self.runs, effective, by, ask);
         let untold = ready.gone.len();
-        self.exports
-            .withdraw(now, &mut self.leases, &mut ready.gone);
+        withdraw(
+            &mut self.exports,
+            &mut self.leases,
+            now,
+            self.due <= now,
+            &ready.doubtful,
+            &mut ready.gone,
+        );
+        self.due = due_after(
+            self.alloc,
+            &self.leases,
+            self.due,
+            now,
+            self.config.lease_ms,
+            ask,
+        );
         note_withdrawn(&mut self.withdrawn, &ready.gone, untold, place);
         self.told = told_after(self.told, self.withdrawn.len(), ask);
         self.added += ready.opened;

@@ -21,9 +21,18 @@ use std::marker::Model;
 
 /// A space of exported objects. Contracts see it as its configuration and the list of the events that it
 /// took, the oldest first; all else that it answers follows from these.
-#[derive(Debug, Drop)]
+#[derive(Debug)]
 pub struct Space {
     pub(crate) tables: Tables,
+}
+
+/// Written out: a function that owns a space then calls this at each of its exits, where a derived one would be the drops of all the
+/// tables there.
+impl Drop for Space {
+    fn drop(self) {
+        let Space { tables } = self;
+        drop(tables);
+    }
 }
 
 impl Model for Space {
@@ -59,6 +68,7 @@ impl Space {
                 withdrawn: Vec::new(alloc),
                 told: 0,
                 added: 0,
+                due: u64::MAX,
                 scratch: Vec::new(alloc),
                 names: Names::fresh(alloc),
             },

@@ -12,6 +12,10 @@ use Rattle.export_table.specs.Table.{ExportTable}
 use Rattle.dgc_server.proofs.Told.{error-is}
 use Rattle.history.specs.declared.places.Withdrawal.{Withdrawal}
 use Rattle.space.specs.Acts.{ForEachLogBy, event_of, acted, acted_runs, reply_at, returned_by, withdrawal_at, told_after, await_refusal, told_refusal, Agrees}
+use Rattle.std.proofs.lemmas.Bool.{leb-false}
+use Rattle.history.specs.Places.{id_at}
+use Rattle.space.specs.Doubts.{in_doubt}
+use Rattle.space.proofs.Settling.{settled-but, settled-roomy, due-turned, due-same}
 use Rattle.space.proofs.TurnLaws.{is-effective, none-else, room-step, await-step, memory-step, told-step, turn-keeps, turn-step, whole-err}
 use Rattle.space.proofs.AheadLaws.{room-grown, room-turned, few-calls}
 use Rattle.space.proofs.EndLaws.{has-acted, has-withdrawn, goes-after, goes-few}
@@ -42,6 +46,7 @@ returns-in_err-room_for_event-clause-whole c =
     c.requires.whole.1 c.room_for_event.ensures.events c.room_for_event.ensures.runs refl refl refl
     c.room_for_event.ensures.grow (omega arith) (omega arith))
     (bindings-same c.args.self.now.config c.args.self.now.events.items c.room_for_event.new.events.items c.args.self.now.names c.args.self.now.names c.requires.whole.2 c.room_for_event.ensures.events refl)
+    (due-same c.args.self.now.config c.args.self.now.events.items c.room_for_event.new.events.items c.args.self.now.due c.requires.whole.3 c.room_for_event.ensures.events)
 
 pub returns-in_err-room_for_gone-clause-whole : goal.returns-in_err-room_for_gone-clause-whole
 returns-in_err-room_for_gone-clause-whole c =
@@ -55,6 +60,7 @@ returns-in_err-room_for_gone-clause-whole c =
     c.requires.whole.1 c.room_for_event.ensures.events c.room_for_event.ensures.runs c.room_for_gone.ensures.withdrawn refl c.room_for_gone.ensures.scratch
     c.room_for_event.ensures.grow c.room_for_gone.ensures.withdrawn_grow c.room_for_gone.ensures.scratch_grow)
     (bindings-same c.args.self.now.config c.args.self.now.events.items c.room_for_event.new.events.items c.args.self.now.names c.args.self.now.names c.requires.whole.2 c.room_for_event.ensures.events refl)
+    (due-same c.args.self.now.config c.args.self.now.events.items c.room_for_event.new.events.items c.args.self.now.due c.requires.whole.3 c.room_for_event.ensures.events)
 
 pub returns-in_err-room_in_table-clause-whole : goal.returns-in_err-room_in_table-clause-whole
 returns-in_err-room_in_table-clause-whole c =
@@ -68,6 +74,7 @@ returns-in_err-room_in_table-clause-whole c =
     c.requires.whole.1 c.room_for_event.ensures.events c.room_for_event.ensures.runs c.room_for_gone.ensures.withdrawn c.room_in_table.ensures.rest c.room_for_gone.ensures.scratch
     c.room_for_event.ensures.grow c.room_for_gone.ensures.withdrawn_grow c.room_for_gone.ensures.scratch_grow)
     (bindings-same c.args.self.now.config c.args.self.now.events.items c.room_for_event.new.events.items c.args.self.now.names c.args.self.now.names c.requires.whole.2 c.room_for_event.ensures.events refl)
+    (due-same c.args.self.now.config c.args.self.now.events.items c.room_for_event.new.events.items c.args.self.now.due c.requires.whole.3 c.room_for_event.ensures.events)
 
 pub returns-in_err-settle-clause-whole : goal.returns-in_err-settle-clause-whole
 returns-in_err-settle-clause-whole c =
@@ -81,6 +88,7 @@ returns-in_err-settle-clause-whole c =
     c.requires.whole.1 c.room_for_event.ensures.events c.room_for_event.ensures.runs c.room_for_gone.ensures.withdrawn c.room_in_table.ensures.rest c.room_for_gone.ensures.scratch
     c.room_for_event.ensures.grow c.room_for_gone.ensures.withdrawn_grow c.room_for_gone.ensures.scratch_grow)
     (bindings-same c.args.self.now.config c.args.self.now.events.items c.room_for_event.new.events.items c.args.self.now.names c.settle.new.names c.requires.whole.2 c.room_for_event.ensures.events (c.in_err-settle.ensures {u = tt}).kept)
+    (due-same c.args.self.now.config c.args.self.now.events.items c.room_for_event.new.events.items c.args.self.now.due c.requires.whole.3 c.room_for_event.ensures.events)
 
 pub returns-in_err-room_for_event-clause-refused : goal.returns-in_err-room_for_event-clause-refused
 returns-in_err-room_for_event-clause-refused c =
@@ -141,14 +149,14 @@ returns-clause-taken c =
     let time : c.max-now.result ≡ max c.args.moment c.args.self.now.moment = search rules in
     let untold : c.len-untold.result ≡ length c.in_ok-ready.ready.gone.items = search rules in
     let place : c.len-place.result ≡ length c.room_for_event.new.events.items = search rules in
-    turn-step c.args.self.now.config c.args.self.now.events.items (event_of c.args.by c.args.moment c.args.ask.now) c.args.self.now.leases c.settle.new.leases c.withdraw.new.leases c.room_in_table.new.exports (acted c.stood_for-stood.result c.is_effective-effective.result c.max-now.result c.args.ask.now c.room_in_table.new.exports) c.withdraw.new.self
+    turn-step c.args.self.now.config c.args.self.now.events.items (event_of c.args.by c.args.moment c.args.ask.now) c.args.self.now.leases c.settle.new.leases c.withdraw.new.leases c.room_in_table.new.exports (acted c.stood_for-stood.result c.is_effective-effective.result c.max-now.result c.args.ask.now c.room_in_table.new.exports) c.withdraw.new.exports
     c.args.self.now.runs.items c.args.self.now.withdrawn.items c.args.self.now.told c.args.self.now.added c.args.self.now.units c.args.self.now.moment c.max-now.result c.is_effective-effective.result c.in_ok-ready.ready.gone.items c.withdraw.new.gone.items
     (has-acted c.args.self.now.config c.args.self.now.events.items (event_of c.args.by c.args.moment c.args.ask.now) c.args.self.now.leases c.settle.new.leases c.args.self.now.exports c.room_in_table.new.exports c.args.self.now.runs.items c.deref.result.now c.args.self.now.withdrawn.items
     c.args.self.now.told c.args.self.now.added c.args.self.now.units c.args.self.now.moment c.max-now.result c.len-running.result c.count-exported.result c.stood_for-stood.result (option_and_then (object_of c.args.self.now.names) (name_in c.args.ask.now)) c.is_effective-effective.result c.room_refusal.result (length c.args.self.now.names)
     c.requires.whole.0 (c.stood_for-stood.ensures ∙ stood-is (places c.args.self.now.config c.args.self.now.events.items) c.args.self.now.names c.args.ask.now c.requires.whole.2) c.stood_for-stood.ensures (bindings-counted c.args.self.now.config c.args.self.now.events.items c.args.self.now.names c.requires.whole.2) c.requires.moment c.is_effective-effective.ensures c.deref.ensures.value c.room_in_table.ensures.rest c.room_refusal.ensures running c.count-exported.ensures.value (none-else c.room_refusal.result c.in_default.not-Some) time
     (ap (λ (t : ExportTable). await_refusal c.max-now.result t.rows t.waits c.stood_for-stood.result c.is_effective-effective.result c.args.ask.now) c.room_in_table.ensures.rest ∙ c.in_ok-ready.ensures.refusal)
     (c.in_ok-settle.ensures {u = tt}).refusal (c.in_ok-settle.ensures {u = tt}).ok)
-    time (has-withdrawn c.settle.new.leases c.withdraw.new.leases (acted c.stood_for-stood.result c.is_effective-effective.result c.max-now.result c.args.ask.now c.room_in_table.new.exports) c.act.new.exports c.withdraw.new.self c.max-now.result c.in_ok-ready.ready.gone.items c.withdraw.new.gone.items
+    time (has-withdrawn c.settle.new.leases c.withdraw.new.leases (acted c.stood_for-stood.result c.is_effective-effective.result c.max-now.result c.args.ask.now c.room_in_table.new.exports) c.act.new.exports c.withdraw.new.exports c.max-now.result c.in_ok-ready.ready.gone.items c.withdraw.new.gone.items
     c.act.ensures c.withdraw.ensures.kept c.withdraw.ensures.gone c.withdraw.ensures.dropped)
     c.len-place.result c.in_ok-ready.ready.reply c.gone_ids-gone.result (c.args.self.now.events.items ++ (event_of c.args.by c.args.moment c.args.ask.now) ∷ [])
     (place ∙ ap length c.room_for_event.ensures.events) refl
@@ -164,22 +172,22 @@ returns-clause-with_event c =
     let untold : c.len-untold.result ≡ length c.in_ok-ready.ready.gone.items = search rules in
     let place : c.len-place.result ≡ length c.room_for_event.new.events.items = search rules in
     let all : c.len-2.result ≡ length c.note_withdrawn.new.withdrawn.items = search rules in
-    let seen : c.deref-4.result.now ≡ c.withdraw.new.gone.items = c.deref-4.ensures.value in
+    let seen : c.deref-5.result.now ≡ c.withdraw.new.gone.items = c.deref-5.ensures.value in
     let ended : c.room_for_event.new.events.items ++ (event_of c.args.by c.args.moment c.args.ask.now) ∷ [] ≡ c.args.self.now.events.items ++ (event_of c.args.by c.args.moment c.args.ask.now) ∷ [] = ap (λ l. l ++ (event_of c.args.by c.args.moment c.args.ask.now) ∷ []) c.room_for_event.ensures.events in
     let acts = has-acted c.args.self.now.config c.args.self.now.events.items (event_of c.args.by c.args.moment c.args.ask.now) c.args.self.now.leases c.settle.new.leases c.args.self.now.exports c.room_in_table.new.exports c.args.self.now.runs.items c.deref.result.now c.args.self.now.withdrawn.items
     c.args.self.now.told c.args.self.now.added c.args.self.now.units c.args.self.now.moment c.max-now.result c.len-running.result c.count-exported.result c.stood_for-stood.result (option_and_then (object_of c.args.self.now.names) (name_in c.args.ask.now)) c.is_effective-effective.result c.room_refusal.result (length c.args.self.now.names)
     c.requires.whole.0 (c.stood_for-stood.ensures ∙ stood-is (places c.args.self.now.config c.args.self.now.events.items) c.args.self.now.names c.args.ask.now c.requires.whole.2) c.stood_for-stood.ensures (bindings-counted c.args.self.now.config c.args.self.now.events.items c.args.self.now.names c.requires.whole.2) c.requires.moment c.is_effective-effective.ensures c.deref.ensures.value c.room_in_table.ensures.rest c.room_refusal.ensures running c.count-exported.ensures.value (none-else c.room_refusal.result c.in_default.not-Some) time
     (ap (λ (t : ExportTable). await_refusal c.max-now.result t.rows t.waits c.stood_for-stood.result c.is_effective-effective.result c.args.ask.now) c.room_in_table.ensures.rest ∙ c.in_ok-ready.ensures.refusal)
     (c.in_ok-settle.ensures {u = tt}).refusal (c.in_ok-settle.ensures {u = tt}).ok in
-    let kept = turn-keeps c.args.self.now.config c.args.self.now.events.items (event_of c.args.by c.args.moment c.args.ask.now) c.args.self.now.leases c.settle.new.leases c.withdraw.new.leases c.room_in_table.new.exports (acted c.stood_for-stood.result c.is_effective-effective.result c.max-now.result c.args.ask.now c.room_in_table.new.exports) c.withdraw.new.self
+    let kept = turn-keeps c.args.self.now.config c.args.self.now.events.items (event_of c.args.by c.args.moment c.args.ask.now) c.args.self.now.leases c.settle.new.leases c.withdraw.new.leases c.room_in_table.new.exports (acted c.stood_for-stood.result c.is_effective-effective.result c.max-now.result c.args.ask.now c.room_in_table.new.exports) c.withdraw.new.exports
     c.args.self.now.runs.items c.args.self.now.withdrawn.items c.args.self.now.told c.args.self.now.added c.args.self.now.units c.args.self.now.moment c.max-now.result c.is_effective-effective.result c.in_ok-ready.ready.gone.items c.withdraw.new.gone.items
     acts
-    time (has-withdrawn c.settle.new.leases c.withdraw.new.leases (acted c.stood_for-stood.result c.is_effective-effective.result c.max-now.result c.args.ask.now c.room_in_table.new.exports) c.act.new.exports c.withdraw.new.self c.max-now.result c.in_ok-ready.ready.gone.items c.withdraw.new.gone.items
+    time (has-withdrawn c.settle.new.leases c.withdraw.new.leases (acted c.stood_for-stood.result c.is_effective-effective.result c.max-now.result c.args.ask.now c.room_in_table.new.exports) c.act.new.exports c.withdraw.new.exports c.max-now.result c.in_ok-ready.ready.gone.items c.withdraw.new.gone.items
     c.act.ensures c.withdraw.ensures.kept c.withdraw.ensures.gone c.withdraw.ensures.dropped)
     c.len-place.result c.told_after-self.result _ _ (c.room_for_event.new.events.items ++ (event_of c.args.by c.args.moment c.args.ask.now) ∷ []) c.act_on_runs.new.runs.items c.note_withdrawn.new.withdrawn.items
     (place ∙ ap length c.room_for_event.ensures.events) ended
     (c.act_on_runs.ensures ∙ ap (acted_runs c.is_effective-effective.result c.args.by c.args.ask.now) c.room_for_event.ensures.runs)
-    (c.note_withdrawn.ensures.items ∙ ap (λ l. l ++ map (withdrawal_at c.len-place.result) (drop c.len-untold.result c.deref-4.result.now)) c.room_for_gone.ensures.withdrawn
+    (c.note_withdrawn.ensures.items ∙ ap (λ l. l ++ map (withdrawal_at c.len-place.result) (drop c.len-untold.result c.deref-5.result.now)) c.room_for_gone.ensures.withdrawn
     ∙ ap (λ l. c.args.self.now.withdrawn.items ++ map (withdrawal_at c.len-place.result) (drop c.len-untold.result l)) seen
     ∙ ap (λ n. c.args.self.now.withdrawn.items ++ map (withdrawal_at c.len-place.result) (drop n c.withdraw.new.gone.items)) untold)
     (c.told_after-self.ensures ∙ ap (λ n. told_after c.args.self.now.told n c.args.ask.now) all)
@@ -192,7 +200,7 @@ returns-clause-with_event c =
     let withdrawn_len : vec_len c.room_for_gone.new.withdrawn ≡ length c.room_for_gone.new.withdrawn.items = search rules in
     let events_same = ap length c.room_for_event.ensures.events in let runs_same = ap length c.room_for_event.ensures.runs in let withdrawn_same = ap length c.room_for_gone.ensures.withdrawn in (
       kept,
-      room-turned c.args.self.now.config c.args.self.now.events.items (c.room_for_event.new.events.items ++ (event_of c.args.by c.args.moment c.args.ask.now) ∷ []) (event_of c.args.by c.args.moment c.args.ask.now) c.args.self.now.leases c.withdraw.new.leases c.args.self.now.exports c.withdraw.new.self
+      room-turned c.args.self.now.config c.args.self.now.events.items (c.room_for_event.new.events.items ++ (event_of c.args.by c.args.moment c.args.ask.now) ∷ []) (event_of c.args.by c.args.moment c.args.ask.now) c.args.self.now.leases c.withdraw.new.leases c.args.self.now.exports c.withdraw.new.exports
           c.args.self.now.runs.items c.act_on_runs.new.runs.items c.args.self.now.withdrawn.items c.note_withdrawn.new.withdrawn.items c.args.self.now.told c.args.self.now.added c.args.self.now.units c.args.self.now.moment
           c.told_after-self.result _ _ c.max-now.result c.in_ok-ready.ready.objects c.room_for_gone.new.scratch.items c.room_for_event.new.events.capacity (vec_capacity c.note_withdrawn.new.withdrawn) (vec_capacity c.room_for_gone.new.scratch)
           c.is_effective-effective.result (is-effective c.args.self.now.config c.args.self.now.events.items (event_of c.args.by c.args.moment c.args.ask.now) c.args.self.now.leases c.room_in_table.new.exports c.args.self.now.runs.items c.args.self.now.withdrawn.items
@@ -204,6 +212,9 @@ returns-clause-with_event c =
           (is-effective c.args.self.now.config c.args.self.now.events.items (event_of c.args.by c.args.moment c.args.ask.now) c.args.self.now.leases c.room_in_table.new.exports c.args.self.now.runs.items c.args.self.now.withdrawn.items
           c.args.self.now.told c.args.self.now.added c.args.self.now.units c.args.self.now.moment c.is_effective-effective.result acts.asked)
           (c.in_ok-settle.ensures {u = tt}).names) ended refl,
+      due-turned c.args.self.now.config c.args.self.now.events.items (c.room_for_event.new.events.items ++ (event_of c.args.by c.args.moment c.args.ask.now) ∷ []) (event_of c.args.by c.args.moment c.args.ask.now) c.withdraw.new.leases c.withdraw.new.exports
+          c.act_on_runs.new.runs.items c.note_withdrawn.new.withdrawn.items c.told_after-self.result _ _ c.max-now.result c.args.self.now.due c.due_after-self.result
+          kept ended (time ∙ ap (max c.args.moment) c.requires.whole.0.stands.moment_is) c.requires.whole.3 c.due_after-self.ensures.looked c.due_after-self.ensures.before c.due_after-self.ensures.granted,
     )
 
 pub act-requires-clause-few : goal.act-requires-clause-few
@@ -220,8 +231,8 @@ act-requires-clause-runs c o t s =
     c.args.self.now.told c.args.self.now.added c.args.self.now.units c.args.self.now.moment c.stood_for-stood.result c.is_effective-effective.result c.requires.whole.0 (c.stood_for-stood.ensures ∙ stood-is (places c.args.self.now.config c.args.self.now.events.items) c.args.self.now.names c.args.ask.now c.requires.whole.2) c.is_effective-effective.ensures c.deref.ensures.value c.room_in_table.ensures.rest)
     o t s
 
-pub withdraw-requires : goal.withdraw-requires
-withdraw-requires c =
+pub withdraw-requires-clause-room : goal.withdraw-requires-clause-room
+withdraw-requires-clause-room c =
     let few = acted-few c.stood_for-stood.result c.is_effective-effective.result c.max-now.result c.args.ask.now c.room_in_table.new.exports c.act.new.exports c.act.ensures in
     let same = ap (λ (t : ExportTable). length t.rows) c.room_in_table.ensures.rest in
     let objects = c.in_ok-ready.ensures.objects in let room = c.in_ok-ready.ensures.room in
@@ -232,16 +243,16 @@ note_withdrawn-requires-clause-within c =
     let running : c.len-running.result ≡ length c.args.self.now.runs.items = search rules in
     let time : c.max-now.result ≡ max c.args.moment c.args.self.now.moment = search rules in
     let untold : c.len-untold.result ≡ length c.in_ok-ready.ready.gone.items = search rules in
-    let after = goes-after c.args.self.now.config c.args.self.now.events.items (event_of c.args.by c.args.moment c.args.ask.now) c.args.self.now.leases c.settle.new.leases c.withdraw.new.leases c.room_in_table.new.exports (acted c.stood_for-stood.result c.is_effective-effective.result c.max-now.result c.args.ask.now c.room_in_table.new.exports) c.withdraw.new.self
+    let after = goes-after c.args.self.now.config c.args.self.now.events.items (event_of c.args.by c.args.moment c.args.ask.now) c.args.self.now.leases c.settle.new.leases c.withdraw.new.leases c.room_in_table.new.exports (acted c.stood_for-stood.result c.is_effective-effective.result c.max-now.result c.args.ask.now c.room_in_table.new.exports) c.withdraw.new.exports
     c.args.self.now.runs.items c.args.self.now.withdrawn.items c.args.self.now.told c.args.self.now.added c.args.self.now.units c.args.self.now.moment c.max-now.result c.is_effective-effective.result c.in_ok-ready.ready.gone.items c.withdraw.new.gone.items
     (has-acted c.args.self.now.config c.args.self.now.events.items (event_of c.args.by c.args.moment c.args.ask.now) c.args.self.now.leases c.settle.new.leases c.args.self.now.exports c.room_in_table.new.exports c.args.self.now.runs.items c.deref.result.now c.args.self.now.withdrawn.items
     c.args.self.now.told c.args.self.now.added c.args.self.now.units c.args.self.now.moment c.max-now.result c.len-running.result c.count-exported.result c.stood_for-stood.result (option_and_then (object_of c.args.self.now.names) (name_in c.args.ask.now)) c.is_effective-effective.result c.room_refusal.result (length c.args.self.now.names)
     c.requires.whole.0 (c.stood_for-stood.ensures ∙ stood-is (places c.args.self.now.config c.args.self.now.events.items) c.args.self.now.names c.args.ask.now c.requires.whole.2) c.stood_for-stood.ensures (bindings-counted c.args.self.now.config c.args.self.now.events.items c.args.self.now.names c.requires.whole.2) c.requires.moment c.is_effective-effective.ensures c.deref.ensures.value c.room_in_table.ensures.rest c.room_refusal.ensures running c.count-exported.ensures.value (none-else c.room_refusal.result c.in_default.not-Some) time
     (ap (λ (t : ExportTable). await_refusal c.max-now.result t.rows t.waits c.stood_for-stood.result c.is_effective-effective.result c.args.ask.now) c.room_in_table.ensures.rest ∙ c.in_ok-ready.ensures.refusal)
     (c.in_ok-settle.ensures {u = tt}).refusal (c.in_ok-settle.ensures {u = tt}).ok)
-    time (has-withdrawn c.settle.new.leases c.withdraw.new.leases (acted c.stood_for-stood.result c.is_effective-effective.result c.max-now.result c.args.ask.now c.room_in_table.new.exports) c.act.new.exports c.withdraw.new.self c.max-now.result c.in_ok-ready.ready.gone.items c.withdraw.new.gone.items
+    time (has-withdrawn c.settle.new.leases c.withdraw.new.leases (acted c.stood_for-stood.result c.is_effective-effective.result c.max-now.result c.args.ask.now c.room_in_table.new.exports) c.act.new.exports c.withdraw.new.exports c.max-now.result c.in_ok-ready.ready.gone.items c.withdraw.new.gone.items
     c.act.ensures c.withdraw.ensures.kept c.withdraw.ensures.gone c.withdraw.ensures.dropped) in
-    let seen = ap length c.deref-4.ensures.value in
+    let seen = ap length c.deref-5.ensures.value in
     omega (arith, untold, after, seen)
 
 pub note_withdrawn-requires-clause-room : goal.note_withdrawn-requires-clause-room
@@ -249,19 +260,19 @@ note_withdrawn-requires-clause-room c =
     let running : c.len-running.result ≡ length c.args.self.now.runs.items = search rules in
     let time : c.max-now.result ≡ max c.args.moment c.args.self.now.moment = search rules in
     let untold : c.len-untold.result ≡ length c.in_ok-ready.ready.gone.items = search rules in
-    let few = goes-few c.args.self.now.config c.args.self.now.events.items (event_of c.args.by c.args.moment c.args.ask.now) c.args.self.now.leases c.settle.new.leases c.withdraw.new.leases c.room_in_table.new.exports (acted c.stood_for-stood.result c.is_effective-effective.result c.max-now.result c.args.ask.now c.room_in_table.new.exports) c.withdraw.new.self
+    let few = goes-few c.args.self.now.config c.args.self.now.events.items (event_of c.args.by c.args.moment c.args.ask.now) c.args.self.now.leases c.settle.new.leases c.withdraw.new.leases c.room_in_table.new.exports (acted c.stood_for-stood.result c.is_effective-effective.result c.max-now.result c.args.ask.now c.room_in_table.new.exports) c.withdraw.new.exports
     c.args.self.now.runs.items c.args.self.now.withdrawn.items c.args.self.now.told c.args.self.now.added c.args.self.now.units c.args.self.now.moment c.max-now.result c.is_effective-effective.result c.in_ok-ready.ready.gone.items c.withdraw.new.gone.items
     (has-acted c.args.self.now.config c.args.self.now.events.items (event_of c.args.by c.args.moment c.args.ask.now) c.args.self.now.leases c.settle.new.leases c.args.self.now.exports c.room_in_table.new.exports c.args.self.now.runs.items c.deref.result.now c.args.self.now.withdrawn.items
     c.args.self.now.told c.args.self.now.added c.args.self.now.units c.args.self.now.moment c.max-now.result c.len-running.result c.count-exported.result c.stood_for-stood.result (option_and_then (object_of c.args.self.now.names) (name_in c.args.ask.now)) c.is_effective-effective.result c.room_refusal.result (length c.args.self.now.names)
     c.requires.whole.0 (c.stood_for-stood.ensures ∙ stood-is (places c.args.self.now.config c.args.self.now.events.items) c.args.self.now.names c.args.ask.now c.requires.whole.2) c.stood_for-stood.ensures (bindings-counted c.args.self.now.config c.args.self.now.events.items c.args.self.now.names c.requires.whole.2) c.requires.moment c.is_effective-effective.ensures c.deref.ensures.value c.room_in_table.ensures.rest c.room_refusal.ensures running c.count-exported.ensures.value (none-else c.room_refusal.result c.in_default.not-Some) time
     (ap (λ (t : ExportTable). await_refusal c.max-now.result t.rows t.waits c.stood_for-stood.result c.is_effective-effective.result c.args.ask.now) c.room_in_table.ensures.rest ∙ c.in_ok-ready.ensures.refusal)
     (c.in_ok-settle.ensures {u = tt}).refusal (c.in_ok-settle.ensures {u = tt}).ok)
-    time (has-withdrawn c.settle.new.leases c.withdraw.new.leases (acted c.stood_for-stood.result c.is_effective-effective.result c.max-now.result c.args.ask.now c.room_in_table.new.exports) c.act.new.exports c.withdraw.new.self c.max-now.result c.in_ok-ready.ready.gone.items c.withdraw.new.gone.items
+    time (has-withdrawn c.settle.new.leases c.withdraw.new.leases (acted c.stood_for-stood.result c.is_effective-effective.result c.max-now.result c.args.ask.now c.room_in_table.new.exports) c.act.new.exports c.withdraw.new.exports c.max-now.result c.in_ok-ready.ready.gone.items c.withdraw.new.gone.items
     c.act.ensures c.withdraw.ensures.kept c.withdraw.ensures.gone c.withdraw.ensures.dropped) in
     let same = ap (λ (t : ExportTable). length t.rows) c.act.ensures in
     let rows = acted-few c.stood_for-stood.result c.is_effective-effective.result c.max-now.result c.args.ask.now c.room_in_table.new.exports c.act.new.exports c.act.ensures in
     let before = ap (λ (t : ExportTable). length t.rows) c.room_in_table.ensures.rest in
-    let seen = ap (λ l. length (drop c.len-untold.result l)) c.deref-4.ensures.value in
+    let seen = ap (λ l. length (drop c.len-untold.result l)) c.deref-5.ensures.value in
     let at = ap (λ n. length (drop n c.withdraw.new.gone.items)) untold in
     let objects = c.in_ok-ready.ensures.objects in
     let room = (c.in_ok-room_for_gone.ensures {u = tt}).withdrawals in
@@ -337,3 +348,21 @@ room_for_event-requires c =
     let few = few-calls c.args.self.now.config c.args.self.now.events.items c.args.self.now.leases c.args.self.now.exports c.args.self.now.runs.items c.args.self.now.withdrawn.items c.args.self.now.told c.args.self.now.added c.args.self.now.units c.args.self.now.moment c.requires.whole.0 in
     let len : vec_len c.args.self.now.runs ≡ length c.args.self.now.runs.items = search rules in
     omega (arith, few, len)
+
+pub withdraw-requires-clause-among : goal.withdraw-requires-clause-among
+withdraw-requires-clause-among c late =
+    let running : c.len-running.result ≡ length c.args.self.now.runs.items = search rules in
+    let time : c.max-now.result ≡ max c.args.moment c.args.self.now.moment = search rules in
+    let acts = has-acted c.args.self.now.config c.args.self.now.events.items (event_of c.args.by c.args.moment c.args.ask.now) c.args.self.now.leases c.settle.new.leases c.args.self.now.exports c.room_in_table.new.exports c.args.self.now.runs.items c.deref.result.now c.args.self.now.withdrawn.items
+    c.args.self.now.told c.args.self.now.added c.args.self.now.units c.args.self.now.moment c.max-now.result c.len-running.result c.count-exported.result c.stood_for-stood.result (option_and_then (object_of c.args.self.now.names) (name_in c.args.ask.now)) c.is_effective-effective.result c.room_refusal.result (length c.args.self.now.names)
+    c.requires.whole.0 (c.stood_for-stood.ensures ∙ stood-is (places c.args.self.now.config c.args.self.now.events.items) c.args.self.now.names c.args.ask.now c.requires.whole.2) c.stood_for-stood.ensures (bindings-counted c.args.self.now.config c.args.self.now.events.items c.args.self.now.names c.requires.whole.2) c.requires.moment c.is_effective-effective.ensures c.deref.ensures.value c.room_in_table.ensures.rest c.room_refusal.ensures running c.count-exported.ensures.value (none-else c.room_refusal.result c.in_default.not-Some) time
+    (ap (λ (t : ExportTable). await_refusal c.max-now.result t.rows t.waits c.stood_for-stood.result c.is_effective-effective.result c.args.ask.now) c.room_in_table.ensures.rest ∙ c.in_ok-ready.ensures.refusal)
+    (c.in_ok-settle.ensures {u = tt}).refusal (c.in_ok-settle.ensures {u = tt}).ok in
+    let stood = c.stood_for-stood.ensures ∙ stood-is (places c.args.self.now.config c.args.self.now.events.items) c.args.self.now.names c.args.ask.now c.requires.whole.2 in
+    settled-roomy c.settle.new.leases (acted c.stood_for-stood.result c.is_effective-effective.result c.max-now.result c.args.ask.now c.room_in_table.new.exports) c.act.new.exports c.max-now.result c.in_ok-ready.ready.doubtful.items c.deref-4.result.now c.act.ensures c.deref-4.ensures.value
+    (settled-but c.args.self.now.config c.args.self.now.events.items (event_of c.args.by c.args.moment c.args.ask.now) c.args.self.now.leases c.settle.new.leases c.room_in_table.new.exports (acted c.stood_for-stood.result c.is_effective-effective.result c.max-now.result c.args.ask.now c.room_in_table.new.exports)
+    c.args.self.now.runs.items c.args.self.now.withdrawn.items c.args.self.now.told c.args.self.now.added c.args.self.now.units c.args.self.now.moment c.is_effective-effective.result acts c.max-now.result c.args.self.now.due c.in_ok-ready.ready.doubtful.items time c.requires.whole.3
+    (leb-false c.args.self.now.due c.max-now.result late)
+    (c.in_ok-ready.ensures.doubtful
+    ∙ ap (λ (t : ExportTable). in_doubt c.max-now.result t.waits (id_at c.args.self.now.config.uid c.args.self.now.added) c.stood_for-stood.result (returned_by c.args.self.now.config.uid c.args.self.now.added t.rows c.stood_for-stood.result c.is_effective-effective.result c.args.ask.now) c.args.ask.now) (sym c.room_in_table.ensures.rest)
+    ∙ ap (λ o. in_doubt c.max-now.result c.room_in_table.new.exports.waits (id_at c.args.self.now.config.uid c.args.self.now.added) o (returned_by c.args.self.now.config.uid c.args.self.now.added c.room_in_table.new.exports.rows o c.is_effective-effective.result c.args.ask.now) c.args.ask.now) stood))

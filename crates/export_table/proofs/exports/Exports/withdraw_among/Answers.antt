@@ -1,0 +1,34 @@
+use Rattle.std.proofs.Common.{◌≡◌, ℕ, List, length, drop, map, max, ap, sym, subst, true, ◌∙◌, rules}
+use Rattle.std.specs.Prelude.{vec_len}
+use Rattle.std.proofs.lemmas.List.Prefix.{front_rest}
+use Rattle.object_ids.specs.declared.ids.ObjId.{ObjId}
+use Rattle.dgc_server.specs.Stands.{StandsFor}
+use Rattle.export_table.specs.Rows.{held_by, withdrawn, without_all, is_settled_but}
+use Rattle.export_table.specs.Table.{ExportTable}
+use Rattle.export_table.specs.Waits.{goes_on}
+use Rattle.export_table.proofs.Dropped.{slice_from}
+use Rattle.export_table.proofs.Sound.{sound-part, sound-filter}
+use Rattle.export_table.proofs.exports.Exports.withdraw_among.Goals as goal
+
+pub invariant_of-self : goal.invariant_of-self
+invariant_of-self c =
+    rw c.sift_among.ensures.waits
+    (sound-filter c.self.inside.space c.self.inside.ack c.self.inside.added c.sift_among.new.rows.items c.self.inside.waits.waits (goes_on c.args.now)
+    (sound-part c.self.inside.space c.self.inside.ack c.self.inside.added c.self.inside.rows.items c.sift_among.new.rows.items c.self.inside.waits.waits c.sift_among.ensures.part c.self.invariant))
+
+pub returns-clause-dropped : goal.returns-clause-dropped
+returns-clause-dropped c lease moment calls s =
+    let Q : List ObjId → Type 0 = λ os. StandsFor lease c.drop_all.new.leases moment (map (without_all os) calls) in
+    let held = held_by lease (max c.args.now moment) calls in
+    let len : vec_len c.args.gone.now ≡ length c.args.gone.now.items = search rules in
+    subst Q
+    (slice_from c.len-told.result c.deref.result.now
+    ∙ ap (λ (n : ℕ). drop n c.deref.result.now) (c.len-told.ensures ∙ len)
+    ∙ front_rest c.deref.result.now c.args.gone.now.items _ (c.deref.ensures.value ∙ c.sift_among.ensures.gone lease moment calls s)
+    ∙ ap (λ (t : ExportTable). withdrawn c.args.now held t.waits t.rows) c.self.view_is)
+    (c.drop_all.ensures lease moment calls s)
+
+pub sift_among-requires-clause-among : goal.sift_among-requires-clause-among
+sift_among-requires-clause-among c lease moment calls s =
+    let P : ExportTable → Type 0 = λ t. is_settled_but c.args.doubtful.now c.args.now (held_by lease (max c.args.now moment) calls) t.waits t.rows ≡ true in
+    subst P (sym c.self.view_is) (c.requires.among lease moment calls s)
