@@ -30,7 +30,7 @@ use Rattle.call_dispatch.specs.Progress.{Talked}
 use Rattle.call_dispatch.proofs.OneReading.{chain_first, chain_rest}
 use Rattle.call_dispatch.specs.Results.{finish_with}
 use Rattle.call_dispatch.specs.Served.{Conclusion, finished, denied, faulted, conclusion_acts, Running, unknown, ran, invocation_of, running_acts, IsRunning, absent, refused, begun}
-use Rattle.call_dispatch.specs.Invoked.{invocations_in, IsInvocationOf, IsInvokedOnce, CallIsInvokedOnce, IsCallOf, LeadTo, InvokesEachOnce}
+use Rattle.call_dispatch.specs.Invoked.{invocations_in, IsInvocationOf, IsInvokedOnce, CallIsInvokedOnce, IsCallOf, LeadTo, InvokesEachOnce, DialogueInvokesEachOnce}
 use Rattle.call_dispatch.specs.Systems.{System, barred, turned, system_acts}
 use Rattle.call_dispatch.specs.Systems.{unknown as nameless}
 
@@ -220,10 +220,8 @@ whole_leads terms drawn nothing whole = refl
 whole_leads terms drawn greeted whole = refl
 whole_leads terms drawn (opened opening es) (legal, chain, few) = exchanges_lead terms drawn es chain
 
--- A connection that ended in a dialogue invoked each message at most once, with what it spells.
-pub talked_invokes : (may : Invocation → Outcome → Type 0) (moves : States → Call → States → Type 0) (terms : Terms) (start now : Spot) (end : ConnEnd) → Talked may moves terms start now end → InvokesEachOnce terms start now
-talked_invokes may moves terms start now end (c, talks) =
-    let (w, tail, whole, is, how) = talks.dialogue in
+pub dialogue_invokes : DialogueInvokesEachOnce
+dialogue_invokes terms drawn c rest end (w, tail, whole, is, how) =
     let all : invocations_in c.acts ≡ invocations_in (flat_map acts_by (exchanges_in w)) ++ invocations_in tail.acts =
     ap (λ (x : Course). invocations_in x.acts) is ∙ in_more (flat_map acts_by (exchanges_in w)) tail.acts in
     let P : List Invocation → Type 0 = λ l. LeadTo terms.kinds (map taken_by (exchanges_in w) ++ tail.taken ∷ []) l in
@@ -231,10 +229,22 @@ talked_invokes may moves terms start now end (c, talks) =
       whole = w;
       behind = tail.taken;
       is_whole = whole;
-      taken = talks.goes.left ∙ ap (λ (x : Course). with_front x.taken now.wires.left) is;
+      taken = ap (λ (x : Course). x.taken) is;
+      once = subst P (sym all) (leads_more terms.kinds (map taken_by (exchanges_in w)) (tail.taken ∷ []) (invocations_in (flat_map acts_by (exchanges_in w))) (invocations_in tail.acts)
+          (whole_leads terms drawn w whole) (tail_leads terms drawn w tail rest end how));
+    }
+
+-- A connection that ended in a dialogue invoked each message at most once, with what it spells.
+pub talked_invokes : (may : Invocation → Outcome → Type 0) (moves : States → Call → States → Type 0) (terms : Terms) (start now : Spot) (end : ConnEnd) → Talked may moves terms start now end → InvokesEachOnce terms start now
+talked_invokes may moves terms start now end (c, talks) =
+    let each = dialogue_invokes terms start.drawn c now.wires.left end talks.dialogue in
+    record {
+      whole = each.whole;
+      behind = each.behind;
+      is_whole = each.is_whole;
+      taken = talks.goes.left ∙ ap (λ (l : List ℕ). with_front l now.wires.left) each.taken;
       told = flat_map calls c.acts;
       count = talks.goes.led.invoked;
       seen = talks.goes.led.seen;
-      once = subst P (sym all) (leads_more terms.kinds (map taken_by (exchanges_in w)) (tail.taken ∷ []) (invocations_in (flat_map acts_by (exchanges_in w))) (invocations_in tail.acts)
-          (whole_leads terms start.drawn w whole) (tail_leads terms start.drawn w tail now.wires.left end how));
+      once = each.once;
     }

@@ -28,3 +28,4 @@ pub mod OpeningReading
 pub mod OneReading
 pub mod Books
 pub mod SystemRows
+pub mod FixedReturns

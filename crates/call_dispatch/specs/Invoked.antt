@@ -1,5 +1,5 @@
 -- How often a Call is invoked, and with what.
-use Rattle.std.specs.Prelude.{◌≡◌, ℕ, ◌+◌, ◌⊎◌, List, [], ◌∷◌, ◌++◌, length, map, slice_get, Some}
+use Rattle.std.specs.Prelude.{◌≡◌, ℕ, ◌+◌, ◌⊎◌, Option, List, [], ◌∷◌, ◌++◌, length, map, slice_get, Some}
 use Rattle.std.specs.List.{flat_map}
 use Rattle.wire_io.specs.Wire.{with_front}
 use Rattle.object_ids.specs.declared.ids.Uid.{Uid}
@@ -12,9 +12,10 @@ use Rattle.call_dispatch.specs.Acts.{Act, Call, calls, invocations, Tells}
 use Rattle.call_dispatch.specs.Book.{methods_of}
 use Rattle.call_dispatch.specs.Served.{Served, IsMethodOf, served_acts, IsServed}
 use Rattle.call_dispatch.specs.Terms.{Terms}
-use Rattle.call_dispatch.specs.Spot.{Spot}
+use Rattle.call_dispatch.specs.Spot.{Spot, Course}
+use Rattle.call_dispatch.specs.declared.end.ConnEnd.{ConnEnd}
 use Rattle.call_dispatch.specs.Rows.{taken_by}
-use Rattle.call_dispatch.specs.Dialogue.{Whole, IsWhole, taken_in, exchanges_in}
+use Rattle.call_dispatch.specs.Dialogue.{Whole, IsWhole, taken_in, exchanges_in, Dialogue}
 
 -- the invocations among some acts, in their order
 abbrev pub invocations_in : List Act → List Invocation
@@ -64,3 +65,15 @@ pub record InvokesEachOnce (terms : Terms) (before now : Spot) : Type 0 where
   pub count : now.side.invoked ≡ before.side.invoked + length (flat_map invocations told)
   pub seen : Tells before.side.seen told now.side.seen
   pub once : LeadTo terms.kinds (map taken_by (exchanges_in whole) ++ behind ∷ []) (flat_map invocations told)
+
+-- What a course took is what stands whole and what came behind it, and these messages lead to its invocations.
+pub record InvokesIn (terms : Terms) (drawn : ℕ) (c : Course) : Type 0 where
+  pub whole : Whole
+  pub behind : List ℕ
+  pub is_whole : IsWhole terms drawn whole
+  pub taken : c.taken ≡ taken_in whole ++ behind
+  pub once : LeadTo terms.kinds (map taken_by (exchanges_in whole) ++ behind ∷ []) (invocations_in c.acts)
+
+-- In each dialogue a message leads to at most one invocation, which is its own, and nothing else leads to one.
+abbrev pub DialogueInvokesEachOnce : Type 0
+DialogueInvokesEachOnce = (terms : Terms) (drawn : ℕ) (c : Course) (rest : Option (List ℕ)) (end : ConnEnd) → Dialogue terms drawn c rest end → InvokesIn terms drawn c

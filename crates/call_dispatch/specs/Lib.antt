@@ -14,6 +14,7 @@ pub mod Returns
 pub mod Served
 pub mod Demands
 pub mod SystemReturns
+pub mod FixedReturns
 pub mod Systems
 pub mod Invoked
 pub mod Inside

@@ -18,12 +18,21 @@ use std::alloc::{AllocError, AllocFailed, Global};
 use std::marker::Model;
 
 /// A kind of objects.
-#[derive(Debug, Drop)]
+#[derive(Debug)]
 pub struct Kind {
     /// The name of the interface by which clients know its objects.
     pub interface: Units,
     /// The methods that clients may call.
     pub methods: MethodList,
+}
+
+// Written out, so that whoever owns one has one call at each exit, and not the drop of each field.
+impl Drop for Kind {
+    fn drop(self) {
+        let Kind { interface, methods } = self;
+        drop(interface);
+        drop(methods);
+    }
 }
 
 /// A list of kinds.
@@ -71,11 +80,24 @@ struct SystemHashes {
 }
 
 /// The kinds of objects that are served, with the hashes of their methods. Contracts see it as the list of its kinds.
-#[derive(Debug, Drop)]
+#[derive(Debug)]
 pub struct Book {
     kinds: KindList,
     hashes: Sequence<I64List>,
     system: SystemHashes,
+}
+
+// Written out, so that whoever owns one has one call at each exit, and not the drop of each field.
+impl Drop for Book {
+    fn drop(self) {
+        let Book {
+            kinds,
+            hashes,
+            system: _,
+        } = self;
+        drop(kinds);
+        drop(hashes);
+    }
 }
 
 impl Model for Book {

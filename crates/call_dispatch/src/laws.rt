@@ -1,5 +1,5 @@
 //! Laws of dialogues.
-ghost use Rattle.call_dispatch.specs.Invoked.{CallIsInvokedOnce};
+ghost use Rattle.call_dispatch.specs.Invoked.{CallIsInvokedOnce, DialogueInvokesEachOnce};
 ghost use Rattle.call_dispatch.specs.Laws.{NextIsOne, OneDialogue};
 
 /// Two exchanges that may come at one place, and begin one input and one list of the outside's answers, are one.
@@ -17,4 +17,10 @@ pub fn one_dialogue()
 #[tactic(auto, using(crate::proofs::Invoking::call_is_invoked_once))]
 pub fn call_is_invoked_once()
     ensures { CallIsInvokedOnce }
+{}
+
+/// In each dialogue a message leads to at most one invocation, with the graph that it spells: in the one of `serve_connection`, and so in those that
+/// stand on it.
+pub fn dialogue_invokes_each_once()
+    ensures { DialogueInvokesEachOnce }
 {}

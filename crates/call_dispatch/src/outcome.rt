@@ -8,7 +8,7 @@ use ser_values::{Graph, Value};
 use std::alloc::{AllocError, Global};
 
 /// A call of a method, as a worker gets it.
-#[derive(Debug, Drop)]
+#[derive(Debug)]
 pub struct Invocation {
     /// The object whose method is called.
     pub object: ObjId,
@@ -18,6 +18,34 @@ pub struct Invocation {
     pub method: u32,
     /// What it is called with.
     pub arguments: Arguments,
+}
+
+// Written out, so that whoever owns one has one call at each exit, and not the drop of each field.
+impl Drop for Invocation {
+    fn drop(self) {
+        let Invocation {
+            object: _,
+            kind: _,
+            method: _,
+            arguments,
+        } = self;
+        drop(arguments);
+    }
+}
+
+impl Invocation {
+    /// The arguments. It takes no memory.
+    pub fn into_arguments(self) -> Arguments
+        ensures { result ≡ self.arguments }
+    {
+        let Invocation {
+            object: _,
+            kind: _,
+            method: _,
+            arguments,
+        } = self;
+        arguments
+    }
 }
 
 /// How an invocation came out.

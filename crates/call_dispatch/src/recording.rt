@@ -20,7 +20,6 @@ pub enum Recorded {
 
 /// A worker that gives outcomes one after the other, `Void` past their end, and keeps its calls ([`RecordingWorker::answer`]). Where there is no
 /// memory to keep one, an invocation comes out as `OutOfMemory`, and from then on the worker tells nothing.
-#[derive(Drop)]
 pub struct RecordingWorker {
     alloc: Global,
     /// The outcomes that are left, the next one first.
@@ -30,6 +29,21 @@ pub struct RecordingWorker {
     whole: bool,
     /// How many invocations it was given.
     pub calls: u64,
+}
+
+// Written out, so that whoever owns one has one call at each exit, and not the drop of each field.
+impl Drop for RecordingWorker {
+    fn drop(self) {
+        let RecordingWorker {
+            alloc: _,
+            outcomes,
+            recorded,
+            whole: _,
+            calls: _,
+        } = self;
+        drop(outcomes);
+        drop(recorded);
+    }
 }
 
 impl RecordingWorker {

@@ -1,16 +1,16 @@
 //! Results that are remote objects, and results that refer to some.
 ghost use Rattle.std.specs.Prelude.{◌≡◌, ◌≤◌, ◌^◌, [], true, false, length, IfOk, IfSome, IfNone};
-ghost use Rattle.call_dispatch.specs.Results.{flagged, graph_return, interface_of, own_return, reference_to};
+ghost use Rattle.call_dispatch.specs.Results.{flagged, graph_return, interface_of, own_return};
 ghost use Rattle.call_dispatch.specs.Returns.{returns_place};
 ghost use Rattle.call_dispatch.specs.Terms.{terms_of};
 
 use crate::book::Book;
+use crate::fixed_returns::reference_bytes;
 use crate::setup::Setup;
 use class_desc::{TypeCode, is_primitive};
-use java_shapes::{LiveRef, ref_graph, with_result_flag};
+use java_shapes::with_result_flag;
 use jrmp_frames::{Body, return_bytes};
 use mod_utf::list::{ByteList, Kinds, Units};
-use mod_utf::utf::encoded_len;
 use object_ids::{ObjId, ObjIds, Uid};
 use ser_values::Graph;
 use std::alloc::{AllocError, Global};
@@ -51,18 +51,6 @@ pub fn interface_for(book: &Book, returned: Option<TypeCode>, kind: u32) -> Opti
     Some(&found.interface)
 }
 
-/// The server's own reference to an object, made for a result.
-fn reference_to(alloc: Global, setup: &Setup, object: ObjId) -> Result<LiveRef, AllocError>
-    ensures { IfOk result (λ reference. reference ≡ reference_to (terms_of [] setup.now) object) }
-{
-    Ok(LiveRef {
-        host: setup.host.copy(alloc)?,
-        port: setup.port,
-        id: object,
-        result: true,
-    })
-}
-
 /// The normal Return of a graph.
 fn graph_return(alloc: Global, uid: Uid, graph: Graph) -> Result<ByteList, AllocError>
     ensures { IfOk result (λ bytes. bytes ≡ graph_return uid graph.nodes graph.items) }
@@ -82,11 +70,7 @@ pub fn own_return(
     ensures written { IfOk result (λ bytes. bytes ≡ own_return (terms_of [] setup.now) uid interface.now object) }
     ensures short { IfOk result (λ bytes. length bytes ≤ 2 ^ 30) }
 {
-    let reference = reference_to(alloc, setup, object)?;
-    if encoded_len(&reference.host) > 65535 {
-        return Err(AllocError);
-    }
-    let bytes = graph_return(alloc, uid, ref_graph(alloc, interface, &reference)?)?;
+    let bytes = reference_bytes(alloc, setup, uid, interface, object)?;
     if bytes.len() > RETURN_BYTES {
         return Err(AllocError);
     }

@@ -29,8 +29,9 @@ use wire_io::{Clock, Pull, Sink, Source};
 /// calls, has room for 2^30 of them and shows no call running, the worker was invoked fewer than 2^61 times, and fewer than 2^64 identifiers
 /// were drawn, from a moment below 2^61 on.
 ///
-/// No byte is taken but those of the dialogue. Each answer is written before the next message is taken, which no clause says. Each Call is invoked at most
-/// once, in its turn, with its own object and method and the graph that it spells, also where the connection ends in it.
+/// No byte is taken but those of the dialogue. Each answer is written before the next message is taken: where a write fails, no byte behind the message that
+/// it answers was taken. Each Call is invoked at most once, in its turn, with its own object and method and the graph that it spells, also where the
+/// connection ends in it.
 pub fn serve_connection<S: Source, K: Sink, C: Clock, P: Port, W: Worker>(
     alloc: Global,
     source: &mut S,

@@ -3,7 +3,6 @@ use mod_utf::list::Units;
 use object_ids::UidDraw;
 
 /// What a connection is told beforehand. Serving it draws identifiers, and changes nothing else of it.
-#[derive(Drop)]
 pub struct Setup {
     /// The number of the connection.
     pub by: u32,
@@ -21,4 +20,23 @@ pub struct Setup {
     pub draw: UidDraw,
     /// What stands for the address of a client that names no virtual machine.
     pub mark: [u8; 8],
+}
+
+// Written out, so that whoever owns one has one call at each exit, and not the drop of each field.
+impl Drop for Setup {
+    fn drop(self) {
+        let Setup {
+            by: _,
+            peer_host,
+            peer_port: _,
+            host,
+            port: _,
+            binding: _,
+            draw,
+            mark: _,
+        } = self;
+        drop(peer_host);
+        drop(host);
+        drop(draw);
+    }
 }

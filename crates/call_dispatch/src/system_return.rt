@@ -5,16 +5,17 @@ ghost use Rattle.history.specs.declared.asks.Ask.{Ask as Asks};
 ghost use Rattle.java_shapes.specs.TextsGraph.{texts_items, texts_nodes};
 ghost use Rattle.call_dispatch.specs.Demands.{kept_of};
 ghost use Rattle.call_dispatch.specs.Returns.{fault_return, full, no_object, wrong_outcome};
-ghost use Rattle.call_dispatch.specs.SystemReturns.{answer_written, bound_return, found_return, graph_return, kept_return, lease_return, named_fault, own_ref, reply_return, unbound_return, void_return};
+ghost use Rattle.call_dispatch.specs.SystemReturns.{answer_written, bound_return, found_return, graph_return, kept_return, lease_return, named_fault, reply_return, unbound_return, void_return};
 ghost use Rattle.call_dispatch.specs.Terms.{terms_of};
 
 use crate::book::{Book, Kind};
 use crate::demand::Kept;
+use crate::fixed_returns::{lease_bytes, reference_bytes};
 use crate::results::RETURN_BYTES;
 use crate::returns::{exceptional, exceptional_ascii, full_message};
 use crate::setup::Setup;
 use history::{Name, Refused, Reply, Turn};
-use java_shapes::{LiveRef, lease_graph, ref_graph, texts_graph};
+use java_shapes::texts_graph;
 use jrmp_frames::{Body, return_bytes};
 use mod_utf::list::{ByteList, NameList, Units};
 use object_ids::{ObjId, Uid, Vmid};
@@ -84,6 +85,7 @@ fn graph_return(alloc: Global, uid: Uid, graph: Graph) -> Result<ByteList, Alloc
 }
 
 /// The Return of a lease of this many milliseconds to the client that is kept.
+#[tactic(auto, unfolding(crate::specs::SystemReturns::graph_return))]
 fn lease_return(alloc: Global, uid: Uid, duration: u64, kept: &Kept) -> Result<ByteList, AllocError>
     ensures { IfOk result (λ bytes. bytes ≡ lease_return uid duration kept.now) }
 {
@@ -91,7 +93,7 @@ fn lease_return(alloc: Global, uid: Uid, duration: u64, kept: &Kept) -> Result<B
         return Err(AllocError);
     };
     match kept {
-        Kept::Client(client) => graph_return(alloc, uid, lease_graph(alloc, duration, client)?),
+        Kept::Client(client) => lease_bytes(alloc, uid, &duration, client),
         _ => Err(AllocError),
     }
 }
@@ -103,19 +105,8 @@ fn names_return(alloc: Global, uid: Uid, names: &NameList) -> Result<ByteList, A
     graph_return(alloc, uid, texts_graph(alloc, names)?)
 }
 
-/// The reference to an object of the server, in a result.
-fn own_ref(alloc: Global, setup: &Setup, object: ObjId) -> Result<LiveRef, AllocError>
-    ensures { IfOk result (λ reference. reference ≡ own_ref (terms_of [] setup.now) object) }
-{
-    Ok(LiveRef {
-        host: setup.host.copy(alloc)?,
-        port: setup.port,
-        id: object,
-        result: true,
-    })
-}
-
 /// The Return of an object of a kind.
+#[tactic(auto, unfolding(crate::specs::SystemReturns::graph_return))]
 fn object_return(
     alloc: Global,
     setup: &Setup,
@@ -126,8 +117,7 @@ fn object_return(
     requires { length (utf setup.now.host) ≤ 255 }
     ensures { IfOk result (λ bytes. bytes ≡ found_return (terms_of [] setup.now) uid object (Some kind.now)) }
 {
-    let reference = own_ref(alloc, setup, object)?;
-    graph_return(alloc, uid, ref_graph(alloc, &kind.interface, &reference)?)
+    reference_bytes(alloc, setup, uid, &kind.interface, object)
 }
 
 /// The Return of an object that was found, of a kind of the book.

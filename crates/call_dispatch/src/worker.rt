@@ -1,9 +1,8 @@
 //! Who does what calls ask for.
-ghost use Rattle.std.specs.Prelude.{◌≡◌, ◌+◌, ◌<◌, ◌^◌, ℕ, List, [], ◌∷◌, Option, None};
+ghost use Rattle.std.specs.Prelude.{◌≡◌, ◌+◌, ◌<◌, ◌^◌, ℕ, List, [], ◌∷◌, Option};
 ghost use Rattle.call_dispatch.specs.Acts.{Call, invokes, unreferenced, States, Tells, Leads};
 ghost use Rattle.call_dispatch.specs.declared.outcome.Invocation.{Invocation};
 ghost use Rattle.call_dispatch.specs.declared.outcome.Outcome.{Outcome};
-ghost use Rattle.call_dispatch.specs.declared.outcome.Outcome.TheVariants.{Void};
 
 use crate::outcome::{Invocation, Outcome};
 use object_ids::ObjId;
@@ -38,39 +37,4 @@ pub trait Worker {
         ensures calls { calls self.new ≡ calls self.old }
         ensures seen { Tells (seen self.old) (unreferenced object ∷ []) (seen self.new) }
         ensures state { Leads moves (state self.old) (unreferenced object ∷ []) (state self.new) };
-}
-
-/// A worker that does nothing: each invocation comes out as `Void`. It counts them and tells nothing else.
-#[derive(Debug, Drop)]
-pub struct SilentWorker {
-    /// How many invocations it was given.
-    pub calls: u64,
-}
-
-impl SilentWorker {
-    /// The worker that was given none yet. It takes no memory.
-    pub fn new() -> SilentWorker
-        ensures { result.calls ≡ 0 }
-    {
-        SilentWorker { calls: 0 }
-    }
-}
-
-impl Worker for SilentWorker {
-    ghost calls = { λ w. w.calls };
-
-    ghost seen = { λ w. None };
-
-    ghost state = { λ w. None };
-
-    ghost may = { λ call outcome. outcome ≡ Void };
-
-    ghost moves = { λ before call after. after ≡ before };
-
-    fn invoke(&mut self, _call: Invocation) -> Outcome {
-        self.calls += 1;
-        Outcome::Void
-    }
-
-    fn unreferenced(&mut self, _object: ObjId) {}
 }

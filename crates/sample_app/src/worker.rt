@@ -7,7 +7,6 @@ ghost use Rattle.sample_app.specs.Does.{Adds, May, Moves, overflow};
 use crate::counters::Counters;
 use crate::sample_call::{SampleCall, sample_call};
 use call_dispatch::{Invocation, Outcome, Worker};
-use jrmp_frames::Arguments;
 use mod_utf::list::Units;
 use object_ids::ObjId;
 use ser_values::{Graph, Value};
@@ -86,14 +85,7 @@ fn overflow(alloc: Global) -> Outcome
 fn graph_of(call: Invocation) -> Graph
     ensures { result ≡ call.arguments.graph }
 {
-    let Invocation {
-        object: _,
-        kind: _,
-        method: _,
-        arguments,
-    } = call;
-    let Arguments { graph, values: _ } = arguments;
-    graph
+    call.into_arguments().into_graph()
 }
 
 impl Worker for SampleWorker {
