@@ -1,5 +1,5 @@
 -- What closing the lock shows.
-use Rattle.std.proofs.Common.{◌≡◌, ℕ, suc, ◌<◌, List, [], ◌∷◌, ◌++◌, length, drop, refl, ap, ◌∙◌, sym, subst, arith, Option}
+use Rattle.std.proofs.Common.{◌≡◌, ℕ, suc, ◌<◌, List, [], ◌∷◌, ◌++◌, length, drop, ap, ◌∙◌, sym, subst, arith, Option}
 use Rattle.std.specs.Prelude.{Contains}
 use Rattle.std.proofs.Math.Seq.{drop-append_seam}
 use Rattle.wire_io.specs.Links.{Accepted}
@@ -12,8 +12,7 @@ use Rattle.turn_lock.specs.Handles.{opening_of, view_of}
 use Rattle.turn_lock.specs.Rule.{Events, Settled, events_by}
 use Rattle.turn_lock.specs.declared.handles.TurnLock.{TurnLock}
 use Rattle.turn_lock.specs.declared.view.View.{View}
-use Rattle.call_dispatch.specs.declared.book.Kind.{Kind}
-use Rattle.conn_server.specs.Accepts.{IsBegun, shown_all}
+use Rattle.conn_server.specs.Accepts.{shown_all}
 use Rattle.conn_server.specs.Joins.{IsJoined}
 use Rattle.conn_server.specs.Made.{shown_guest}
 use Rattle.conn_server.specs.Reports.{AreTurnsOf, IsKnown, IsOutcome, IsReportOf, events_after}
@@ -27,27 +26,27 @@ use Rattle.conn_server.proofs.Histories.{starts_on, others_by, went_before, turn
 use Rattle.conn_server.proofs.Rows.{paired_map}
 
 module _ {I O T H : Type 0} (IsLink : ℕ → Accepted × Asked → LinkReport I O T H → Type 0) (lock : TurnLock) where
-  module _ (left : I → Option (List ℕ)) (held : O → Option (List ℕ)) (given : T → Option (List ℕ)) (Talked : Guest I O T H → LinkReport I O T H → Type 0) (Made : ℕ → Guest I O T H → Type 0) (calls : H → ℕ) (kinds : List Kind)
+  module _ (left : I → Option (List ℕ)) (held : O → Option (List ℕ)) (given : T → Option (List ℕ)) (Talked : Guest I O T H → LinkReport I O T H → Type 0) (Made : ℕ → Guest I O T H → Type 0) (calls : H → ℕ)
       (link : (k : ℕ) (g : Guest I O T H) (r : LinkReport I O T H) → Made k g → Talked g r → r.by ≡ k → IsLink k (shown_guest left held given g) r) where
     -- What the pass of a link that was begun had seen was the opening, and other connections' events.
-    joined_known : (v : View) (k : ℕ) (s : Started I O T H) (r : LinkReport I O T H) → IsJoined Talked Made calls lock kinds v k s r
+    joined_known : (v : View) (k : ℕ) (s : Started I O T H) (r : LinkReport I O T H) → IsJoined Talked Made calls lock v k s r
         → IsKnown IsLink (opening_of lock) v k (shown_guest left held given (job_of s).guest) r
     joined_known v k s r j =
         let p = view_of (job_of s).pass in
-        let pass = j.begun.job.own.0 in
+        let pass = j.job.can.own.0 in
         let order = pass.ordered in
-        let number = j.begun.number in
-        let none : events_by k order.tail ≡ [] = subst (λ (n : ℕ). events_by n order.tail ≡ []) number (order.own ∙ j.begun.own) in
+        let number = j.job.number in
+        let none : events_by k order.tail ≡ [] = subst (λ (n : ℕ). events_by n order.tail ≡ []) number (order.own ∙ j.job.own) in
         let there = subst (λ (x : SpaceConfig × ℕ × Events). WentAmong x.0 x.1 x.2 r.asked j.ended.last) (λ i. (pass.configured i, number i, order.begins i)) j.ended.went in
         record {
-          link = link k (job_of s).guest r j.begun.made j.ended.talked (j.ended.by ∙ j.begun.by);
-          listed = subst (λ (x : ℕ × Events). Contains v.ended (x.0, x.1 ++ events_of x.0 r.asked)) (λ i. (number i, j.begun.own i)) j.ended.listed;
+          link = link k (job_of s).guest r j.job.made j.ended.talked (j.ended.by ∙ j.job.by);
+          listed = subst (λ (x : ℕ × Events). Contains v.ended (x.0, x.1 ++ events_of x.0 r.asked)) (λ i. (number i, j.job.own i)) j.ended.listed;
           last = j.ended.last;
           went = went_before (opening_of lock).configuration k (opening_of lock).events order.tail j.ended.last r.asked (others_by k order.tail none) there;
           seen = j.ended.seen;
         }
 
-    pub paired_known : (v : View) (n : ℕ) (all : List (Started I O T H)) (reports : List (LinkReport I O T H)) → Paired (IsJoined Talked Made calls lock kinds v) n all reports
+    pub paired_known : (v : View) (n : ℕ) (all : List (Started I O T H)) (reports : List (LinkReport I O T H)) → Paired (IsJoined Talked Made calls lock v) n all reports
         → Paired (IsKnown IsLink (opening_of lock) v) n (shown_all left held given all) reports
     paired_known v n [] [] p = tt
     paired_known v n (s ∷ all) (r ∷ reports) p = (joined_known v n s r p.0, paired_known v (suc n) all reports p.1)

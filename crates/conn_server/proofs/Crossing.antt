@@ -14,6 +14,8 @@ use Rattle.std.proofs.Crossing.{crosses}
 use Rattle.call_dispatch.specs.contracts.book.Book as book
 use Rattle.call_dispatch.proofs.book.Book.TheSendSync as book_there
 use Rattle.call_dispatch.proofs.setup.Setup.TheSendSync as setup_there
+use Rattle.conn_server.specs.contracts.ended.EndedLinks as ended
+use Rattle.conn_server.proofs.ended.EndedLinks.TheSendSync as ended_there
 use Rattle.conn_server.specs.contracts.jobs.Job as job
 use Rattle.turn_lock.specs.contracts.handles.TurnLock as lock
 use Rattle.turn_lock.proofs.handles.TurnLock.TheSendSync as lock_there
@@ -24,6 +26,9 @@ book_sync = book_there.the_sync
 
 pub lock_sync : IsSync lock.the_row
 lock_sync = lock_there.the_sync
+
+pub ended_sync : IsSync ended.the_row
+ended_sync = ended_there.the_sync
 
 pub job_send : (I O T H : RattleType) → IsSend I → IsSend O → IsSend T → IsSend H → IsSend (job.the_row I O T H)
 job_send I O T H i o t h = recorded_send (job.the_field I O T H).row _ _ (job.the_type I O T H).to_one (struct_send (shape (job.the_type I O T H))
@@ -37,5 +42,5 @@ parts_send (T ∷ Ts) s = (as_row_send (row_field T) s.0, parts_send Ts s.1)
 pub captures_send : (i : ℕ) (δ : Ty) (k : Kept) (ν : Sym) (Ts : List RattleType) → AllSend Ts → IsSend (param i (arg δ k (TupleAt ν Ts)))
 captures_send i δ k ν Ts s = param_send i (arg δ k (TupleAt ν Ts)) (arg_send δ k (TupleAt ν Ts) (declared_send (type_at ν Ts) (parts_send Ts s)))
 
-pub five_send : {i : ℕ} {δ : Ty} {A B C D E : RattleType} (k : Kept) (ν : Sym) → IsSend A → IsSend B → IsSend C → IsSend D → IsSend E → IsSend (param i (arg δ k (TupleAt ν (A ∷ B ∷ C ∷ D ∷ E ∷ []))))
-five_send {i} {δ} {A} {B} {C} {D} {E} k ν a b c d e = captures_send i δ k ν (A ∷ B ∷ C ∷ D ∷ E ∷ []) (a, (b, (c, (d, (e, tt)))))
+pub six_send : {i : ℕ} {δ : Ty} {A B C D E F : RattleType} (k : Kept) (ν : Sym) → IsSend A → IsSend B → IsSend C → IsSend D → IsSend E → IsSend F → IsSend (param i (arg δ k (TupleAt ν (A ∷ B ∷ C ∷ D ∷ E ∷ F ∷ []))))
+six_send {i} {δ} {A} {B} {C} {D} {E} {F} k ν a b c d e f = captures_send i δ k ν (A ∷ B ∷ C ∷ D ∷ E ∷ F ∷ []) (a, (b, (c, (d, (e, (f, tt))))))

@@ -1,21 +1,24 @@
 -- A link whose pass the root took back.
-use Rattle.std.proofs.Common.{◌≡◌, ℕ, List, [], ◌∷◌, ◌++◌, sym, refl, ap, ◌∙◌, subst, arith}
+use Rattle.std.proofs.Common.{◌≡◌, ℕ, List, [], ◌∷◌, ◌++◌, sym, refl, ap, ◌∙◌, subst, arith, append-nil}
 use Rattle.std.specs.Prelude.{Contains}
 use Rattle.std.proofs.lemmas.List.Elements.{Contains-append_left, Contains-append_right}
 use Rattle.space.specs.declared.asked.Asked.{Asked}
-use Rattle.turn_lock.specs.Answers.{events_of}
+use Rattle.call_dispatch.specs.declared.book.Kind.{Kind}
+use Rattle.turn_lock.specs.Answers.{Gained, events_of}
 use Rattle.turn_lock.specs.Handles.{view_of}
-use Rattle.turn_lock.specs.Rule.{Events, StartsWith, joined_of}
+use Rattle.turn_lock.specs.Rule.{Events, StartsWith, joined_of, left_of}
 use Rattle.turn_lock.specs.declared.handles.TurnLock.{TurnLock}
 use Rattle.turn_lock.specs.declared.view.View.{View}
 use Rattle.conn_server.specs.Serves.{Serves}
-use Rattle.conn_server.specs.Starts.{IsEndOf}
+use Rattle.conn_server.specs.Starts.{IsEndOf, IsUnder}
 use Rattle.conn_server.specs.Views.{Grows, IsTicked, IsTicking}
 use Rattle.conn_server.specs.declared.jobs.Done.{Done}
 use Rattle.conn_server.specs.declared.jobs.Guest.{Guest}
 use Rattle.conn_server.specs.declared.jobs.Job.{Job}
 use Rattle.conn_server.specs.declared.jobs.LinkReport.{LinkReport}
-use Rattle.conn_server.proofs.Histories.{starts_self, starts_on}
+use Rattle.conn_server.specs.declared.started.Stage.{Stage}
+use Rattle.conn_server.specs.declared.started.Stage.TheVariants.{There, Here, Ended, Joining}
+use Rattle.conn_server.proofs.Histories.{starts_self, starts_on, went_events}
 
 pub grows_joined : (v w q : View) → w ≡ joined_of v q → StartsWith w.seen v.seen → Grows v w
 grows_joined v w q is seen = record {
@@ -27,6 +30,26 @@ grows_joined v w q is seen = record {
   more = (q.number, q.own) ∷ [];
   ended = ap (λ (y : View). y.ended) is;
 }
+
+pub grows_self : (v : View) → Grows v v
+grows_self v = record { number = refl; config = refl; opening = refl; own = refl; seen = starts_self v.seen; more = []; ended = sym (append-nil v.ended) }
+
+-- What a root knows of passes that it took back stays, as it sees more.
+pub record Learns (v w : View) : Type 0 where
+  pub seen : StartsWith w.seen v.seen
+  pub more : List (ℕ × Events)
+  pub ended : w.ended ≡ v.ended ++ more
+
+pub learns_grown : (v w : View) → Grows v w → Learns v w
+learns_grown v w g = record { seen = g.seen; more = g.more; ended = g.ended }
+
+pub learns_gained : (v w : View) (entries : List Asked) → Gained v w entries → Learns v w
+learns_gained v w entries g =
+    let e = went_events v.config v.number v.seen w.seen entries g.went in
+    record { seen = (e.0, e.1); more = []; ended = g.same_ended ∙ sym (append-nil v.ended) }
+
+pub learns_left : (v w : View) → w ≡ left_of v → Learns v w
+learns_left v w is = subst (λ (y : View). Learns v y) (sym is) (record { seen = starts_self v.seen; more = []; ended = sym (append-nil v.ended) })
 
 pub ticked_first : (v : View) (ticks : List Asked) → IsTicking v ticks → IsTicked v ticks
 ticked_first v ticks t = record { number = t.number; own = t.own; last = v.seen; went = t.went; seen = starts_self v.seen }
@@ -57,16 +80,22 @@ module _ {I O T H : Type 0} (Talked : Guest I O T H → LinkReport I O T H → T
         seen = later;
       }
 
-  -- It stays so as the root takes further passes back.
-  pub ends_later : (v w : View) (job : Job I O T H) (report : LinkReport I O T H) → Grows v w → IsEndOf Talked v job report → IsEndOf Talked w job report
-  ends_later v w job report grows e =
+  -- It stays so as the root sees more.
+  pub ends_later : (v w : View) (job : Job I O T H) (report : LinkReport I O T H) → Learns v w → IsEndOf Talked v job report → IsEndOf Talked w job report
+  ends_later v w job report learns e =
       let n = (view_of job.pass).number in
       let own = (view_of job.pass).own ++ events_of n report.asked in
       record {
         by = e.by;
         talked = e.talked;
-        listed = subst (λ (l : List (ℕ × Events)). Contains l (n, own)) (sym grows.ended) (Contains-append_left v.ended grows.more (n, own) e.listed);
+        listed = subst (λ (l : List (ℕ × Events)). Contains l (n, own)) (sym learns.ended) (Contains-append_left v.ended learns.more (n, own) e.listed);
         last = e.last;
         went = e.went;
-        seen = starts_on w.seen v.seen e.last grows.seen e.seen;
+        seen = starts_on w.seen v.seen e.last learns.seen e.seen;
       }
+
+  pub under_later : (lock : TurnLock) (kinds : List Kind) (v w : View) (job : Job I O T H) (stage : Stage I O T H) → Learns v w → IsUnder Talked lock kinds v job stage → IsUnder Talked lock kinds w job stage
+  under_later lock kinds v w job (There child) learns is = is
+  under_later lock kinds v w job (Here done) learns is = is
+  under_later lock kinds v w job (Ended report) learns is = ends_later v w job report learns is
+  under_later lock kinds v w job Joining learns is = is

@@ -1,58 +1,85 @@
 -- What is kept as the threads are joined.
-use Rattle.std.proofs.Common.{◌≡◌, ℕ, suc, ◌+◌, List, [], ◌∷◌, ◌++◌, length, sym, refl, ap, ◌∙◌, subst, append_assoc, append-nil, length-append, arith}
+use Rattle.std.proofs.Common.{◌≡◌, ℕ, suc, ◌+◌, ◌<◌, get_or, set, List, [], ◌∷◌, ◌++◌, length, sym, refl, ap, ◌∙◌, subst, append_assoc, append-nil, length-append, arith}
+use Rattle.std.proofs.lemmas.List.Sums.{sum_by-cons}
 use Rattle.turn_lock.specs.declared.handles.TurnLock.{TurnLock}
 use Rattle.turn_lock.specs.declared.view.View.{View}
 use Rattle.call_dispatch.specs.declared.book.Kind.{Kind}
-use Rattle.conn_server.specs.Accepts.{IsBegun}
+use Rattle.conn_server.specs.Accepts.{IsBegun, IsJobOf, open_all}
 use Rattle.conn_server.specs.Joins.{IsJoined}
 use Rattle.conn_server.specs.Rows.{EachAt, Paired}
-use Rattle.conn_server.specs.Starts.{IsEndOf, IsStart, job_of}
+use Rattle.conn_server.specs.Starts.{IsEndOf, IsUnder, job_of, open_in}
 use Rattle.conn_server.specs.Views.{Grows}
 use Rattle.conn_server.specs.declared.jobs.Guest.{Guest}
+use Rattle.conn_server.specs.declared.jobs.Job.{Job}
 use Rattle.conn_server.specs.declared.jobs.LinkReport.{LinkReport}
 use Rattle.conn_server.specs.declared.started.Started.{Started}
-use Rattle.conn_server.proofs.Ending.{ends_later}
-use Rattle.conn_server.proofs.Rows.{paired_map, paired_on}
+use Rattle.conn_server.proofs.Ending.{Learns, ends_later, learns_grown, under_later}
+use Rattle.conn_server.proofs.Rows.{each_get, each_map, each_set, paired_map, paired_on}
+
+-- The next of some links was finished.
+pub one_less : {I O T H : Type 0} (left more : List (Started I O T H)) (x : Started I O T H) (n m : ℕ) → left ≡ x ∷ more → n ≡ open_all left → m + open_in x.stage ≡ n → m ≡ open_all more
+one_less {I = I} {O = O} {T = T} {H = H} left more x n m is was less =
+    let l : open_all left ≡ open_in x.stage + open_all more = ap (λ (l : List (Started I O T H)). open_all l) is ∙ sum_by-cons (λ (s : Started I O T H). open_in s.stage) x more in omega (arith, was, less, l)
 
 module _ {I O T H : Type 0} (Talked : Guest I O T H → LinkReport I O T H → Type 0) (Made : ℕ → Guest I O T H → Type 0) (calls : H → ℕ) (lock : TurnLock) (kinds : List Kind) where
   -- some links were joined, and the others are still to be
   pub record Joining (all left : List (Started I O T H)) (v : View) (reports : List (LinkReport I O T H)) : Type 0 where
     pub done : List (Started I O T H)
     pub split : all ≡ done ++ left
-    pub joined : Paired (IsJoined Talked Made calls lock kinds v) 1 done reports
-    pub begun : EachAt (IsBegun Talked Made calls lock kinds) (length done + 1) left
+    pub joined : Paired (IsJoined Talked Made calls lock v) 1 done reports
+    pub begun : EachAt (IsBegun Talked Made calls lock kinds v) (length done + 1) left
 
-  pub joining_first : (all : List (Started I O T H)) (v : View) (reports : List (LinkReport I O T H)) → EachAt (IsBegun Talked Made calls lock kinds) 1 all → reports ≡ [] → Joining all all v reports
+  pub joining_first : (all : List (Started I O T H)) (v : View) (reports : List (LinkReport I O T H)) → EachAt (IsBegun Talked Made calls lock kinds v) 1 all → reports ≡ [] → Joining all all v reports
   joining_first all v reports each none = record {
     done = [];
     split = refl;
-    joined = subst (λ (l : List (LinkReport I O T H)). Paired (IsJoined Talked Made calls lock kinds v) 1 [] l) (sym none) tt;
-    begun = subst (λ (k : ℕ). EachAt (IsBegun Talked Made calls lock kinds) k all) (omega arith) each;
+    joined = subst (λ (l : List (LinkReport I O T H)). Paired (IsJoined Talked Made calls lock v) 1 [] l) (sym none) tt;
+    begun = subst (λ (k : ℕ). EachAt (IsBegun Talked Made calls lock kinds v) k all) (omega arith) each;
   }
 
   -- the next one was begun at the lock
-  pub joining_next : (all left : List (Started I O T H)) (v : View) (reports : List (LinkReport I O T H)) (x : Started I O T H) (more : List (Started I O T H)) → Joining all left v reports → left ≡ x ∷ more → IsStart Talked lock kinds x
-  joining_next all left v reports x more j is = (subst (λ (l : List (Started I O T H)). EachAt (IsBegun Talked Made calls lock kinds) (length j.done + 1) l) is j.begun).0.start
+  pub joining_next : (all left : List (Started I O T H)) (v : View) (reports : List (LinkReport I O T H)) (x : Started I O T H) (more : List (Started I O T H)) → Joining all left v reports → left ≡ x ∷ more → IsUnder Talked lock kinds v (job_of x) x.stage
+  joining_next all left v reports x more j is = (subst (λ (l : List (Started I O T H)). EachAt (IsBegun Talked Made calls lock kinds v) (length j.done + 1) l) is j.begun).0.stage
 
-  joined_later : (v w : View) → Grows v w → (k : ℕ) (s : Started I O T H) (r : LinkReport I O T H) → IsJoined Talked Made calls lock kinds v k s r → IsJoined Talked Made calls lock kinds w k s r
-  joined_later v w grows k s r j = record { begun = j.begun; ended = ends_later Talked v w (job_of s) r grows j.ended }
+  joined_later : (v w : View) → Learns v w → (k : ℕ) (s : Started I O T H) (r : LinkReport I O T H) → IsJoined Talked Made calls lock v k s r → IsJoined Talked Made calls lock w k s r
+  joined_later v w learns k s r j = record { job = j.job; ended = ends_later Talked v w (job_of s) r learns j.ended }
+
+  begun_later : (v w : View) → Learns v w → (k : ℕ) (s : Started I O T H) → IsBegun Talked Made calls lock kinds v k s → IsBegun Talked Made calls lock kinds w k s
+  begun_later v w learns k s b = record { job = b.job; stage = under_later Talked lock kinds v w (job_of s) s.stage learns b.stage }
+
+  pub each_later : (v w : View) → Learns v w → (n : ℕ) (all : List (Started I O T H)) → EachAt (IsBegun Talked Made calls lock kinds v) n all → EachAt (IsBegun Talked Made calls lock kinds w) n all
+  each_later v w learns n all each = each_map (IsBegun Talked Made calls lock kinds v) (IsBegun Talked Made calls lock kinds w) (begun_later v w learns) n all each
+
+  -- How far a link is in its place.
+  pub stage_at : (v : View) (i : ℕ) (all : List (Started I O T H)) (d x : Started I O T H) → EachAt (IsBegun Talked Made calls lock kinds v) 1 all → i < length all → x ≡ get_or all i d → IsUnder Talked lock kinds v (job_of x) x.stage
+  stage_at v i all d x each there is = subst (λ (y : Started I O T H). IsUnder Talked lock kinds v (job_of y) y.stage) (sym is) (each_get (IsBegun Talked Made calls lock kinds v) 1 i all d each there).stage
+
+  -- The report of one link was kept in its place.
+  pub settled_at : (v w : View) (i : ℕ) (all : List (Started I O T H)) (d new : Started I O T H) → Grows v w → EachAt (IsBegun Talked Made calls lock kinds v) 1 all → i < length all
+      → job_of new ≡ job_of (get_or all i d) → IsUnder Talked lock kinds w (job_of new) new.stage → EachAt (IsBegun Talked Made calls lock kinds w) 1 (set all i new)
+  settled_at v w i all d new grows each there job stage =
+      let later = each_later v w (learns_grown v w grows) 1 all each in
+      let was = each_get (IsBegun Talked Made calls lock kinds w) 1 i all d later there in
+      let here : IsBegun Talked Made calls lock kinds w (i + 1) new = record { job = subst (λ (j : Job I O T H). IsJobOf Made calls lock (i + 1) j) (sym job) was.job; stage = stage } in
+      each_set (IsBegun Talked Made calls lock kinds w) 1 i all new later here
 
   pub joining_on : (all left : List (Started I O T H)) (v w : View) (reports reports2 : List (LinkReport I O T H)) (x : Started I O T H) (more : List (Started I O T H)) (report : LinkReport I O T H) → Joining all left v reports → left ≡ x ∷ more → Grows v w
       → IsEndOf Talked w (job_of x) report → reports2 ≡ reports ++ report ∷ [] → Joining all more w reports2
   joining_on all left v w reports reports2 x more report j is grows ended longer =
       let n = length j.done in
-      let each = subst (λ (l : List (Started I O T H)). EachAt (IsBegun Talked Made calls lock kinds) (n + 1) l) is j.begun in
-      let here : IsJoined Talked Made calls lock kinds w (n + 1) x report = record { begun = each.0; ended = ended } in
-      let before = paired_map (IsJoined Talked Made calls lock kinds v) (IsJoined Talked Made calls lock kinds w) (joined_later v w grows) 1 j.done reports j.joined in
+      let learns = learns_grown v w grows in
+      let each = subst (λ (l : List (Started I O T H)). EachAt (IsBegun Talked Made calls lock kinds v) (n + 1) l) is j.begun in
+      let here : IsJoined Talked Made calls lock w (n + 1) x report = record { job = each.0.job; ended = ended } in
+      let before = paired_map (IsJoined Talked Made calls lock v) (IsJoined Talked Made calls lock w) (joined_later v w learns) 1 j.done reports j.joined in
       record {
         done = j.done ++ x ∷ [];
         split = j.split ∙ (ap (λ l. j.done ++ l) is ∙ sym (append_assoc j.done (x ∷ []) more));
-        joined = subst (λ (l : List (LinkReport I O T H)). Paired (IsJoined Talked Made calls lock kinds w) 1 (j.done ++ x ∷ []) l) (sym longer) (paired_on (IsJoined Talked Made calls lock kinds w) 1 j.done reports x report before here);
-        begun = subst (λ (y : ℕ). EachAt (IsBegun Talked Made calls lock kinds) y more) same each.1;
+        joined = subst (λ (l : List (LinkReport I O T H)). Paired (IsJoined Talked Made calls lock w) 1 (j.done ++ x ∷ []) l) (sym longer) (paired_on (IsJoined Talked Made calls lock w) 1 j.done reports x report before here);
+        begun = subst (λ (y : ℕ). EachAt (IsBegun Talked Made calls lock kinds w) y more) same (each_later v w learns (suc (n + 1)) more each.1);
       }
     where
       same : suc (length j.done + 1) ≡ length (j.done ++ x ∷ []) + 1
       same = let l = length-append j.done (x ∷ []) in omega (arith, l)
 
-  pub joining_all : (all left : List (Started I O T H)) (v : View) (reports : List (LinkReport I O T H)) → Joining all left v reports → left ≡ [] → Paired (IsJoined Talked Made calls lock kinds v) 1 all reports
-  joining_all all left v reports j none = subst (λ (l : List (Started I O T H)). Paired (IsJoined Talked Made calls lock kinds v) 1 l reports) (sym (j.split ∙ (ap (λ l. j.done ++ l) none ∙ append-nil j.done))) j.joined
+  pub joining_all : (all left : List (Started I O T H)) (v : View) (reports : List (LinkReport I O T H)) → Joining all left v reports → left ≡ [] → Paired (IsJoined Talked Made calls lock v) 1 all reports
+  joining_all all left v reports j none = subst (λ (l : List (Started I O T H)). Paired (IsJoined Talked Made calls lock v) 1 l reports) (sym (j.split ∙ (ap (λ l. j.done ++ l) none ∙ append-nil j.done))) j.joined

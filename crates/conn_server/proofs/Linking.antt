@@ -1,13 +1,12 @@
 -- A link's report, by the link as it was accepted.
-use Rattle.std.proofs.Common.{◌≡◌, ℕ, List, sym, subst, ◌∙◌, ap}
+use Rattle.std.proofs.Common.{◌≡◌, ℕ, List, subst}
 use Rattle.std.specs.Prelude.{Option}
 use Rattle.call_dispatch.specs.Acts.{Call, States}
-use Rattle.call_dispatch.specs.Terms.{Terms, terms_of}
+use Rattle.call_dispatch.specs.Terms.{Terms}
 use Rattle.call_dispatch.specs.declared.book.Kind.{Kind}
 use Rattle.call_dispatch.specs.declared.outcome.Invocation.{Invocation}
 use Rattle.call_dispatch.specs.declared.outcome.Outcome.{Outcome}
 use Rattle.conn_server.specs.Made.{IsMadeFor, shown_guest}
-use Rattle.conn_server.specs.Plans.{link_terms}
 use Rattle.conn_server.specs.Reports.{IsLinkOf}
 use Rattle.conn_server.specs.Talks.{Talks, TalksOver, first_spot}
 use Rattle.conn_server.specs.declared.jobs.Guest.{Guest}

@@ -1,10 +1,36 @@
 -- Lists whose elements are known by their places.
-use Rattle.std.proofs.Common.{◌≡◌, ℕ, suc, ◌+◌, List, [], ◌∷◌, ◌++◌, length, ap, refl, subst, arith}
+use Rattle.std.proofs.Common.{◌≡◌, ℕ, zero, suc, ◌+◌, ◌<◌, List, [], ◌∷◌, ◌++◌, length, map, set, get_or, ap, refl, sym, ◌∙◌, subst, arith}
 use Rattle.conn_server.specs.Rows.{EachAt, Paired}
 
 pub each_on : {A : Type 0} (P : ℕ → A → Type 0) (n : ℕ) (xs : List A) (x : A) → EachAt P n xs → P (length xs + n) x → EachAt P n (xs ++ x ∷ [])
 each_on P n [] x a b = (subst (λ (k : ℕ). P k x) (omega arith) b, tt)
 each_on P n (y ∷ ys) x a b = (a.0, each_on P (suc n) ys x a.1 (subst (λ (k : ℕ). P k x) (omega arith) b))
+
+pub each_map : {A : Type 0} (P Q : ℕ → A → Type 0) → ((k : ℕ) (x : A) → P k x → Q k x) → (n : ℕ) (xs : List A) → EachAt P n xs → EachAt Q n xs
+each_map P Q f n [] a = tt
+each_map P Q f n (x ∷ xs) a = (f n x a.0, each_map P Q f (suc n) xs a.1)
+
+pub each_get : {A : Type 0} (P : ℕ → A → Type 0) (n i : ℕ) (xs : List A) (d : A) → EachAt P n xs → i < length xs → P (i + n) (get_or xs i d)
+each_get P n i [] d a lt = absurd (omega (arith, lt))
+each_get P n zero (x ∷ xs) d a lt = subst (λ (k : ℕ). P k x) (omega arith) a.0
+each_get P n (suc i) (x ∷ xs) d a lt = subst (λ (k : ℕ). P k (get_or xs i d)) (omega arith) (each_get P (suc n) i xs d a.1 (omega (arith, lt)))
+
+pub each_set : {A : Type 0} (P : ℕ → A → Type 0) (n i : ℕ) (xs : List A) (y : A) → EachAt P n xs → P (i + n) y → EachAt P n (set xs i y)
+each_set P n i [] y a b = tt
+each_set P n zero (x ∷ xs) y a b = (subst (λ (k : ℕ). P k y) (omega arith) b, a.1)
+each_set P n (suc i) (x ∷ xs) y a b = (a.0, each_set P (suc n) i xs y a.1 (subst (λ (k : ℕ). P k y) (omega arith) b))
+
+pub map_set : {A B : Type 0} (f : A → B) (i : ℕ) (xs : List A) (y d : A) → f y ≡ f (get_or xs i d) → map f (set xs i y) ≡ map f xs
+map_set f i [] y d same = refl
+map_set f zero (x ∷ xs) y d same = ap (λ z. z ∷ map f xs) same
+map_set f (suc i) (x ∷ xs) y d same = ap (λ l. f x ∷ l) (map_set f i xs y d same)
+
+pub map_by : {A B C : Type 0} (f : A → B) (g : B → C) (xs ys : List A) → map f xs ≡ map f ys → map (λ x. g (f x)) xs ≡ map (λ x. g (f x)) ys
+map_by f g xs ys same = sym (twice f g xs) ∙ (ap (map g) same ∙ twice f g ys)
+  where
+    twice : {A B C : Type 0} (f : A → B) (g : B → C) (l : List A) → map g (map f l) ≡ map (λ x. g (f x)) l
+    twice f g [] = refl
+    twice f g (x ∷ l) = ap (λ t. g (f x) ∷ t) (twice f g l)
 
 pub paired_map : {A B : Type 0} (R Q : ℕ → A → B → Type 0) → ((k : ℕ) (x : A) (y : B) → R k x y → Q k x y) → (n : ℕ) (xs : List A) (ys : List B) → Paired R n xs ys → Paired Q n xs ys
 paired_map R Q f n [] [] p = tt
@@ -25,8 +51,8 @@ paired_length R n [] (b ∷ ys) p = absurd p
 paired_length R n (a ∷ xs) [] p = absurd p
 
 pub none_left : {A : Type 0} (n : ℕ) (xs : List A) → n ≡ length xs → n ≡ 0 → xs ≡ []
-none_left n [] is zero = refl
-none_left n (x ∷ xs) is zero = absurd (omega (arith, is, zero))
+none_left n [] is none = refl
+none_left n (x ∷ xs) is none = absurd (omega (arith, is, none))
 
 pub one_left : {A : Type 0} (n m : ℕ) (xs more : List A) (x : A) → n ≡ length xs → xs ≡ x ∷ more → m + 1 ≡ n → m ≡ length more
 one_left {A = A} n m xs more x is took less =

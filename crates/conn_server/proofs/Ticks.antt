@@ -10,7 +10,7 @@ use Rattle.history.specs.declared.replies.Turn.{Turn}
 use Rattle.space.specs.Entries.{entry_of}
 use Rattle.space.specs.Ports.{entries_of}
 use Rattle.space.specs.declared.asked.Asked.{Asked}
-use Rattle.call_dispatch.specs.Acts.{calls, called, unreferenced, tells_of}
+use Rattle.call_dispatch.specs.Acts.{calls, unreferenced, tells_of}
 
 pub calls_told : (gone : List ObjId) → flat_map calls (tells_of gone) ≡ map unreferenced gone
 calls_told [] = refl

@@ -1,17 +1,19 @@
 -- What holds while links are accepted.
-use Rattle.std.specs.Prelude.{◌≡◌, ℕ, ◌+◌, ◌<◌, ◌≤◌, List, [], ◌++◌, map, vec_len, vec_capacity, Option, Some, None}
+use Rattle.std.specs.Prelude.{◌≡◌, ℕ, ◌<◌, ◌≤◌, List, [], ◌++◌, map, sum_by, vec_len, vec_capacity, Option, Some, None}
 use Rattle.wire_io.specs.Links.{Accepted}
 use Rattle.space.specs.declared.asked.Asked.{Asked}
 use Rattle.turn_lock.specs.Handles.{IsRootOf, view_of}
 use Rattle.turn_lock.specs.declared.handles.TurnLock.{TurnLock}
+use Rattle.turn_lock.specs.declared.view.View.{View}
 use Rattle.call_dispatch.specs.declared.book.Kind.{Kind}
 use Rattle.conn_server.specs.Made.{shown_guest}
 use Rattle.conn_server.specs.Rows.{EachAt}
 use Rattle.conn_server.specs.Serves.{IsJob}
-use Rattle.conn_server.specs.Starts.{IsStart, job_of}
+use Rattle.conn_server.specs.Starts.{IsUnder, job_of, open_in}
 use Rattle.conn_server.specs.Views.{IsTicking}
 use Rattle.conn_server.specs.declared.accepting.Accepting.{Accepting}
 use Rattle.conn_server.specs.declared.jobs.Guest.{Guest}
+use Rattle.conn_server.specs.declared.jobs.Job.{Job}
 use Rattle.conn_server.specs.declared.jobs.LinkReport.{LinkReport}
 use Rattle.conn_server.specs.declared.started.Started.{Started}
 
@@ -20,15 +22,18 @@ abbrev pub with_all : {A : Type 0} → Option (List A) → List A → Option (Li
 with_all None more = None
 with_all (Some told) more = Some (told ++ more)
 
--- The link of connection k was begun at the lock, with a job that is made for it and could be done there. Its pass has the
--- connection's number, and had made no turn.
-pub record IsBegun {I O T H : Type 0} (Talked : Guest I O T H → LinkReport I O T H → Type 0) (Made : ℕ → Guest I O T H → Type 0) (calls : H → ℕ) (lock : TurnLock) (kinds : List Kind) (k : ℕ) (started : Started I O T H) : Type 0 where
-  pub start : IsStart Talked lock kinds started
-  pub job : IsJob calls lock (job_of started)
-  pub made : Made k (job_of started).guest
-  pub by : (job_of started).by ≡ k
-  pub number : (view_of (job_of started).pass).number ≡ k
-  pub own : (view_of (job_of started).pass).own ≡ []
+-- The job is made for the link of connection k, and could be done at the lock. Its pass has the connection's number, and had made no turn.
+pub record IsJobOf {I O T H : Type 0} (Made : ℕ → Guest I O T H → Type 0) (calls : H → ℕ) (lock : TurnLock) (k : ℕ) (job : Job I O T H) : Type 0 where
+  pub can : IsJob calls lock job
+  pub made : Made k job.guest
+  pub by : job.by ≡ k
+  pub number : (view_of job.pass).number ≡ k
+  pub own : (view_of job.pass).own ≡ []
+
+-- The link of connection k was begun at the lock, and maybe a root with the view v has taken its pass back.
+pub record IsBegun {I O T H : Type 0} (Talked : Guest I O T H → LinkReport I O T H → Type 0) (Made : ℕ → Guest I O T H → Type 0) (calls : H → ℕ) (lock : TurnLock) (kinds : List Kind) (v : View) (k : ℕ) (started : Started I O T H) : Type 0 where
+  pub job : IsJobOf Made calls lock k (job_of started)
+  pub stage : IsUnder Talked lock kinds v (job_of started) started.stage
 
 -- What the listener tells of these links, each with the entry of the server's turn before it.
 abbrev pub shown_all : {I O T H : Type 0} → (I → Option (List ℕ)) → (O → Option (List ℕ)) → (T → Option (List ℕ)) → List (Started I O T H) → List (Accepted × Asked)
@@ -42,15 +47,19 @@ links_of all = map (λ p. p.0) all
 abbrev pub ticks_of : List (Accepted × Asked) → List Asked
 ticks_of all = map (λ p. p.1) all
 
+-- How many passes these links have that the root didn't get back.
+abbrev pub open_all : {I O T H : Type 0} → List (Started I O T H) → ℕ
+open_all all = sum_by (λ s. open_in s.stage) all
+
 -- Every link was begun with its pass and has its place in the report, and the root made these turns of its own.
 pub record IsAccepting {I O T H : Type 0} (Talked : Guest I O T H → LinkReport I O T H → Type 0) (Made : ℕ → Guest I O T H → Type 0) (calls : H → ℕ) (lock : TurnLock) (kinds : List Kind) (a : Accepting I O T H) : Type 0 where
   pub own : IsRootOf lock a.root
-  pub out : a.root.out ≡ vec_len a.started
+  pub out : a.root.out ≡ open_all a.started.items
   pub made : a.root.made ≡ vec_len a.started
   pub ticked : IsTicking (view_of a.root.pass) a.ticks.items
   pub empty : a.reports.items ≡ []
   pub room : vec_len a.started ≤ vec_capacity a.reports
-  pub links : EachAt (IsBegun Talked Made calls lock kinds) 1 a.started.items
+  pub links : EachAt (IsBegun Talked Made calls lock kinds (view_of a.root.pass)) 1 a.started.items
 
 -- There is more room, and all else is the same.
 pub record IsSame {I O T H : Type 0} (a b : Accepting I O T H) : Type 0 where

@@ -12,17 +12,19 @@ use Rattle.conn_server.specs.declared.jobs.Guest.{Guest}
 use Rattle.conn_server.specs.declared.jobs.Job.{Job}
 use Rattle.conn_server.specs.declared.jobs.LinkReport.{LinkReport}
 use Rattle.conn_server.specs.declared.started.Started.{Started}
-use Rattle.conn_server.specs.declared.started.Started.TheVariants.{There, Here}
+use Rattle.conn_server.specs.declared.started.Stage.{Stage}
+use Rattle.conn_server.specs.declared.started.Stage.TheVariants.{There, Here, Ended, Joining}
 
 -- What was to be done.
 abbrev pub job_of : {I O T H : Type 0} → Started I O T H → Job I O T H
-job_of (There child) = child.promise.job.value
-job_of (Here job done) = job.value
+job_of started = started.job.value
 
--- It was begun at the lock, with this book, or done there.
-abbrev pub IsStart : {I O T H : Type 0} → (Guest I O T H → LinkReport I O T H → Type 0) → TurnLock → List Kind → Started I O T H → Type 0
-IsStart Talked lock kinds (There child) = (child.promise.lock.value ≡ lock) × (child.promise.book.value ≡ kinds)
-IsStart Talked lock kinds (Here job done) = Serves Talked lock job.value done
+-- How many passes it has that the root didn't get back.
+abbrev pub open_in : {I O T H : Type 0} → Stage I O T H → ℕ
+open_in (There child) = 1
+open_in (Here done) = 1
+open_in (Ended report) = 0
+open_in Joining = 0
 
 -- The job came to the report. A root with the view v has taken its pass back: it keeps the pass's own events beside its number, and the
 -- entries lead from what the pass had seen to a history that begins what the root has seen.
@@ -33,3 +35,10 @@ pub record IsEndOf {I O T H : Type 0} (Talked : Guest I O T H → LinkReport I O
   pub last : Events
   pub went : WentAmong (view_of job.pass).config (view_of job.pass).number (view_of job.pass).seen report.asked last
   pub seen : StartsWith v.seen last
+
+-- The job was begun at the lock, with this book, or done there; or it was done, and a root with the view v has taken its pass back.
+abbrev pub IsUnder : {I O T H : Type 0} → (Guest I O T H → LinkReport I O T H → Type 0) → TurnLock → List Kind → View → Job I O T H → Stage I O T H → Type 0
+IsUnder Talked lock kinds v job (There child) = (child.promise.lock.value ≡ lock) × (child.promise.book.value ≡ kinds) × (child.promise.job.value ≡ job)
+IsUnder Talked lock kinds v job (Here done) = Serves Talked lock job done
+IsUnder Talked lock kinds v job (Ended report) = IsEndOf Talked v job report
+IsUnder Talked lock kinds v job Joining = ⊥

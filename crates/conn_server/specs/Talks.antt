@@ -1,5 +1,5 @@
 -- What a served link's connection is, over its own bytes.
-use Rattle.std.specs.Prelude.{◌≡◌, ℕ, List, [], Option}
+use Rattle.std.specs.Prelude.{ℕ, List, [], Option}
 use Rattle.space.specs.Balance.{Balanced}
 use Rattle.call_dispatch.specs.Acts.{Call, States}
 use Rattle.call_dispatch.specs.Invoked.{InvokesEachOnce}
@@ -7,7 +7,6 @@ use Rattle.call_dispatch.specs.Progress.{Served}
 use Rattle.call_dispatch.specs.Spot.{Spot}
 use Rattle.call_dispatch.specs.Terms.{Terms, terms_of}
 use Rattle.call_dispatch.specs.declared.book.Kind.{Kind}
-use Rattle.call_dispatch.specs.declared.end.ConnEnd.{ConnEnd}
 use Rattle.call_dispatch.specs.declared.outcome.Invocation.{Invocation}
 use Rattle.call_dispatch.specs.declared.outcome.Outcome.{Outcome}
 use Rattle.conn_server.specs.declared.jobs.Guest.{Guest}

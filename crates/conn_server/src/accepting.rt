@@ -1,5 +1,5 @@
 //! Taking a link in.
-ghost use Rattle.std.specs.Prelude.{◌≡◌, ◌<◌, ◌≤◌, ◌+◌, ◌^◌, pos, ◌<ℤ◌, ℕ, List, [], ◌∷◌, ◌++◌, map, length, vec_len, vec_capacity, MatchBool, MatchOption, IfSome, Some, None, IfOk, option_to_list, Option};
+ghost use Rattle.std.specs.Prelude.{◌≡◌, ◌<◌, ◌≤◌, ◌+◌, ◌^◌, pos, ◌<ℤ◌, List, [], ◌∷◌, ◌++◌, map, length, vec_len, vec_capacity, MatchBool, MatchOption, IfSome, Some, None, IfOk, option_to_list, Option};
 ghost use Rattle.mod_utf.specs.Utf.{utf};
 ghost use Rattle.wire_io.specs.Links.{accepted_as};
 ghost use Rattle.wire_io.specs.Wire.{Gave};
@@ -9,16 +9,16 @@ ghost use Rattle.space.specs.Ports.{entries_of};
 ghost use Rattle.call_dispatch.specs.Acts.{unreferenced, Tells, Leads};
 ghost use Rattle.call_dispatch.specs.Terms.{terms_of};
 ghost use Rattle.call_dispatch.specs.declared.book.Kind.{Kind};
-ghost use Rattle.turn_lock.specs.Handles.{IsRootOf, IsBranchOf, view_of};
+ghost use Rattle.turn_lock.specs.Handles.{IsRootOf};
 ghost use Rattle.turn_lock.specs.Ports.{PassWent};
 ghost use Rattle.conn_server.specs.Accepts.{HasRoom, IsAccepting, IsSame, shown_all, links_of, ticks_of};
 ghost use Rattle.conn_server.specs.Made.{gone_with, told_of, shown_guest, IsMadeFor};
 ghost use Rattle.conn_server.specs.Plans.{link_terms};
 ghost use Rattle.conn_server.specs.Serves.{IsGuest};
-ghost use Rattle.conn_server.specs.Starts.{job_of};
 ghost use Rattle.conn_server.specs.Talks.{TalksOver};
 
 use crate::crew::{Crew, tell_gone};
+use crate::ended::EndedLinks;
 use crate::jobs::{Guest, Job, LinkReport};
 use crate::plan::{ServePlan, setup_for};
 use crate::started::{Started, start};
@@ -176,6 +176,7 @@ fn with_link<
     alloc: Global,
     lock: &'s TurnLock,
     book: &'s Book,
+    ended: &'s EndedLinks,
     plan: &ServePlan,
     guest: Guest<I, O, T, H>,
     accepting: Accepting<I, O, T, H>,
@@ -203,7 +204,7 @@ fn with_link<
         unreachable!()
     };
     let job = Job { by, pass, guest };
-    let begun = start(scope, rt, alloc, lock, book, job);
+    let begun = start(scope, rt, alloc, lock, book, ended, job);
     started.push_reserved(begun);
     Accepting {
         root,
@@ -293,6 +294,7 @@ pub fn take_in<
     alloc: Global,
     lock: &'s TurnLock,
     book: &'s Book,
+    ended: &'s EndedLinks,
     crew: &G,
     plan: &ServePlan,
     link: Link<I, O, T>,
@@ -347,6 +349,6 @@ where
         first,
         tick,
     };
-    let accepting = with_link(scope, rt, alloc, lock, book, plan, guest, accepting);
+    let accepting = with_link(scope, rt, alloc, lock, book, ended, plan, guest, accepting);
     (accepting, true)
 }

@@ -14,9 +14,11 @@ ghost use Rattle.conn_server.specs.Views.{IsTicked};
 
 use crate::accepting::{Accepting, take_in};
 use crate::crew::Crew;
+use crate::ended::EndedLinks;
 use crate::jobs::LinkReport;
 use crate::plan::ServePlan;
-use crate::started::finish;
+use crate::settling::join_ended;
+use crate::started::{Started, finish};
 use call_dispatch::{Book, Worker};
 use space::Asked;
 use std::alloc::Global;
@@ -36,13 +38,14 @@ pub enum Stop {
     OutOfMemory,
 }
 
-/// Accepts so many links. A thread of the scope serves each.
+/// Accepts so many links. A thread of the scope serves each. Before a link is taken in, threads of links that have ended are joined.
 pub fn accept_links<'s, E, R: Threads + Wait + Sync, L: Listener, G: Crew>(
     scope: &Scope<'s, E>,
     rt: &'s R,
     alloc: Global,
     lock: &'s TurnLock,
     book: &'s Book,
+    ended: &'s EndedLinks,
     listener: &mut L,
     crew: &G,
     plan: &ServePlan,
@@ -69,7 +72,10 @@ where
         let Ok(link) = listener.accept() else {
             return (accepting, Stop::AcceptFault);
         };
-        let (next, taken) = take_in(scope, rt, alloc, lock, book, crew, plan, link, accepting);
+        let accepted = join_ended(rt, lock, book, ended, plan, accepting);
+        let (next, taken) = take_in(
+            scope, rt, alloc, lock, book, ended, crew, plan, link, accepted,
+        );
         accepting = next;
         if !taken {
             return (accepting, Stop::OutOfMemory);
@@ -78,7 +84,7 @@ where
     (accepting, Stop::All)
 }
 
-/// Waits for each link, in order of accepting. Gives back the root, the reports and the entries of the root's own turns.
+/// Waits for each link that wasn't joined, in order of accepting. Gives back the root, the reports and the entries of the root's own turns.
 pub fn join_links<R: Threads, I: Source + Drop, O: Sink + Drop, T: Clock + Drop, H: Worker + Drop>(
     rt: &R,
     lock: &TurnLock,
@@ -90,7 +96,7 @@ pub fn join_links<R: Threads, I: Source + Drop, O: Sink + Drop, T: Clock + Drop,
     ensures root { IsRootOf lock.now result.0 × (result.0.out ≡ 0) }
     ensures made { result.0.made ≡ vec_len accepting.started }
     ensures ticks { IsTicked (view_of result.0.pass) result.2.items × (result.2 ≡ accepting.ticks) }
-    ensures links { Paired (IsJoined (TalksOver I.left O.held T.given H.calls H.seen H.state H.may H.moves book.now) (IsMadeFor I.left O.held T.given H.seen H.state H.moves plan.now) H.calls lock.now book.now (view_of result.0.pass)) 1 accepting.started.items result.1.items }
+    ensures links { Paired (IsJoined (TalksOver I.left O.held T.given H.calls H.seen H.state H.may H.moves book.now) (IsMadeFor I.left O.held T.given H.seen H.state H.moves plan.now) H.calls lock.now (view_of result.0.pass)) 1 accepting.started.items result.1.items }
 {
     let _ = plan;
     let Accepting {
@@ -100,7 +106,8 @@ pub fn join_links<R: Threads, I: Source + Drop, O: Sink + Drop, T: Clock + Drop,
         ticks,
     } = accepting;
     for link in started {
-        let report = finish(rt, lock, book, &mut root, link);
+        let Started { job, stage } = link;
+        let report = finish(rt, lock, book, &mut root, &job, stage);
         reports.push_reserved(report);
     }
     (root, reports, ticks)

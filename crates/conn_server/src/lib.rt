@@ -5,9 +5,11 @@
 mod accepting;
 mod accepts;
 pub mod crew;
+mod ended;
 pub mod jobs;
 pub mod plan;
 pub mod server;
+mod settling;
 mod started;
 
 pub use accepts::Stop;

@@ -16,6 +16,7 @@ ghost use Rattle.conn_server.specs.Stops.{Stopped};
 use crate::accepting::Accepting;
 use crate::accepts::{Stop, accept_links, join_links};
 use crate::crew::Crew;
+use crate::ended::EndedLinks;
 use crate::jobs::LinkReport;
 use crate::plan::ServePlan;
 use call_dispatch::Book;
@@ -53,13 +54,14 @@ pub struct Report<I, O, T, H> {
     pub space: Space,
 }
 
-/// Accepts links, serves them by threads of the scope, and joins these.
+/// Accepts links, serves them by threads of the scope, and joins all of these.
 fn serve_within<'s, E, R: Threads + Wait + Sync, L: Listener, G: Crew>(
     scope: &Scope<'s, E>,
     rt: &'s R,
     alloc: Global,
     lock: &'s TurnLock,
     book: &'s Book,
+    ended: &'s EndedLinks,
     root: Root,
     listener: &mut L,
     crew: &G,
@@ -86,7 +88,7 @@ where
         ticks: Vec::new(alloc),
     };
     let (accepting, stop) = accept_links(
-        scope, rt, alloc, lock, book, listener, crew, plan, accepting,
+        scope, rt, alloc, lock, book, ended, listener, crew, plan, accepting,
     );
     let (root, links, ticks) = join_links(rt, lock, book, plan, accepting);
     Outcome {
@@ -100,7 +102,7 @@ where
 /// Accepts the plan's count of links, serves each in a thread of its own as the connection of the next number, joins all threads and closes
 /// the lock. Before each link it makes a Tick as connection 0, at a moment of the link's clock, and tells the link's hand what is
 /// gone; a Tick that is refused HistoryFull is passed over. A link whose thread could not be started is served here. Both halves of a link
-/// are shut when its connection ends.
+/// are shut when its connection ends. Before a link is taken in, threads of links that have ended are joined.
 ///
 /// The stop is AcceptFault only where the listener's count of faults rose, and OutOfMemory where a hand, a Tick or the room of a report finds no
 /// memory; that link is shut and not reported. No more links are accepted then, and those that were are served to their ends.
@@ -146,6 +148,8 @@ pub fn serve<R: Threads + Wait + Sync, L: Listener, G: Crew>(
     ensures ports { L.ports listener.new ≡ L.ports listener.old }
 {
     let shared = &lock;
+    let noted = EndedLinks::new(alloc);
+    let ended = &noted;
     let (left, outcome) = thread::scope(
         thread::scope_env(),
         rt,
@@ -158,7 +162,9 @@ pub fn serve<R: Threads + Wait + Sync, L: Listener, G: Crew>(
             ensures faults { L.faults listener.entry.now ≤ L.faults result.0.now }
             ensures ports { L.ports result.0.now ≡ L.ports listener.entry.now }
         {
-            let outcome = serve_within(scope, rt, alloc, shared, book, root, listener, crew, plan);
+            let outcome = serve_within(
+                scope, rt, alloc, shared, book, ended, root, listener, crew, plan,
+            );
             (listener, outcome)
         },
     );

@@ -6,11 +6,12 @@ use std::hint;
 use std::sync::Wait;
 use std::time::Duration;
 
-/// How often a thread looks before it sleeps.
-const LOOKS: u32 = 100;
+/// How often a thread looks before it sleeps, which takes a few turns' time: a turn is shorter than a sleep, also where the kernel takes the
+/// core of the thread that makes it for a moment.
+const LOOKS: u32 = 500;
 
 /// How often it looks before it draws a ticket though others have one.
-const PATIENCE: u32 = 2_000;
+const PATIENCE: u32 = 4_000;
 
 /// How many microseconds it sleeps at most before it looks again.
 const NAP: u64 = 100;

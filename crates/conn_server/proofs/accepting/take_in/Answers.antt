@@ -1,4 +1,4 @@
-use Rattle.std.proofs.Common.{◌≡◌, ◌∙◌, ◌+◌, ap, sym, refl}
+use Rattle.std.proofs.Common.{◌∙◌, ◌+◌, ap, sym, refl}
 use Rattle.std.specs.Prelude.{vec_len}
 use Rattle.conn_server.proofs.Making.{made_for}
 use Rattle.conn_server.proofs.accepting.take_in.Goals as goal

@@ -22,6 +22,23 @@ loop-init g c =
       ports = refl;
     }
 
+pub take_in-next-requires-clause-turns : goal.take_in-next-requires-clause-turns
+take_in-next-requires-clause-turns g c κs within =
+    let was = c.loop.invariant in
+    let freed = c.join_ended-accepted.ensures in
+    let room = was.turns in
+    let room2 = freed.turns in
+    let count = was.count in
+    let count2 = freed.count in
+    let test = c.loop-test.true in
+    let few = c.requires.turns.0 in
+    (omega (arith, room, room2, test, few), omega (arith, count, count2, test, few))
+
+pub take_in-next-requires-clause-tied : goal.take_in-next-requires-clause-tied
+take_in-next-requires-clause-tied g c κs within =
+    let freed = c.join_ended-accepted.ensures in
+    ap (λ v. v.items) freed.ticks ∙ (c.loop.invariant.tied ∙ ap (λ l. ticks_of l) (sym freed.links))
+
 pub returns-then-not-taken-clause-links : goal.returns-then-not-taken-clause-links
 returns-then-not-taken-clause-links g c =
     let left = g.L.In.Source.left in let held = g.L.Out.Sink.held in let given = g.L.Ticks.Clock.given in
@@ -30,13 +47,16 @@ returns-then-not-taken-clause-links g c =
     let before = links_of (shown_all left held given c.loop.accepting.started.items) in
     let told = g.L.Listener.accepted c.args.listener.now in
     let link = accepted_as left held given c.in-Ok.link in
-    let same : links_of (shown_all left held given next.started.items) ≡ before = search rules in
-    let count : vec_len next.started ≡ vec_len c.loop.accepting.started = search rules in
+    let freed = c.join_ended-accepted.result in
+    let here : links_of (shown_all left held given next.started.items) ≡ links_of (shown_all left held given freed.started.items) = search rules in
+    let same : links_of (shown_all left held given next.started.items) ≡ before = here ∙ ap (λ l. links_of l) c.join_ended-accepted.ensures.links in
+    let count : vec_len next.started ≡ vec_len freed.started = search rules in
+    let count2 = c.join_ended-accepted.ensures.count in
     let counter = was.count in
     let test = c.loop-test.true in (
       link ∷ [],
       one_more told (g.L.Listener.accepted c.loop.listener) (g.L.Listener.accepted c.accept.new.self) before link was.links c.in-Ok.ensures.accepts.0 ∙ ap (λ l. with_all told (l ++ link ∷ [])) (sym same),
-      (omega (arith, count, counter, test), refl),
+      (omega (arith, count, count2, counter, test), refl),
     )
 
 pub loop-preserved : goal.loop-preserved
@@ -47,17 +67,21 @@ loop-preserved g c =
     let before = links_of (shown_all left held given c.loop.accepting.started.items) in
     let told = g.L.Listener.accepted c.args.listener.now in
     let link = accepted_as left held given c.in-Ok.link in
-    let longer : links_of (shown_all left held given next.started.items) ≡ before ++ link ∷ [] = search rules in
-    let count : vec_len next.started ≡ vec_len c.loop.accepting.started + 1 = search rules in
+    let freed = c.join_ended-accepted.result in
+    let here : links_of (shown_all left held given next.started.items) ≡ links_of (shown_all left held given freed.started.items) ++ link ∷ [] = search rules in
+    let longer : links_of (shown_all left held given next.started.items) ≡ before ++ link ∷ [] = here ∙ ap (λ l. links_of l ++ link ∷ []) c.join_ended-accepted.ensures.links in
+    let count : vec_len next.started ≡ vec_len freed.started + 1 = search rules in
+    let count2 = c.join_ended-accepted.ensures.count in
     let counter = was.count in
     let room = was.turns in
     let room2 = c.take_in-next.ensures.turns in
+    let room3 = c.join_ended-accepted.ensures.turns in
     let faults = was.faults in
     let faults2 = c.in-Ok.ensures.accepts.1 in
     record {
       is = c.take_in-next.ensures.accepting;
-      turns = omega (arith, room, room2);
-      count = omega (arith, count, counter);
+      turns = omega (arith, room, room2, room3);
+      count = omega (arith, count, count2, counter);
       tied = c.take_in-next.ensures.tied;
       links = one_more told (g.L.Listener.accepted c.loop.listener) (g.L.Listener.accepted c.accept.new.self) before link was.links c.in-Ok.ensures.accepts.0 ∙ ap (with_all told) (sym longer);
       faults = omega (arith, faults, faults2);

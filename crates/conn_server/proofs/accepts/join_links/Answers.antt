@@ -1,11 +1,12 @@
-use Rattle.std.proofs.Common.{◌≡◌, ◌∙◌, arith, ap, sym, subst, refl, length, List}
+use Rattle.std.proofs.Common.{◌≡◌, ◌∙◌, arith, ap, sym, subst, length, List}
 use Rattle.std.specs.Prelude.{vec_len}
 use Rattle.std.specs.Vec.Iter.{into_iter_len}
 use Rattle.turn_lock.specs.Handles.{view_of}
+use Rattle.conn_server.specs.Accepts.{open_all}
 use Rattle.conn_server.specs.Made.{IsMadeFor}
 use Rattle.conn_server.specs.Talks.{TalksOver}
 use Rattle.conn_server.proofs.Ending.{ticked_first, ticked_grown}
-use Rattle.conn_server.proofs.Joining.{Joining, joining_first, joining_on, joining_all}
+use Rattle.conn_server.proofs.Joining.{Joining, joining_first, joining_on, joining_all, one_less}
 use Rattle.conn_server.proofs.Rows.{none_left, one_left}
 use Rattle.conn_server.proofs.accepts.join_links.Goals as goal
 
@@ -23,7 +24,7 @@ loop-link-init g c =
     record {
       same = len ∙ (a.started.ok.0 ∙ ap length (sym gives.0));
       root = is.own;
-      out = is.out ∙ sym len;
+      out = is.out ∙ ap (λ l. open_all l) (sym gives.0);
       made = is.made;
       ticked = ticked_first _ _ is.ticked;
       room = omega (arith, none, len, room);
@@ -41,8 +42,6 @@ loop-link-preserved g c =
     let steps = c.in-Some.ensures.steps in
     let made = was.made in
     let made2 = f.root.2 in
-    let out1 = was.out in
-    let out2 = f.root.1 in
     let len = steps.1 in
     let room = was.room in
     let longer = c.push_reserved.ensures.len in
@@ -50,7 +49,7 @@ loop-link-preserved g c =
     record {
       same = one_left _ _ _ _ _ was.same steps.0 steps.1;
       root = f.root.0;
-      out = omega (arith, out1, out2, len);
+      out = one_less _ _ _ _ _ steps.0 was.out f.root.1;
       made = made2 ∙ made;
       ticked = ticked_grown v w a.ticks.items f.grown was.ticked;
       room = omega (arith, room, len, longer, cap);

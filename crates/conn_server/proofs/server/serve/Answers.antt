@@ -1,4 +1,4 @@
-use Rattle.std.proofs.Common.{rules, ◌≡◌, ◌∙◌, ℕ, ap, length, subst, sym}
+use Rattle.std.proofs.Common.{rules, ◌∙◌, ℕ, ap, length, subst, sym}
 use Rattle.conn_server.specs.Stops.{Stopped}
 use Rattle.conn_server.proofs.Closing.{links_reported, no_others, ticks_reported}
 use Rattle.conn_server.proofs.Histories.{collects_all}

@@ -1,4 +1,4 @@
-use Rattle.std.proofs.Common.{◌≡◌, ◌∙◌, ap, sym, subst, ℕ, length}
+use Rattle.std.proofs.Common.{◌≡◌, ◌∙◌, ap, subst, ℕ, length}
 use Rattle.turn_lock.specs.Handles.{view_of}
 use Rattle.conn_server.specs.Accepts.{shown_all}
 use Rattle.conn_server.specs.Stops.{Stopped}
@@ -30,7 +30,7 @@ returns-clause-served g c =
         made = j.ensures.made ∙ count;
         ticked = j.ensures.ticks.0;
         tied = ap (λ v. v.items) j.ensures.ticks.1 ∙ a.ensures.tied;
-        links = paired_known _ c.args.lock.now left held given _ _ calls c.args.book.now (link_of left held given calls seen state may moves c.args.book.now c.args.plan.now) w 1 all.items j.result.1.items j.ensures.links;
+        links = paired_known _ c.args.lock.now left held given _ _ calls (link_of left held given calls seen state may moves c.args.book.now c.args.plan.now) w 1 all.items j.result.1.items j.ensures.links;
       },
       (a.ensures.links.0, a.ensures.links.1, subst (λ (n : ℕ). Stopped a.result.1 c.args.plan.now.count n a.ensures.links.0) count a.ensures.links.2),
     )
