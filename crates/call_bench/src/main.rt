@@ -18,6 +18,7 @@ fn main(rt: HostRuntime) -> io::Result<ExitCode> {
         ticks: StdClock::new(&rt),
         listener: TcpListen::new(alloc, &rt),
         seed: [1, 2, 3, 4],
+        served: None,
     };
     Ok(ExitCode::from(run(&rt, alloc, &Words::from_vec(words), &mut host)))
 }

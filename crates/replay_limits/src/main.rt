@@ -121,6 +121,7 @@ fn show<R: Threads + Wait + Sync, W: Write>(
         ticks: MemClock::new(MomentList::new(alloc)),
         listener: MemListener::new(alloc, MemLinks::new(alloc)),
         seed: [0; 4],
+        served: None,
     };
     let status = run(rt, alloc, &Words::from_vec(words), &mut host);
     writeln!(out, "{what}: {status}")?;

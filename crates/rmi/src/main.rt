@@ -47,6 +47,7 @@ where
         ticks: StdClock::new(rt),
         listener: TcpListen::new(alloc, rt),
         seed,
+        served: None,
     };
     Ok(run(rt, alloc, words, &mut host))
 }

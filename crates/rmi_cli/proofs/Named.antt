@@ -53,10 +53,10 @@ drills_named command text text2 m n m2 n2 old new told is is2 drills =
     subst R same.2 (subst Q same.1 (subst P same.0 drills))
 
 pub serving_asked : {I O T R : Type 0} (left : I → Option (List ℕ)) (held : O → Option (List ℕ)) (given : T → Option (List ℕ)) (seed : List ℕ) (command : Command) (s s2 : ServeWords)
-    (heard heard2 : Heard) (old new : Wires) (told : Told) (served : Option (Report I O T (SampleHand R))) (end : RunEnd) → command ≡ Serve s → command ≡ Serve s2
+    (heard heard2 : Heard) (old new : Wires) (faults faults2 : ℕ) (told : Told) (served : Option (Report I O T (SampleHand R))) (end : RunEnd) → command ≡ Serve s → command ≡ Serve s2
     → IfSome served (ServesLinks (IsSampleLink {R = R} left held given (serve_plan seed s)) (served_opening seed s.terms) s.count heard.accepted heard2.accepted)
-    → ListensAlone s.port heard heard2 served → ServeEnds old.held new.held served end → Tells told end → new.left ≡ old.left
-    → Serving (IsSampleLink {R = R} left held given (serve_plan seed s2)) seed s2 heard heard2 old new told
-serving_asked {I} {O} {T} {R} left held given seed command s s2 heard heard2 old new told served end is is2 links alone ends tells unread =
-    let P : ServeWords → Type 0 = λ x. Serving (IsSampleLink {R = R} left held given (serve_plan seed x)) seed x heard heard2 old new told in
-    subst P (same_serve s s2 (sym is ∙ is2)) (record { served = served; alone = alone; links = links; end = end; ends = ends; tells = tells; unread = unread })
+    → ListensAlone s.port heard heard2 served → ServeEnds old.held new.held faults faults2 served end → Tells told end → new.left ≡ old.left
+    → Serving (IsSampleLink {R = R} left held given (serve_plan seed s2)) seed s2 served heard heard2 old new faults faults2 told
+serving_asked {I} {O} {T} {R} left held given seed command s s2 heard heard2 old new faults faults2 told served end is is2 links alone ends tells unread =
+    let P : ServeWords → Type 0 = λ x. Serving (IsSampleLink {R = R} left held given (serve_plan seed x)) seed x served heard heard2 old new faults faults2 told in
+    subst P (same_serve s s2 (sym is ∙ is2)) (record { alone = alone; links = links; end = end; ends = ends; tells = tells; unread = unread })

@@ -1,7 +1,7 @@
 -- What `rmi serve` does.
-use Rattle.std.specs.Prelude.{◌≡◌, ℕ, ◌<◌, ◌≤◌, pos, codes, ◌⊎◌, List, [], ◌++◌, length, take, Option, Some, None, IfSome}
+use Rattle.std.specs.Prelude.{◌≡◌, ℕ, ◌<◌, pos, codes, ◌⊎◌, List, [], ◌++◌, length, take, Option, Some, None, IfSome}
 use Rattle.wire_io.specs.Links.{Accepted, with_next}
-use Rattle.wire_io.specs.Wire.{Wires, with_end}
+use Rattle.wire_io.specs.Wire.{Wires, with_end, Rose}
 use Rattle.history.specs.Steps.{IsLegal}
 use Rattle.history.specs.Outline.{outline}
 use Rattle.space.specs.Built.{SpaceHistory}
@@ -51,27 +51,32 @@ pub record ServesLinks {I O T H : Type 0} (IsLink : ℕ → Accepted × Asked �
 abbrev pub IsSampleLink : {I O T R : Type 0} → (I → Option (List ℕ)) → (O → Option (List ℕ)) → (T → Option (List ℕ)) → ServePlan → ℕ → Accepted × Asked → LinkReport I O T (SampleHand R) → Type 0
 IsSampleLink left held given plan = IsLinkOf left held given (λ hand. hand.calls) (λ hand. None) (λ hand. None) May Moves sample_kinds plan
 
--- A front of these bytes, or all of them, was written.
-abbrev pub WroteFront : Option (List ℕ) → Option (List ℕ) → List ℕ → Type 0
-WroteFront held held2 bytes = (sent : ℕ) × (sent ≤ length bytes) × (held2 ≡ with_end held (take sent bytes))
-
 -- A front of these bytes, and not all, was written.
 abbrev pub WroteLess : Option (List ℕ) → Option (List ℕ) → List ℕ → Type 0
 WroteLess held held2 bytes = (sent : ℕ) × (sent < length bytes) × (held2 ≡ with_end held (take sent bytes))
 
--- How the run ends where the accepting stopped so and the outline is this text, and what the output holds then.
-abbrev pub EndsServed : Option (List ℕ) → Option (List ℕ) → List ℕ → Stop → RunEnd → Type 0
-EndsServed held held2 text stops.All end =
+-- How printing this text ends, by what the output holds and how often it failed: all was written; or less, for the output failed; or nothing, for
+-- there was no memory for the text.
+abbrev pub Printed : Option (List ℕ) → Option (List ℕ) → ℕ → ℕ → List ℕ → RunEnd → Type 0
+Printed held held2 faults faults2 text end =
     ((end ≡ Done) × (held2 ≡ with_end held text))
-    ⊎ (((end ≡ WriteFault) × WroteLess held held2 text)
+    ⊎ (((end ≡ WriteFault) × WroteLess held held2 text × Rose faults faults2)
     ⊎ ((end ≡ OutOfMemory) × (held2 ≡ held)))
-EndsServed held held2 text stops.AcceptFault end = (end ≡ AcceptFault) × WroteFront held held2 text
-EndsServed held held2 text stops.OutOfMemory end = (end ≡ OutOfMemory) × WroteFront held held2 text
+
+-- How the run ends where the accepting stopped so and printing the outline ended so.
+abbrev pub end_after : Stop → RunEnd → RunEnd
+end_after stops.All printed = printed
+end_after stops.AcceptFault printed = AcceptFault
+end_after stops.OutOfMemory printed = OutOfMemory
+
+-- The outline, which is this text, was printed, and the run ends as that and the stop say.
+abbrev pub EndsServed : Option (List ℕ) → Option (List ℕ) → ℕ → ℕ → List ℕ → Stop → RunEnd → Type 0
+EndsServed held held2 faults faults2 text stop end = (printed : RunEnd) × Printed held held2 faults faults2 text printed × (end ≡ end_after stop printed)
 
 -- How the run ends by what was served: where nothing was, the port could not be listened on, or there was no memory; nothing was written then.
-abbrev pub ServeEnds : {I O T H : Type 0} → Option (List ℕ) → Option (List ℕ) → Option (Report I O T H) → RunEnd → Type 0
-ServeEnds held held2 None end = ((end ≡ ListenFault) ⊎ (end ≡ OutOfMemory)) × (held2 ≡ held)
-ServeEnds held held2 (Some report) end = EndsServed held held2 (outline report.space.configuration report.space.events) report.stop end
+abbrev pub ServeEnds : {I O T H : Type 0} → Option (List ℕ) → Option (List ℕ) → ℕ → ℕ → Option (Report I O T H) → RunEnd → Type 0
+ServeEnds held held2 faults faults2 None end = ((end ≡ ListenFault) ⊎ (end ≡ OutOfMemory)) × (held2 ≡ held)
+ServeEnds held held2 faults faults2 (Some report) end = EndsServed held held2 faults faults2 (outline report.space.configuration report.space.events) report.stop end
 
 -- What a listener tells: the ports that it was told to listen on, and the links that it gave.
 pub record Heard : Type 0 where
@@ -87,12 +92,13 @@ abbrev pub ListensAlone : {R : Type 0} → ℕ → Heard → Heard → Option R 
 ListensAlone port old new None = ((new.ports ≡ old.ports) ⊎ (new.ports ≡ with_next old.ports port)) × (new.accepted ≡ old.accepted)
 ListensAlone port old new (Some served) = new.ports ≡ with_next old.ports port
 
--- The run of `serve` by its seed and words: what was served, and the end that is told. Nothing was read.
-pub record Serving {I O T H : Type 0} (IsLink : ℕ → Accepted × Asked → LinkReport I O T H → Type 0) (seed : List ℕ) (serve : ServeWords) (heard heard2 : Heard) (old new : Wires) (told : Told) : Type 0 where
-  pub served : Option (Report I O T H)
+-- The run of `serve` by its seed and words, and by what it left as served, which tells of the links' sources and sinks as they are left; and the end
+-- that is told, where the output had failed so often before and after. Nothing was read.
+pub record Serving {I O T H : Type 0} (IsLink : ℕ → Accepted × Asked → LinkReport I O T H → Type 0) (seed : List ℕ) (serve : ServeWords) (served : Option (Report I O T H))
+    (heard heard2 : Heard) (old new : Wires) (faults faults2 : ℕ) (told : Told) : Type 0 where
   pub alone : ListensAlone serve.port heard heard2 served
   pub links : IfSome served (ServesLinks IsLink (served_opening seed serve.terms) serve.count heard.accepted heard2.accepted)
   pub end : RunEnd
-  pub ends : ServeEnds old.held new.held served end
+  pub ends : ServeEnds old.held new.held faults faults2 served end
   pub tells : Tells told end
   pub unread : new.left ≡ old.left

@@ -1,8 +1,12 @@
 //! What the program runs on.
 
-/// Where the input, the moments and the connections come from, where the output and the lines on errors go, and what identifiers are made from.
+use conn_server::Report;
+use wire_io::listener::Listener;
+
+/// Where the input, the moments and the connections come from, where the output and the lines on errors go, what identifiers are made from, and
+/// what is left of the connections of `serve`. `H` is the hand that does a connection's calls.
 #[derive(Drop)]
-pub struct Host<I, O, E, T, L> {
+pub struct Host<I, O, E, T, L: Listener, H> {
     /// The input, as standard input.
     pub input: I,
     /// The output, as standard output.
@@ -15,4 +19,6 @@ pub struct Host<I, O, E, T, L> {
     pub listener: L,
     /// Four words by chance, from which identifiers are made that differ from those of other runs.
     pub seed: [u64; 4],
+    /// What was served: `None` before, and where `serve` comes to no connections.
+    pub served: Option<Report<L::In, L::Out, L::Ticks, H>>,
 }

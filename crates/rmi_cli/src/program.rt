@@ -48,11 +48,11 @@ use wire_io::source::Source;
 /// One line on the errors' sink tells the end, but that all was done, which no line tells. That it could not be written changes nothing.
 /// Where there is no memory for the line, the status is 5, and the line is that of want of memory.
 #[tactic(auto, using(crate::proofs::Telling::took))]
-pub fn run<R: Threads + Wait + Sync, I: Source, O: Sink, E: Sink, T: Clock, L: Listener>(
-    rt: &R,
+pub fn run<'t, R: Threads + Wait + Sync, I: Source, O: Sink, E: Sink, T: Clock, L: Listener>(
+    rt: &'t R,
     alloc: Global,
     words: &Words,
-    host: &mut Host<I, O, E, T, L>,
+    host: &mut Host<I, O, E, T, L, SampleHand<'t, R>>,
 ) -> u8
     // Other words are no command line.
     ensures usage { (result ≡ 1) ↔ ((command : Commands) → AskFor words.now command → ⊥) }
@@ -75,12 +75,14 @@ pub fn run<R: Threads + Wait + Sync, I: Source, O: Sink, E: Sink, T: Clock, L: L
     // `serve` serves the links that are accepted at its port, and at no other, each in a thread, over one space of its own. However these take
     // turns, the one history that is left is legal and goes on from the opening; at each of its events the collector kept what there was a reason to
     // keep, and withdrew the rest; each link has a report of a dialogue over its own bytes, whose turns stand at their places in that history; and no
-    // event is of anybody else. The outline of that history is written, and the end is told. Nothing is read.
-    ensures serves { (serve : ServeWords) → AskFor words.now (Command.Serve serve) → Serving {H = SampleHand R}
+    // event is of anybody else. The host has these reports, with the links' sources and sinks as they are left. The outline of that history is written,
+    // and the end is told. Nothing is read.
+    ensures serves { (serve : ServeWords) → AskFor words.now (Command.Serve serve) → Serving
         (IsSampleLink L.In.left L.Out.held L.Ticks.given (serve_plan host.old.seed serve))
-        host.old.seed serve (heard L.ports L.accepted host.old.listener) (heard L.ports L.accepted host.new.listener)
+        host.old.seed serve host.new.served (heard L.ports L.accepted host.old.listener) (heard L.ports L.accepted host.new.listener)
         (wires I.left O.held host.old.input host.old.output)
         (wires I.left O.held host.new.input host.new.output)
+        (O.faults host.old.output) (O.faults host.new.output)
         (told_by E.held E.faults host.old.errors host.new.errors result) }
 
     // `replay` takes the whole input as a journal, and writes the outline of the history that it spells, or says why it has none.
@@ -114,9 +116,10 @@ pub fn run<R: Threads + Wait + Sync, I: Source, O: Sink, E: Sink, T: Clock, L: L
         (wires I.left O.held host.new.input host.new.output)
         (told_by E.held E.faults host.old.errors host.new.errors result) }
 
-    // No other command asks the clock, none but `serve` the listener, and none changes the seed.
+    // No other command asks the clock, none but `serve` the listener or changes what was served, and none changes the seed.
     ensures clock { ((terms : Terms) → AskFor words.now (Command.Answer terms) → ⊥) → T.given host.new.ticks ≡ T.given host.old.ticks }
     ensures network { ((serve : ServeWords) → AskFor words.now (Command.Serve serve) → ⊥) → host.new.listener ≡ host.old.listener }
+    ensures served { ((serve : ServeWords) → AskFor words.now (Command.Serve serve) → ⊥) → host.new.served ≡ host.old.served }
     ensures seed { host.new.seed ≡ host.old.seed }
 
     // The outside's failures.
@@ -135,11 +138,11 @@ pub fn run<R: Threads + Wait + Sync, I: Source, O: Sink, E: Sink, T: Clock, L: L
 
 /// Does what a command says, and answers the status of the process, with the clauses of `run`.
 #[tactic(auto, using(crate::proofs::Telling::took))]
-fn obey<R: Threads + Wait + Sync, I: Source, O: Sink, E: Sink, T: Clock, L: Listener>(
-    rt: &R,
+fn obey<'t, R: Threads + Wait + Sync, I: Source, O: Sink, E: Sink, T: Clock, L: Listener>(
+    rt: &'t R,
     alloc: Global,
     command: Command,
-    host: &mut Host<I, O, E, T, L>,
+    host: &mut Host<I, O, E, T, L, SampleHand<'t, R>>,
 ) -> u8
     requires limits { IsInLimits command }
     ensures known { result ≢ 1 }
@@ -152,11 +155,12 @@ fn obey<R: Threads + Wait + Sync, I: Source, O: Sink, E: Sink, T: Clock, L: List
         (wires I.left O.held host.old.input host.old.output)
         (wires I.left O.held host.new.input host.new.output)
         (told_by E.held E.faults host.old.errors host.new.errors result) }
-    ensures serves { (serve : ServeWords) → command ≡ Command.Serve serve → Serving {H = SampleHand R}
+    ensures serves { (serve : ServeWords) → command ≡ Command.Serve serve → Serving
         (IsSampleLink L.In.left L.Out.held L.Ticks.given (serve_plan host.old.seed serve))
-        host.old.seed serve (heard L.ports L.accepted host.old.listener) (heard L.ports L.accepted host.new.listener)
+        host.old.seed serve host.new.served (heard L.ports L.accepted host.old.listener) (heard L.ports L.accepted host.new.listener)
         (wires I.left O.held host.old.input host.old.output)
         (wires I.left O.held host.new.input host.new.output)
+        (O.faults host.old.output) (O.faults host.new.output)
         (told_by E.held E.faults host.old.errors host.new.errors result) }
     ensures replay { command ≡ Command.Replay → ReplaysInput
         (wires I.left O.held host.old.input host.old.output)
@@ -184,6 +188,7 @@ fn obey<R: Threads + Wait + Sync, I: Source, O: Sink, E: Sink, T: Clock, L: List
         (told_by E.held E.faults host.old.errors host.new.errors result) }
     ensures clock { ((terms : Terms) → command ≡ Command.Answer terms → ⊥) → T.given host.new.ticks ≡ T.given host.old.ticks }
     ensures network { ((serve : ServeWords) → command ≡ Command.Serve serve → ⊥) → host.new.listener ≡ host.old.listener }
+    ensures served { ((serve : ServeWords) → command ≡ Command.Serve serve → ⊥) → host.new.served ≡ host.old.served }
     ensures seed { host.new.seed ≡ host.old.seed }
     ensures read_fault { ((serve : ServeWords) → command ≡ Command.Serve serve → ⊥) → result ≡ 3 → Rose (I.faults host.old.input) (I.faults host.new.input) }
     ensures network_fault { (serve : ServeWords) → command ≡ Command.Serve serve → result ≡ 3 → Rose (L.faults host.old.listener) (L.faults host.new.listener) }
@@ -210,6 +215,7 @@ fn obey<R: Threads + Wait + Sync, I: Source, O: Sink, E: Sink, T: Clock, L: List
                 &host.seed,
                 &serve,
             );
+            host.served = served.report;
             told(alloc, &mut host.errors, served.end)
         }
         Command::Replay => {

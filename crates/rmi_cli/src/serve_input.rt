@@ -8,7 +8,7 @@ ghost use Rattle.sample_app.specs.Kinds.{sample_kinds};
 ghost use Rattle.rmi_cli.specs.Line.{status_of_run};
 ghost use Rattle.rmi_cli.specs.Opening.{served_opening};
 ghost use Rattle.rmi_cli.specs.Terms.{IsServed};
-ghost use Rattle.rmi_cli.specs.ServedLinks.{serve_plan, heard, IsSampleLink, ListensAlone, ServesLinks, EndsServed, ServeEnds};
+ghost use Rattle.rmi_cli.specs.ServedLinks.{serve_plan, heard, IsSampleLink, ListensAlone, ServesLinks, Printed, ServeEnds, end_after};
 
 use crate::end::RunEnd;
 use crate::opening::opened_space;
@@ -57,7 +57,7 @@ pub fn serve_input<'t, R: Threads + Wait + Sync, L: Listener, K: Sink>(
     ensures served { IfSome result.report (ServesLinks (IsSampleLink L.In.left L.Out.held L.Ticks.given (serve_plan seed.now words.now))
         (served_opening seed.now words.now.terms) words.now.count (L.accepted listener.old) (L.accepted listener.new)) }
     ensures alone { ListensAlone words.now.port (heard L.ports L.accepted listener.old) (heard L.ports L.accepted listener.new) result.report }
-    ensures ends { ServeEnds (K.held sink.old) (K.held sink.new) result.report result.end }
+    ensures ends { ServeEnds (K.held sink.old) (K.held sink.new) (K.faults sink.old) (K.faults sink.new) result.report result.end }
     ensures known { status_of_run result.end ≢ 1 }
     ensures fault { status_of_run result.end ≡ 3 → Rose (L.faults listener.old) (L.faults listener.new) }
     ensures write_fault { status_of_run result.end ≡ 4 → Rose (K.faults sink.old) (K.faults sink.new) }
@@ -84,7 +84,7 @@ fn serve_on<'t, R: Threads + Wait + Sync, L: Listener, K: Sink>(
     ensures served { IfSome result.report (ServesLinks (IsSampleLink L.In.left L.Out.held L.Ticks.given stage.entry.plan)
         (opening_of stage.entry.lock) stage.entry.plan.count (L.accepted listener.old) (L.accepted listener.new)) }
     ensures alone { ListensAlone port (heard L.ports L.accepted listener.old) (heard L.ports L.accepted listener.new) result.report }
-    ensures ends { ServeEnds (K.held sink.old) (K.held sink.new) result.report result.end }
+    ensures ends { ServeEnds (K.held sink.old) (K.held sink.new) (K.faults sink.old) (K.faults sink.new) result.report result.end }
     ensures known { status_of_run result.end ≢ 1 }
     ensures fault { status_of_run result.end ≡ 3 → Rose (L.faults listener.old) (L.faults listener.new) }
     ensures write_fault { status_of_run result.end ≡ 4 → Rose (K.faults sink.old) (K.faults sink.new) }
@@ -93,9 +93,9 @@ fn serve_on<'t, R: Threads + Wait + Sync, L: Listener, K: Sink>(
         return unserved(RunEnd::ListenFault);
     }
     let report = serve_links(rt, alloc, listener, stage);
-    let end = print_outline(alloc, sink, &report.space, report.stop);
+    let printed = print_outline(alloc, sink, &report.space);
     Served {
-        end,
+        end: end_after(report.stop, printed),
         report: Some(report),
     }
 }
@@ -134,20 +134,26 @@ fn unserved<I, O, T, H>(end: RunEnd) -> Served<I, O, T, H>
     Served { end, report: None }
 }
 
-/// Writes the outline of the space that is left, and answers how the run ends: as the stop says where that isn't All, and else as the writing does.
-fn print_outline<K: Sink>(alloc: Global, sink: &mut K, space: &Space, stop: Stop) -> RunEnd
-    ensures ends { EndsServed (K.held sink.old) (K.held sink.new) (outline space.now.configuration space.now.events) stop result }
-    ensures fault { result ≡ RunEnd.WriteFault → Rose (K.faults sink.old) (K.faults sink.new) }
+/// Writes the outline of the space that is left, and answers how that ended.
+fn print_outline<K: Sink>(alloc: Global, sink: &mut K, space: &Space) -> RunEnd
+    ensures { Printed (K.held sink.old) (K.held sink.new) (K.faults sink.old) (K.faults sink.new)
+        (outline space.now.configuration space.now.events) result }
 {
-    let written = match outline(alloc, space) {
+    match outline(alloc, space) {
         Ok(text) => match put_all(sink, text.as_slice()) {
             Ok(()) => RunEnd::Done,
             Err(_) => RunEnd::WriteFault,
         },
         Err(_refused) => RunEnd::OutOfMemory,
-    };
+    }
+}
+
+/// How the run ends: as the stop says where that isn't All, and else as printing the outline did.
+fn end_after(stop: Stop, printed: RunEnd) -> RunEnd
+    ensures { result ≡ end_after stop printed }
+{
     match stop {
-        Stop::All => written,
+        Stop::All => printed,
         Stop::AcceptFault => RunEnd::AcceptFault,
         Stop::OutOfMemory => RunEnd::OutOfMemory,
     }

@@ -1,6 +1,15 @@
-use Rattle.rmi_cli.proofs.Linking.{accept_failed, listened}
+use Rattle.rmi_cli.proofs.Linking.{accept_failed, is_known, listened, print_failed}
 use Rattle.rmi_cli.proofs.serve_input.serve_on.Goals as goal
 
 pub returns-clause-fault : goal.returns-clause-fault
 returns-clause-fault g c =
-    accept_failed _ _ _ _ _ _ _ _ c.print_outline-end.ensures.ends (listened _ _ _ _ _ _ c.listen.ensures.listens) c.serve_links-report.ensures.fault
+    accept_failed _ _ _ _ _ _ _ _ _ _ (_, c.print_outline-printed.ensures, c.end_after.ensures) (listened _ _ _ _ _ _ c.listen.ensures.listens) c.serve_links-report.ensures.fault
+
+pub returns-clause-write_fault : goal.returns-clause-write_fault
+returns-clause-write_fault g c = print_failed _ _ _ _ _ _ _ (_, c.print_outline-printed.ensures, c.end_after.ensures)
+
+pub returns-clause-known : goal.returns-clause-known
+returns-clause-known g c = is_known _ _ _ _ _ _ _ (_, c.print_outline-printed.ensures, c.end_after.ensures)
+
+pub returns-clause-ends : goal.returns-clause-ends
+returns-clause-ends g c = (_, c.print_outline-printed.ensures, c.end_after.ensures)
