@@ -1,10 +1,12 @@
 //! What a space and a worker were asked, as words.
-use crate::texts::cut;
+use crate::texts::{cut, listed, put};
 use call_dispatch::Recorded;
 use history::Refused;
 use mod_utf::list::Kinds;
 use object_ids::{FullKind, ObjId, ObjIds};
-use space::{Ask, Asked, AskedEnd};
+use space::{Ask, Asked, AskedEnd, Space, journal};
+use std::alloc::Global;
+use std::process::Abort;
 
 /// Whether a word is a name and the number of this object.
 fn is_numbered(object: &ObjId, name: &str, word: &str) -> bool {
@@ -45,6 +47,17 @@ fn is_ask(ask: &Ask, word: &str) -> bool {
     }
 }
 
+/// The word of a table.
+fn table_of(kind: FullKind) -> &'static str {
+    match kind {
+        FullKind::Exports => "exports",
+        FullKind::Awaiting => "awaiting",
+        FullKind::Clients => "clients",
+        FullKind::Pairs => "pairs",
+        FullKind::Names => "names",
+    }
+}
+
 /// Whether a word tells an entry: what was asked; where it was refused, the limit.
 fn is_entry(entry: &Asked, word: &str) -> bool {
     match &entry.end {
@@ -52,7 +65,7 @@ fn is_entry(entry: &Asked, word: &str) -> bool {
         AskedEnd::Abandoned(_) => word == "abandon",
         AskedEnd::Refused(refused) => match refused {
             Refused::HistoryFull => word == "history",
-            Refused::Full(kind) => word == "names" && *kind == FullKind::Names,
+            Refused::Full(kind) => word == table_of(*kind),
             Refused::OutOfMemory => false,
         },
     }
@@ -90,4 +103,25 @@ pub(crate) fn are_invoked(calls: &[Recorded], words: &str) -> bool {
         left = rest;
     }
     left.is_empty()
+}
+
+/// The journal of the space of one object before any connection.
+const OPENED: &str = "space 600000 300000 7 9
+0 0 open 0 pinned
+";
+
+/// Whether these lines, parted by `;`, are the events of a space since there was its one object. No lines say nothing of it.
+pub(crate) fn are_events(rt: &impl Abort, alloc: Global, space: &Space, lines: &str) -> bool {
+    if lines.is_empty() {
+        return true;
+    }
+    let mut wanted = listed(rt, alloc, OPENED.as_bytes());
+    for line in lines.split(';') {
+        put(rt, &mut wanted, line.trim().as_bytes());
+        put(rt, &mut wanted, b"\n");
+    }
+    match journal(alloc, space) {
+        Ok(told) => told.as_slice() == wanted.as_slice(),
+        Err(_) => false,
+    }
 }

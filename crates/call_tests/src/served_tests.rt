@@ -2,9 +2,11 @@
 ghost use Rattle.std.specs.Prelude.{◌≡◌, ◌≤◌, pos, length};
 ghost use Rattle.mod_utf.specs.Utf.{utf};
 
-use crate::seen::{are_entries, are_invoked};
+use crate::seen::{are_entries, are_events, are_invoked};
 use crate::spaces::{FIRST, space_of};
-use crate::texts::{cut, listed, moments_of, must, null_graph, put, put_digits, units_of};
+use crate::texts::{
+    cut, listed, moments_of, must, null_graph, number_of, put, put_digits, units_of,
+};
 use call_dispatch::{
     Book, ConnEnd, Kind, KindList, Outcome, OutcomeList, RecordingWorker, Setup, serve_connection,
 };
@@ -63,11 +65,16 @@ there 73 7D 00000002 000F 6A6176612E726D692E52656D6F7465 0003 612E42 70 78 72 00
 elsewhere 73 7D 00000002 000F 6A6176612E726D692E52656D6F7465 0003 612E42 70 78 72 0017 6A6176612E6C616E672E7265666C6563742E50726F7879 E127DA20CC1043CB 02 0001 4C 0001 68 74 0025 4C6A6176612F6C616E672F7265666C6563742F496E766F636174696F6E48616E646C65723B 70 78 70 73 72 002D 6A6176612E726D692E7365727665722E52656D6F74654F626A656374496E766F636174696F6E48616E646C6572 0000000000000002 02 0000 70 78 72 001C 6A6176612E726D692E7365727665722E52656D6F74654F626A656374 D361B4910C61331E 03 0000 70 78 70 77 32 000A 556E6963617374526566 0009 3132372E302E302E32 0000044B
 first 0000000000000010 00000007 0000000000000009 0000 01 78
 second 0000000000000011 00000007 0000000000000009 0000 01 78
-objects 75 72 0018 5B4C6A6176612E726D692E7365727665722E4F626A49443B 871300B8D02C647E 02 0000 70 78 70 00000001 73 72 0015 6A6176612E726D692E7365727665722E4F626A4944 A75EFA128DDCE55C 02 0002 4A 0006 6F626A4E756D 4C 0005 7370616365 74 0015 4C6A6176612F726D692F7365727665722F5549443B 70 78 70
+ids 75 72 0018 5B4C6A6176612E726D692E7365727665722E4F626A49443B 871300B8D02C647E 02 0000 70 78 70
+id 73 72 0015 6A6176612E726D692E7365727665722E4F626A4944 A75EFA128DDCE55C 02 0002 4A 0006 6F626A4E756D 4C 0005 7370616365 74 0015 4C6A6176612F726D692F7365727665722F5549443B 70 78 70
+id_again 71 007E0004
+id_next 73 71 007E0002
+space_next 73 71 007E0005
 in_space 73 72 0013 6A6176612E726D692E7365727665722E554944 0F12700DBF364F12 02 0003 53 0005 636F756E74 4A 0004 74696D65 49 0006 756E69717565 70 78 70 0000 0000000000000009 00000007
 number 77 08
 ack_first 54 00000002 0000000000000002 8000
 ack_unknown 54 00000009 0000000000000009 8000
+asks 73 72 0012 6A6176612E726D692E6467632E4C65617365 B0B5E2660C4ADC34 02 0002 4A 0005 76616C7565 4C 0004 766D6964 74 0013 4C6A6176612F726D692F6467632F564D49443B 70 78 70
 lease 73 72 0012 6A6176612E726D692E6467632E4C65617365 B0B5E2660C4ADC34 02 0002 4A 0005 76616C7565 4C 0004 766D6964 74 0013 4C6A6176612F726D692F6467632F564D49443B 70 78 70 00000000000927C0
 client_after 73 72 0011 6A6176612E726D692E6467632E564D4944 F8865BAFA4A56DB6 02 0002 5B 0004 61646472 74 0002 5B42 4C 0003 756964 71 007E0003 70 78 70 75 72 0002 5B42 ACF317F8060854E0 02 0000 70 78 70 00000008 0102030405060708 73 71 007E0005 0005 0000000000000004 00000003
 client 73 72 0011 6A6176612E726D692E6467632E564D4944 F8865BAFA4A56DB6 02 0002 5B 0004 61646472 74 0002 5B42 4C 0003 756964 74 0015 4C6A6176612F726D692F7365727665722F5549443B 70 78 70 75 72 0002 5B42 ACF317F8060854E0 02 0000 70 78 70 00000008
@@ -104,16 +111,19 @@ fn put_word(rt: &impl Abort, bytes: &mut ByteList, word: &str) {
     }
 }
 
-/// Appends the bytes of a text after `=`, in which `_` is a blank; of a text so many times; or of a word.
-fn put_any(rt: &impl Abort, bytes: &mut ByteList, word: &str) {
-    if let Some(text) = word.strip_prefix('=') {
-        put_text(rt, bytes, text);
-    } else if let Some(text) = word.strip_prefix("256*") {
-        put_times(rt, bytes, text, 256);
-    } else if let Some(text) = word.strip_prefix("255*") {
-        put_times(rt, bytes, text, 255);
-    } else {
-        put_word(rt, bytes, word);
+/// Appends the bytes of a text after `=`, in which `_` is a blank, or of a word.
+fn put_part(rt: &impl Abort, bytes: &mut ByteList, part: &str) {
+    match part.strip_prefix('=') {
+        Some(text) => put_text(rt, bytes, text),
+        None => put_word(rt, bytes, part),
+    }
+}
+
+/// Appends the bytes of a part; of one after a number and `*`, so many times.
+fn put_any(rt: &impl Abort, alloc: Global, bytes: &mut ByteList, word: &str) {
+    match word.split_once('*') {
+        Some((count, part)) => put_times(rt, alloc, bytes, part, number_of(rt, count)),
+        None => put_part(rt, bytes, word),
     }
 }
 
@@ -124,10 +134,12 @@ fn put_text(rt: &impl Abort, bytes: &mut ByteList, text: &str) {
     }
 }
 
-/// Appends the bytes of a text so many times.
-fn put_times(rt: &impl Abort, bytes: &mut ByteList, text: &str, count: u32) {
+/// Appends the bytes of a part so many times.
+fn put_times(rt: &impl Abort, alloc: Global, bytes: &mut ByteList, part: &str, count: u32) {
+    let mut piece = ByteList::new(alloc);
+    put_part(rt, &mut piece, part);
     for _ in 0..count {
-        put_text(rt, bytes, text);
+        put(rt, bytes, piece.as_slice());
     }
 }
 
@@ -136,7 +148,7 @@ fn bytes_of(rt: &impl Abort, alloc: Global, front: &str, words: &str) -> ByteLis
     let mut bytes = ByteList::new(alloc);
     put_word(rt, &mut bytes, front);
     for word in words.split(' ') {
-        put_any(rt, &mut bytes, word);
+        put_any(rt, alloc, &mut bytes, word);
     }
     bytes
 }
@@ -233,7 +245,7 @@ fn setup(rt: &impl Abort, alloc: Global, binding: bool) -> Setup
 }
 
 /// What a line says of a connection: what its space is beforehand, and the moments of its turns; what is written, what the space is asked, and
-/// what the worker is.
+/// what the worker is; and the events that the space has then.
 #[derive(Clone, Copy)]
 struct Wanted<'a> {
     ground: &'a str,
@@ -241,6 +253,7 @@ struct Wanted<'a> {
     output: &'a [u8],
     entries: &'a str,
     places: &'a str,
+    events: &'a str,
 }
 
 /// What a connection is served over.
@@ -333,6 +346,7 @@ fn serve(
     let mut space = space_of(rt, alloc, wanted.ground);
     let end = serve_over(rt, alloc, book, input, wanted, &mut space, &mut worker);
     must(rt, are_invoked(worker.recorded(), wanted.places), "invoked");
+    must(rt, are_events(rt, alloc, &space, wanted.events), "events");
     end
 }
 
@@ -361,7 +375,8 @@ fn check_rest(rt: &impl Abort, alloc: Global, book: &Book, over: (&str, &str), l
     let (outcomes, rest) = cut(rest, '|');
     let (output, rest) = cut(rest, '|');
     let (entries, rest) = cut(rest, '|');
-    let (places, end) = cut(rest, '|');
+    let (places, rest) = cut(rest, '|');
+    let (end, events) = cut(rest, '|');
     let input = bytes_of(rt, alloc, "opening", input);
     let output = bytes_of(rt, alloc, "ack", output);
     let outcomes = outcomes_of(rt, alloc, outcomes);
@@ -371,6 +386,7 @@ fn check_rest(rt: &impl Abort, alloc: Global, book: &Book, over: (&str, &str), l
         output: output.as_slice(),
         entries,
         places,
+        events,
     };
     let found = serve(rt, alloc, book, input.as_slice(), outcomes, wanted);
     must(rt, is_told(rt, alloc, found, end), line);

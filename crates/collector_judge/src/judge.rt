@@ -88,6 +88,24 @@ fn is_outlined(
 
 /// Makes the turns of some events in a space without events, and compares each answer and the outline that they leave with those of the
 /// definitions.
+fn judge_space(
+    alloc: Global,
+    config: &SpaceConfig,
+    space: &mut Space,
+    events: &[Event],
+    answers: &[Result<Turn, Refused>],
+) -> Result<Verdict, AllocError> {
+    if let Some(place) = first_difference(alloc, space, events, answers)? {
+        return Ok(Verdict::Answer(place));
+    }
+    Ok(if is_outlined(alloc, space, config, events)? {
+        Verdict::Agree
+    } else {
+        Verdict::Outline
+    })
+}
+
+/// Judges a space of this configuration by what the definitions say of some events.
 pub(crate) fn judge(
     alloc: Global,
     config: &SpaceConfig,
@@ -99,12 +117,5 @@ pub(crate) fn judge(
     let limits = Limits::of_space();
     let answers = answers(alloc, &limits, config, Vec::new(alloc), events)?;
     let mut space = Space::fresh(alloc, config);
-    if let Some(place) = first_difference(alloc, &mut space, events, answers.as_slice())? {
-        return Ok(Verdict::Answer(place));
-    }
-    Ok(if is_outlined(alloc, &space, config, events)? {
-        Verdict::Agree
-    } else {
-        Verdict::Outline
-    })
+    judge_space(alloc, config, &mut space, events, answers.as_slice())
 }

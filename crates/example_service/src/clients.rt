@@ -82,11 +82,13 @@ fn joined(alloc: Global, pieces: &[&[u8]]) -> Option<ByteList> {
 pub fn add_client(alloc: Global, links: &mut MemLinks, pieces: &[&[u8]], port: i32) -> Option<()>
     ensures { AllByRecursion IsNew links.old → AllByRecursion IsNew links.new }
 {
+    let bytes = joined(alloc, pieces)?;
+    let host = this_host(alloc)?;
     let link = Link {
-        source: MemSource::new(joined(alloc, pieces)?, Kinds::new(alloc), Kinds::new(alloc)),
+        source: MemSource::new(bytes, Kinds::new(alloc), Kinds::new(alloc)),
         sink: MemSink::new(alloc, Kinds::new(alloc)),
         clock: MemClock::new(MomentList::new(alloc)),
-        host: this_host(alloc)?,
+        host,
         port,
     };
     links.push(link).ok()

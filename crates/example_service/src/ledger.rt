@@ -20,6 +20,16 @@ use std::sync::{Arc, Mutex, Wait};
 /// The methods of a ledger, as Java would write their descriptors: `add` has the place 0, and `get` the place 1.
 const METHODS: [&[u8]; 2] = [b"add(J)J", b"get()J"];
 
+/// The methods of ledgers. None where there is no memory.
+fn ledger_methods(alloc: Global) -> Option<MethodList>
+    ensures { IfSome result (λ methods. length methods < 2 ^ 32) }
+{
+    let mut methods = MethodList::new(alloc);
+    methods.push(Method::parse(alloc, METHODS[0]).ok()?).ok()?;
+    methods.push(Method::parse(alloc, METHODS[1]).ok()?).ok()?;
+    Some(methods)
+}
+
 /// The kind of ledgers: its interface's name, and its methods. None where there is no memory.
 fn ledger_kind(alloc: Global) -> Option<Kind>
     ensures methods { IfSome result (λ kind. length kind.methods < 2 ^ 32) }
@@ -29,9 +39,7 @@ fn ledger_kind(alloc: Global) -> Option<Kind>
     if encoded_len(&interface) > 65_535 {
         return None;
     }
-    let mut methods = MethodList::new(alloc);
-    methods.push(Method::parse(alloc, METHODS[0]).ok()?).ok()?;
-    methods.push(Method::parse(alloc, METHODS[1]).ok()?).ok()?;
+    let methods = ledger_methods(alloc)?;
     Some(Kind { interface, methods })
 }
 

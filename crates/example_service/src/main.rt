@@ -12,6 +12,7 @@ ghost use Rattle.space.specs.Lists.{CollectsEach};
 
 use crate::clients::{ADDING, ASKING, add_client, this_host};
 use crate::ledger::{LedgerCrew, LedgerHand, ledger_book};
+use call_dispatch::Book;
 use conn_server::{LinkReport, Report, ServePlan, serve};
 use history::{Ask, Name, SpaceConfig};
 use mod_utf::list::Units;
@@ -50,14 +51,22 @@ type LedgerLink<'t, R> = LinkReport<MemSource, MemSink, MemClock, LedgerHand<'t,
 
 type LedgerReport<'t, R> = Report<MemSource, MemSink, MemClock, LedgerHand<'t, R>>;
 
-/// The space in which a ledger is exported for good, under the name `ledger`. Connection 0 is the server's own.
-fn ledger_space(alloc: Global) -> Option<Space> {
-    let mut space = Space::fresh(alloc, &CONFIG);
-    let name = Name::new(Units::from_ascii(alloc, b"ledger").ok()?).ok()?;
+/// Exports a ledger for good in a space without events, and binds the name `ledger` to it. Connection 0 is the server's own.
+fn furnish(alloc: Global, space: &mut Space) -> Option<()> {
     let (pinned, object) = (true, LEDGER);
     space.turn(0, 0, Ask::Open { kind: 0, pinned }).ok()?;
+    let name = Name::new(Units::from_ascii(alloc, b"ledger").ok()?).ok()?;
     space.turn(0, 0, Ask::Bind { name, object }).ok()?;
-    Some(space)
+    Some(())
+}
+
+/// The space of the ledger. None where there is no memory.
+fn ledger_space(alloc: Global) -> Option<Space> {
+    let mut space = Space::fresh(alloc, &CONFIG);
+    match furnish(alloc, &mut space) {
+        Some(()) => Some(space),
+        None => None,
+    }
 }
 
 /// The two clients. None where there is no memory.
@@ -88,6 +97,8 @@ fn serve_space<'t, R: Threads + Wait + Sync>(
     rt: &'t R,
     alloc: Global,
     listener: &mut MemListener,
+    crew: &LedgerCrew<'t, R>,
+    book: &Book,
     space: Space,
     plan: &ServePlan,
 ) -> Option<LedgerReport<'t, R>>
@@ -96,11 +107,26 @@ fn serve_space<'t, R: Threads + Wait + Sync>(
     ensures legal { IfSome result (λ report. IsLegal report.space.configuration report.space.events) }
     ensures collects { IfSome result (λ report. CollectsEach report.space.configuration [] report.space.events report.space.events) }
 {
-    let book = ledger_book(alloc)?;
-    let crew = LedgerCrew::new(rt, alloc).ok()?;
     match TurnLock::around(alloc, space) {
-        Ok((lock, root)) => Some(serve(rt, alloc, listener, &crew, &book, lock, root, plan)),
+        Ok((lock, root)) => Some(serve(rt, alloc, listener, crew, book, lock, root, plan)),
         Err(_space) => None,
+    }
+}
+
+/// Serves ledgers of a book to both clients, by the hands of a crew.
+fn serve_clients<'t, R: Threads + Wait + Sync>(
+    rt: &'t R,
+    alloc: Global,
+    crew: &LedgerCrew<'t, R>,
+    book: &Book,
+) -> Option<LedgerReport<'t, R>>
+    ensures legal { IfSome result (λ report. IsLegal report.space.configuration report.space.events) }
+{
+    let plan = plan(alloc)?;
+    let mut listener = listener(alloc)?;
+    match ledger_space(alloc) {
+        Some(space) => serve_space(rt, alloc, &mut listener, crew, book, space, &plan),
+        None => None,
     }
 }
 
@@ -111,10 +137,11 @@ fn serve_ledger<'t, R: Threads + Wait + Sync>(
 ) -> Option<LedgerReport<'t, R>>
     ensures legal { IfSome result (λ report. IsLegal report.space.configuration report.space.events) }
 {
-    let plan = plan(alloc)?;
-    let mut listener = listener(alloc)?;
-    let space = ledger_space(alloc)?;
-    serve_space(rt, alloc, &mut listener, space, &plan)
+    let book = ledger_book(alloc)?;
+    match LedgerCrew::new(rt, alloc) {
+        Ok(crew) => serve_clients(rt, alloc, &crew, &book),
+        Err(_refused) => None,
+    }
 }
 
 /// Prints the number of a connection, how it ended, how many calls its hand was given, and the bytes that its client got.

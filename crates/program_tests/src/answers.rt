@@ -85,7 +85,7 @@ fn each_failing_read_and_write_ends_the_connection(rt: HostRuntime) {
 }
 
 /// A host of an opening.
-fn opening_host(rt: &impl Abort, alloc: Global) -> MemHost {
+fn opening_host<H>(rt: &impl Abort, alloc: Global) -> MemHost<H> {
     let input = bytes_of(rt, alloc, "opening");
     host_of(rt, alloc, input.as_slice(), cut_by("-"))
 }

@@ -2,6 +2,7 @@
 use crate::texts::{bytes_of, cut, moments_of, number_of, numbers_of};
 use mod_utf::list::{ByteList, Kinds};
 use rmi_cli::{Host, Words, run};
+use sample_server::SampleHand;
 use std::alloc::Global;
 use std::process::Abort;
 use std::sync::Wait;
@@ -10,7 +11,7 @@ use wire_io::listener::{MemLinks, MemListener};
 use wire_io::mem::{MemClock, MemSink, MemSource};
 
 /// A host over streams in memory.
-pub(crate) type MemHost = Host<MemSource, MemSink, MemSink, MemClock, MemListener>;
+pub(crate) type MemHost<H> = Host<MemSource, MemSink, MemSink, MemClock, MemListener, H>;
 
 /// What the program runs on: it may start threads and wait, and a test may stop.
 pub(crate) trait Runs: Abort + Threads + Wait + Sync {}
@@ -95,13 +96,13 @@ pub(crate) fn sink_of(rt: &impl Abort, alloc: Global, failing: &str) -> MemSink 
 }
 
 /// A host over this input and this output, with the moments that words spell.
-pub(crate) fn host_over<I, O>(
+pub(crate) fn host_over<I, O, H>(
     rt: &impl Abort,
     alloc: Global,
     input: I,
     output: O,
     moments: &str,
-) -> Host<I, O, MemSink, MemClock, MemListener> {
+) -> Host<I, O, MemSink, MemClock, MemListener, H> {
     Host {
         input,
         output,
@@ -109,11 +110,17 @@ pub(crate) fn host_over<I, O>(
         ticks: MemClock::new(moments_of(rt, alloc, moments)),
         listener: silent(alloc),
         seed: SEED,
+        served: None,
     }
 }
 
 /// A host of this input.
-pub(crate) fn host_of(rt: &impl Abort, alloc: Global, input: &[u8], outside: Outside) -> MemHost {
+pub(crate) fn host_of<H>(
+    rt: &impl Abort,
+    alloc: Global,
+    input: &[u8],
+    outside: Outside,
+) -> MemHost<H> {
     let input = source_of(rt, alloc, input, outside);
     let output = sink_of(rt, alloc, outside.failing_writes);
     host_over(rt, alloc, input, output, outside.moments)
@@ -139,7 +146,12 @@ pub(crate) fn words_of(rt: &impl Abort, alloc: Global, line: &str) -> Words {
 }
 
 /// Runs the program with the words of a line over this host, and answers its status.
-pub(crate) fn run_line(rt: &impl Runs, alloc: Global, line: &str, host: &mut MemHost) -> u8 {
+pub(crate) fn run_line<'t, R: Runs>(
+    rt: &'t R,
+    alloc: Global,
+    line: &str,
+    host: &mut MemHost<SampleHand<'t, R>>,
+) -> u8 {
     let words = words_of(rt, alloc, line);
     run(rt, alloc, &words, host)
 }
@@ -153,7 +165,7 @@ pub(crate) fn is_line(bytes: &[u8], line: &str) -> bool {
 }
 
 /// Looks whether a host got this output and this line of errors.
-fn check_host(rt: &impl Abort, host: &MemHost, output: &[u8], line: &str) {
+fn check_host<H>(rt: &impl Abort, host: &MemHost<H>, output: &[u8], line: &str) {
     must(rt, host.output.held() == output, "output");
     must(rt, is_line(host.errors.held(), line), line);
 }

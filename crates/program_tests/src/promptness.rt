@@ -12,7 +12,7 @@ use wire_io::sink::Sink;
 use wire_io::source::{Failed, Source};
 
 /// The messages of a connection, each with what is written before the first byte after it is asked for: a header and an endpoint, a Ping, a call of
-/// `get()J`, a lookup, its dirty and its acknowledgement, and a Ping.
+/// `get()J`, a lookup, its dirty and its acknowledgement, a lookup of a name that is missing, and a Ping.
 const MESSAGES: &str = "header 4B | ack
 0000 00000000 |
 ping | pong
@@ -20,7 +20,11 @@ get | number first 0000000000000000
 registry 00000002 44154DC9D4E63BDF 74 0007 =counter | reference second proxy 000E =sample.Counter handler 0000000000000011 of_space
 dirty_made 0000000000000001 asks_lease | reference third grants_lease
 54 second |
+registry 00000002 44154DC9D4E63BDF 74 0001 =a | exception fourth fault 001D =java.rmi.NotBoundException:_a 78 70
 ping | pong";
+
+/// How many of them are answered.
+const ANSWERS: usize = 7;
 
 /// A source that gives one byte a read, and counts the reads that come where another number of bytes was written than is due at that place.
 #[derive(Drop)]
@@ -62,10 +66,11 @@ impl Source for Asking<'_> {
     fn shut(&mut self) {}
 }
 
-/// A sink that counts the bytes that it took.
+/// A sink that counts the bytes that it took, and its writes.
 #[derive(Drop)]
 struct Counting<'a> {
     written: &'a Cell<usize>,
+    writes: usize,
 }
 
 impl Sink for Counting<'_> {
@@ -76,6 +81,7 @@ impl Sink for Counting<'_> {
     fn write(&mut self, piece: &[u8]) -> Result<usize, Failed> {
         self.written
             .set(self.written.get().saturating_add(piece.len()));
+        self.writes = self.writes.saturating_add(1);
         Ok(piece.len())
     }
 
@@ -122,15 +128,21 @@ fn due_of(rt: &impl Abort, alloc: Global) -> Kinds {
     due
 }
 
-/// Serves the input, and answers the status and how many bytes were read.
-fn serve(rt: &impl Runs, alloc: Global, input: Asking<'_>, written: &Cell<usize>) -> (u8, usize) {
+/// Serves the input, and answers the status, how many bytes were read, and how many writes there were.
+fn serve(
+    rt: &impl Runs,
+    alloc: Global,
+    input: Asking<'_>,
+    written: &Cell<usize>,
+) -> (u8, usize, usize) {
     let words = words_of(rt, alloc, "answer");
-    let mut host = host_over(rt, alloc, input, Counting { written }, "");
+    let output = Counting { written, writes: 0 };
+    let mut host = host_over(rt, alloc, input, output, "");
     let status = run(rt, alloc, &words, &mut host);
-    (status, host.input.at)
+    (status, host.input.at, host.output.writes)
 }
 
-/// Serves the messages, and looks whether each answer was written in time.
+/// Serves the messages, and looks whether each answer was written in time, by one write.
 fn check(rt: &impl Runs, alloc: Global) {
     let written = Cell::new(0);
     let early = Cell::new(0);
@@ -143,10 +155,11 @@ fn check(rt: &impl Runs, alloc: Global) {
         written: &written,
         early: &early,
     };
-    let (status, read) = serve(rt, alloc, asking, &written);
+    let (status, read, writes) = serve(rt, alloc, asking, &written);
     must(rt, status == 0, "the status");
     must(rt, read == input.len(), "all was read");
     must(rt, early.get() == 0, "reads where another number was due");
+    must(rt, writes == ANSWERS, "one write for each answer");
 }
 
 #[test]

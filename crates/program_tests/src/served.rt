@@ -32,7 +32,9 @@ const ADDING: &str = "opening add 77 08 0000000000000005";
 
 #[test]
 fn each_front_of_a_served_call_is_truncated(rt: HostRuntime) {
-    check_fronts(&rt, rt.alloc(), ADDING, 14, "-", "ack");
+    for cut in "- 1".split(' ') {
+        check_fronts(&rt, rt.alloc(), ADDING, 14, cut, "ack");
+    }
 }
 
 /// How the connections end in which the byte at one of these places is another, from a place to a last one: what is written, but for a

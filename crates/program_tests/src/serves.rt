@@ -13,16 +13,18 @@ use wire_io::mem::{MemClock, MemSink, MemSource};
 use wire_io::{Link, MemLinks, MemListener};
 
 // A line is a run: the program's words; which of the output's writes fail; what each connection sends, between commas; how many connections are
-// taken; the status and the line on the errors' sink; the first line of the outline, where one is printed; and the line of an object that was made.
+// taken; the status and the line on the errors' sink; the first line of the outline, where one is printed; the line of an object that was made; and
+// what each connection that was served got, between commas.
 
-/// One connection, well or with bytes that are no message; two, of which one has a counter made and never tells that it came; fewer than were to be
-/// served; and an output that fails.
-const RUNS: &str = "serve 1099 1 | | opening ping | 1 | 0 | events 7 units 7 now 0 |
-serve 1099 1 open 5 6 | | opening FF | 1 | 0 | events 7 units 7 now 0 |
-serve 1099 2 | | opening make, opening ping | 2 | 0 | events 10 units 11 now 0 | object 19 kind 1 free running 0 awaiting 1 held 0 names 0
-serve 1099 1 | | opening ping, opening ping | 1 | 0 | events 7 units 7 now 0 |
-serve 1099 3 closed | | opening ping, opening ping | 2 | 3 accept fault | events 8 units 8 now 0 |
-serve 1099 1 | 0 | opening ping | 1 | 4 write fault | |";
+/// One connection, well or with bytes that are no message; two, of which one has a counter made and never tells that it came, beside one that is well and
+/// one that is not; fewer than were to be served; and an output that fails.
+const RUNS: &str = "serve 1099 1 | | opening ping | 1 | 0 | events 7 units 7 now 0 | | ack pong
+serve 1099 1 open 5 6 | | opening FF | 1 | 0 | events 7 units 7 now 0 | | ack
+serve 1099 2 | | opening make, opening ping | 2 | 0 | events 10 units 11 now 0 | object 19 kind 1 free running 0 awaiting 1 held 0 names 0 | ack reference first made, ack pong
+serve 1099 2 | | opening FF, opening make | 2 | 0 | events 10 units 11 now 0 | object 19 kind 1 free running 0 awaiting 1 held 0 names 0 | ack, ack reference 00000007 0000000000000006 8000 made
+serve 1099 1 | | opening ping, opening ping | 1 | 0 | events 7 units 7 now 0 | | ack pong
+serve 1099 3 closed | | opening ping, opening ping | 2 | 3 accept fault | events 8 units 8 now 0 | | ack pong, ack pong
+serve 1099 1 | 0 | opening ping | 1 | 4 write fault | | | ack pong";
 
 /// The outline's lines of the sample's objects.
 const OBJECTS: &[u8] = b"object 16 kind 0 pinned running 0 awaiting 0 held 0 names 1
@@ -124,11 +126,28 @@ fn listener_of(rt: &impl Abort, alloc: Global, inputs: &str) -> MemListener {
 }
 
 /// Looks at what a host holds after a run.
-fn check_after(rt: &impl Abort, host: &MemHost, taken: u32, told: &str, output: &[u8]) {
+fn check_after<H>(rt: &impl Abort, host: &MemHost<H>, taken: u32, told: &str, output: &[u8]) {
     must(rt, is_line(host.errors.held(), told), told);
     must(rt, host.output.held() == output, "output");
     must(rt, host.listener.accepted() == taken as usize, "accepted");
     must(rt, host.listener.ports() == [1099].as_slice(), "ports");
+}
+
+/// Looks whether the host tells of each connection that was served that it got these bytes, between commas.
+fn check_served<H>(rt: &impl Abort, alloc: Global, host: &MemHost<H>, got: &str) {
+    let Some(report) = &host.served else {
+        return must(rt, false, "served");
+    };
+    let mut count: usize = 0;
+    for wanted in got.split(',') {
+        let bytes = bytes_of(rt, alloc, wanted);
+        match report.links.get(count) {
+            Some(link) => must(rt, link.sink.held() == bytes.as_slice(), wanted),
+            None => must(rt, false, wanted),
+        }
+        count = count.saturating_add(1);
+    }
+    must(rt, report.links.len() == count, got);
 }
 
 /// Runs a line.
@@ -138,7 +157,8 @@ fn check_run(rt: &impl Runs, alloc: Global, line: &str) {
     let (inputs, rest) = cut(rest, '|');
     let (taken, rest) = cut(rest, '|');
     let (told, rest) = cut(rest, '|');
-    let (first, made) = cut(rest, '|');
+    let (first, rest) = cut(rest, '|');
+    let (made, got) = cut(rest, '|');
     let (status, told) = cut(told, ' ');
     let mut host = host_of(rt, alloc, b"", cut_by("-"));
     host.output = sink_of(rt, alloc, failing);
@@ -147,6 +167,7 @@ fn check_run(rt: &impl Runs, alloc: Global, line: &str) {
     must(rt, u32::from(ended) == number_of(rt, status), line);
     let output = outline_of(rt, alloc, first, made);
     check_after(rt, &host, number_of(rt, taken), told, output.as_slice());
+    check_served(rt, alloc, &host, got);
 }
 
 #[test]

@@ -54,7 +54,9 @@ const DIRTY: &str =
 
 #[test]
 fn each_front_of_a_dirty_is_truncated(rt: HostRuntime) {
-    check_fronts(&rt, rt.alloc(), DIRTY, 14, "-", "ack");
+    for cut in "- 1".split(' ') {
+        check_fronts(&rt, rt.alloc(), DIRTY, 14, cut, "ack");
+    }
 }
 
 /// A new counter, and a call of it.

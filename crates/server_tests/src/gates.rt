@@ -11,10 +11,10 @@ use wire_io::{Failed, Link, Listener, MemClock, MemListener, MemSink, MemSource,
 /// The most looks of a source that waits.
 const LOOKS: u32 = 10_000_000;
 
-/// How many links were served to their end.
+/// How many halves of links were shut: two of each link that was served to its end.
 type Ended = Arc<AtomicU64, Global>;
 
-/// Whether so many links were served to their end, after a wait for them.
+/// Whether so many halves were shut, after a wait for them.
 fn are_ended(ended: &Ended, wanted: u64) -> bool {
     for _ in 0..LOOKS {
         if ended.load(Ordering::SeqCst) >= wanted {
@@ -25,7 +25,8 @@ fn are_ended(ended: &Ended, wanted: u64) -> bool {
     false
 }
 
-/// A source that gives its bytes once so many other links were served to their end. It waits for at most `LOOKS` looks, and then gives none.
+/// A source that gives its bytes once so many halves of other links were shut, and notes when it is shut. It waits for at most `LOOKS` looks, and then
+/// gives none.
 #[derive(Drop)]
 pub(crate) struct GatedSource {
     source: MemSource,
@@ -52,10 +53,11 @@ impl Source for GatedSource {
 
     fn shut(&mut self) {
         self.source.shut();
+        let _before = self.ended.fetch_add(1, Ordering::SeqCst);
     }
 }
 
-/// A sink that notes when it is shut, which is when its link was served to its end.
+/// A sink that notes when it is shut.
 #[derive(Drop)]
 pub(crate) struct GatedSink {
     sink: MemSink,
@@ -86,41 +88,62 @@ impl Sink for GatedSink {
     }
 }
 
-/// A listener over links in memory, each of which waits until so many others were served.
+/// A listener over links in memory, each of which waits until so many others were served. It fails at chosen calls, counted from 0, and then goes on.
 #[derive(Drop)]
 pub(crate) struct Gated {
     links: MemListener,
     wanted: Kinds,
+    failing: Kinds,
     ended: Ended,
+    calls: u32,
     faults: u64,
 }
 
 impl Gated {
-    /// The listener of these links, which wait for so many others each; None where there is no memory.
-    pub(crate) fn new(alloc: Global, links: MemListener, wanted: Kinds) -> Option<Gated> {
+    /// The listener of these links, which wait for so many others each, that fails at these calls; None where there is no memory.
+    pub(crate) fn new(
+        alloc: Global,
+        links: MemListener,
+        wanted: Kinds,
+        failing: Kinds,
+    ) -> Option<Gated> {
         let ended = Arc::new(alloc, AtomicU64::new(0)).ok()?;
         Some(Gated {
             links,
             wanted,
+            failing,
             ended,
+            calls: 0,
             faults: 0,
         })
     }
 
-    /// For how many others the next link waits.
+    /// Whether this call for a link fails.
+    fn fails(&mut self) -> bool
+        ensures faults { self.new.faults ≡ self.old.faults }
+    {
+        let call = self.calls;
+        self.calls = call.saturating_add(1);
+        self.failing.as_slice().iter().any(|index| *index == call)
+    }
+
+    /// For how many halves of others the next link waits: two of each.
     fn next_wanted(&self) -> u64 {
         match self.wanted.as_slice().get(self.links.accepted()) {
-            Some(wanted) => u64::from(*wanted),
+            Some(wanted) => 2 * u64::from(*wanted),
             None => 0,
         }
     }
 
-    /// The next link, if there is one and memory for it.
+    /// The next link, if this call does not fail and there is one, and memory for it.
     fn next(&mut self) -> Option<Link<GatedSource, GatedSink, MemClock>>
         ensures source { IfSome result (λ link. link.source.source.faults ≡ 0) }
         ensures sink { IfSome result (λ link. link.sink.sink.faults ≡ 0) }
         ensures faults { self.new.faults ≡ self.old.faults }
     {
+        if self.fails() {
+            return None;
+        }
         let wanted = self.next_wanted();
         let there = Arc::try_clone(&self.ended).ok()?;
         let here = Arc::try_clone(&self.ended).ok()?;

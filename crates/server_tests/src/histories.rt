@@ -1,9 +1,10 @@
 //! The history that a server leaves, as text.
 use crate::servers::{CONFIG, SPACE};
 use crate::texts::must;
-use history::Event;
+use history::plain::turns::answers;
+use history::{Event, Limits, Refused, Turn};
 use journal::{put_event_line, read_event};
-use mod_utf::list::ByteList;
+use mod_utf::list::{ByteList, Same};
 use space::{Asked, AskedEnd, PortEntries, Space, outline};
 use std::alloc::{AllocError, Global};
 use std::process::Abort;
@@ -106,5 +107,54 @@ pub(crate) fn check_replayed(rt: &impl Abort, alloc: Global, space: &Space, text
     match (outline(alloc, space), outline(alloc, &again)) {
         (Ok(told), Ok(wanted)) => must(rt, told.as_slice() == wanted.as_slice(), "outline"),
         _ => must(rt, false, "memory"),
+    }
+}
+
+/// Appends the event of a journal's line.
+fn put_event(rt: &impl Abort, alloc: Global, events: &mut Vec<Event>, line: &str) {
+    match read_event(alloc, SPACE, line.as_bytes()) {
+        Ok(Some(event)) => must(rt, events.push(event).is_ok(), "memory"),
+        _ => must(rt, false, line),
+    }
+}
+
+/// What the definitions answer to each event of a journal; None where there is no memory.
+pub(crate) fn defined_answers(
+    rt: &impl Abort,
+    alloc: Global,
+    text: &str,
+) -> Option<Vec<Result<Turn, Refused>>> {
+    let mut events = Vec::new(alloc);
+    for line in text.split('\n').skip(1) {
+        if !line.is_empty() {
+            put_event(rt, alloc, &mut events, line);
+        }
+    }
+    let limits = Limits::of_space();
+    answers(alloc, &limits, &CONFIG, Vec::new(alloc), events.as_slice()).ok()
+}
+
+/// Whether an entry was answered as the definitions answer the event at its place. One that was refused, or ended a call without an answer, has none.
+pub(crate) fn is_defined(entry: &Asked, answers: &[Result<Turn, Refused>]) -> bool {
+    match &entry.end {
+        AskedEnd::Turned(turn) => match answers.get(turn.place as usize) {
+            Some(Ok(wanted)) => turn.is_same(wanted),
+            _ => false,
+        },
+        _ => true,
+    }
+}
+
+/// Looks whether a connection's entries were answered as the definitions answer.
+pub(crate) fn check_answers(
+    rt: &impl Abort,
+    entries: &PortEntries,
+    answers: &[Result<Turn, Refused>],
+) {
+    for place in 0..entries.len() {
+        match entries.get(place) {
+            Some(view) => must(rt, is_defined(view.entry(), answers), "an answer"),
+            None => must(rt, false, "an entry"),
+        }
     }
 }

@@ -14,4 +14,6 @@ mod rows;
 #[cfg(test)]
 mod servers;
 #[cfg(test)]
+mod telling;
+#[cfg(test)]
 mod texts;

@@ -1,7 +1,7 @@
 //! Many links at once, whose clients make objects, hold them and let go of them.
 ghost use Rattle.std.specs.Prelude.{◌≤◌};
 
-use crate::histories::{check_own, check_replayed};
+use crate::histories::{check_answers, check_own, check_replayed, defined_answers, is_defined};
 use crate::servers::{Cases, LinkOf, ReportOf, is_told, plan_of, serve_links};
 use crate::texts::{bytes_of, must};
 use conn_server::Stop;
@@ -15,12 +15,15 @@ use std::thread::Threads;
 /// How many links there are.
 const LINKS: u32 = 200;
 
+/// How many there are where the definitions answer too.
+const FEW_LINKS: u32 = 2;
+
 /// What the clients do by turns. Each holds an object that another one may have made, and maybe was not made yet; and acknowledges its own.
 const CLIENTS: &str =
-    "0 | 1234 | 7 | opening make acknowledge +5 first dirty objects 00000000 +18 in_space 77 08 0000000000000001 lease client 00000004 +0 of_client clean objects 00000000 +18 in_space 77 08 0000000000000002 client 00000004 +0 of_client weak
-0 | 1234 | 5 6 7 8 9 | opening dirty objects 00000000 +17 in_space 77 08 0000000000000001 lease client 00000004 +0 of_client make acknowledge +5 first add_one
-0 | 1234 | 3 | opening make make dirty objects 00000000 +18 in_space 77 08 0000000000000001 lease client 00000004 +0 of_client ping
-0 | 1234 | 9 2 9 2 | opening clean objects 00000000 +16 in_space 77 08 0000000000000002 client 00000004 +0 of_client strong add_one make acknowledge +5 first dirty objects 00000000 +16 in_space 77 08 0000000000000001 lease client 00000004 +0 of_client";
+    "0 | 1234 | 7 | | opening make acknowledge +5 first dirty objects 00000000 +18 in_space 77 08 0000000000000001 lease client 00000004 +0 of_client clean objects 00000000 +18 in_space 77 08 0000000000000002 client 00000004 +0 of_client weak
+0 | 1234 | 5 6 7 8 9 | | opening dirty objects 00000000 +17 in_space 77 08 0000000000000001 lease client 00000004 +0 of_client make acknowledge +5 first add_one
+0 | 1234 | 3 | | opening make make dirty objects 00000000 +18 in_space 77 08 0000000000000001 lease client 00000004 +0 of_client ping
+0 | 1234 | 9 2 9 2 | | opening clean objects 00000000 +16 in_space 77 08 0000000000000002 client 00000004 +0 of_client strong add_one make acknowledge +5 first dirty objects 00000000 +16 in_space 77 08 0000000000000001 lease client 00000004 +0 of_client";
 
 /// The line of the client with this number.
 fn client_of(by: u32) -> &'static str {
@@ -72,23 +75,60 @@ fn check_all<'t, R: Wait + Sync>(
     for link in report.links.as_slice() {
         check_link(rt, alloc, link, text);
     }
-    must(rt, report.links.len() == LINKS as usize, "all links");
     check_replayed(rt, alloc, &report.space, text);
+}
+
+/// Looks whether each link, and the server's own Ticks, were answered as the definitions answer.
+fn check_defined<'t, R: Wait + Sync>(
+    rt: &impl Abort,
+    alloc: Global,
+    report: &ReportOf<'t, R>,
+    text: &str,
+) {
+    match defined_answers(rt, alloc, text) {
+        Some(answers) => {
+            for link in report.links.as_slice() {
+                check_answers(rt, &link.asked, answers.as_slice());
+            }
+            for tick in report.ticks.as_slice() {
+                must(rt, is_defined(tick, answers.as_slice()), "a tick");
+            }
+        }
+        None => must(rt, false, "memory"),
+    }
+}
+
+/// Serves so many links, and looks at what is told of them, by the definitions too where these are few.
+fn check_many(rt: &(impl Threads + Wait + Abort + Sync), alloc: Global, count: u32)
+    requires few { count ≤ 65535 }
+{
+    match served_many(rt, alloc, count) {
+        Some(report) => {
+            must(rt, report.stop == Stop::All, "stop");
+            must(rt, report.links.len() == count as usize, "all links");
+            match journal(alloc, &report.space) {
+                Ok(told) => match str::from_utf8(told.as_slice()) {
+                    Ok(text) => {
+                        check_all(rt, alloc, &report, text);
+                        if count == FEW_LINKS {
+                            check_defined(rt, alloc, &report, text);
+                        }
+                    }
+                    Err(_) => must(rt, false, "a text"),
+                },
+                Err(_) => must(rt, false, "memory"),
+            }
+        }
+        None => must(rt, false, "memory"),
+    }
 }
 
 #[test]
 fn many_links_leave_one_history(rt: HostRuntime) {
-    match served_many(&rt, rt.alloc(), LINKS) {
-        Some(report) => {
-            must(&rt, report.stop == Stop::All, "stop");
-            match journal(rt.alloc(), &report.space) {
-                Ok(told) => match str::from_utf8(told.as_slice()) {
-                    Ok(text) => check_all(&rt, rt.alloc(), &report, text),
-                    Err(_) => must(&rt, false, "a text"),
-                },
-                Err(_) => must(&rt, false, "memory"),
-            }
-        }
-        None => must(&rt, false, "memory"),
-    }
+    check_many(&rt, rt.alloc(), LINKS);
+}
+
+#[test]
+fn few_links_are_answered_by_the_definitions(rt: HostRuntime) {
+    check_many(&rt, rt.alloc(), FEW_LINKS);
 }

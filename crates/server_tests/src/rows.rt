@@ -8,13 +8,13 @@ use std::process::Abort;
 use std::sync::Wait;
 use std::thread::Threads;
 
-// A line is a link: for how many others it waits to be served before it sends anything; the peer's port; the moments of its clock; what the client
-// sends; what it gets; and the connection's end.
+// A line is a link: for how many others it waits to be served before it sends anything; the peer's port; the moments of its clock; which of its reads
+// or writes fails; what the client sends; what it gets; and the connection's end.
 
 /// Two clients that add 1 to the same counter. Which is first is left open.
 const ADDING: &str =
-    "0 | 1234 | 500 | opening add_one FF | ack number +5 first 00000000000000 ? | BadMessage { byte: 255, at: 62 }
-0 | 1234 | 400 | opening add_one | ack number +5 first 00000000000000 ? | Ended";
+    "0 | 1234 | 500 | | opening add_one FF | ack number +5 first 00000000000000 ? | BadMessage { byte: 255, at: 62 }
+0 | 1234 | 400 | | opening add_one | ack number +5 first 00000000000000 ? | Ended";
 
 /// The last bytes that the two first links got.
 fn last_bytes<'t, R: Wait + Sync>(report: &ReportOf<'t, R>) -> (u8, u8) {
@@ -42,8 +42,8 @@ fn two_links_add_to_one_counter(rt: HostRuntime) {
 
 /// A client that sends nothing before the one that comes after it was served.
 const AT_ONCE: &str =
-    "1 | 1234 | 0 | opening add_one ping | ack number +5 first 0000000000000002 pong | Ended
-0 | 1234 | 0 | opening add_one | ack number +5 first 0000000000000001 | Ended";
+    "1 | 1234 | 0 | | opening add_one ping | ack number +5 first 0000000000000002 pong | Ended
+0 | 1234 | 0 | | opening add_one | ack number +5 first 0000000000000001 | Ended";
 
 #[test]
 fn two_links_at_once(rt: HostRuntime) {
@@ -52,8 +52,8 @@ fn two_links_at_once(rt: HostRuntime) {
 }
 
 /// The links are those that there are, and end as ever.
-const TOO_FEW: &str = "0 | 1234 | 0 | opening ping ping | ack pong pong | Ended
-1 | 1234 | 0 | opening add_one 82 | ack number +5 first 0000000000000001 | BadMessage { byte: 130, at: 62 }";
+const TOO_FEW: &str = "0 | 1234 | 0 | | opening ping ping | ack pong pong | Ended
+1 | 1234 | 0 | | opening add_one 82 | ack number +5 first 0000000000000001 | BadMessage { byte: 130, at: 62 }";
 
 #[test]
 fn fewer_links_than_were_to_be(rt: HostRuntime) {
@@ -64,4 +64,37 @@ fn fewer_links_than_were_to_be(rt: HostRuntime) {
         }
         None => must(&rt, false, "memory"),
     }
+}
+
+/// A link whose source fails inside its call, one whose sink fails when its call was done, and one that goes on.
+const FAULTS: &str = "0 | 1234 | 0 | read 15 | opening add_one | ack | ReadFault
+1 | 1234 | 0 | write 1 | opening add_one | ack | WriteFault { sent: 16 }
+2 | 1234 | 0 | | opening add_one ping | ack number +5 first 0000000000000002 pong | Ended";
+
+#[test]
+fn a_link_that_fails_ends_alone(rt: HostRuntime) {
+    let told = served(&rt, rt.alloc(), 3, 1099, Stop::All, FAULTS);
+    must(&rt, told.is_some(), "memory");
+}
+
+/// A listener that fails once: the link that it would give then is not served.
+const FAILS_ONCE: &str = "0 | 1234 | 0 | | opening ping | ack pong | Ended
+-
+0 | 1234 | 0 | | opening ping | ack pong | Ended";
+
+#[test]
+fn no_link_is_served_after_a_failed_call_for_one(rt: HostRuntime) {
+    let told = served(&rt, rt.alloc(), 2, 1099, Stop::AcceptFault, FAILS_ONCE);
+    must(&rt, told.is_some(), "memory");
+}
+
+/// A client that acknowledges what another one was returned, whereupon it is gone.
+const FOR_ANOTHER: &str =
+    "0 | 1234 | 0 | | opening make | ack return +5 first counter 0000000000000013 of_space | Ended
+1 | 1234 | 0 | | opening acknowledge 00000006 first get_made | ack refused +5 first no_object | NoSuchObject { id: ObjId { number: 19, space: Uid { unique: 7, time: 9, count: 0 } } }";
+
+#[test]
+fn an_acknowledgement_counts_from_any_link(rt: HostRuntime) {
+    let told = served(&rt, rt.alloc(), 2, 1099, Stop::All, FOR_ANOTHER);
+    must(&rt, told.is_some(), "memory");
 }

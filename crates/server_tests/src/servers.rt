@@ -41,17 +41,18 @@ pub(crate) type LinkOf<'t, R> = LinkReport<GatedSource, GatedSink, MemClock, Sam
 pub(crate) type ReportOf<'t, R> = Report<GatedSource, GatedSink, MemClock, SampleHand<'t, R>>;
 
 /// Whether a host has few enough bytes.
-fn is_short(host: &Units) -> bool
+pub(crate) fn is_short(host: &Units) -> bool
     ensures { IsTrue result → length (utf host.now) ≤ 255 }
 {
     encoded_len(host) <= 255
 }
 
-/// Links, of which no half failed yet, and for how many others each of them waits.
+/// Links, of which no half failed yet; for how many others each of them waits; and which calls of the listener for a link fail.
 #[derive(Drop)]
 pub(crate) struct Cases {
     links: MemLinks,
     wanted: Kinds,
+    failing: Kinds,
 }
 
 impl Model for Cases {
@@ -72,14 +73,24 @@ impl Cases {
         Cases {
             links: MemLinks::new(alloc),
             wanted: Kinds::new(alloc),
+            failing: Kinds::new(alloc),
         }
     }
 
-    /// Adds the link that a line tells: for how many others it waits, the peer's port, the moments of its clock, and the words of its input.
+    /// Adds a call for a link that fails, before the next link.
+    fn add_failed(&mut self, rt: &impl Abort) {
+        let calls = self.links.len().wrapping_add(self.failing.len());
+        let noted = self.failing.push(u32::try_from(calls).unwrap_or(0));
+        must(rt, noted.is_ok(), "memory");
+    }
+
+    /// Adds the link that a line tells: for how many others it waits, the peer's port, the moments of its clock, which of its reads or writes fails,
+    /// and the words of its input.
     pub(crate) fn add(&mut self, rt: &impl Abort, alloc: Global, line: &str) {
         let (wanted, rest) = cut(line, '|');
         let (port, rest) = cut(rest, '|');
         let (moments, rest) = cut(rest, '|');
+        let (fault, rest) = cut(rest, '|');
         let (input, _told) = cut(rest, '|');
         let by = u32::try_from(self.links.len()).unwrap_or(0).wrapping_add(1);
         let host = this_host(rt, alloc);
@@ -88,8 +99,12 @@ impl Cases {
         }
         let bytes = bytes_of(rt, alloc, input, by);
         let added = self.links.push(Link {
-            source: MemSource::new(bytes, Kinds::new(alloc), Kinds::new(alloc)),
-            sink: MemSink::new(alloc, Kinds::new(alloc)),
+            source: MemSource::new(
+                bytes,
+                Kinds::new(alloc),
+                failing_of(rt, alloc, fault, "read "),
+            ),
+            sink: MemSink::new(alloc, failing_of(rt, alloc, fault, "write ")),
             clock: MemClock::new(moments_of(rt, alloc, moments)),
             host,
             port: number_of(rt, port).cast_signed(),
@@ -101,16 +116,33 @@ impl Cases {
 
     /// The listener of these links; None where there is no memory.
     pub(crate) fn listener(self, alloc: Global) -> Option<Gated> {
-        let Cases { links, wanted } = self;
-        Gated::new(alloc, MemListener::new(alloc, links), wanted)
+        let Cases {
+            links,
+            wanted,
+            failing,
+        } = self;
+        Gated::new(alloc, MemListener::new(alloc, links), wanted, failing)
     }
 }
 
-/// The listener of the links that lines tell.
-fn listener_of(rt: &impl Abort, alloc: Global, lines: &str) -> Option<Gated> {
+/// The one read or write that fails, where a line tells one of this kind.
+fn failing_of(rt: &impl Abort, alloc: Global, fault: &str, kind: &str) -> Kinds {
+    let mut failing = Kinds::new(alloc);
+    if let Some(index) = fault.strip_prefix(kind) {
+        must(rt, failing.push(number_of(rt, index)).is_ok(), "memory");
+    }
+    failing
+}
+
+/// The listener of the links that lines tell. The line `-` is a call for a link that fails.
+pub(crate) fn listener_of(rt: &impl Abort, alloc: Global, lines: &str) -> Option<Gated> {
     let mut cases = Cases::new(alloc);
     for line in lines.split('\n') {
-        cases.add(rt, alloc, line);
+        if line == "-" {
+            cases.add_failed(rt);
+        } else {
+            cases.add(rt, alloc, line);
+        }
     }
     cases.listener(alloc)
 }
@@ -170,15 +202,16 @@ fn is_written(held: &[u8], wanted: &[u8], is_open: bool) -> bool {
 }
 
 /// Looks at what was written to a link and how its connection ended, of which a line tells after the input.
-fn check_link<'t, R: Wait + Sync>(
+fn check_link<H>(
     rt: &impl Abort,
     alloc: Global,
-    link: &LinkOf<'t, R>,
+    link: &LinkReport<GatedSource, GatedSink, MemClock, H>,
     line: &str,
 ) {
     let (_wanted, rest) = cut(line, '|');
     let (_port, rest) = cut(rest, '|');
     let (_moments, rest) = cut(rest, '|');
+    let (_fault, rest) = cut(rest, '|');
     let (_input, rest) = cut(rest, '|');
     let (output, end) = cut(rest, '|');
     let words = output.strip_suffix(" ?").unwrap_or(output);
@@ -192,15 +225,16 @@ fn check_link<'t, R: Wait + Sync>(
     must(rt, is_told(alloc, link.end, end), line);
 }
 
-/// Looks at the links that lines tell, in the order of accepting.
-fn check_all<'t, R: Wait + Sync>(
+/// Looks at the links that lines tell, in the order of accepting. Those behind a call for a link that fails are not served.
+pub(crate) fn check_all<H>(
     rt: &impl Abort,
     alloc: Global,
-    links: &[LinkOf<'t, R>],
+    links: &[LinkReport<GatedSource, GatedSink, MemClock, H>],
     lines: &str,
 ) {
+    let (served, _left) = cut(lines, '-');
     let mut place = 0usize;
-    for line in lines.split('\n') {
+    for line in served.split('\n') {
         match links.get(place) {
             Some(link) => check_link(rt, alloc, link, line),
             None => must(rt, false, line),

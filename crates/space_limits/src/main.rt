@@ -1,8 +1,11 @@
 //! Drives spaces by turns to their limits, and prints what they answer there. Each word of the command line names what is
-//! filled: `history`, `pairs` and `returns` are quick; `clients` and `exports`, whose tables are walked at every turn, are not.
+//! filled: `history`, `pairs`, `returns`, `clients`, `exports`, or by `many_pairs` the pairs, by calls that each name many objects.
 #![tactic(auto)]
 
-use history::{Ask, Refused, SpaceConfig, Turn};
+mod many_pairs;
+
+use crate::many_pairs::many_pairs;
+use history::{Ask, Refused, SpaceConfig};
 use mod_utf::list::{ByteList, Kinds};
 use object_ids::{ObjId, ObjIds, Uid, Vmid};
 use space::Space;
@@ -46,22 +49,42 @@ fn numbered(unique: i32) -> Uid {
     }
 }
 
+/// Makes a turn of a connection at the moment 0.
+fn turn(space: &mut Space, by: u32, ask: Ask) -> Result<(), Refused> {
+    match space.turn(by, 0, ask) {
+        Ok(_turn) => Ok(()),
+        Err(refused) => Err(refused),
+    }
+}
+
 /// Opens a pinned object.
-fn open(space: &mut Space) -> Result<Turn, Refused> {
+fn open(space: &mut Space) -> Result<(), Refused> {
     let pinned = true;
-    space.turn(0, 0, Ask::Open { kind: 1, pinned })
+    turn(space, 0, Ask::Open { kind: 1, pinned })
 }
 
 /// Begins a call of the first object.
-fn begin(space: &mut Space) -> Result<Turn, Refused> {
+fn begin(space: &mut Space) -> Result<(), Refused> {
     let object = object(0);
-    space.turn(1, 0, Ask::Begin { object })
+    turn(space, 1, Ask::Begin { object })
 }
 
 /// Gives up a call of the first object.
-fn abandon(space: &mut Space) -> Result<Turn, Refused> {
+fn abandon(space: &mut Space) -> Result<(), Refused> {
     let object = object(0);
-    space.turn(1, 0, Ask::Abandon { object })
+    turn(space, 1, Ask::Abandon { object })
+}
+
+/// What returns a call of the first object, with so many new objects, and with the first object so many times.
+fn finish_ask(alloc: Global, made: u32, listed: u32, unique: i32) -> Result<Ask, AllocError> {
+    let made = vec![in alloc; 1; made as usize]?;
+    let listed = vec![in alloc; object(0); listed as usize]?;
+    Ok(Ask::Finish {
+        object: object(0),
+        made: Kinds::from_vec(made),
+        listed: ObjIds::from_vec(listed),
+        uid: numbered(unique),
+    })
 }
 
 /// Returns a call of the first object, with so many new objects, and with the first object so many times.
@@ -71,95 +94,85 @@ fn finish(
     made: u32,
     listed: u32,
     unique: i32,
-) -> Result<Turn, Refused> {
-    let Ok(made) = vec![in alloc; 1; made as usize] else {
-        return Err(Refused::OutOfMemory);
-    };
-    let Ok(listed) = vec![in alloc; object(0); listed as usize] else {
-        return Err(Refused::OutOfMemory);
-    };
-    let ask = Ask::Finish {
-        object: object(0),
-        made: Kinds::from_vec(made),
-        listed: ObjIds::from_vec(listed),
-        uid: numbered(unique),
-    };
-    space.turn(1, 0, ask)
+) -> Result<(), Refused> {
+    match finish_ask(alloc, made, listed, unique) {
+        Ok(ask) => turn(space, 1, ask),
+        Err(_refused) => Err(Refused::OutOfMemory),
+    }
 }
 
 /// A dirty call of a client that names so many objects, from the first on.
-fn dirty(alloc: Global, space: &mut Space, client: i32, count: u32) -> Result<Turn, Refused> {
+fn dirty_ask(alloc: Global, client: i32, count: u32) -> Result<Ask, AllocError> {
+    let objects = first_objects(alloc, count)?;
     let client = Vmid::new(ByteList::new(alloc), numbered(client)).unwrap();
-    let Ok(objects) = first_objects(alloc, count) else {
-        return Err(Refused::OutOfMemory);
-    };
-    let ask = Ask::Dirty {
+    Ok(Ask::Dirty {
         client,
         number: 1,
         asked: 1,
         objects,
-    };
-    space.turn(2, 0, ask)
+    })
+}
+
+/// Makes a dirty call of a client that names so many objects, from the first on.
+fn dirty(alloc: Global, space: &mut Space, client: i32, count: u32) -> Result<(), Refused> {
+    match dirty_ask(alloc, client, count) {
+        Ok(ask) => turn(space, 2, ask),
+        Err(_refused) => Err(Refused::OutOfMemory),
+    }
 }
 
 /// Notes that time has passed.
-fn tick(space: &mut Space) -> Result<Turn, Refused> {
-    space.turn(3, 0, Ask::Tick)
+fn tick(space: &mut Space) -> Result<(), Refused> {
+    turn(space, 3, Ask::Tick)
 }
 
-/// A space with one pinned object, of which so many calls run.
-fn with_calls(alloc: Global, calls: u32) -> Result<Space, Refused> {
-    let mut space = fresh(alloc);
-    let _opened = open(&mut space)?;
+/// Opens a pinned object in a space without events, and begins so many calls of it.
+fn begin_calls(space: &mut Space, calls: u32) -> Result<(), Refused> {
+    open(space)?;
     for _ in 0..calls {
-        let _started = begin(&mut space)?;
+        begin(space)?;
     }
-    Ok(space)
+    Ok(())
 }
 
-/// A space with one running call and 4,194,302 units, so that one is left beside the call's.
-fn nearly_full(alloc: Global) -> Result<Space, Refused> {
-    let mut space = with_calls(alloc, 1)?;
+/// Leaves one running call and 4,194,302 units in a space without events, so that one is left beside the call's.
+fn nearly_fill(alloc: Global, space: &mut Space) -> Result<(), Refused> {
+    begin_calls(space, 1)?;
     for _ in 0..63 {
-        let _granted = dirty(alloc, &mut space, 0, 65_536)?;
+        dirty(alloc, space, 0, 65_536)?;
     }
-    let _granted = dirty(alloc, &mut space, 0, 65_468)?;
-    Ok(space)
+    dirty(alloc, space, 0, 65_468)
 }
 
-/// A space with 513 pinned objects, of which 512 clients hold 512, but for the last of the last: 262,143 pairs.
-fn nearly_paired(alloc: Global) -> Result<Space, Refused> {
-    let mut space = fresh(alloc);
+/// Opens 513 pinned objects in a space without events, of which 512 clients hold 512, but for the last of the last: 262,143 pairs.
+fn nearly_pair(alloc: Global, space: &mut Space) -> Result<(), Refused> {
     for _ in 0..513 {
-        let _opened = open(&mut space)?;
+        open(space)?;
     }
     for client in 0..511 {
-        let _granted = dirty(alloc, &mut space, client, 512)?;
+        dirty(alloc, space, client, 512)?;
     }
-    let _granted = dirty(alloc, &mut space, 511, 511)?;
-    Ok(space)
+    dirty(alloc, space, 511, 511)
 }
 
-/// A space with 65,535 clients that have time left.
-fn nearly_leased(alloc: Global) -> Result<Space, Refused> {
-    let mut space = fresh(alloc);
+/// Leaves 65,535 clients that have time left in a space without events.
+fn nearly_lease(alloc: Global, space: &mut Space) -> Result<(), Refused> {
     for client in 0..65_535 {
-        let _granted = dirty(alloc, &mut space, client, 0)?;
+        dirty(alloc, space, client, 0)?;
     }
-    Ok(space)
+    Ok(())
 }
 
-/// A space with one object, of which five calls run and to which one reference awaits, as listed in the return 0.
-fn awaited_once(alloc: Global) -> Result<Space, Refused> {
-    let mut space = with_calls(alloc, 6)?;
-    let _finished = finish(alloc, &mut space, 0, 1, 0)?;
-    Ok(space)
+/// Leaves one object in a space without events, of which five calls run and to which one reference awaits, as listed in the return 0.
+fn await_once(alloc: Global, space: &mut Space) -> Result<(), Refused> {
+    begin_calls(space, 6)?;
+    finish(alloc, space, 0, 1, 0)
 }
 
 /// Prints what was answered.
-fn show<W: Write>(out: &mut W, what: &str, answer: Result<Turn, Refused>) -> io::Result<()> {
+fn show<W: Write>(out: &mut W, what: &str, answer: Result<(), Refused>) -> io::Result<()> {
     match answer {
-        Ok(_turn) => writeln!(out, "{what} taken"),
+        Ok(()) => writeln!(out, "{what} taken"),
         Err(refused) => writeln!(out, "{what} {refused:?}"),
     }
 }
@@ -217,25 +230,43 @@ fn exports<W: Write>(alloc: Global, out: &mut W, space: &mut Space) -> io::Resul
     show(out, "Exports 65537", open(space))
 }
 
-/// Fills what a word names, and prints what is answered then.
-fn fill<W: Write>(alloc: Global, out: &mut W, word: &str) -> io::Result<()> {
-    let filled = match word {
-        "history" => nearly_full(alloc),
-        "pairs" => nearly_paired(alloc),
-        "clients" => nearly_leased(alloc),
-        _ => awaited_once(alloc),
-    };
-    let Ok(mut space) = filled else {
-        return writeln!(out, "{word} is not filled");
-    };
+/// Fills what a word names in a space without events.
+fn fill(alloc: Global, space: &mut Space, word: &str) -> Result<(), Refused> {
     match word {
-        "history" => history(alloc, out, &mut space),
-        "pairs" => pairs(alloc, out, &mut space),
-        "returns" => returns(alloc, out, &mut space),
-        "clients" => clients(alloc, out, &mut space),
-        "exports" => exports(alloc, out, &mut space),
+        "history" => nearly_fill(alloc, space),
+        "pairs" => nearly_pair(alloc, space),
+        "clients" => nearly_lease(alloc, space),
+        _ => await_once(alloc, space),
+    }
+}
+
+/// Fills what a word names in a space without events, and prints what is answered then.
+fn show_limits<W: Write>(
+    alloc: Global,
+    out: &mut W,
+    space: &mut Space,
+    word: &str,
+) -> io::Result<()> {
+    if fill(alloc, space, word).is_err() {
+        return writeln!(out, "{word} is not filled");
+    }
+    match word {
+        "history" => history(alloc, out, space),
+        "pairs" => pairs(alloc, out, space),
+        "returns" => returns(alloc, out, space),
+        "clients" => clients(alloc, out, space),
+        "exports" => exports(alloc, out, space),
         _ => writeln!(out, "{word} is no word"),
     }
+}
+
+/// Makes a space, fills in it what a word names, and prints what is answered then.
+fn try_word<W: Write>(alloc: Global, out: &mut W, word: &str) -> io::Result<()> {
+    if word == "many_pairs" {
+        return many_pairs(alloc, out);
+    }
+    let mut space = fresh(alloc);
+    show_limits(alloc, out, &mut space, word)
 }
 
 fn main(rt: HostRuntime) -> io::Result<()> {
@@ -243,7 +274,7 @@ fn main(rt: HostRuntime) -> io::Result<()> {
     let mut out = rt.stdout();
     let words: Vec<String> = env::args(&rt)?.skip(1).collect(alloc)?;
     for word in &words {
-        fill(alloc, &mut out, word.as_str())?;
+        try_word(alloc, &mut out, word.as_str())?;
     }
     Ok(())
 }

@@ -1,0 +1,5 @@
+//! Tests of connections over TCP, on this machine alone.
+#![tactic(auto)]
+
+#[cfg(test)]
+mod tcp;
