@@ -1,9 +1,11 @@
 /* A client that keeps 16 calls in flight on one connection, whatever the server is: a program over pipes, or a port of this machine.
 
-   usage: calls get|echo|lookup|dirty|dirties COUNT OBJECT (PROGRAM [WORD..] | PORT)
+   usage: calls get|echo|list|lookup|names|dirty|dirties COUNT OBJECT (PROGRAM [WORD..] | PORT)
 
    OBJECT is the object's identifier, 44 hexadecimal digits. A call of get()J has no argument, one of echo the same array of 100,000 bytes each
-   time. lookup looks the name `counter` up and acknowledges each Return; dirty takes hold of OBJECT, dirties of 10,000 objects of its space, from the number 17 on.
+   time, and one of list, which echoes too, an array of references to 10,000 objects that are made first: four such Returns,
+   beside the first, are as many as may await their acknowledgement. lookup looks the name `counter` up and acknowledges each Return, and so does names,
+   among as many names as the registry takes, which are bound first; dirty takes hold of OBJECT, dirties of 10,000 objects of its space, from the number 17 on.
    All Returns of a kind have the same length, and differ in their identifiers alone: each is compared with what was sent or with the first, but for that.
    It prints the seconds from the first call to the last Return, and the greatest memory of the program in kB, 0 for a port. */
 #include "jrmp.h"
@@ -13,7 +15,12 @@
 #include <sys/resource.h>
 #include <sys/wait.h>
 
-enum { WINDOW = 16 };
+enum {
+    WINDOW = 16,
+    /* How many names a registry has at most, and how many the sample has. */
+    NAMES = 4096,
+    OWN_NAMES = 3,
+};
 
 static struct exchange exchange;
 static unsigned char got[ROOM];
@@ -39,6 +46,68 @@ static pid_t start(char **words, int *to, int *from) {
     *to = in[1];
     *from = out[0];
     return child;
+}
+
+/* Binds names to the object of a lookup's Return, until the registry has as many as it takes. */
+static void bind_names(const struct exchange *it, int to, int from) {
+    const size_t result = IDENTIFIER + IDENTIFIER_LENGTH;
+    for (int i = OWN_NAMES; i < NAMES; i++) {
+        static struct exchange bind;
+        unsigned char answer[IDENTIFIER + IDENTIFIER_LENGTH];
+        bind.call_length = 0;
+        put_call(&bind, "50 ACED0005 77 22 00000000000000000000000000000000000000000000 00000000 44154DC9D4E63BDF 74 0005");
+        bind.call_length += (size_t)sprintf((char *)bind.call + bind.call_length, "n%04d", i);
+        memcpy(bind.call + bind.call_length, it->wanted + result, it->wanted_length - result);
+        bind.call_length += it->wanted_length - result;
+        write_all(to, bind.call, bind.call_length);
+        read_all(from, answer, sizeof answer);
+        if (answer[0] != 0x51 || answer[7] != 1) fail("a name isn't bound");
+    }
+}
+
+/* Makes objects one after another, by a call of the sample's maker in this object's space. */
+static void make_objects(const char *object, int count, int to, int from) {
+    static struct exchange making;
+    static unsigned char answer[ROOM];
+    char maker[45];
+    snprintf(maker, sizeof maker, "%016x%s", 18, object + 16);
+    make_make(&making, maker);
+    learn(&making, to, from);
+    for (int i = 1; i < count; i++) {
+        write_all(to, making.call, making.call_length);
+        read_all(from, answer, making.wanted_length);
+    }
+}
+
+/* A call of echo with an array of references to objects that are made first, which are the space's next ones. */
+static void make_list(struct exchange *it, const char *object, int to, int from) {
+    static struct exchange looked;
+    make_lookup(&looked, "counter");
+    learn(&looked, to, from);
+    make_objects(object, MANY, to, from);
+    /* A reference ends with a block, which is its note: the kind and the endpoint, the object's number, its space and a flag; and a mark. */
+    const size_t number = 8 + IDENTIFIER_LENGTH + 1 + 1;
+    size_t first = IDENTIFIER + IDENTIFIER_LENGTH, note = first;
+    while (looked.wanted[note] != 0x77 || note + 2 + looked.wanted[note + 1] + 1 != looked.wanted_length) note++;
+    it->call_length = it->wanted_length = 0;
+    put_head(it, object, "90BEF25F467880C4");
+    put_call(it, "75 72 0013 5B4C6A6176612E6C616E672E4F626A6563743B 90CE589F1073296C 02 0000 70 78 70");
+    char digits[17];
+    snprintf(digits, sizeof digits, "%08x", MANY);
+    put_call(it, digits);
+    for (int i = 0; i < MANY; i++) {
+        size_t from_byte = i ? note : first;
+        if (i) put_call(it, "73 71 007E0002 73 71 007E0006");
+        memcpy(it->call + it->call_length, looked.wanted + from_byte, looked.wanted_length - from_byte);
+        it->call_length += looked.wanted_length - from_byte;
+        snprintf(digits, sizeof digits, "%016x", 19 + i);
+        size_t end = it->call_length;
+        it->call_length = end - number;
+        put_call(it, digits);
+        it->call_length = end;
+    }
+    it->is_learned = 1;
+    learn(it, to, from);
 }
 
 /* What is yet to be written. */
@@ -98,10 +167,11 @@ static void make_calls(int to, int from, unsigned long count) {
 }
 
 int main(int count_words, char **words) {
-    if (count_words < 5) fail("usage: calls get|echo|lookup|dirty|dirties COUNT OBJECT (PROGRAM [WORD..] | PORT)");
+    if (count_words < 5) fail("usage: calls get|echo|list|lookup|names|dirty|dirties COUNT OBJECT (PROGRAM [WORD..] | PORT)");
     int to, from;
     pid_t child = 0;
-    make_exchange(&exchange, words[1], words[3]);
+    int is_list = !strcmp(words[1], "list");
+    if (!is_list) make_exchange(&exchange, words[1], words[3]);
     signal(SIGPIPE, SIG_IGN);
     if (isdigit((unsigned char)words[4][0])) {
         to = from = try_reach(atoi(words[4]));
@@ -110,7 +180,9 @@ int main(int count_words, char **words) {
         child = start(words + 4, &to, &from);
     }
     greet(to, from);
-    if (exchange.is_learned) learn(&exchange, to, from);
+    if (is_list) make_list(&exchange, words[3], to, from);
+    else if (exchange.is_learned) learn(&exchange, to, from);
+    if (!strcmp(words[1], "names")) bind_names(&exchange, to, from);
     fcntl(to, F_SETFL, O_NONBLOCK);
     fcntl(from, F_SETFL, O_NONBLOCK);
 

@@ -155,7 +155,7 @@ static void make_exchange(struct exchange *it, const char *kind, const char *obj
     else if (!strcmp(kind, "get")) make_get(it, object);
     else if (!strcmp(kind, "echo")) make_echo(it, object);
     else if (!strcmp(kind, "make")) make_make(it, object);
-    else if (!strcmp(kind, "lookup")) make_lookup(it, "counter");
+    else if (!strcmp(kind, "lookup") || !strcmp(kind, "names")) make_lookup(it, "counter");
     else if (!strcmp(kind, "dirty")) make_dirty(it, object, 1);
     else if (!strcmp(kind, "dirties")) make_dirty(it, object, MANY);
     else fail("no such kind of call");
