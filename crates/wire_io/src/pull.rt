@@ -88,6 +88,7 @@ impl<'s, S: Source> Pull<'s, S> {
     /// The next byte. The source is asked for this byte and for no more.
     ///
     /// `End`, `Limit` and `ReadFault` come as [`PullEnd`] says; it takes no memory.
+    #[inline]
     pub fn byte(&mut self) -> Result<u8, PullEnd>
         ensures gives { GivesByte (place S.left S.faults self.old) (place S.left S.faults self.new) result }
         ensures lent { self.new.source.ghost_name ≡ self.old.source.ghost_name }
@@ -151,6 +152,7 @@ impl<'s, S: Source> Pull<'s, S> {
     }
 
     /// Takes into the front of `buf` what one read gives before the stop, and answers how many bytes that is.
+    #[inline(always)]
     fn fill_some(&mut self, buf: &mut [u8]) -> Result<usize, PullEnd>
         requires { 0 < length buf.old }
         ensures gives { GivesFront (place S.left S.faults self.old) (place S.left S.faults self.new) buf.new result }
@@ -198,6 +200,7 @@ impl<'s, S: Source> Pull<'s, S> {
     }
 
     /// Takes into the front of `buf` what one read gives, and answers how many bytes that is.
+    #[inline(always)]
     fn fill(&mut self, buf: &mut [u8]) -> Result<usize, PullEnd>
         requires some { 0 < length buf.old }
         requires room { self.old.at + length buf.old ≤ self.old.stop }

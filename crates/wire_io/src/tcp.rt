@@ -4,6 +4,7 @@ ghost use Rattle.mod_utf.specs.Utf.{utf};
 ghost use Rattle.wire_io.specs.Links.{accepted_as, Listens, Accepts};
 ghost use Rattle.wire_io.specs.Wire.{Read, Written, next_count};
 
+use crate::ahead::Ahead;
 use crate::edge::StdClock;
 use crate::link::Link;
 use crate::listener::Listener;
@@ -12,17 +13,44 @@ use crate::source::{Failed, Source};
 use mod_utf::list::Units;
 use mod_utf::utf::encoded_len;
 use std::alloc::{AllocError, Global};
-use std::io::{BufReader, Read, Write};
+use std::io::{Read, Write};
 use std::marker::Model;
 use std::net::{Net, Shutdown, SocketAddr, TcpListener, TcpStream};
+use std::sync::Arc;
 use std::{io, time};
+
+/// How many connections one call of `accept` asks the system for, where those before were given up by their peers.
+const TRIES: u32 = 16;
+
+/// A handle of a socket, of one half's own or shared by both halves of a link. The system has the socket back when the last handle is dropped.
+#[derive(Drop)]
+enum Handle {
+    Own(TcpStream),
+    Shared(Arc<TcpStream>),
+}
+
+impl Handle {
+    fn stream(&self) -> &TcpStream {
+        match self {
+            Handle::Own(stream) => stream,
+            Handle::Shared(stream) => stream,
+        }
+    }
+}
+
+impl Read for Handle {
+    fn read(&mut self, buf: &mut [u8]) -> io::Result<usize> {
+        let mut stream = self.stream();
+        stream.read(buf)
+    }
+}
 
 /// The half of a TCP connection that bytes are read from.
 ///
 /// It reads ahead into a buffer of its own. Each error of the socket is a fault, and so is a read after `shut`.
 #[derive(Drop)]
 pub struct TcpSource {
-    half: Option<BufReader<TcpStream>>,
+    half: Option<Ahead<Handle>>,
     faults: u64,
 }
 
@@ -39,13 +67,17 @@ impl TcpSource {
     pub fn new(alloc: Global, stream: TcpStream) -> Result<TcpSource, AllocError>
         ensures { IfOk result (λ source. source ≡ 0) }
     {
-        match BufReader::new(alloc, stream) {
-            Ok(reader) => Ok(TcpSource {
-                half: Some(reader),
-                faults: 0,
-            }),
-            Err(_) => Err(AllocError),
-        }
+        TcpSource::over(alloc, Handle::Own(stream))
+    }
+
+    /// The source over this handle.
+    fn over(alloc: Global, handle: Handle) -> Result<TcpSource, AllocError>
+        ensures { IfOk result (λ source. source ≡ 0) }
+    {
+        Ok(TcpSource {
+            half: Some(Ahead::new(alloc, handle)?),
+            faults: 0,
+        })
     }
 
     /// How many reads failed.
@@ -57,15 +89,13 @@ impl TcpSource {
 }
 
 /// One read of what is left of the half, if it was not shut.
-fn read_half(half: &mut Option<BufReader<TcpStream>>, buf: &mut [u8]) -> Result<usize, Failed>
+#[inline(always)]
+fn read_half(half: &mut Option<Ahead<Handle>>, buf: &mut [u8]) -> Result<usize, Failed>
     ensures { Read None None 0 (next_count 0) buf.new result }
 {
-    let Some(reader) = half else {
-        return Err(Failed);
-    };
-    match reader.read(buf) {
-        Ok(n) => Ok(n),
-        Err(_) => Err(Failed),
+    match half {
+        Some(reader) => reader.read(buf),
+        None => Err(Failed),
     }
 }
 
@@ -74,6 +104,7 @@ impl Source for TcpSource {
 
     ghost faults = { λ s. s };
 
+    #[inline(always)]
     fn read(&mut self, buf: &mut [u8]) -> Result<usize, Failed>
         ensures read { Read None None self.old self.new buf.new result }
         ensures ok { OnOk result (self.new ≡ self.old) }
@@ -93,7 +124,7 @@ impl Source for TcpSource {
         ensures { self.new ≡ self.old }
     {
         if let Some(reader) = self.half.take() {
-            let _ = reader.get_ref().shutdown(Shutdown::Read);
+            let _ = reader.inner().stream().shutdown(Shutdown::Read);
         }
     }
 }
@@ -104,7 +135,7 @@ impl Source for TcpSource {
 /// byte of a piece that is not empty, and a write after `shut`.
 #[derive(Drop)]
 pub struct TcpSink {
-    half: Option<TcpStream>,
+    half: Option<Handle>,
     faults: u64,
 }
 
@@ -121,9 +152,16 @@ impl TcpSink {
     pub fn new(stream: TcpStream) -> TcpSink
         ensures { result ≡ 0 }
     {
-        let _ = stream.set_nodelay(true);
+        TcpSink::over(Handle::Own(stream))
+    }
+
+    /// The sink over this handle, which sends each write at once.
+    fn over(handle: Handle) -> TcpSink
+        ensures { result ≡ 0 }
+    {
+        let _ = handle.stream().set_nodelay(true);
         TcpSink {
-            half: Some(stream),
+            half: Some(handle),
             faults: 0,
         }
     }
@@ -137,12 +175,13 @@ impl TcpSink {
 }
 
 /// One write to the half, if it was not shut.
-fn write_half(half: &mut Option<TcpStream>, piece: &[u8]) -> Result<usize, Failed>
+fn write_half(half: &Option<Handle>, piece: &[u8]) -> Result<usize, Failed>
     ensures { Written None None 0 (next_count 0) piece.now result }
 {
-    let Some(stream) = half else {
+    let Some(handle) = half else {
         return Err(Failed);
     };
+    let mut stream = handle.stream();
     match stream.write(piece) {
         Ok(n) if n > 0 || piece.is_empty() => Ok(n),
         _ => Err(Failed),
@@ -159,7 +198,7 @@ impl Sink for TcpSink {
         ensures ok { OnOk result (self.new ≡ self.old) }
         ensures err { OnErr result (self.new ≡ next_count self.old) }
     {
-        match write_half(&mut self.half, piece) {
+        match write_half(&self.half, piece) {
             Ok(n) => Ok(n),
             Err(failed) => {
                 self.faults = self.faults.saturating_add(1);
@@ -172,8 +211,8 @@ impl Sink for TcpSink {
     fn shut(&mut self)
         ensures { self.new ≡ self.old }
     {
-        if let Some(stream) = self.half.take() {
-            let _ = stream.shutdown(Shutdown::Write);
+        if let Some(handle) = self.half.take() {
+            let _ = handle.stream().shutdown(Shutdown::Write);
         }
     }
 }
@@ -181,7 +220,7 @@ impl Sink for TcpSink {
 /// A link over TCP, whose clock is the time of day.
 pub type TcpLink<R> = Link<TcpSource, TcpSink, StdClock<R>>;
 
-/// The link of a connection with this peer. It fails where its socket cannot be shared by its halves, or where there is no memory.
+/// The link of a connection with this peer, whose halves share its one handle. It fails where there is no memory.
 pub fn tcp_link<R>(
     alloc: Global,
     rt: R,
@@ -194,8 +233,9 @@ where
     ensures sink { IfOk result (λ link. link.sink ≡ 0) }
 {
     let host = host_of(alloc, peer)?;
-    let sink = TcpSink::new(stream.try_clone()?);
-    let source = TcpSource::new(alloc, stream)?;
+    let shared = Arc::new(alloc, stream)?;
+    let sink = TcpSink::over(Handle::Shared(Arc::try_clone(&shared)?));
+    let source = TcpSource::over(alloc, Handle::Shared(shared))?;
     Ok(Link {
         source,
         sink,
@@ -219,7 +259,8 @@ fn host_of(alloc: Global, peer: SocketAddr) -> io::Result<Units>
 
 /// Accepts connections over TCP, at 127.0.0.1 alone: no other machine reaches it.
 ///
-/// Each error of the system is a fault, and so is an `accept` before `listen`.
+/// Each error of the system is a fault, and so is an `accept` before `listen`. A connection that its peer gave up while it waited is passed over;
+/// where sixteen were, one after the other, that is a fault too.
 #[derive(Drop)]
 pub struct TcpListen<R> {
     rt: R,
@@ -257,7 +298,7 @@ impl<R> TcpListen<R> {
     }
 }
 
-/// The next connection of a listener, if there is one.
+/// The next connection of a listener, if it listens.
 fn next_link<R: Copy + Drop>(
     alloc: Global,
     rt: &R,
@@ -269,8 +310,34 @@ fn next_link<R: Copy + Drop>(
     let Some(listener) = listener else {
         return Err(io::Error::from(io::ErrorKind::NotConnected));
     };
-    let (stream, peer) = listener.accept()?;
+    let (stream, peer) = next_stream(listener)?;
     tcp_link(alloc, *rt, stream, peer)
+}
+
+/// The next connection that its peer hasn't given up while it waited. Others are passed over, if there are fewer than `TRIES` of
+/// them. Each other error of the system comes at once.
+fn next_stream(listener: &TcpListener) -> io::Result<(TcpStream, SocketAddr)> {
+    for _i in 0..TRIES {
+        match listener.accept() {
+            Ok(accepted) => return Ok(accepted),
+            Err(error) => {
+                if !is_given_up(error.kind()) {
+                    return Err(error);
+                }
+            }
+        }
+    }
+    Err(io::Error::from(io::ErrorKind::ConnectionAborted))
+}
+
+/// Whether an error of this kind is one of the connection that was to be accepted, and not of the listener or the process.
+fn is_given_up(kind: io::ErrorKind) -> bool {
+    match kind {
+        io::ErrorKind::ConnectionAborted => true,
+        io::ErrorKind::ConnectionReset => true,
+        io::ErrorKind::Interrupted => true,
+        _ => false,
+    }
 }
 
 impl<R> Listener for TcpListen<R>
