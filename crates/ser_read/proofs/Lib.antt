@@ -26,4 +26,5 @@ pub mod Heading
 pub mod Streams
 pub mod ToEnd
 pub mod Rows
+pub mod Fronts
 pub mod Missing

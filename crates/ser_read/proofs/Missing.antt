@@ -1,5 +1,5 @@
 -- Where a block is missing.
-use Rattle.std.proofs.Common.{◌≡◌, ◌≢◌, ◌⊎◌, inl, inr, ℕ, zero, suc, ◌-◌, ◌<◌, ◌≤◌, ◌&&◌, true, false, List, [], ◌∷◌, ◌++◌, length, Result, Ok, Err, refl, ap, sym, subst, ◌∙◌, arith, leb, leb-true, eqb, append_assoc}
+use Rattle.std.proofs.Common.{◌≡◌, ◌≢◌, inl, inr, ℕ, zero, suc, ◌-◌, ◌≤◌, ◌&&◌, List, [], ◌∷◌, ◌++◌, length, Result, Ok, Err, refl, ap, sym, subst, ◌∙◌, arith, leb, leb-true, eqb, append_assoc}
 use Rattle.std.proofs.lemmas.Bool.{and_parts, eqb-false}
 use Rattle.std.specs.Int.{w32, to_be_bytes}
 use Rattle.ser_values.specs.Reading.{Fault, byte_at}
@@ -8,7 +8,7 @@ use Rattle.ser_read.specs.declared.block.Head.{Head}
 use Rattle.ser_read.specs.declared.block.Head.TheVariants.{Block, Code}
 use Rattle.ser_read.specs.Heads.{head_at}
 use Rattle.ser_read.specs.Wants.{WantFault, missing_block, ◌▸◌, lifted, no_block, only_block, opened_at, run_at}
-use Rattle.ser_read.specs.Laws.{BeginsNoBlock, MissesBlock}
+use Rattle.ser_read.specs.Laws.{MissesBlock}
 use Rattle.ser_read.proofs.Empties.{Header, Empties, found}
 use Rattle.ser_read.proofs.Asked.{more_of}
 use Rattle.ser_read.proofs.Runs.{opened_here}

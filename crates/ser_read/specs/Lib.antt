@@ -5,6 +5,7 @@ pub mod Lists
 pub mod Codes
 pub mod Rows
 pub mod Named
+pub mod Fronts
 pub mod Chains
 pub mod Tables
 pub mod Whole

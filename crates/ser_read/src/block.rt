@@ -6,7 +6,7 @@ ghost use Rattle.ser_read.specs.Wants.{StopsWant, WantTaken, fault_at, no_block,
 
 use crate::fault::{StreamFault, StreamKind};
 use crate::pieces::bad;
-use crate::pulled::{byte, count, take};
+use crate::pulled::{add_piece, byte, count, take};
 use mod_utf::list::ByteList;
 use std::alloc::Global;
 use wire_io::pull::Pull;
@@ -124,7 +124,7 @@ pub(crate) fn run<S: Source>(
         let present = opened(pull, *block)?;
         let more = left.min(present);
         let piece = take(alloc, pull, u64::from(more))?;
-        bytes.append(piece.as_slice())?;
+        add_piece(&mut bytes, piece)?;
         *block = present - more;
         left -= more;
     }

@@ -3,6 +3,7 @@
 
 mod block;
 mod fault;
+mod front;
 mod header;
 pub mod laws;
 mod numbers;

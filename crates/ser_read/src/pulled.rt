@@ -39,7 +39,7 @@ fn see(bytes: &[u8])
 }
 
 /// Takes the next bytes into the whole of `buf`.
-fn fill<S: Source>(pull: &mut Pull<'_, S>, buf: &mut [u8]) -> Result<(), StreamFault>
+pub(crate) fn fill<S: Source>(pull: &mut Pull<'_, S>, buf: &mut [u8]) -> Result<(), StreamFault>
     ensures lent { pull.new.source.ghost_name ≡ pull.old.source.ghost_name }
     ensures reads { ReadsTaken S.left S.faults pull.old pull.new result (λ end. take_at (length buf.old)) (λ x rest. (buf.new, rest)) }
     ensures stops { StopsTaken S.left S.faults pull.old pull.new result (λ end. take_at (length buf.old)) }
@@ -82,22 +82,6 @@ pub(crate) fn eight<S: Source>(pull: &mut Pull<'_, S>) -> Result<u64, StreamFaul
     Ok(u64::from_be_bytes(bytes))
 }
 
-/// A count of fields: below 2^15, or `NegativeLength` at its first byte.
-#[tactic(auto, unfolding(ser_values::specs::Reading::size_at))]
-pub(crate) fn field_count<S: Source>(pull: &mut Pull<'_, S>) -> Result<u16, StreamFault>
-    ensures lent { pull.new.source.ghost_name ≡ pull.old.source.ghost_name }
-    ensures reads { ReadsTaken S.left S.faults pull.old pull.new result (λ end. size_at end w16 32768) (λ x rest. (x, rest)) }
-    ensures stops { StopsTaken S.left S.faults pull.old pull.new result (λ end. size_at end w16 32768) }
-{
-    let at = pull.at;
-    let count = two(pull)?;
-    if count < 0x8000 {
-        Ok(count)
-    } else {
-        Err(negative_length(at))
-    }
-}
-
 /// A length or a count: below 2^31, or `NegativeLength` at its first byte.
 #[tactic(auto, unfolding(ser_values::specs::Reading::size_at))]
 pub(crate) fn count<S: Source>(pull: &mut Pull<'_, S>) -> Result<u32, StreamFault>
@@ -131,7 +115,7 @@ fn long_length<S: Source>(pull: &mut Pull<'_, S>) -> Result<u64, StreamFault>
 }
 
 /// The fault of a length or a count that is too great to be signed.
-fn negative_length(at: u64) -> StreamFault
+pub(crate) fn negative_length(at: u64) -> StreamFault
     ensures { result ≡ Bad NegativeLength at }
 {
     StreamFault::Bad {
@@ -156,7 +140,7 @@ pub(crate) fn piece<S: Source>(
 }
 
 /// Appends a piece. Where nothing stands there, the piece takes the list's place, and none of its bytes is copied.
-fn add_piece(bytes: &mut ByteList, piece: ByteList) -> Result<(), AllocError>
+pub(crate) fn add_piece(bytes: &mut ByteList, piece: ByteList) -> Result<(), AllocError>
     ensures { OnOk result (bytes.new ≡ bytes.old ++ piece) }
 {
     if bytes.is_empty() {

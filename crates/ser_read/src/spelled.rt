@@ -1,5 +1,5 @@
 //! The texts that bytes spell in modified UTF (Java Object Serialization Specification, 6.2).
-ghost use Rattle.std.specs.Prelude.{◌≡◌, All, IfErr, true};
+ghost use Rattle.std.specs.Prelude.{◌≡◌, ◌+◌, ◌++◌, ◌≤◌, All, IfErr, length, true, vec_len, vec_capacity};
 ghost use Rattle.mod_utf.specs.Utf.{SpellsItself};
 ghost use Rattle.mod_utf.specs.Decoding.{decoded, IsUnread, GivesUnits};
 
@@ -8,35 +8,37 @@ use mod_utf::list::Units;
 use std::alloc::Global;
 
 /// The text that these bytes spell, as `decode` of `mod_utf` reads it.
+///
+/// There is room at once for as many units as there are bytes; where each is an ASCII character's, it takes no more.
 pub(crate) fn spelled(alloc: Global, bytes: &[u8]) -> Result<Units, UtfFault>
     ensures err { IfErr result (λ fault. IsUnread bytes.now fault) }
     ensures value { GivesUnits result (decoded bytes.now) }
 {
-    if is_ascii(bytes) {
-        plain(alloc, bytes)
+    let mut units = Vec::new(alloc);
+    if units.reserve_exact(bytes.len()).is_err() {
+        return Err(UtfFault::OutOfMemory);
+    }
+    if push_plain(&mut units, bytes) {
+        Ok(Units::from_vec(units))
     } else {
+        drop(units);
         decoded(alloc, bytes)
     }
 }
 
-/// Whether each byte is an ASCII character's, and none is zero.
-fn is_ascii(bytes: &[u8]) -> bool
-    ensures { result ≡ true → All SpellsItself bytes.now }
+/// Appends a unit for each byte, up to one that is no ASCII character's, or is zero, and answers whether none was.
+fn push_plain(units: &mut Vec<u16>, bytes: &[u8]) -> bool
+    requires room { vec_len units.old + length bytes.now ≤ vec_capacity units.old }
+    ensures plain { result ≡ true → All SpellsItself bytes.now }
+    ensures value { result ≡ true → units.new.items ≡ units.old.items ++ bytes.now }
 {
-    bytes.iter().all(|byte| 0 < *byte && *byte < 0x80)
-}
-
-/// The text of ASCII characters: a unit for each byte.
-#[tactic(auto, using(mod_utf::proofs::Decoded::gives_text))]
-fn plain(alloc: Global, bytes: &[u8]) -> Result<Units, UtfFault>
-    requires { All SpellsItself bytes.now }
-    ensures err { IfErr result (λ fault. IsUnread bytes.now fault) }
-    ensures value { GivesUnits result (decoded bytes.now) }
-{
-    match Units::from_ascii(alloc, bytes) {
-        Ok(units) => Ok(units),
-        Err(_refused) => Err(UtfFault::OutOfMemory),
+    for byte in bytes {
+        if *byte == 0 || *byte >= 0x80 {
+            return false;
+        }
+        units.push_reserved(u16::from(*byte));
     }
+    true
 }
 
 /// The text of characters that take one to three bytes each. There is room at once for as many as are there at least.

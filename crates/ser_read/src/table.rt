@@ -10,7 +10,7 @@ use ser_values::limits::{NODES, PARTS};
 use ser_values::{Node, NodeList, Place, elements_in, fits_node, is_desc, is_text};
 use std::alloc::{AllocError, Global};
 
-/// For how many nodes there is room at least when one is added: as many as most streams have.
+/// For how many nodes there is room when the first one is added: as many as most streams have.
 const ROOM: usize = 16;
 
 /// The nodes so far. One that is still being read stands there empty, and is written over when it was read.
@@ -39,6 +39,13 @@ fn has(numbers: &[u32], number: u32) -> bool
         [] => false,
         [first, rest @ ..] => *first == number || has(rest, number),
     }
+}
+
+/// For how many further nodes there is to be room behind so many: more than one is asked for at the first alone, since room doubles as it grows.
+fn room_behind(nodes: usize) -> usize
+    ensures { 1 ≤ result }
+{
+    if nodes == 0 { ROOM } else { 1 }
 }
 
 impl Table {
@@ -78,8 +85,9 @@ impl Table {
         ensures below { IfOk result (λ number. number < length self.new.nodes.items) }
     {
         let number = self.nodes.len() as u32;
-        self.elements.reserve(ROOM)?;
-        self.nodes.reserve(ROOM)?;
+        let more = room_behind(self.nodes.len());
+        self.elements.reserve(more)?;
+        self.nodes.reserve(more)?;
         self.elements.push_reserved(elements_in(&node));
         self.nodes.push_reserved(node);
         Ok(number)

@@ -3,13 +3,15 @@ ghost use Rattle.std.specs.Prelude.{◌≡◌, ◌≢◌, ◌≤◌, ◌<◌, le
 ghost use Rattle.class_desc.specs.declared.slot.Slot.TheVariants.{Null};
 ghost use Rattle.ser_values.specs.declared.node.Place.TheVariants.{Text};
 ghost use Rattle.ser_values.specs.declared.limits.TheConstants.{LEVELS, NODES};
-ghost use Rattle.ser_values.specs.Reading.{slot_at, many_at, field_at, field_of, desc_at, desc_after, proxy_at};
+ghost use Rattle.ser_values.specs.Reading.{slot_at, many_at, field_at, field_of, desc_at, proxy_at};
+ghost use Rattle.ser_read.specs.Fronts.{desc_behind};
 ghost use Rattle.ser_read.specs.Tables.{now_of};
 ghost use Rattle.ser_read.specs.Here.{ReadsTaken, StopsTaken};
 
 use crate::fault::{StreamFault, StreamKind};
+use crate::front::{DescFront, desc_front};
 use crate::pieces::{bad, blank, names};
-use crate::pulled::{byte, count, eight, field_count, short_text};
+use crate::pulled::{byte, count, short_text};
 use crate::reading::annotations::items;
 use crate::reading::slot;
 use crate::table::Table;
@@ -42,42 +44,39 @@ pub(super) fn desc<S: Source>(
     ensures stops { StopsTaken S.left S.faults pull.old pull.new result (λ end. desc_at end at (slot_at end left) table.old.unread.items (now_of table.old)) }
 {
     let name = short_text(alloc, pull)?;
-    let suid = eight(pull)?;
-    let flags = byte(pull)?;
+    let front = desc_front(pull)?;
     let number = table.begin(blank(alloc))?;
     table.open(number)?;
-    let desc = desc_after(alloc, pull, table, at, name, suid, flags, left)?;
+    let desc = desc_behind(alloc, pull, table, at, name, front, left)?;
     table.close();
     table.fill(number, Node::Desc(desc));
     Ok(Slot::Node(number))
 }
 
-/// What stands after a description's handle and flags.
+/// What stands of a description from its fields on.
 #[cycle(reading)]
-#[tactic(auto, unfolding(ser_values::specs::Reading::desc_after))]
-fn desc_after<S: Source>(
+#[tactic(auto, unfolding(crate::specs::Fronts::desc_behind))]
+fn desc_behind<S: Source>(
     alloc: Global,
     pull: &mut Pull<'_, S>,
     table: &mut Table,
     at: u64,
     name: Units,
-    suid: u64,
-    flags: u8,
+    front: DescFront,
     left: u32,
 ) -> Result<ClassDesc, StreamFault>
     requires left { left ≤ LEVELS }
     ensures lent { pull.new.source.ghost_name ≡ pull.old.source.ghost_name }
     ensures grows { length table.old.nodes.items ≤ length table.new.nodes.items }
     ensures unread { OnOk result (table.new.unread.items ≡ table.old.unread.items) }
-    ensures reads { ReadsTaken S.left S.faults pull.old pull.new result (λ end. desc_after end at (slot_at end left) table.old.unread.items name suid flags (now_of table.old)) (λ x rest. (x, now_of table.new, rest)) }
-    ensures stops { StopsTaken S.left S.faults pull.old pull.new result (λ end. desc_after end at (slot_at end left) table.old.unread.items name suid flags (now_of table.old)) }
+    ensures reads { ReadsTaken S.left S.faults pull.old pull.new result (λ end. desc_behind end at (slot_at end left) table.old.unread.items name front (now_of table.old)) (λ x rest. (x, now_of table.new, rest)) }
+    ensures stops { StopsTaken S.left S.faults pull.old pull.new result (λ end. desc_behind end at (slot_at end left) table.old.unread.items name front (now_of table.old)) }
 {
-    let n = field_count(pull)?;
-    let fields = fields(alloc, pull, table, at, n, left)?;
+    let fields = fields(alloc, pull, table, at, front.fields, left)?;
     let mut desc = ClassDesc {
         name,
-        suid: suid.cast_signed(),
-        flags,
+        suid: front.suid.cast_signed(),
+        flags: front.flags,
         fields,
         note: Items::new(alloc),
         parent: Slot::Null,

@@ -17,7 +17,7 @@ loop-left-preserved g c =
       lent = c.in_ok-piece.ensures.lent ∙ c.in_ok-present.ensures.lent ∙ c.loop-left.invariant.lent;
       leads =
           let opens = leads_more (λ end bs. behind c.loop-left.bytes (run_at end c.loop-left.left c.in_ok-present.present bs)) c.loop-left.invariant.leads c.in_ok-present.ensures.reads (λ end bs rest here h. ap (behind c.loop-left.bytes) (run_opens end c.loop-left.left c.loop-left.block bs c.in_ok-present.present rest c.loop-left-test.true h)) (λ end bs here is. run_unopened c.loop-left.bytes end c.loop-left.left c.loop-left.block bs (inside short) c.loop-left-test.true is) in
-          leads_more _ opens c.in_ok-piece.ensures.reads (λ end bs rest here h. rw (c.in_ok-append.ensures.ok, c.as_slice.ensures)
+          leads_more _ opens c.in_ok-piece.ensures.reads (λ end bs rest here h. rw c.in_ok-add_piece.ensures
           (piece_next c.loop-left.bytes end c.min-more.result c.loop-left.left c.in_ok-present.present bs c.in_ok-piece.piece rest (omega (arith, c.min-more.ensures)) (omega (arith, c.min-more.ensures)) (rw c.from.ensures at h)))
           (λ end bs here is. piece_err c.loop-left.bytes end c.min-more.result c.loop-left.left c.in_ok-present.present bs short (omega (arith, c.min-more.ensures)) (omega (arith, c.min-more.ensures)) (rw c.from.ensures at is));
     }
@@ -36,8 +36,8 @@ returns-in_err-piece-clause-stops g c =
     want_raised c.from_residual-in_err-piece.result c.from_residual-in_err-piece.ensures.1 (inside_loop_stops more
     (λ end bs f here is. piece_err c.loop-left.bytes end c.min-more.result c.loop-left.left c.in_ok-present.present bs f (omega (arith, c.min-more.ensures)) (omega (arith, c.min-more.ensures)) is) (rw c.from.ensures at c.in_err-piece.ensures.stops))
 
-pub returns-in_err-append-clause-stops : goal.returns-in_err-append-clause-stops
-returns-in_err-append-clause-stops g c =
+pub returns-in_err-add_piece-clause-stops : goal.returns-in_err-add_piece-clause-stops
+returns-in_err-add_piece-clause-stops g c =
     let more = leads_more (λ end bs. behind c.loop-left.bytes (run_at end c.loop-left.left c.in_ok-present.present bs)) c.loop-left.invariant.leads c.in_ok-present.ensures.reads (λ end bs rest here h. ap (behind c.loop-left.bytes) (run_opens end c.loop-left.left c.loop-left.block bs c.in_ok-present.present rest c.loop-left-test.true h)) (λ end bs here is. run_unopened c.loop-left.bytes end c.loop-left.left c.loop-left.block bs (inside short) c.loop-left-test.true is) in
-    want_raised c.from_residual-in_err-append.result c.from_residual-in_err-append.ensures.1 (inside_loop_stops more
+    want_raised c.from_residual-in_err-add_piece.result c.from_residual-in_err-add_piece.ensures.1 (inside_loop_stops more
     (λ end bs f here is. piece_err c.loop-left.bytes end c.min-more.result c.loop-left.left c.in_ok-present.present bs f (omega (arith, c.min-more.ensures)) (omega (arith, c.min-more.ensures)) is) (took (rw c.from.ensures at c.in_ok-piece.ensures.reads)))

@@ -2,7 +2,7 @@ use Rattle.std.proofs.Common.{◌≡◌, Err, ◌-◌, ◌∙◌, FitsSigned, �
 use Rattle.std.proofs.lemmas.Bool.{ne_eqb}
 use Rattle.class_desc.specs.declared.slot.Slot.TheVariants as slots
 use Rattle.ser_values.specs.declared.node.Place.TheVariants.{Reference, Text}
-use Rattle.ser_values.specs.Reading.{Kind, short, bad, enum_at, fresh_at, note_at, slot_at, coded, field_at, field_of, value_at, Progress, push, fill, blank, desc_at, desc_after, proxy_at, array_of, array_at, type_in}
+use Rattle.ser_values.specs.Reading.{Kind, short, bad, enum_at, fresh_at, note_at, slot_at, coded, field_at, field_of, value_at, Progress, push, fill, blank, proxy_at, array_of, array_at, type_in}
 use Rattle.ser_read.specs.Rows.{part_by, values_by, parts_by}
 use Rattle.ser_read.specs.Tables.{now_of}
 use Rattle.ser_read.specs.Here.{kind_of}
@@ -12,6 +12,8 @@ use Rattle.ser_read.proofs.Breaking.{raised, first, later, later_last, breaks_sa
 use Rattle.ser_read.proofs.Stopping.{many_err, all_err, all_err_item, slack_stops, item_other, value_refs, elements_refs}
 use Rattle.ser_read.specs.declared.fault.StreamKind.TheVariants.{BadDesc, BadCode}
 use Rattle.ser_read.specs.Named.{class_named}
+use Rattle.ser_read.specs.Fronts.{desc_behind}
+use Rattle.ser_read.proofs.Fronts.{desc_is}
 use Rattle.ser_read.proofs.Loop.{many_start, many_next, many_end, all_start, all_next, all_end, all_next_item}
 use Rattle.ser_read.proofs.Blocks.{slack_start, slack_more, slack_end, slack_leads, code_err}
 use Rattle.ser_read.proofs.Parts.{with_class_is, object_is, object_here, object_bad}
@@ -43,8 +45,7 @@ pub coded-returns-then-code-eq112-clause-reads : goal.coded-returns-then-code-eq
 coded-returns-then-code-eq112-clause-reads g t c = null_reads _ c.args.left (λ end. slot_at end (c.args.left - 1)) c.args.place c.args.table.now.unread.items c.args.at c.args.code (now_of c.args.table.now) c.null.result c.if-code-eq112.true c.null.ensures.gives
 
 pub descriptions::desc-returns-clause-reads : goal.descriptions::desc-returns-clause-reads
-unfolding desc_at
-descriptions::desc-returns-clause-reads g t c = then _ c.in_ok-name.ensures.reads (then _ c.in_ok-suid.ensures.reads (then _ c.in_ok-flags.ensures.reads
+descriptions::desc-returns-clause-reads g t c = said (λ end bs here. desc_is end c.args.at (slot_at end c.args.left) c.args.table.now.unread.items (now_of c.args.table.now) bs) (then _ c.in_ok-name.ensures.reads (then _ c.in_ok-front.ensures.reads
     (then _ (rw (c.in_ok-open.ensures.unread, c.begin.ensures.unread, c.open.ensures.now, c.in_ok-number.ensures.now, c.blank.ensures, c.in_ok-number.ensures.number) at c.in_ok-desc.ensures.reads)
     (done (λ end bs. made _ _ _ _ _ bs _ refl c.in_ok-number.ensures.number (c.fill.ensures.now ∙ ap (λ (n : Progress). fill n c.in_ok-number.number (nodes.Desc c.in_ok-desc.desc)) c.close.ensures.now))))))
 
@@ -55,13 +56,13 @@ descriptions::proxy-returns-clause-reads g t c = then _ c.in_ok-n.ensures.reads 
     (then _ (rw (c.in_ok-note.ensures.unread, c.in_ok-open.ensures.unread, c.begin.ensures.unread, c.in_ok-number.ensures.number) at c.in_ok-parent.ensures.reads)
     (done (λ end bs. made _ _ _ _ _ bs _ refl c.in_ok-number.ensures.number (c.fill.ensures.now ∙ ap (λ (n : Progress). fill n c.in_ok-number.number (nodes.Proxy (record { names = c.in_ok-names.names; note = c.in_ok-note.note; parent = c.in_ok-parent.parent }))) c.close.ensures.now))))))
 
-pub descriptions::desc_after-returns-clause-reads : goal.descriptions::desc_after-returns-clause-reads
-unfolding desc_after
-descriptions::desc_after-returns-clause-reads g t c =
-    let good : is_good_desc (record { name = c.args.name; suid = cast_signed w64 c.args.suid; flags = c.args.flags; fields = c.in_ok-fields.fields; note = []; parent = slots.Null }) ≡ true = search rules in
+pub descriptions::desc_behind-returns-clause-reads : goal.descriptions::desc_behind-returns-clause-reads
+unfolding desc_behind
+descriptions::desc_behind-returns-clause-reads g t c =
+    let good : is_good_desc (record { name = c.args.name; suid = cast_signed w64 c.args.front.suid; flags = c.args.front.flags; fields = c.in_ok-fields.fields; note = []; parent = slots.Null }) ≡ true = search rules in
     let fits : FitsSigned w64 c.cast_signed.result = search rules in
-    rw (to_z-of_z w64 c.cast_signed.result fits, c.cast_signed.ensures) (then _ c.in_ok-n.ensures.reads (then _ c.in_ok-fields.ensures.reads (when _ good (then _ (rw c.in_ok-fields.ensures.unread at c.in_ok-desc.ensures.reads)
-    (then _ (rw (c.in_ok-desc.ensures.unread, c.in_ok-fields.ensures.unread) at c.in_ok-desc-2.ensures.reads) (done (λ end bs. refl)))))))
+    rw (to_z-of_z w64 c.cast_signed.result fits, c.cast_signed.ensures) (then _ c.in_ok-fields.ensures.reads (when _ good (then _ (rw c.in_ok-fields.ensures.unread at c.in_ok-desc.ensures.reads)
+    (then _ (rw (c.in_ok-desc.ensures.unread, c.in_ok-fields.ensures.unread) at c.in_ok-desc-2.ensures.reads) (done (λ end bs. refl))))))
 
 pub arrays::elements-returns-then-is_primitive-clause-reads : goal.arrays::elements-returns-then-is_primitive-clause-reads
 arrays::elements-returns-then-is_primitive-clause-reads g t c = said_last _ _ _ c.primitives.result (λ end bs here. elements_any c.args.code c.args.n (slot_at end c.args.left Reference c.args.table.now.unread.items) (slot_at 0 c.args.left Reference c.args.table.now.unread.items) (now_of c.args.table.now) bs (sym c.is_primitive.ensures ∙ c.if-is_primitive.true)) (c.primitives.ensures.reads (slot_at 0 c.args.left Reference c.args.table.now.unread.items) (now_of c.args.table.now))
@@ -198,28 +199,19 @@ pub coded-returns-then-code-eq112-clause-stops : goal.coded-returns-then-code-eq
 coded-returns-then-code-eq112-clause-stops g t c = null_stops _ c.args.left (λ end. slot_at end (c.args.left - 1)) c.args.place c.args.table.now.unread.items c.args.at c.args.code (now_of c.args.table.now) c.null.result c.if-code-eq112.true c.null.ensures.gives c.null.ensures.cause
 
 pub descriptions::desc-returns-in_err-name-clause-stops : goal.descriptions::desc-returns-in_err-name-clause-stops
-unfolding desc_at
-descriptions::desc-returns-in_err-name-clause-stops g t c = raised c.from_residual.result c.from_residual.ensures.1 (first _ c.in_err-name.ensures.stops)
+descriptions::desc-returns-in_err-name-clause-stops g t c = raised c.from_residual.result c.from_residual.ensures.1 (breaks_said (λ end bs here. desc_is end c.args.at (slot_at end c.args.left) c.args.table.now.unread.items (now_of c.args.table.now) bs) (first _ c.in_err-name.ensures.stops))
 
-pub descriptions::desc-returns-in_err-suid-clause-stops : goal.descriptions::desc-returns-in_err-suid-clause-stops
-unfolding desc_at
-descriptions::desc-returns-in_err-suid-clause-stops g t c = raised c.from_residual-in_err-suid.result c.from_residual-in_err-suid.ensures.1 (later _ c.in_ok-name.ensures.reads (first _ c.in_err-suid.ensures.stops))
-
-pub descriptions::desc-returns-in_err-flags-clause-stops : goal.descriptions::desc-returns-in_err-flags-clause-stops
-unfolding desc_at
-descriptions::desc-returns-in_err-flags-clause-stops g t c = raised c.from_residual-in_err-flags.result c.from_residual-in_err-flags.ensures.1 (later _ c.in_ok-name.ensures.reads (later _ c.in_ok-suid.ensures.reads (first _ c.in_err-flags.ensures.stops)))
+pub descriptions::desc-returns-in_err-front-clause-stops : goal.descriptions::desc-returns-in_err-front-clause-stops
+descriptions::desc-returns-in_err-front-clause-stops g t c = raised c.from_residual-in_err-front.result c.from_residual-in_err-front.ensures.1 (breaks_said (λ end bs here. desc_is end c.args.at (slot_at end c.args.left) c.args.table.now.unread.items (now_of c.args.table.now) bs) (later _ c.in_ok-name.ensures.reads (first _ c.in_err-front.ensures.stops)))
 
 pub descriptions::desc-returns-in_err-number-clause-stops : goal.descriptions::desc-returns-in_err-number-clause-stops
-unfolding desc_at
-descriptions::desc-returns-in_err-number-clause-stops g t c = raised c.from_residual-in_err-number.result c.from_residual-in_err-number.ensures.1 (later _ c.in_ok-name.ensures.reads (later _ c.in_ok-suid.ensures.reads (first _ (took c.in_ok-flags.ensures.reads))))
+descriptions::desc-returns-in_err-number-clause-stops g t c = raised c.from_residual-in_err-number.result c.from_residual-in_err-number.ensures.1 (breaks_said (λ end bs here. desc_is end c.args.at (slot_at end c.args.left) c.args.table.now.unread.items (now_of c.args.table.now) bs) (later _ c.in_ok-name.ensures.reads (first _ (took c.in_ok-front.ensures.reads))))
 
 pub descriptions::desc-returns-in_err-open-clause-stops : goal.descriptions::desc-returns-in_err-open-clause-stops
-unfolding desc_at
-descriptions::desc-returns-in_err-open-clause-stops g t c = raised c.from_residual-in_err-open.result c.from_residual-in_err-open.ensures.1 (later _ c.in_ok-name.ensures.reads (later _ c.in_ok-suid.ensures.reads (first _ (took c.in_ok-flags.ensures.reads))))
+descriptions::desc-returns-in_err-open-clause-stops g t c = raised c.from_residual-in_err-open.result c.from_residual-in_err-open.ensures.1 (breaks_said (λ end bs here. desc_is end c.args.at (slot_at end c.args.left) c.args.table.now.unread.items (now_of c.args.table.now) bs) (later _ c.in_ok-name.ensures.reads (first _ (took c.in_ok-front.ensures.reads))))
 
 pub descriptions::desc-returns-in_err-desc-clause-stops : goal.descriptions::desc-returns-in_err-desc-clause-stops
-unfolding desc_at
-descriptions::desc-returns-in_err-desc-clause-stops g t c = raised c.from_residual-in_err-desc.result c.from_residual-in_err-desc.ensures.1 (later _ c.in_ok-name.ensures.reads (later _ c.in_ok-suid.ensures.reads (later _ c.in_ok-flags.ensures.reads (first _ (rw (c.in_ok-open.ensures.unread, c.begin.ensures.unread, c.open.ensures.now, c.in_ok-number.ensures.now, c.blank.ensures, c.in_ok-number.ensures.number) at c.in_err-desc.ensures.stops)))))
+descriptions::desc-returns-in_err-desc-clause-stops g t c = raised c.from_residual-in_err-desc.result c.from_residual-in_err-desc.ensures.1 (breaks_said (λ end bs here. desc_is end c.args.at (slot_at end c.args.left) c.args.table.now.unread.items (now_of c.args.table.now) bs) (later _ c.in_ok-name.ensures.reads (later _ c.in_ok-front.ensures.reads (first _ (rw (c.in_ok-open.ensures.unread, c.begin.ensures.unread, c.open.ensures.now, c.in_ok-number.ensures.now, c.blank.ensures, c.in_ok-number.ensures.number) at c.in_err-desc.ensures.stops)))))
 
 pub descriptions::proxy-returns-in_err-n-clause-stops : goal.descriptions::proxy-returns-in_err-n-clause-stops
 unfolding proxy_at
@@ -245,31 +237,27 @@ pub descriptions::proxy-returns-in_err-parent-clause-stops : goal.descriptions::
 unfolding proxy_at
 descriptions::proxy-returns-in_err-parent-clause-stops g t c = raised c.from_residual-in_err-parent.result c.from_residual-in_err-parent.ensures.1 (later _ c.in_ok-n.ensures.reads (later _ (c.in_ok-names.ensures.reads (push (now_of c.args.table.now) (nodes.Desc blank))) (later _ (rw (c.in_ok-open.ensures.unread, c.begin.ensures.unread, c.open.ensures.now, c.in_ok-number.ensures.now, c.blank.ensures, c.in_ok-number.ensures.number) at c.in_ok-note.ensures.reads) (first _ (rw (c.in_ok-note.ensures.unread, c.in_ok-open.ensures.unread, c.begin.ensures.unread, c.in_ok-number.ensures.number) at c.in_err-parent.ensures.stops)))))
 
-pub descriptions::desc_after-returns-in_err-n-clause-stops : goal.descriptions::desc_after-returns-in_err-n-clause-stops
-unfolding desc_after
-descriptions::desc_after-returns-in_err-n-clause-stops g t c = raised c.from_residual.result c.from_residual.ensures.1 (first _ c.in_err-n.ensures.stops)
+pub descriptions::desc_behind-returns-in_err-fields-clause-stops : goal.descriptions::desc_behind-returns-in_err-fields-clause-stops
+unfolding desc_behind
+descriptions::desc_behind-returns-in_err-fields-clause-stops g t c = raised c.from_residual.result c.from_residual.ensures.1 (first _ c.in_err-fields.ensures.stops)
 
-pub descriptions::desc_after-returns-in_err-fields-clause-stops : goal.descriptions::desc_after-returns-in_err-fields-clause-stops
-unfolding desc_after
-descriptions::desc_after-returns-in_err-fields-clause-stops g t c = raised c.from_residual-in_err-fields.result c.from_residual-in_err-fields.ensures.1 (later _ c.in_ok-n.ensures.reads (first _ c.in_err-fields.ensures.stops))
+pub descriptions::desc_behind-returns-in_err-desc-clause-stops : goal.descriptions::desc_behind-returns-in_err-desc-clause-stops
+unfolding desc_behind
+descriptions::desc_behind-returns-in_err-desc-clause-stops g t c =
+    let good : is_good_desc (record { name = c.args.name; suid = cast_signed w64 c.args.front.suid; flags = c.args.front.flags; fields = c.in_ok-fields.fields; note = []; parent = slots.Null }) ≡ true = search rules in
+    raised c.from_residual-in_err-desc.result c.from_residual-in_err-desc.ensures.1 (later _ c.in_ok-fields.ensures.reads (stops_when _ good (first _ (rw c.in_ok-fields.ensures.unread at c.in_err-desc.ensures.stops))))
 
-pub descriptions::desc_after-returns-in_err-desc-clause-stops : goal.descriptions::desc_after-returns-in_err-desc-clause-stops
-unfolding desc_after
-descriptions::desc_after-returns-in_err-desc-clause-stops g t c =
-    let good : is_good_desc (record { name = c.args.name; suid = cast_signed w64 c.args.suid; flags = c.args.flags; fields = c.in_ok-fields.fields; note = []; parent = slots.Null }) ≡ true = search rules in
-    raised c.from_residual-in_err-desc.result c.from_residual-in_err-desc.ensures.1 (later _ c.in_ok-n.ensures.reads (later _ c.in_ok-fields.ensures.reads (stops_when _ good (first _ (rw c.in_ok-fields.ensures.unread at c.in_err-desc.ensures.stops)))))
+pub descriptions::desc_behind-returns-in_err-desc-2-clause-stops : goal.descriptions::desc_behind-returns-in_err-desc-2-clause-stops
+unfolding desc_behind
+descriptions::desc_behind-returns-in_err-desc-2-clause-stops g t c =
+    let good : is_good_desc (record { name = c.args.name; suid = cast_signed w64 c.args.front.suid; flags = c.args.front.flags; fields = c.in_ok-fields.fields; note = []; parent = slots.Null }) ≡ true = search rules in
+    raised c.from_residual-in_err-desc-2.result c.from_residual-in_err-desc-2.ensures.1 (later _ c.in_ok-fields.ensures.reads (stops_when _ good (later _ (rw c.in_ok-fields.ensures.unread at c.in_ok-desc.ensures.reads) (first _ (rw (c.in_ok-desc.ensures.unread, c.in_ok-fields.ensures.unread) at c.in_err-desc-2.ensures.stops)))))
 
-pub descriptions::desc_after-returns-in_err-desc-2-clause-stops : goal.descriptions::desc_after-returns-in_err-desc-2-clause-stops
-unfolding desc_after
-descriptions::desc_after-returns-in_err-desc-2-clause-stops g t c =
-    let good : is_good_desc (record { name = c.args.name; suid = cast_signed w64 c.args.suid; flags = c.args.flags; fields = c.in_ok-fields.fields; note = []; parent = slots.Null }) ≡ true = search rules in
-    raised c.from_residual-in_err-desc-2.result c.from_residual-in_err-desc-2.ensures.1 (later _ c.in_ok-n.ensures.reads (later _ c.in_ok-fields.ensures.reads (stops_when _ good (later _ (rw c.in_ok-fields.ensures.unread at c.in_ok-desc.ensures.reads) (first _ (rw (c.in_ok-desc.ensures.unread, c.in_ok-fields.ensures.unread) at c.in_err-desc-2.ensures.stops))))))
-
-pub descriptions::desc_after-returns-then-is_err-clause-stops : goal.descriptions::desc_after-returns-then-is_err-clause-stops
-unfolding desc_after
-descriptions::desc_after-returns-then-is_err-clause-stops g t c =
-    let poor : is_good_desc (record { name = c.args.name; suid = cast_signed w64 c.args.suid; flags = c.args.flags; fields = c.in_ok-fields.fields; note = []; parent = slots.Null }) ≡ false = search rules in
-    rw c.bad.ensures (later _ c.in_ok-n.ensures.reads (later _ c.in_ok-fields.ensures.reads (stops_otherwise _ poor (bad_here BadDesc c.args.at tt (λ end bs here. refl)))))
+pub descriptions::desc_behind-returns-then-is_err-clause-stops : goal.descriptions::desc_behind-returns-then-is_err-clause-stops
+unfolding desc_behind
+descriptions::desc_behind-returns-then-is_err-clause-stops g t c =
+    let poor : is_good_desc (record { name = c.args.name; suid = cast_signed w64 c.args.front.suid; flags = c.args.front.flags; fields = c.in_ok-fields.fields; note = []; parent = slots.Null }) ≡ false = search rules in
+    rw c.bad.ensures (later _ c.in_ok-fields.ensures.reads (stops_otherwise _ poor (bad_here BadDesc c.args.at tt (λ end bs here. refl))))
 
 pub class-returns-in_err-slot-clause-stops : goal.class-returns-in_err-slot-clause-stops
 unfolding class_named

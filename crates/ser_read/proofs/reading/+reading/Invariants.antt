@@ -68,8 +68,8 @@ decreases-arrays::array_of g l = 16 * l.left + 4
 abbrev pub decreases-arrays::array_in : goal.decreases-arrays::array_in
 decreases-arrays::array_in g l = 16 * l.left + 5
 
-abbrev pub decreases-descriptions::desc_after : goal.decreases-descriptions::desc_after
-decreases-descriptions::desc_after g l = 16 * l.left + 5
+abbrev pub decreases-descriptions::desc_behind : goal.decreases-descriptions::desc_behind
+decreases-descriptions::desc_behind g l = 16 * l.left + 5
 
 abbrev pub decreases-objects::object_after : goal.decreases-objects::object_after
 decreases-objects::object_after g l = 16 * l.left + 7
