@@ -1,6 +1,7 @@
 -- The bytes that are put together of leases and of references are those that are written of their graphs.
-use Rattle.std.proofs.Common.{◌≡◌, ◌≢◌, ℕ, ℤ, Bool, true, false, List, [], ◌∷◌, ◌++◌, length, map, sym, ap, ◌∙◌, append_assoc, if◌then◌else◌}
-use Rattle.std.proofs.lemmas.List.{append-nil}
+use Rattle.std.proofs.Common.{◌≡◌, ◌≢◌, ◌<◌, ◌+◌, ℕ, ℤ, Bool, true, false, List, [], ◌∷◌, ◌++◌, length, map, take, get_or, sym, ap, ◌∙◌, append_assoc, if◌then◌else◌}
+use Rattle.std.proofs.lemmas.List.{append-nil, take_more, flat_map_more}
+use Rattle.mod_utf.specs.Utf.{unit_bytes, utf}
 use Rattle.std.specs.Int.{w32, w64, to_be_bytes}
 use Rattle.std.specs.Prelude.{codes}
 use Rattle.class_desc.specs.declared.slot.Slot.{Slot}
@@ -124,3 +125,11 @@ two_names interface is = two_tested (same_text interface (codes "java.rmi.Remote
 -- bytes are put, and then others
 pub both_put : (old first second both new : List ℕ) → new ≡ (old ++ first) ++ second → first ++ second ≡ both → new ≡ old ++ both
 both_put old first second both new put is = put ∙ append_assoc old first second ∙ ap (λ (l : List ℕ). old ++ l) is
+
+-- ---- texts
+
+-- One more unit was spelled, by one byte.
+pub one_spelled : (units out now : List ℕ) (i byte : ℕ) → i < length units → out ≡ utf (take i units) → unit_bytes (get_or units i 0) ≡ byte ∷ [] → now ≡ out ++ byte ∷ [] → now ≡ utf (take (i + 1) units)
+one_spelled units out now i byte inside is one put =
+    let front : take (i + 1) units ≡ take i units ++ get_or units i 0 ∷ [] = take_more units i 0 inside in
+    put ∙ ap (λ (xs : List ℕ). out ++ xs) (sym one) ∙ ap (λ (xs : List ℕ). xs ++ unit_bytes (get_or units i 0)) is ∙ flat_map_more unit_bytes [] (take i units) (get_or units i 0) ∙ ap utf (sym front)

@@ -1,5 +1,6 @@
 -- What calls of the registry and the collector ask for.
-use Rattle.std.proofs.Common.{◌≡◌, ℕ, ℤ, Bool, List, [], Option, None, Some, Result, Ok, Err, refl, ap, sym, subst, ◌∙◌}
+use Rattle.std.proofs.Common.{◌≡◌, ℕ, ℤ, Bool, true, false, true≢false, List, [], Option, None, Some, Result, Ok, Err, refl, ap, sym, subst, ◌∙◌}
+use Rattle.std.specs.Prelude.{is_none}
 use Rattle.object_ids.specs.declared.ids.ObjId.{ObjId}
 use Rattle.object_ids.specs.declared.ids.Uid.{Uid}
 use Rattle.object_ids.specs.Client.{Client}
@@ -7,6 +8,7 @@ use Rattle.method_hash.specs.declared.system.RegistryMethod.TheVariants as regis
 use Rattle.method_hash.specs.declared.system.CollectorMethod.TheVariants as collector
 use Rattle.history.specs.declared.asks.Ask.{Ask}
 use Rattle.history.specs.declared.asks.Ask.TheVariants.{Dirty, Clean, Bind, Rebind, Unbind, Lookup, List as ListNames}
+use Rattle.java_shapes.specs.Ids.{is_nameless}
 use Rattle.java_shapes.specs.declared.lease_views.LeaseView.{LeaseView}
 use Rattle.java_shapes.specs.declared.ref_views.LiveRef.{LiveRef}
 use Rattle.jrmp_frames.specs.declared.arguments.Arguments.{Arguments}
@@ -17,7 +19,7 @@ use Rattle.call_dispatch.specs.declared.demand.Demand.TheVariants.{Barred, Asks}
 use Rattle.call_dispatch.specs.declared.setup.Setup.{Setup}
 use Rattle.call_dispatch.specs.declared.system.SystemMethod.{SystemMethod}
 use Rattle.call_dispatch.specs.declared.system.SystemMethod.TheVariants.{Registry, Collector}
-use Rattle.call_dispatch.specs.Demands.{text_in, live_ref_in, objids_in, number_in, vmid_in, truth_in, lease_in, sought, unbound, bound, client_or, bind_of, rebind_of, unbind_of, lookup_of, clean_of, dirty_of, demand_of, kept_of, IsDemand}
+use Rattle.call_dispatch.specs.Demands.{unnamed, unnamed_of, text_in, live_ref_in, objids_in, number_in, vmid_in, truth_in, lease_in, sought, unbound, bound, client_or, bind_of, rebind_of, unbind_of, lookup_of, clean_of, dirty_of, demand_of, kept_of, IsDemand}
 use Rattle.call_dispatch.specs.ServingSystem.{IsQuiet}
 use Rattle.call_dispatch.specs.Terms.{Terms, terms_of}
 
@@ -122,3 +124,32 @@ pub demand_is : (kinds : List Kind) (setup setup2 : Setup) (method : SystemMetho
 demand_is kinds setup setup2 method arguments client client2 uid r terms clients e =
     ap (λ t. demand_of t method arguments client2 uid) (sym terms) ∙ sym (demand_kinds kinds setup2 method arguments client2 uid)
     ∙ ap (λ c. demand_of (terms_of [] setup2) method arguments c uid) (sym clients) ∙ e
+
+-- ---- how many identifiers are drawn
+
+named_client : (client : Option Client) (objects : Option (List ObjId)) → is_none client ≡ false → unnamed_of client objects ≡ 0
+named_client None objects e = absurd (true≢false e)
+named_client (Some client) objects e = refl
+
+nameless_client : (client : Option Client) (objects : List ObjId) → is_none client ≡ true → unnamed_of client (Some objects) ≡ 1
+nameless_client None objects e = refl
+nameless_client (Some client) objects e = absurd (true≢false (sym e))
+
+-- none for a lease that names a client
+pub named_draws : (number : ℤ) (lease : Option LeaseView) (objects : Option (List ObjId)) → is_nameless lease ≡ false → unnamed (Some number) lease objects ≡ 0
+named_draws number None objects e = refl
+named_draws number (Some lease) objects e = named_client lease.vmid objects e
+
+-- one for a lease that names none
+pub nameless_draws : (number : ℤ) (lease : Option LeaseView) (objects : List ObjId) → is_nameless lease ≡ true → unnamed (Some number) lease (Some objects) ≡ 1
+nameless_draws number None objects e = absurd (true≢false (sym e))
+nameless_draws number (Some lease) objects e = nameless_client lease.vmid objects e
+
+-- none where there is no list of objects
+without_objects : (client : Option Client) → unnamed_of client None ≡ 0
+without_objects None = refl
+without_objects (Some client) = refl
+
+pub no_objects : (number : ℤ) (lease : Option LeaseView) → unnamed (Some number) lease None ≡ 0
+no_objects number None = refl
+no_objects number (Some lease) = without_objects lease.vmid

@@ -32,7 +32,8 @@ use Rattle.call_dispatch.specs.declared.demand.Bar.TheVariants as bars
 use Rattle.call_dispatch.specs.declared.system.SystemMethod.TheVariants.{Registry, Collector}
 use Rattle.call_dispatch.specs.Demands.{demand_of, client_draws}
 use Rattle.call_dispatch.specs.Returns.{fault_return, no_object, wrong_outcome}
-use Rattle.call_dispatch.specs.SystemReturns.{answer_written, void_return, graph_return}
+use Rattle.call_dispatch.specs.Results.{graph_return}
+use Rattle.call_dispatch.specs.SystemReturns.{answer_written, void_return}
 use Rattle.call_dispatch.specs.Terms.{Terms}
 
 -- ---- Returns

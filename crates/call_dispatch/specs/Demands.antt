@@ -15,7 +15,7 @@ use Rattle.java_shapes.specs.declared.fault.ShapeFault.{ShapeFault}
 use Rattle.java_shapes.specs.declared.fault.ShapeFault.TheVariants.{WrongShape, OutOfMemory}
 use Rattle.java_shapes.specs.declared.lease_views.LeaseView.{LeaseView}
 use Rattle.java_shapes.specs.declared.ref_views.LiveRef.{LiveRef}
-use Rattle.java_shapes.specs.Ids.{objids_at, lease_at, vmid_at}
+use Rattle.java_shapes.specs.Ids.{is_nameless, objids_at, lease_at, vmid_at}
 use Rattle.java_shapes.specs.LiveRefs.{live_ref_at}
 use Rattle.java_shapes.specs.LocalRefs.{is_local}
 use Rattle.java_shapes.specs.Objects.{text_at, ◌>>=◌}
@@ -223,6 +223,12 @@ abbrev pub FindsDemand : Result Demand Stop → Result Ask Bar → Type 0
 FindsDemand (Ok demand) shown = IsDemand shown demand
 FindsDemand (Err (stops.Barred bar)) shown = shown ≡ Err bar
 FindsDemand (Err stops.OutOfMemory) shown = Unit {0}
+
+-- whether a lease names no client; an argument that is no reference is no lease
+abbrev pub TellsNameless : Result Bool Stop → Option LeaseView → Type 0
+TellsNameless (Ok nameless) shown = nameless ≡ is_nameless shown
+TellsNameless (Err (stops.Barred bar)) shown = (shown ≡ None) × (bar ≡ WrongArgument)
+TellsNameless (Err stops.OutOfMemory) shown = Unit {0}
 
 -- that a lease names no client
 abbrev pub FindsNone : Result Bool Stop → ℕ → Type 0

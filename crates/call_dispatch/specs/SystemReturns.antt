@@ -1,9 +1,5 @@
 -- What calls of the registry and the collector are answered (Java RMI Specification, 6.1 and 9.1): the bytes of their Returns.
 use Rattle.std.specs.Prelude.{ℕ, pos, true, codes, List, ◌∷◌, ◌++◌, [], Option, None, Some, Result, Ok, Err, slice_get}
-use Rattle.class_desc.specs.declared.slot.Item.{Item}
-use Rattle.ser_values.specs.declared.node.Node.{Node}
-use Rattle.ser_values.specs.Spelled.{put_block}
-use Rattle.ser_write.specs.Canonical.{contents}
 use Rattle.object_ids.specs.declared.ids.ObjId.{ObjId}
 use Rattle.object_ids.specs.declared.ids.Uid.{Uid}
 use Rattle.history.specs.declared.asks.Ask.{Ask}
@@ -11,16 +7,15 @@ use Rattle.history.specs.declared.replies.Reply.{Reply}
 use Rattle.history.specs.declared.replies.Reply.TheVariants.{NoObject, Granted, Done, Bound, AlreadyBound, Unbound, NotBound, Found, Names}
 use Rattle.history.specs.declared.replies.Turn.{Turn}
 use Rattle.history.specs.declared.replies.Refused.{Refused}
-use Rattle.java_shapes.specs.declared.ref_views.LiveRef.{LiveRef}
 use Rattle.java_shapes.specs.LeaseGraph.{lease_nodes, lease_items}
-use Rattle.java_shapes.specs.RefGraph.{ref_nodes, ref_items}
 use Rattle.java_shapes.specs.TextsGraph.{texts_nodes, texts_items}
 use Rattle.jrmp_frames.specs.declared.message.Body.TheVariants as bodies
-use Rattle.jrmp_frames.specs.Messages.{return_front, return_message}
+use Rattle.jrmp_frames.specs.Messages.{return_message}
 use Rattle.call_dispatch.specs.declared.book.Kind.{Kind}
 use Rattle.call_dispatch.specs.declared.demand.Kept.{Kept}
 use Rattle.call_dispatch.specs.declared.demand.Kept.TheVariants as kept
 use Rattle.call_dispatch.specs.Demands.{kept_of}
+use Rattle.call_dispatch.specs.Results.{graph_return, own_return}
 use Rattle.call_dispatch.specs.Returns.{fault_return, full, no_object, wrong_outcome}
 use Rattle.call_dispatch.specs.Terms.{Terms}
 
@@ -42,18 +37,10 @@ not_bound = codes "java.rmi.NotBoundException: "
 unfoldable pub void_return : Uid → List ℕ
 void_return uid = return_message true uid bodies.Void
 
--- the normal Return of a graph with these nodes and items
-unfoldable pub graph_return : Uid → List Node → List Item → List ℕ
-graph_return uid nodes items = 0x51 ∷ 0xAC ∷ 0xED ∷ 0x00 ∷ 0x05 ∷ contents nodes (put_block (return_front true uid) items)
-
--- the reference to an object of the server, in a result
-abbrev pub own_ref : Terms → ObjId → LiveRef
-own_ref terms object = record { host = terms.host; port = terms.port; id = object; result = true }
-
 -- A lookup found an object of this kind: its reference has the kind's interface.
 abbrev pub found_return : Terms → Uid → ObjId → Option Kind → List ℕ
 found_return terms uid object None = fault_return uid wrong_outcome
-found_return terms uid object (Some kind) = graph_return uid (ref_nodes kind.interface (own_ref terms object)) ref_items
+found_return terms uid object (Some kind) = own_return terms uid kind.interface object
 
 -- what is kept of the ask, in the Return of a lease, and in those that tell of a name
 abbrev pub lease_return : Uid → ℕ → Kept → List ℕ

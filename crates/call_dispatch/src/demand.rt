@@ -1,7 +1,7 @@
 //! What a call of the registry or the collector asks for.
 ghost use Rattle.std.specs.Prelude.{◌≡◌, [], IfOk, if◌then◌else◌};
 ghost use Rattle.history.specs.declared.asks.Ask.{Ask as Asked};
-ghost use Rattle.call_dispatch.specs.Demands.{Finds, FindsArgument, FindsDemand, FindsNone, IsDemand, bar_message, bind_of, bound, changed, clean_of, client_draws, client_or, collector_demand, demand_of, dirty_of, lease_in, live_ref_in, lookup_of, number_in, objids_in, own_object, rebind_of, reference_in, registry_demand, short_name, sought, text_in, truth_in, unbind_of, unbound, unnamed, vmid_in};
+ghost use Rattle.call_dispatch.specs.Demands.{Finds, FindsArgument, FindsDemand, FindsNone, IsDemand, bar_message, bind_of, bound, changed, clean_of, client_draws, client_or, collector_demand, demand_of, dirty_of, lease_in, live_ref_in, lookup_of, number_in, objids_in, own_object, rebind_of, reference_in, registry_demand, short_name, sought, text_in, truth_in, TellsNameless, unbind_of, unbound, unnamed, vmid_in};
 ghost use Rattle.call_dispatch.specs.Terms.{terms_of};
 
 use crate::setup::Setup;
@@ -10,6 +10,7 @@ use class_desc::Slot;
 use history::{Ask, Name};
 use java_shapes::{
     LeaseView, LiveRef, ShapeFault, as_lease, as_live_ref, as_objids, as_text, as_vmid, is_local,
+    is_nameless_lease,
 };
 use jrmp_frames::{Arg, Arguments};
 use method_hash::{CollectorMethod, RegistryMethod};
@@ -32,7 +33,6 @@ pub enum Bar {
 }
 
 /// What is kept of what is asked, for the Return.
-#[derive(Drop)]
 pub enum Kept {
     /// Nothing.
     Nothing,
@@ -40,6 +40,17 @@ pub enum Kept {
     Client(Vmid),
     /// The name to bind, unbind or look up.
     Name(Name),
+}
+
+// Written out, so that whoever owns one has one call at each exit, and not the drop of each variant.
+impl Drop for Kept {
+    fn drop(self) {
+        match self {
+            Kept::Nothing => {}
+            Kept::Client(client) => drop(client),
+            Kept::Name(name) => drop(name),
+        }
+    }
 }
 
 /// What a call asks for.
@@ -154,6 +165,14 @@ fn lease_in(alloc: Global, arguments: &Arguments, place: usize) -> Result<LeaseV
 {
     let slot = reference_in(arguments, place)?;
     Ok(as_lease(alloc, &arguments.graph, slot)?)
+}
+
+/// Whether the argument at a place is a lease that names no client. An argument that is no reference is none of its method's.
+fn is_nameless(arguments: &Arguments, place: usize) -> Result<bool, Stop>
+    ensures { TellsNameless result (lease_in arguments.now place) }
+{
+    let slot = reference_in(arguments, place)?;
+    Ok(is_nameless_lease(&arguments.graph, slot))
 }
 
 // ---- names
@@ -343,8 +362,9 @@ fn dirty(alloc: Global, setup: &Setup, arguments: &Arguments, uid: Uid) -> Resul
     let number = number_in(arguments, 1)?;
     let lease = lease_in(alloc, arguments, 2)?;
     let objects = objids_in(alloc, arguments, 0)?;
-    let client = client_or(alloc, setup, uid, lease.vmid)?;
-    Ok(dirty_with(alloc, client, number, lease.value, objects)?)
+    let asked = lease.value;
+    let client = client_or(alloc, setup, uid, lease.into_vmid())?;
+    Ok(dirty_with(alloc, client, number, asked, objects)?)
 }
 
 /// What a call of the collector asks for.
@@ -364,12 +384,12 @@ fn collector_demand(
 }
 
 /// Whether the arguments are those of a dirty, and its lease names no client.
+#[tactic(auto, using(crate::proofs::SystemAsks::named_draws, crate::proofs::SystemAsks::nameless_draws, crate::proofs::SystemAsks::no_objects))]
 fn lacks_client(alloc: Global, arguments: &Arguments) -> Result<bool, Stop>
     ensures { FindsNone result (unnamed (number_in arguments.now 1) (lease_in arguments.now 2) (objids_in arguments.now 0)) }
 {
     let _number = number_in(arguments, 1)?;
-    let lease = lease_in(alloc, arguments, 2)?;
-    if lease.vmid.is_some() {
+    if !is_nameless(arguments, 2)? {
         return Ok(false);
     }
     let _objects = objids_in(alloc, arguments, 0)?;

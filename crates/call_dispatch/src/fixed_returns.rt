@@ -1,7 +1,8 @@
 //! Returns of leases and of references. All their bytes are known, but for some numbers and texts: they are put together without a graph, and are those
 //! that are written of its graph.
-ghost use Rattle.std.specs.Prelude.{◌≡◌, ◌↔◌, ◌∷◌, ◌++◌, ◌≤◌, [], codes, length, IfOk, IsTrue, OnOk};
+ghost use Rattle.std.specs.Prelude.{◌≡◌, ◌↔◌, ◌∷◌, ◌++◌, ◌≤◌, [], codes, length, IfOk, IfSome, IsTrue, OnOk};
 ghost use Rattle.std.specs.Int.{w32};
+ghost use Rattle.mod_utf.specs.Utf.{unit_bytes, utf};
 ghost use Rattle.object_ids.specs.Bytes.{bytes_of_objid, signed_bytes};
 ghost use Rattle.ser_write.specs.Canonical.{short_bytes};
 ghost use Rattle.java_shapes.specs.LeaseGraph.{lease_items, lease_nodes};
@@ -212,11 +213,39 @@ fn put_text(out: &mut ByteList, text: &[u8]) -> Result<(), AllocError>
     out.append(text)
 }
 
+/// The byte that spells a unit, where it is spelled by one.
+fn plain_byte(unit: u16) -> Option<u8>
+    ensures { IfSome result (λ byte. unit_bytes unit ≡ byte ∷ []) }
+{
+    if 0 < unit && unit < 0x80 {
+        Some(unit as u8)
+    } else {
+        None
+    }
+}
+
+/// The bytes that spell a text. There is room for one for each unit before, as many as most texts have.
+#[tactic(auto, using(crate::proofs::FixedReturns::one_spelled))]
+fn spelled(alloc: Global, text: &Units) -> Result<ByteList, AllocError>
+    ensures { IfOk result (λ bytes. bytes ≡ utf text.now) }
+{
+    let units = text.as_slice();
+    let mut out = ByteList::new(alloc);
+    out.reserve(units.len())?;
+    for unit in units {
+        let Some(byte) = plain_byte(*unit) else {
+            return encode(alloc, text);
+        };
+        out.push(byte)?;
+    }
+    Ok(out)
+}
+
 /// Appends the interfaces of a proxy. There is no memory for one of more than 65,535 bytes.
 fn put_interfaces(alloc: Global, out: &mut ByteList, interface: &Units) -> Result<(), AllocError>
     ensures { OnOk result (out.new ≡ out.old ++ interface_bytes (interfaces interface.now)) }
 {
-    let text = encode(alloc, interface)?;
+    let text = spelled(alloc, interface)?;
     if text.len() > 65535 {
         return Err(AllocError);
     }
@@ -254,7 +283,7 @@ fn note_with(alloc: Global, host: &[u8], tail: &[u8]) -> Result<ByteList, AllocE
 fn own_note(alloc: Global, setup: &Setup, object: ObjId) -> Result<ByteList, AllocError>
     ensures { IfOk result (λ bytes. bytes ≡ ref_note (reference_to (terms_of [] setup.now) object)) }
 {
-    let host = encode(alloc, &setup.host)?;
+    let host = spelled(alloc, &setup.host)?;
     if host.len() > 65535 {
         return Err(AllocError);
     }

@@ -52,7 +52,7 @@ pub fn interface_for(book: &Book, returned: Option<TypeCode>, kind: u32) -> Opti
 }
 
 /// The normal Return of a graph.
-fn graph_return(alloc: Global, uid: Uid, graph: Graph) -> Result<ByteList, AllocError>
+pub(crate) fn graph_return(alloc: Global, uid: Uid, graph: Graph) -> Result<ByteList, AllocError>
     ensures { IfOk result (λ bytes. bytes ≡ graph_return uid graph.nodes graph.items) }
 {
     return_bytes(alloc, true, uid, &Body::Tree(graph))

@@ -23,12 +23,19 @@ use ser_values::{Graph, Value};
 use std::alloc::{AllocError, Global};
 
 /// An answer that is yet to be written.
-#[derive(Drop)]
 pub struct Answer {
     /// Its bytes.
     pub bytes: ByteList,
     /// The end of the connection, where it ends with this answer.
     pub close: Option<ConnEnd>,
+}
+
+// Written out, so that whoever owns one has one call at each exit, and not the drop of each field.
+impl Drop for Answer {
+    fn drop(self) {
+        let Answer { bytes, close: _ } = self;
+        drop(bytes);
+    }
 }
 
 /// A Return that is yet to be sent.

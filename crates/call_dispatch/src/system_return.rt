@@ -5,21 +5,21 @@ ghost use Rattle.history.specs.declared.asks.Ask.{Ask as Asks};
 ghost use Rattle.java_shapes.specs.TextsGraph.{texts_items, texts_nodes};
 ghost use Rattle.call_dispatch.specs.Demands.{kept_of};
 ghost use Rattle.call_dispatch.specs.Returns.{fault_return, full, no_object, wrong_outcome};
-ghost use Rattle.call_dispatch.specs.SystemReturns.{answer_written, bound_return, found_return, graph_return, kept_return, lease_return, named_fault, reply_return, unbound_return, void_return};
+ghost use Rattle.call_dispatch.specs.Results.{graph_return};
+ghost use Rattle.call_dispatch.specs.SystemReturns.{answer_written, bound_return, found_return, kept_return, lease_return, named_fault, reply_return, unbound_return, void_return};
 ghost use Rattle.call_dispatch.specs.Terms.{terms_of};
 
 use crate::book::{Book, Kind};
 use crate::demand::Kept;
 use crate::fixed_returns::{lease_bytes, reference_bytes};
-use crate::results::RETURN_BYTES;
+use crate::results::{RETURN_BYTES, graph_return};
 use crate::returns::{exceptional, exceptional_ascii, full_message};
 use crate::setup::Setup;
 use history::{Name, Refused, Reply, Turn};
 use java_shapes::texts_graph;
 use jrmp_frames::{Body, return_bytes};
 use mod_utf::list::{ByteList, NameList, Units};
-use object_ids::{ObjId, Uid, Vmid};
-use ser_values::Graph;
+use object_ids::{ObjId, Uid};
 use std::alloc::{AllocError, Global};
 
 // ---- exceptional Returns
@@ -76,16 +76,7 @@ fn void_return(alloc: Global, uid: Uid) -> Result<ByteList, AllocError>
     return_bytes(alloc, true, uid, &Body::Void)
 }
 
-/// The Return of a graph.
-#[tactic(auto, unfolding(crate::specs::SystemReturns::graph_return))]
-fn graph_return(alloc: Global, uid: Uid, graph: Graph) -> Result<ByteList, AllocError>
-    ensures { IfOk result (λ bytes. bytes ≡ graph_return uid graph.nodes graph.items) }
-{
-    return_bytes(alloc, true, uid, &Body::Tree(graph))
-}
-
 /// The Return of a lease of this many milliseconds to the client that is kept.
-#[tactic(auto, unfolding(crate::specs::SystemReturns::graph_return))]
 fn lease_return(alloc: Global, uid: Uid, duration: u64, kept: &Kept) -> Result<ByteList, AllocError>
     ensures { IfOk result (λ bytes. bytes ≡ lease_return uid duration kept.now) }
 {
@@ -106,7 +97,6 @@ fn names_return(alloc: Global, uid: Uid, names: &NameList) -> Result<ByteList, A
 }
 
 /// The Return of an object of a kind.
-#[tactic(auto, unfolding(crate::specs::SystemReturns::graph_return))]
 fn object_return(
     alloc: Global,
     setup: &Setup,

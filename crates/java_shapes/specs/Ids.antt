@@ -1,5 +1,5 @@
 -- The shapes of identifiers and leases. Each of these objects goes by its own class.
-use Rattle.std.specs.Prelude.{ℕ, ℤ, List, length, nat_le, Option, Some, None, codes, option_map, if◌then◌else◌}
+use Rattle.std.specs.Prelude.{ℕ, ℤ, Bool, false, List, length, nat_le, Option, Some, None, is_none, codes, option_map, if◌then◌else◌}
 use Rattle.class_desc.specs.declared.slot.Slot.{Slot}
 use Rattle.class_desc.specs.declared.slot.Slot.TheVariants as slots
 use Rattle.class_desc.specs.declared.field.TypeCode.TheVariants as types
@@ -89,6 +89,11 @@ lease_of nodes (Some parts) = lease_with parts.0 (vmid_or_null nodes parts.1)
 -- The lease of an object of java.rmi.dgc.Lease. Its vmid may be null.
 abbrev pub lease_at : List Node → Slot → Option LeaseView
 lease_at nodes s = lease_of nodes (lease_parts_at nodes s)
+
+-- It is a lease whose client is null.
+abbrev pub is_nameless : Option LeaseView → Bool
+is_nameless None = false
+is_nameless (Some lease) = is_none lease.vmid
 
 -- ---- texts
 

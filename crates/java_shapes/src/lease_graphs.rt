@@ -129,6 +129,9 @@ fn lease_items(alloc: Global) -> Result<Items, AllocError>
 }
 
 /// The graph whose one item is a `java.rmi.dgc.Lease` of a duration in milliseconds to a client. It is refused only for want of memory.
+///
+/// Whoever writes a lease may put its known bytes together without this graph. That `lease_nodes`, by which those bytes are told, are the nodes of a
+/// graph, and that it is viewed as the lease, is shown here.
 pub fn lease_graph(alloc: Global, value: i64, vmid: &Vmid) -> Result<Graph, AllocError>
     ensures nodes { IfOk result (λ graph. graph.nodes ≡ lease_nodes value vmid.now) }
     ensures items { IfOk result (λ graph. graph.items ≡ lease_items) }

@@ -1,6 +1,7 @@
 //! Clients and their leases, read from their shapes.
-ghost use Rattle.std.specs.Prelude.{◌≡◌, option_map};
-ghost use Rattle.java_shapes.specs.Ids.{vmid_parts, vmid_parts_at, vmid_at, vmid_or_null, lease_parts, lease_parts_at, lease_at, short_client};
+ghost use Rattle.std.specs.Prelude.{◌≡◌, List, option_map};
+ghost use Rattle.ser_values.specs.declared.node.Node.{Node as OneNode};
+ghost use Rattle.java_shapes.specs.Ids.{is_nameless, vmid_parts, vmid_parts_at, vmid_at, vmid_or_null, lease_of, lease_parts, lease_parts_at, lease_at, short_client};
 ghost use Rattle.java_shapes.specs.Views.{Views};
 
 use crate::class_part::{ClassPart, bytes_at, own_at};
@@ -13,12 +14,30 @@ use ser_values::{Graph, Node};
 use std::alloc::Global;
 
 /// A lease as an object of `java.rmi.dgc.Lease` has it.
-#[derive(Debug, Drop)]
+#[derive(Debug)]
 pub struct LeaseView {
     /// The duration that is asked for or granted, in milliseconds.
     pub value: i64,
     /// The client, if there is one.
     pub vmid: Option<Vmid>,
+}
+
+// Written out, so that whoever owns one has one call at each exit, and not the drop of each field.
+impl Drop for LeaseView {
+    fn drop(self) {
+        let LeaseView { value: _, vmid } = self;
+        drop(vmid);
+    }
+}
+
+impl LeaseView {
+    /// The client, if there is one. It takes no memory.
+    pub fn into_vmid(self) -> Option<Vmid>
+        ensures { result ≡ self.vmid }
+    {
+        let LeaseView { value: _, vmid } = self;
+        vmid
+    }
 }
 
 /// The client of an address and an identifier, where the address is short enough.
@@ -103,6 +122,19 @@ fn lease_at(alloc: Global, nodes: &[Node], slot: Slot) -> Result<LeaseView, Shap
     }
 }
 
+/// Whether the client's slot of a lease is null, where there is a lease.
+fn is_nameless(parts: Option<(i64, Slot)>) -> bool
+    ensures { (nodes : List OneNode) → result ≡ is_nameless (lease_of nodes parts) }
+{
+    match parts {
+        Some((_value, vmid)) => match vmid {
+            Slot::Null => true,
+            Slot::Node(_) => false,
+        },
+        None => false,
+    }
+}
+
 /// The client of an object of `java.rmi.dgc.VMID`. WrongShape comes exactly where the slot is none, its address is no byte
 /// array of at most 255 bytes, or its identifier is none.
 pub fn as_vmid(alloc: Global, graph: &Graph, slot: Slot) -> Result<Vmid, ShapeFault>
@@ -116,4 +148,11 @@ pub fn as_lease(alloc: Global, graph: &Graph, slot: Slot) -> Result<LeaseView, S
     ensures { Views result (lease_at graph.now.nodes slot) }
 {
     lease_at(alloc, graph.nodes().as_slice(), slot)
+}
+
+/// Whether a slot is a lease whose client is null. It takes no memory.
+pub fn is_nameless_lease(graph: &Graph, slot: Slot) -> bool
+    ensures { result ≡ is_nameless (lease_at graph.now.nodes slot) }
+{
+    is_nameless(lease_parts_at(graph.nodes().as_slice(), slot))
 }

@@ -81,6 +81,9 @@ fn ref_items(alloc: Global) -> Result<Items, AllocError>
 /// The graph whose one item is a reference to a remote object, as a dynamic proxy: of the interface and `java.rmi.Remote`, with a
 /// `java.rmi.server.RemoteObjectInvocationHandler` whose note is the reference, of class `UnicastRef`. It is refused only for
 /// want of memory, which an interface of more than 65,535 bytes in modified UTF would want.
+///
+/// Whoever writes a reference may put its known bytes together without this graph. That `ref_nodes`, by which those bytes are told, are the nodes of a
+/// graph, and that it is viewed as the reference, is shown here.
 pub fn ref_graph(alloc: Global, interface: &Units, reference: &LiveRef) -> Result<Graph, AllocError>
     requires host { length (utf reference.now.host) ≤ 65535 }
     ensures nodes { IfOk result (λ graph. graph.nodes ≡ ref_nodes interface.now reference.now) }

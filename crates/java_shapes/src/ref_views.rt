@@ -14,7 +14,7 @@ use ser_values::{Graph, Node};
 use std::alloc::Global;
 
 /// A reference to a remote object (`java.rmi.server.RemoteRef`, of class `UnicastRef`).
-#[derive(Debug, Drop)]
+#[derive(Debug)]
 pub struct LiveRef {
     /// The host of the object's server.
     pub host: Units,
@@ -24,6 +24,19 @@ pub struct LiveRef {
     pub id: ObjId,
     /// Whether the reference was made for a result, so that its receiver acknowledges it.
     pub result: bool,
+}
+
+// Written out, so that whoever owns one has one call at each exit, and not the drop of each field.
+impl Drop for LiveRef {
+    fn drop(self) {
+        let LiveRef {
+            host,
+            port: _,
+            id: _,
+            result: _,
+        } = self;
+        drop(host);
+    }
 }
 
 /// A text of 16 bits' length at the front of bytes, and what follows it.

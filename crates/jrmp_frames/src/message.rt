@@ -18,8 +18,11 @@ use std::alloc::{AllocError, Global};
 /// How many bytes there is room for when a return is begun: as many as most of them have.
 const RETURN_ROOM: usize = 1024;
 
+/// How many bytes there is room for when a value is put behind what a return begins with: as many as they have at most.
+const VALUE_ROOM: usize = 32;
+
 /// What a return carries.
-#[derive(Debug, Drop)]
+#[derive(Debug)]
 pub enum Body {
     /// Nothing: the method has no result.
     Void,
@@ -27,6 +30,17 @@ pub enum Body {
     Prim(Value),
     /// A reference, as the graph whose one item it is: a result, or an exception.
     Tree(Graph),
+}
+
+// Written out, so that whoever owns one has one call at each exit, and not the drop of each variant.
+impl Drop for Body {
+    fn drop(self) {
+        match self {
+            Body::Void => {}
+            Body::Prim(_) => {}
+            Body::Tree(graph) => drop(graph),
+        }
+    }
 }
 
 /// The bytes of a call: the code `50`, and a stream of the head and the arguments. The arguments' graph has them alone as its items.
@@ -66,7 +80,9 @@ fn put_value(
 ) -> Result<(), AllocError>
     ensures { OnOk result (out.new ≡ out.old ++ blocks (front.now ++ value_bytes value)) }
 {
-    let mut run = ByteList::from_slice(alloc, front)?;
+    let mut run = ByteList::new(alloc);
+    run.reserve(VALUE_ROOM)?;
+    run.append(front)?;
     put_primitive(&mut run, value)?;
     write_blocks_onto(out, run.as_slice())
 }

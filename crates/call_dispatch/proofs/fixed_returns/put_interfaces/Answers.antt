@@ -6,5 +6,5 @@ use Rattle.call_dispatch.proofs.fixed_returns.put_interfaces.Goals as goal
 
 pub returns : goal.returns
 returns c = both_put c.args.out.now c.interfaces_head.result.now (text_bytes (utf c.args.interface.now)) _ _
-    ((rw (c.as_slice.ensures, c.in_ok-text.ensures.value) at c.in_ok-put_text.ensures) ∙ ap (λ (l : List ℕ). l ++ text_bytes (utf c.args.interface.now)) c.in_ok-append.ensures.ok)
+    ((rw (c.as_slice.ensures, c.in_ok-text.ensures) at c.in_ok-put_text.ensures) ∙ ap (λ (l : List ℕ). l ++ text_bytes (utf c.args.interface.now)) c.in_ok-append.ensures.ok)
     c.interfaces_head.ensures
