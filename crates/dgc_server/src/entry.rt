@@ -27,17 +27,33 @@ pub struct LeaseCall<'a> {
 
 /// A client with the end of its lease and the objects that it named. Contracts see it as an `Entry`. It is small, so that a list of many
 /// is quickly searched for the leases that end and quickly makes room for one more.
-#[derive(Debug, Drop)]
+#[derive(Debug)]
 pub struct ClientEntry {
     until: u64,
     kept: Box<Kept>,
 }
 
 /// What is kept of a client but for the end of its lease.
-#[derive(Debug, Drop)]
+#[derive(Debug)]
 struct Kept {
     client: Vmid,
     objects: Marks,
+}
+
+// Written out, so that whoever owns one has one call at each exit, and not the drop of each field.
+impl Drop for ClientEntry {
+    fn drop(self) {
+        let ClientEntry { until: _, kept } = self;
+        drop(kept);
+    }
+}
+
+impl Drop for Kept {
+    fn drop(self) {
+        let Kept { client, objects } = self;
+        drop(client);
+        drop(objects);
+    }
 }
 
 impl Model for ClientEntry {

@@ -11,7 +11,7 @@ ghost use Rattle.dgc_server.specs.Index.{held_at, has_count, one_if, ends_betwee
 
 use crate::entry::ClientEntry;
 use crate::marks::Marks;
-use crate::numbers::Numbers;
+use crate::packed::Packed;
 use crate::table;
 use indexmap::IndexMap;
 use object_ids::ObjId;
@@ -89,7 +89,7 @@ pub fn shift(counts: &mut Counts, object: &ObjId, before: bool, after: bool)
 }
 
 /// A client that has these numbers of an object holds it no more, if it did.
-fn release_one(counts: &mut Counts, object: &ObjId, numbers: &Numbers)
+fn release_one(counts: &mut Counts, object: &ObjId, numbers: &Packed)
     requires { is_dirty_highest numbers.now ≡ true → 1 ≤ held_at counts.old object.now }
     ensures counts { (o : ObjId) →
         held_at counts.new o + (if is_dirty_highest numbers.now then one_if (same_id object.now o) else 0) ≡ held_at counts.old o }

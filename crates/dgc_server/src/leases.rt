@@ -40,7 +40,7 @@ impl From<AllocError> for LeaseFault {
 
 /// The leases of clients, and which objects they hold. A contract speaks of every list of lease calls
 /// that the table stands for, the newest first, and of the greatest moment that it was told.
-#[derive(Debug, Drop)]
+#[derive(Debug)]
 pub struct Leases {
     alloc: Global,
     lease: u64,
@@ -52,6 +52,23 @@ pub struct Leases {
     counts: Counts,
     /// How many clients have time left at the moment, and how many pairs are remembered.
     sums: Sums,
+}
+
+// Written out, so that whoever owns one has one call at each exit, and not the drop of each field.
+impl Drop for Leases {
+    fn drop(self) {
+        let Leases {
+            alloc: _,
+            lease: _,
+            moment: _,
+            entries,
+            next: _,
+            counts,
+            sums: _,
+        } = self;
+        drop(entries);
+        drop(counts);
+    }
 }
 
 impl Model for Leases {

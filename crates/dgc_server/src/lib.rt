@@ -7,6 +7,7 @@ mod holders;
 mod leases;
 mod marks;
 mod numbers;
+mod packed;
 mod table;
 
 pub use history::{LeaseList, LeaseRow};

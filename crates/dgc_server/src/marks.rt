@@ -12,6 +12,7 @@ ghost use Rattle.dgc_server.specs.Index.{same_key, held_at, has_count, one_if};
 
 use crate::holders::{self, Counts};
 use crate::numbers::Numbers;
+use crate::packed::Packed;
 use history::CallKind;
 use indexmap::{IndexMap, IndexSet};
 use mod_utf::list::Same;
@@ -19,7 +20,7 @@ use object_ids::ObjId;
 use std::alloc::{AllocError, Global};
 
 /// For each object that a client named the numbers of the calls that count for it.
-pub type Marks = IndexMap<ObjId, Numbers>;
+pub type Marks = IndexMap<ObjId, Packed>;
 
 /// So many objects are counted without memory.
 const FEW: usize = 16;
@@ -32,11 +33,11 @@ pub fn numbers_in(objects: &Marks, object: &ObjId) -> Numbers
 }
 
 /// The numbers that were found, or none.
-fn numbers_or_none(found: Option<&Numbers>) -> Numbers
+fn numbers_or_none(found: Option<&Packed>) -> Numbers
     ensures { result ≡ unwrap_or (option_copied found.entry) no_numbers }
 {
     match found {
-        Some(numbers) => *numbers,
+        Some(packed) => packed.numbers(),
         None => Numbers::none(),
     }
 }
@@ -148,7 +149,7 @@ fn forget_tenure(objects: &mut Marks)
     ensures room { spare objects.old ≤ spare objects.new }
 {
     objects.retain(
-        |_object: &ObjId, numbers: &mut Numbers| -> bool
+        |_object: &ObjId, numbers: &mut Packed| -> bool
             ensures { (result ≡ is_some numbers.old.strong) × (numbers.new ≡ strong_part numbers.old) }
         { numbers.end_tenure() },
     );
@@ -177,7 +178,7 @@ fn keep_others(objects: &mut Marks, object: &ObjId)
     ensures { objects.new.entries ≡ filter (λ e. not (same_id e.0 object.now)) objects.old.entries }
 {
     objects.retain(
-        |other: &ObjId, numbers: &mut Numbers| -> bool
+        |other: &ObjId, numbers: &mut Packed| -> bool
             ensures { (result ≡ not (same_id other.now object.entry.now)) × (numbers.new ≡ numbers.old) }
         { !equal(other, object) },
     );
@@ -283,7 +284,8 @@ fn put(objects: &mut Marks, object: &ObjId, numbers: Numbers)
     ensures objects { object_entries objects.new.entries ≡ with_numbers object.now numbers (object_entries objects.old.entries) }
     ensures room { spare objects.old ≤ spare objects.new + 1 }
 {
-    match objects.insert(*object, numbers) {
+    let packed = Packed::of(&numbers);
+    match objects.insert(*object, packed) {
         Ok(_was) => {}
         Err(_refused) => {}
     }

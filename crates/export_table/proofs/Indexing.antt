@@ -1,5 +1,5 @@
 -- The index of the references that await, as they are listed and go.
-use Rattle.std.proofs.Common.{◌≡◌, ℕ, ◌+◌, ◌<◌, ◌≤◌, List, [], ◌∷◌, ◌++◌, length, take, drop, get_or, refl, ap, sym, subst, ◌∙◌, arith, cond, suc, add-one, append-nil, append_assoc}
+use Rattle.std.proofs.Common.{◌≡◌, ℕ, ◌+◌, ◌<◌, ◌≤◌, List, [], ◌∷◌, ◌++◌, length, take, drop, get_or, refl, ap, sym, subst, ◌∙◌, arith, cond, suc, add-one, append-nil, append_assoc, take-append-drop}
 use Rattle.std.specs.Prelude.{Bool, true, false, ◌&&◌, ◌||◌, not, filter, nat_lt, min, if◌then◌else◌}
 use Rattle.std.specs.List.{list_any}
 use Rattle.std.proofs.Math.Seq.{drop-cons}
@@ -21,8 +21,8 @@ use Rattle.export_table.specs.declared.waits.Wait.{Wait}
 use Rattle.history.proofs.ListLemmas.{list_any-filter, list_any-same, filter-same, every-always}
 use Rattle.export_table.specs.declared.rows.Export.{Export}
 use Rattle.export_table.specs.Rows.{ids, is_pinned, is_row_kept, withdrawn}
-use Rattle.export_table.specs.Waits.{is_wait_of, goes_on, waiting, is_awaited, until_of, each_once}
-use Rattle.export_table.specs.Index.{same_reference, count_at, has_reference, is_reference, of_object, IsIndexOf, EndsNoEarlier}
+use Rattle.export_table.specs.Waits.{is_wait_of, goes_on, waiting, is_awaited, until_of, of_return, each_once}
+use Rattle.export_table.specs.Index.{same_reference, count_at, returned_at, has_reference, is_reference, of_object, IsIndexOf, EndsNoEarlier}
 
 -- ---- where none ends
 
@@ -138,18 +138,24 @@ Notes k v r s = (o : ObjId) (u : Uid) → has_reference s o u ≡ (is_reference 
 abbrev pub Unnotes : {S : Type 0} → ObjId → Uid → IndexSet Reference S → IndexSet Reference S → Type 0
 Unnotes k v r s = (o : ObjId) (u : Uid) → has_reference s o u ≡ (if is_reference k v o u then false else has_reference r o u)
 
-pub index-added : {S T : Type 0} (m n : IndexMap ObjId ℕ S) (r s : IndexSet Reference T) (w : Wait) → Raises w.object m n → Notes w.object w.uid r s →
-    (ws : List Wait) → IsIndexOf m r ws → IsIndexOf n s (ws ++ w ∷ [])
-index-added m n r s w raises notes ws i = record {
+-- f counts one more reference of this return than g.
+abbrev pub RaisesReturn : {S : Type 0} → Uid → IndexMap Uid ℕ S → IndexMap Uid ℕ S → Type 0
+RaisesReturn v f g = (u : Uid) → returned_at g u ≡ returned_at f u + one_if (same_uid v u)
+
+pub index-added : {S T U : Type 0} (m n : IndexMap ObjId ℕ S) (r s : IndexSet Reference T) (f g : IndexMap Uid ℕ U) (w : Wait) → Raises w.object m n → Notes w.object w.uid r s → RaisesReturn w.uid f g →
+    (ws : List Wait) → IsIndexOf m r f ws → IsIndexOf n s g (ws ++ w ∷ [])
+index-added m n r s f g w raises notes more ws i = record {
   counted = λ o. (raises o ∙ ap (λ c. c + one_if (same_id w.object o)) (i.counted o ∙ ap (λ l. length (of_object o l)) (sym (append-nil ws))) ∙ sym (count-split (λ v. same_id v.object o) ws w []));
   listed = λ o u. (notes o u ∙ ap (λ b. is_wait_of o u w || b) (i.listed o u ∙ ap (list_any (is_wait_of o u)) (sym (append-nil ws))) ∙ sym (any-split (is_wait_of o u) ws w []));
+  returned = λ u. (more u ∙ ap (λ c. c + one_if (same_uid w.uid u)) (i.returned u ∙ ap (λ l. length (of_return u l)) (sym (append-nil ws))) ∙ sym (count-split (λ v. same_uid v.uid u) ws w []));
 }
 
-pub index-removed : {S T : Type 0} (m n : IndexMap ObjId ℕ S) (r s : IndexSet Reference T) (w : Wait) → Raises w.object n m → Unnotes w.object w.uid r s →
-    (xs ys : List Wait) → each_once (xs ++ w ∷ ys) ≡ true → IsIndexOf m r (xs ++ w ∷ ys) → IsIndexOf n s (xs ++ ys)
-index-removed m n r s w raises unnotes xs ys once i = record {
+pub index-removed : {S T U : Type 0} (m n : IndexMap ObjId ℕ S) (r s : IndexSet Reference T) (f g : IndexMap Uid ℕ U) (w : Wait) → Raises w.object n m → Unnotes w.object w.uid r s → RaisesReturn w.uid g f →
+    (xs ys : List Wait) → each_once (xs ++ w ∷ ys) ≡ true → IsIndexOf m r f (xs ++ w ∷ ys) → IsIndexOf n s g (xs ++ ys)
+index-removed m n r s f g w raises unnotes fewer xs ys once i = record {
   counted = λ o. less (count_at n o) (one_if (same_id w.object o)) (count_at m o) (length (of_object o (xs ++ w ∷ ys))) (length (of_object o (xs ++ ys))) (raises o) (i.counted o) (count-split (λ v. same_id v.object o) xs w ys);
   listed = λ o u. (unnotes o u ∙ go o u (is_wait_of o u w) refl);
+  returned = λ u. less (returned_at g u) (one_if (same_uid w.uid u)) (returned_at f u) (length (of_return u (xs ++ w ∷ ys))) (length (of_return u (xs ++ ys))) (fewer u) (i.returned u) (count-split (λ v. same_uid v.uid u) xs w ys);
 }
   where
     less : (a b c d e : ℕ) → c ≡ a + b → c ≡ d → d ≡ e + b → a ≡ e
@@ -162,10 +168,15 @@ index-removed m n r s w raises unnotes xs ys once i = record {
     go o u false e = i.listed o u ∙ any-split (is_wait_of o u) xs w ys ∙ ap (λ b. b || list_any (is_wait_of o u) (xs ++ ys)) e
 
 -- What is listed is counted.
-pub counted-some : {S T : Type 0} (m : IndexMap ObjId ℕ S) (r : IndexSet Reference T) (xs : List Wait) (w : Wait) (ys : List Wait) → IsIndexOf m r (xs ++ w ∷ ys) → 1 ≤ count_at m w.object
-counted-some m r xs w ys i =
+pub counted-some : {S T U : Type 0} (m : IndexMap ObjId ℕ S) (r : IndexSet Reference T) (f : IndexMap Uid ℕ U) (xs : List Wait) (w : Wait) (ys : List Wait) → IsIndexOf m r f (xs ++ w ∷ ys) → 1 ≤ count_at m w.object
+counted-some m r f xs w ys i =
     let all = i.counted w.object in
     let split = count-split (λ v. same_id v.object w.object) xs w ys ∙ ap (λ b. length (of_object w.object (xs ++ ys)) + one_if b) (same_id-self w.object) in omega arith
+
+pub returned-some : {S T U : Type 0} (m : IndexMap ObjId ℕ S) (r : IndexSet Reference T) (f : IndexMap Uid ℕ U) (xs : List Wait) (w : Wait) (ys : List Wait) → IsIndexOf m r f (xs ++ w ∷ ys) → 1 ≤ returned_at f w.uid
+returned-some m r f xs w ys i =
+    let all = i.returned w.uid in
+    let split = count-split (λ v. same_uid v.uid w.uid) xs w ys ∙ ap (λ b. length (of_return w.uid (xs ++ ys)) + one_if b) (same_uid-self w.uid) in omega arith
 
 -- ---- the waits that stay, one after another
 
@@ -217,25 +228,35 @@ no_wait = record { object = no_id; uid = no_id.space; until = 0 }
 abbrev pub kept_so_far : (Wait → Bool) → List Wait → ℕ → List Wait
 kept_so_far s ws i = filter s (take i ws) ++ drop i ws
 
-pub next-counted : {S T : Type 0} (s : Wait → Bool) (ws : List Wait) (i : ℕ) (d : Wait) (m : IndexMap ObjId ℕ S) (r : IndexSet Reference T) → i < length ws → IsIndexOf m r (kept_so_far s ws i) →
+pub next-counted : {S T U : Type 0} (s : Wait → Bool) (ws : List Wait) (i : ℕ) (d : Wait) (m : IndexMap ObjId ℕ S) (r : IndexSet Reference T) (f : IndexMap Uid ℕ U) → i < length ws → IsIndexOf m r f (kept_so_far s ws i) →
     1 ≤ count_at m (get_or ws i d).object
-next-counted s ws i d m r within index =
-    let P : List Wait → Type 0 = λ l. IsIndexOf m r l in
-    counted-some m r (filter s (take i ws)) (get_or ws i d) (drop (i + 1) ws) (subst P (kept-now s ws i d within) index)
+next-counted s ws i d m r f within index =
+    let P : List Wait → Type 0 = λ l. IsIndexOf m r f l in
+    counted-some m r f (filter s (take i ws)) (get_or ws i d) (drop (i + 1) ws) (subst P (kept-now s ws i d within) index)
+
+pub next-returned : {S T U : Type 0} (s : Wait → Bool) (ws : List Wait) (i : ℕ) (d : Wait) (m : IndexMap ObjId ℕ S) (r : IndexSet Reference T) (f : IndexMap Uid ℕ U) → i < length ws → IsIndexOf m r f (kept_so_far s ws i) →
+    1 ≤ returned_at f (get_or ws i d).uid
+next-returned s ws i d m r f within index =
+    let P : List Wait → Type 0 = λ l. IsIndexOf m r f l in
+    returned-some m r f (filter s (take i ws)) (get_or ws i d) (drop (i + 1) ws) (subst P (kept-now s ws i d within) index)
 
 pub next-once : (s : Wait → Bool) (ws : List Wait) (i : ℕ) → i < length ws → each_once (kept_so_far s ws i) ≡ true → each_once (kept_so_far s ws (i + 1)) ≡ true
 next-once s ws i within once =
     ap each_once (kept-step s ws i no_wait within)
     ∙ once-step (s (get_or ws i no_wait)) (filter s (take i ws)) (get_or ws i no_wait) (drop (i + 1) ws) (sym (ap each_once (kept-now s ws i no_wait within)) ∙ once)
 
-pub next-index : {S T : Type 0} (s : Wait → Bool) (ws : List Wait) (i : ℕ) (d : Wait) (m n : IndexMap ObjId ℕ S) (r t : IndexSet Reference T) → i < length ws → each_once (kept_so_far s ws i) ≡ true →
-    ((xs ys : List Wait) → each_once (xs ++ get_or ws i d ∷ ys) ≡ true → IsIndexOf m r (xs ++ get_or ws i d ∷ ys) → IsIndexOf n t (if s (get_or ws i d) then xs ++ get_or ws i d ∷ ys else xs ++ ys)) →
-    IsIndexOf m r (kept_so_far s ws i) → IsIndexOf n t (kept_so_far s ws (i + 1))
-next-index s ws i d m n r t within once step index =
-    let P : List Wait → Type 0 = λ l. IsIndexOf m r l in
-    let Q : List Wait → Type 0 = λ l. IsIndexOf n t l in
+pub next-index : {S T U : Type 0} (s : Wait → Bool) (ws : List Wait) (i : ℕ) (d : Wait) (m n : IndexMap ObjId ℕ S) (r t : IndexSet Reference T) (f g : IndexMap Uid ℕ U) → i < length ws → each_once (kept_so_far s ws i) ≡ true →
+    ((xs ys : List Wait) → each_once (xs ++ get_or ws i d ∷ ys) ≡ true → IsIndexOf m r f (xs ++ get_or ws i d ∷ ys) → IsIndexOf n t g (if s (get_or ws i d) then xs ++ get_or ws i d ∷ ys else xs ++ ys)) →
+    IsIndexOf m r f (kept_so_far s ws i) → IsIndexOf n t g (kept_so_far s ws (i + 1))
+next-index s ws i d m n r t f g within once step index =
+    let P : List Wait → Type 0 = λ l. IsIndexOf m r f l in
+    let Q : List Wait → Type 0 = λ l. IsIndexOf n t g l in
     subst Q (sym (kept-step s ws i d within))
     (step (filter s (take i ws)) (drop (i + 1) ws) (sym (ap each_once (kept-now s ws i d within)) ∙ once) (subst P (kept-now s ws i d within) index))
+
+-- Where all before the first place stay, these and all from there on are the whole list.
+pub so-far-first : (s : Wait → Bool) (ws : List Wait) (i : ℕ) → filter s (take i ws) ≡ take i ws → kept_so_far s ws i ≡ ws
+so-far-first s ws i h = ap (λ l. l ++ drop i ws) h ∙ take-append-drop i ws
 
 -- ---- where a reference is not listed
 

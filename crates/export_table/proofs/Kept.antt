@@ -23,7 +23,7 @@ pub all-stay : (p : Export → Bool) (rows : List Export) → list_all p rows �
 all-stay p [] h = refl
 all-stay p (x ∷ rows) h = let two = and_parts (p x) (list_all p rows) h in rw two.0 (ap (λ l. x ∷ l) (all-stay p rows two.1))
 
-none-goes : (p : Export → Bool) (rows : List Export) → list_all p rows ≡ true → filter (λ x. not (p x)) rows ≡ []
+pub none-goes : (p : Export → Bool) (rows : List Export) → list_all p rows ≡ true → filter (λ x. not (p x)) rows ≡ []
 none-goes p [] h = refl
 none-goes p (x ∷ rows) h = let two = and_parts (p x) (list_all p rows) h in rw two.0 (none-goes p rows two.1)
 

@@ -2,6 +2,7 @@ pub mod Dropped
 pub mod Indexing
 pub mod Kept
 pub mod KeptLaws
+pub mod Returning
 pub mod RowLaws
 pub mod Parts
 pub mod Places

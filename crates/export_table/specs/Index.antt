@@ -1,4 +1,4 @@
--- The index of the references that await: how many there are of each object, which there are, and before which moment none of them ends.
+-- The index of the references that await: how many there are of each object and of each return, which there are, and before which moment none of them ends.
 use Rattle.std.specs.Prelude.{◌≡◌, ℕ, ◌≤◌, Bool, not, ◌&&◌, List, length, filter, unwrap_or}
 use Rattle.std.specs.List.{list_any, AllByRecursion}
 use Rattle.std.specs.Ordering.{int_eq}
@@ -12,7 +12,7 @@ use Rattle.export_table.specs.declared.counts.Reference.{Reference}
 use Rattle.export_table.specs.declared.waits.Wait.{Wait}
 use Rattle.export_table.specs.declared.waits.Stays.{Stays}
 use Rattle.export_table.specs.declared.waits.Stays.TheVariants.{After, OtherReferences, OtherReturns}
-use Rattle.export_table.specs.Waits.{is_wait_of, goes_on}
+use Rattle.export_table.specs.Waits.{is_wait_of, goes_on, of_return}
 
 -- Two references that are equal field by field, as keys are compared.
 abbrev pub same_reference : Reference → Reference → Bool
@@ -29,14 +29,23 @@ count_at counts o = unwrap_or (get same_key counts o) 0
 abbrev pub has_reference : {S : Type 0} → IndexSet Reference S → ObjId → Uid → Bool
 has_reference references o u = contains same_reference references (record { object = o; uid = u })
 
+-- Two identifiers of returns that are equal field by field, as keys are compared.
+abbrev pub same_return : Uid → Uid → Bool
+same_return a b = int_eq a.unique b.unique && (int_eq a.time b.time && int_eq a.count b.count)
+
+-- How many references of a return there are, 0 where it has no count.
+abbrev pub returned_at : {S : Type 0} → IndexMap Uid ℕ S → Uid → ℕ
+returned_at returns u = unwrap_or (get same_return returns u) 0
+
 -- The references to an object.
 abbrev pub of_object : ObjId → List Wait → List Wait
 of_object o waits = filter (λ w. same_id w.object o) waits
 
--- The counts and the references are those of these waits.
-pub record IsIndexOf {S T : Type 0} (counts : IndexMap ObjId ℕ S) (references : IndexSet Reference T) (waits : List Wait) : Type 0 where
+-- The counts, the references and the counts of returns are those of these waits.
+pub record IsIndexOf {S T U : Type 0} (counts : IndexMap ObjId ℕ S) (references : IndexSet Reference T) (returns : IndexMap Uid ℕ U) (waits : List Wait) : Type 0 where
   pub counted : (o : ObjId) → count_at counts o ≡ length (of_object o waits)
   pub listed : (o : ObjId) (u : Uid) → has_reference references o u ≡ list_any (is_wait_of o u) waits
+  pub returned : (u : Uid) → returned_at returns u ≡ length (of_return u waits)
 
 -- None of these waits ends before this moment.
 abbrev pub EndsNoEarlier : ℕ → List Wait → Type 0

@@ -98,6 +98,14 @@ is_settled_but os t held waits rows = list_all (λ x. is_among os x || is_row_ke
 abbrev pub is_each_kept : List ObjId → ℕ → (ObjId → Bool) → List Wait → List Export → Bool
 is_each_kept os t held waits rows = list_all (λ x. not (is_among os x) || is_row_kept t held waits x) rows
 
+-- The rows that are left where these objects are looked at: all, if each of them that is exported is kept, and else those that are kept.
+abbrev pub rows_left : List ObjId → ℕ → (ObjId → Bool) → List Wait → List Export → List Export
+rows_left os t held waits rows = if is_each_kept os t held waits rows then rows else filter (is_row_kept t held waits) rows
+
+-- The objects that go then.
+abbrev pub withdrawn_among : List ObjId → ℕ → (ObjId → Bool) → List Wait → List Export → List ObjId
+withdrawn_among os t held waits rows = if is_each_kept os t held waits rows then [] else withdrawn t held waits rows
+
 -- A call as if it had named none of these objects.
 abbrev pub without_all : List ObjId → Call → Call
 without_all os x = record x { objects = filter (λ y. not (list_any (λ o. same_id y o) os)) x.objects }

@@ -6,7 +6,7 @@ ghost use Rattle.object_ids.specs.declared.ids.FullKind.TheVariants.{Exports as 
 ghost use Rattle.dgc_server.specs.Stands.{StandsFor, ForEachLog};
 ghost use Rattle.export_table.specs.Waits.{waiting, goes_on, over, of_return, objects, is_waiting, listed, acknowledged};
 ghost use Rattle.std.specs.List.{list_any};
-ghost use Rattle.export_table.specs.Rows.{is_exported, kind_of, running_of, pins_of, ids, is_rising, new_row, changed, begun, ended, pinned_once, unpinned_once, is_row_kept, is_settled_but, held_by, withdrawn, without_all, row_at};
+ghost use Rattle.export_table.specs.Rows.{is_exported, kind_of, running_of, pins_of, ids, is_rising, new_row, changed, begun, ended, pinned_once, unpinned_once, is_row_kept, held_by, withdrawn, rows_left, withdrawn_among, without_all, row_at};
 ghost use Rattle.export_table.specs.Table.{IsSound, no_room};
 
 use crate::rows::{self, Export, RowList};
@@ -39,13 +39,28 @@ impl From<AllocError> for ExportFault {
 
 /// The objects that a space has exported, with what keeps each of them: that it was added pinned, pins, calls that run,
 /// and returned references that await their acknowledgement. Contracts see it as an `ExportTable`.
-#[derive(Debug, Drop)]
+#[derive(Debug)]
 pub struct Exports {
     space: Uid,
     ack: u64,
     added: u64,
     rows: Vec<Export>,
     waits: WaitList,
+}
+
+// Written out, so that whoever owns one has one call at each exit, and not the drop of each field.
+impl Drop for Exports {
+    fn drop(self) {
+        let Exports {
+            space: _,
+            ack: _,
+            added: _,
+            rows,
+            waits,
+        } = self;
+        drop(rows);
+        drop(waits);
+    }
 }
 
 impl Model for Exports {
@@ -280,8 +295,9 @@ impl Exports {
         drop_all(leases, &gone[before..]);
     }
 
-    /// Does what `withdraw` does, where each object that isn't kept at this moment is among `doubtful`: it looks at no other, unless one
-    /// of these goes. It takes no memory.
+    /// Where one of the objects `doubtful` is exported and isn't kept at this moment, does what `withdraw` does; else no object goes, and only the waits that ended
+    /// are forgotten. It looks at no other object unless one of these goes. So it does what `withdraw` does where each object that isn't kept is among
+    /// `doubtful`. It takes no memory.
     pub fn withdraw_among(
         &mut self,
         now: u64,
@@ -289,21 +305,18 @@ impl Exports {
         doubtful: &[ObjId],
         gone: &mut Vec<ObjId>,
     )
-        requires room { vec_len gone.old + length self.old.rows ≤ vec_capacity gone.old }
-        requires among { ForEachLog leases.old (λ lease moment calls.
-            let held = held_by lease (max now moment) calls in
-            is_settled_but doubtful.now now held self.old.waits self.old.rows ≡ true) }
+        requires { vec_len gone.old + length self.old.rows ≤ vec_capacity gone.old }
         ensures kept { ForEachLog leases.old (λ lease moment calls.
             let held = held_by lease (max now moment) calls in
-            let rows = filter (is_row_kept now held self.old.waits) self.old.rows in
+            let rows = rows_left doubtful.now now held self.old.waits self.old.rows in
             let waits = waiting now self.old.waits in
             self.new ≡ record self.old { rows = rows; waits = waits; room = self.new.room }) }
         ensures gone { ForEachLog leases.old (λ lease moment calls.
             let held = held_by lease (max now moment) calls in
-            gone.new.items ≡ gone.old.items ++ withdrawn now held self.old.waits self.old.rows) }
+            gone.new.items ≡ gone.old.items ++ withdrawn_among doubtful.now now held self.old.waits self.old.rows) }
         ensures dropped { ForEachLog leases.old (λ lease moment calls.
             let held = held_by lease (max now moment) calls in
-            let dropped = withdrawn now held self.old.waits self.old.rows in
+            let dropped = withdrawn_among doubtful.now now held self.old.waits self.old.rows in
             StandsFor lease leases.new moment (map (without_all dropped) calls)) }
         ensures exports_room { self.old.room.exports ≤ self.new.room.exports }
         ensures waits_room { self.old.room.waits ≤ self.new.room.waits }

@@ -6,6 +6,7 @@ mod counts;
 mod exports;
 mod index;
 pub mod laws;
+mod returns;
 mod rows;
 mod wait_list;
 mod waits;

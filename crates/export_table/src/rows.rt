@@ -3,7 +3,7 @@ ghost use Rattle.std.specs.Prelude.{◌≡◌, ◌++◌, ◌∷◌, [], ◌+◌,
 ghost use Rattle.std.specs.List.{list_all};
 ghost use Rattle.object_ids.specs.Same.{same_id};
 ghost use Rattle.dgc_server.specs.Stands.{ForEachLog};
-ghost use Rattle.export_table.specs.Rows.{is_of, is_exported, kind_of, running_of, pins_of, ids, is_rising, IsPlace, IsPart, new_row, changed, begun, ended, pinned_once, unpinned_once, is_pinned, is_row_kept, is_settled_but, is_each_kept, held_by, withdrawn, row_at};
+ghost use Rattle.export_table.specs.Rows.{is_of, is_exported, kind_of, running_of, pins_of, ids, is_rising, IsPlace, IsPart, new_row, changed, begun, ended, pinned_once, unpinned_once, is_pinned, is_row_kept, is_each_kept, held_by, withdrawn, rows_left, withdrawn_among, row_at};
 ghost use Rattle.export_table.specs.Waits.{waiting};
 
 use crate::wait_list::WaitList;
@@ -306,7 +306,7 @@ pub fn sift(
     }
 }
 
-/// Does what `sift` does, where each object that isn't kept is among these: no other is looked at, unless one of them goes.
+/// Does what `sift` does where one of these objects is there and isn't kept; else no row goes, and only the waits that ended are forgotten.
 pub fn sift_among(
     rows: &mut Vec<Export>,
     waits: &mut WaitList,
@@ -317,15 +317,12 @@ pub fn sift_among(
 )
     requires rising { IsTrue (is_rising (ids rows.old.items)) }
     requires room { vec_len gone.old + length rows.old.items ≤ vec_capacity gone.old }
-    requires among { ForEachLog leases.now (λ lease moment calls.
-        let held = held_by lease (max now moment) calls in
-        is_settled_but objects.now now held waits.old.waits rows.old.items ≡ true) }
     ensures items { ForEachLog leases.now (λ lease moment calls.
         let held = held_by lease (max now moment) calls in
-        rows.new.items ≡ filter (is_row_kept now held waits.old.waits) rows.old.items) }
+        rows.new.items ≡ rows_left objects.now now held waits.old.waits rows.old.items) }
     ensures gone { ForEachLog leases.now (λ lease moment calls.
         let held = held_by lease (max now moment) calls in
-        gone.new.items ≡ gone.old.items ++ withdrawn now held waits.old.waits rows.old.items) }
+        gone.new.items ≡ gone.old.items ++ withdrawn_among objects.now now held waits.old.waits rows.old.items) }
     ensures part { IsPart rows.new.items rows.old.items }
     ensures longer { vec_len gone.old ≤ vec_len gone.new }
     ensures more { vec_capacity gone.old ≤ vec_capacity gone.new }
@@ -343,9 +340,9 @@ pub fn sift_among(
 /// Whether each of these objects that is there is kept. It only reads.
 fn are_kept(rows: &[Export], waits: &WaitList, leases: &Leases, now: u64, objects: &[ObjId]) -> bool
     requires rising { IsTrue (is_rising (ids rows.now)) }
-    ensures { result ≡ true → ForEachLog leases.now (λ lease moment calls.
+    ensures { ForEachLog leases.now (λ lease moment calls.
         let held = held_by lease (max now moment) calls in
-        is_each_kept objects.now now held waits.now.waits rows.now ≡ true) }
+        result ≡ is_each_kept objects.now now held waits.now.waits rows.now) }
 {
     for object in objects {
         if !stays(rows, waits, leases, now, object) {
@@ -358,9 +355,9 @@ fn are_kept(rows: &[Export], waits: &WaitList, leases: &Leases, now: u64, object
 /// Whether an object, if it is there, is kept.
 fn stays(rows: &[Export], waits: &WaitList, leases: &Leases, now: u64, object: &ObjId) -> bool
     requires rising { IsTrue (is_rising (ids rows.now)) }
-    ensures { result ≡ true → ForEachLog leases.now (λ lease moment calls.
+    ensures { ForEachLog leases.now (λ lease moment calls.
         let held = held_by lease (max now moment) calls in
-        is_each_kept (object.now ∷ []) now held waits.now.waits rows.now ≡ true) }
+        result ≡ is_each_kept (object.now ∷ []) now held waits.now.waits rows.now) }
 {
     match place_of(rows, object) {
         Some(i) => rows[i].is_row_kept(waits, leases, now),

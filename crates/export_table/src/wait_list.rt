@@ -1,5 +1,5 @@
 //! The references that await their acknowledgement, with an index of them.
-ghost use Rattle.std.specs.Prelude.{◌≡◌, ◌++◌, ◌∷◌, [], ◌+◌, ◌<◌, ◌≤◌, ◌^◌, length, filter, not, true, false, IsTrue, IsOk, IfOk, OnOk, OnErr, ◌↔◌};
+ghost use Rattle.std.specs.Prelude.{◌≡◌, ◌++◌, ◌∷◌, [], ◌+◌, ◌<◌, ◌≤◌, ◌^◌, length, filter, take, not, true, false, IsTrue, IsOk, IfOk, OnOk, OnErr, ◌↔◌};
 ghost use Rattle.std.specs.List.{list_any};
 ghost use Rattle.history.specs.declared.limits.TheConstants.{MAX_AWAITING};
 ghost use Rattle.export_table.specs.Waits.{is_wait_of, goes_on, waiting, over, of_return, objects, is_waiting, is_awaited, awaiting_of, until_of, listed, acknowledged};
@@ -7,6 +7,7 @@ ghost use Rattle.export_table.specs.Index.{stays};
 
 use crate::counts::{Counts, References, count_of, has};
 use crate::index;
+use crate::returns::{self, Returns};
 use crate::waits::{self, Stays, Wait};
 use history::limits::MAX_AWAITING;
 use object_ids::{ObjId, Uid};
@@ -14,7 +15,7 @@ use std::alloc::{AllocError, Global};
 use std::marker::Model;
 
 /// The references that await their acknowledgement, the last listed last. Contracts see it as a `WaitTable`.
-#[derive(Debug, Drop)]
+#[derive(Debug)]
 pub struct WaitList {
     waits: Vec<Wait>,
     /// None of them ends before this moment.
@@ -23,8 +24,28 @@ pub struct WaitList {
     counts: Counts,
     /// Which there are.
     references: References,
+    /// How many there are of each return.
+    returns: Returns,
     /// So many more can be listed without memory.
     room: usize,
+}
+
+// Written out, so that whoever owns one has one call at each exit, and not the drop of each field.
+impl Drop for WaitList {
+    fn drop(self) {
+        let WaitList {
+            waits,
+            next: _,
+            counts,
+            references,
+            returns,
+            room: _,
+        } = self;
+        drop(waits);
+        drop(counts);
+        drop(references);
+        drop(returns);
+    }
 }
 
 impl Model for WaitList {
@@ -35,7 +56,7 @@ impl Model for WaitList {
 
     ghost view = { λ l. record { waits = l.waits.items; room = l.room } };
 
-    ghost invariant = { λ l. IsIndexed l.waits.items (vec_len l.waits) (vec_capacity l.waits) l.next l.counts l.references l.room };
+    ghost invariant = { λ l. IsIndexed l.waits.items (vec_len l.waits) (vec_capacity l.waits) l.next l.counts l.references l.returns l.room };
 }
 
 impl WaitList {
@@ -48,6 +69,7 @@ impl WaitList {
             next: u64::MAX,
             counts: Counts::new(alloc),
             references: References::new(alloc),
+            returns: Returns::new(alloc),
             room: 0,
         }
     }
@@ -64,6 +86,7 @@ impl WaitList {
             self.waits.reserve(more)?;
             self.counts.reserve(more)?;
             self.references.reserve(more)?;
+            self.returns.reserve(more)?;
             self.room = more;
         }
         Ok(())
@@ -127,7 +150,8 @@ impl WaitList {
         ensures { result ≡ until_of object.now uid.now self.now.waits }
     {
         if has(&self.references, object, uid) {
-            waits::until_of(&self.waits, object, uid)
+            let first = self.first_of(uid);
+            waits::until_of(&self.waits[first..], object, uid)
         } else {
             0
         }
@@ -161,7 +185,7 @@ impl WaitList {
         if now < self.next {
             return;
         }
-        self.keep(Stays::After(now));
+        self.keep(0, Stays::After(now));
         self.next = waits::least_end(&self.waits);
     }
 
@@ -187,11 +211,20 @@ impl WaitList {
         }
     }
 
-    /// The objects of the waits of a return.
+    /// The objects of the waits of a return. It looks at those that were listed since the first of them.
     pub fn of_return(&self, alloc: Global, uid: &Uid) -> Result<Vec<ObjId>, AllocError>
         ensures { IfOk result (λ os. os.items ≡ objects (of_return uid.now self.now.waits)) }
     {
-        waits::objects_that_go(alloc, &self.waits, &Stays::OtherReturns(*uid))
+        let first = self.first_of(uid);
+        waits::objects_that_go(alloc, &self.waits[first..], &Stays::OtherReturns(*uid))
+    }
+
+    /// The place of the first wait of a return, or behind the last wait where there is none.
+    fn first_of(&self, uid: &Uid) -> usize
+        ensures within { result ≤ length self.now.waits }
+        ensures before { of_return uid.now (take result self.now.waits) ≡ [] }
+    {
+        waits::first_of(&self.waits, uid, returns::count_of(&self.returns, uid))
     }
 
     /// Forgets the wait of this object and return, if it is listed.
@@ -200,25 +233,36 @@ impl WaitList {
         ensures room { self.new.room ≡ self.old.room }
     {
         if has(&self.references, object, uid) {
-            self.keep(Stays::OtherReferences(*object, *uid));
+            let first = self.first_of(uid);
+            self.keep(first, Stays::OtherReferences(*object, *uid));
         }
     }
 
-    /// Forgets the waits of a return.
+    /// Forgets the waits of a return. It looks at those that were listed since the first of them.
     pub fn acknowledge(&mut self, uid: &Uid)
         ensures waits { self.new.waits ≡ acknowledged uid.now self.old.waits }
         ensures room { self.new.room ≡ self.old.room }
     {
-        self.keep(Stays::OtherReturns(*uid));
+        let first = self.first_of(uid);
+        self.keep(first, Stays::OtherReturns(*uid));
     }
 
-    /// Keeps the waits that stay.
-    fn keep(&mut self, which: Stays)
+    /// Keeps the waits that stay, as all before the place `first` do.
+    fn keep(&mut self, first: usize, which: Stays)
+        requires within { first ≤ length self.old.waits }
+        requires before { filter (stays which) (take first self.old.waits) ≡ take first self.old.waits }
         ensures waits { self.new.waits ≡ filter (stays which) self.old.waits }
         ensures room { self.new.room ≡ self.old.room }
     {
-        index::keep(&mut self.counts, &mut self.references, &self.waits, &which);
-        waits::keep(&mut self.waits, &which);
+        index::keep(
+            &mut self.counts,
+            &mut self.references,
+            &mut self.returns,
+            &self.waits,
+            first,
+            &which,
+        );
+        waits::keep(&mut self.waits, first, &which);
     }
 
     /// Appends a wait of a reference that is not listed. There is room for it.
@@ -229,7 +273,12 @@ impl WaitList {
         ensures waits { self.new.waits ≡ self.old.waits ++ wait ∷ [] }
         ensures room { self.new.room + 1 ≡ self.old.room }
     {
-        index::add(&mut self.counts, &mut self.references, &wait);
+        index::add(
+            &mut self.counts,
+            &mut self.references,
+            &mut self.returns,
+            &wait,
+        );
         waits::put(&mut self.waits, wait);
         self.next = self.next.min(wait.until);
         self.room -= 1;

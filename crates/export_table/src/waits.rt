@@ -1,8 +1,8 @@
 //! References that were returned and await their acknowledgement.
-ghost use Rattle.std.specs.Prelude.{◌≡◌, ◌++◌, ◌∷◌, [], ◌+◌, ◌<◌, ◌≤◌, length, filter, map, not, IfOk, vec_len, vec_capacity};
+ghost use Rattle.std.specs.Prelude.{◌≡◌, ◌++◌, ◌∷◌, [], ◌+◌, ◌<◌, ◌≤◌, length, filter, take, map, not, IfOk, vec_len, vec_capacity};
 ghost use Rattle.std.specs.List.{list_any};
 ghost use Rattle.object_ids.specs.Same.{same_id, same_uid};
-ghost use Rattle.export_table.specs.Waits.{is_wait_of, goes_on, waiting, is_waiting, is_awaited, awaiting_of, until_of};
+ghost use Rattle.export_table.specs.Waits.{is_wait_of, goes_on, waiting, is_waiting, is_awaited, awaiting_of, until_of, of_return};
 ghost use Rattle.export_table.specs.Index.{stays, EndsNoEarlier};
 
 use mod_utf::list::Same;
@@ -156,13 +156,41 @@ pub fn has_ended(waits: &[Wait], at: u64) -> bool
     waits.iter().any(|wait| !wait.goes_on(at))
 }
 
-/// Keeps the waits that stay.
-pub fn keep(waits: &mut Vec<Wait>, which: &Stays)
+/// The place of the first wait of a return of which there are so many, or behind the last wait where there are none. It looks at none
+/// before that place.
+pub fn first_of(waits: &[Wait], uid: &Uid, count: u32) -> usize
+    requires { count ≡ length (of_return uid.now waits.now) }
+    ensures within { result ≤ length waits.now }
+    ensures before { of_return uid.now (take result waits.now) ≡ [] }
+{
+    let mut left = count;
+    let mut first = waits.len();
+    while left > 0 {
+        first -= 1;
+        if waits[first].is_of_return(uid) {
+            left -= 1;
+        }
+    }
+    first
+}
+
+/// Keeps the waits that stay, as all before the place `first` do. It looks at none of these.
+pub fn keep(waits: &mut Vec<Wait>, first: usize, which: &Stays)
+    requires within { first ≤ vec_len waits.old }
+    requires before { filter (stays which.now) (take first waits.old.items) ≡ take first waits.old.items }
     ensures items { waits.new.items ≡ filter (stays which.now) waits.old.items }
     ensures len { vec_len waits.new ≤ vec_len waits.old }
     ensures capacity { vec_capacity waits.new ≡ vec_capacity waits.old }
 {
-    waits.retain(|wait| which.has(wait));
+    let mut kept = first;
+    for i in first..waits.len() {
+        let wait = waits[i];
+        if which.has(&wait) {
+            waits[kept] = wait;
+            kept += 1;
+        }
+    }
+    waits.truncate(kept);
 }
 
 /// The moment at which the first of these ceases to wait; the greatest number where there is none.

@@ -41,10 +41,18 @@ impl From<AllocError> for NameFault {
 
 /// The names of a registry, each with the object for which it stands. Contracts see it as the list of its bindings, the oldest
 /// first. No name stands twice, and there are at most 4,096.
-#[derive(Debug, Drop)]
+#[derive(Debug)]
 pub struct Names {
     alloc: Global,
     bound: Bound,
+}
+
+// Written out, so that whoever owns one has one call at each exit, and not the drop of each field.
+impl Drop for Names {
+    fn drop(self) {
+        let Names { alloc: _, bound } = self;
+        drop(bound);
+    }
 }
 
 impl Model for Names {

@@ -7,11 +7,12 @@ use Rattle.export_table.specs.Index.{stays, IsIndexOf}
 use Rattle.export_table.proofs.index.keep.Given as goal
 
 -- What stays of the waits so far, and those to come, are what is indexed.
-abbrev pub invariant-loop-wait : goal.invariant-loop-wait
-invariant-loop-wait l =
+abbrev pub invariant-loop-i : goal.invariant-loop-i
+invariant-loop-i l =
     record {
-      once : each_once (filter (stays l.which) (take l.wait-index l.waits) ++ drop l.wait-index l.waits) ≡ true;
-      index : IsIndexOf l.counts l.references (filter (stays l.which) (take l.wait-index l.waits) ++ drop l.wait-index l.waits);
+      once : each_once (filter (stays l.which) (take l.i l.waits) ++ drop l.i l.waits) ≡ true;
+      index : IsIndexOf l.counts l.references l.returns (filter (stays l.which) (take l.i l.waits) ++ drop l.i l.waits);
       counts_room : spare l.initial.counts ≤ spare l.counts;
       references_room : places l.initial.references ≤ places l.references;
+      returns_room : spare l.initial.returns ≤ spare l.returns;
     }

@@ -1,9 +1,9 @@
-use Rattle.std.proofs.Common.{◌≡◌, ℕ, List, length, drop, map, max, ap, sym, subst, true, ◌∙◌, rules}
+use Rattle.std.proofs.Common.{◌≡◌, ℕ, List, length, drop, map, max, ap, subst, ◌∙◌, rules}
 use Rattle.std.specs.Prelude.{vec_len}
 use Rattle.std.proofs.lemmas.List.Prefix.{front_rest}
 use Rattle.object_ids.specs.declared.ids.ObjId.{ObjId}
 use Rattle.dgc_server.specs.Stands.{StandsFor}
-use Rattle.export_table.specs.Rows.{held_by, withdrawn, without_all, is_settled_but}
+use Rattle.export_table.specs.Rows.{held_by, withdrawn_among, without_all}
 use Rattle.export_table.specs.Table.{ExportTable}
 use Rattle.export_table.specs.Waits.{goes_on}
 use Rattle.export_table.proofs.Dropped.{slice_from}
@@ -25,10 +25,5 @@ returns-clause-dropped c lease moment calls s =
     (slice_from c.len-told.result c.deref.result.now
     ∙ ap (λ (n : ℕ). drop n c.deref.result.now) (c.len-told.ensures ∙ len)
     ∙ front_rest c.deref.result.now c.args.gone.now.items _ (c.deref.ensures.value ∙ c.sift_among.ensures.gone lease moment calls s)
-    ∙ ap (λ (t : ExportTable). withdrawn c.args.now held t.waits t.rows) c.self.view_is)
+    ∙ ap (λ (t : ExportTable). withdrawn_among c.args.doubtful.now c.args.now held t.waits t.rows) c.self.view_is)
     (c.drop_all.ensures lease moment calls s)
-
-pub sift_among-requires-clause-among : goal.sift_among-requires-clause-among
-sift_among-requires-clause-among c lease moment calls s =
-    let P : ExportTable → Type 0 = λ t. is_settled_but c.args.doubtful.now c.args.now (held_by lease (max c.args.now moment) calls) t.waits t.rows ≡ true in
-    subst P (sym c.self.view_is) (c.requires.among lease moment calls s)

@@ -1,10 +1,11 @@
-use Rattle.std.proofs.Common.{◌≡◌, List, ap, sym, subst, ◌∙◌, false}
+use Rattle.std.proofs.Common.{◌≡◌, List, take, ap, sym, subst, ◌∙◌, false}
 use Rattle.std.specs.Prelude.{not, filter}
 use Rattle.std.specs.List.{list_any}
 use Rattle.export_table.specs.declared.waits.Wait.{Wait}
 use Rattle.export_table.specs.Waits.{is_wait_of}
 use Rattle.export_table.specs.WaitTable.{WaitTable}
 use Rattle.export_table.proofs.Indexing.{none-dropped}
+use Rattle.export_table.proofs.Returning.{references-stay}
 use Rattle.export_table.proofs.wait_list.WaitList.drop_one.Goals as goal
 
 pub returns-else-has-clause-waits : goal.returns-else-has-clause-waits
@@ -13,3 +14,6 @@ returns-else-has-clause-waits c =
     sym (c.self.invariant.index.listed c.args.object.now c.args.uid.now) ∙ sym c.has.ensures ∙ c.if-has.false in
     let P : List Wait → Type 0 = λ l. l ≡ filter (λ w. not (is_wait_of c.args.object.now c.args.uid.now w)) l in
     subst P (ap (λ (t : WaitTable). t.waits) c.self.view_is) (sym (none-dropped (is_wait_of c.args.object.now c.args.uid.now) c.self.inside.waits.items none))
+
+pub keep-requires-clause-before : goal.keep-requires-clause-before
+keep-requires-clause-before c = references-stay c.args.object.now c.args.uid.now (take c.first_of-first.result c.args.self.now.waits) c.first_of-first.ensures.before

@@ -1,6 +1,6 @@
 use Rattle.std.proofs.Common.{◌≡◌, ℕ, [], ◌∷◌, ◌++◌, length, ap, sym, subst, ◌∙◌, arith, false}
 use Rattle.std.specs.List.{list_any}
-use Rattle.object_ids.specs.Same.{same_id}
+use Rattle.object_ids.specs.Same.{same_id, same_uid}
 use Rattle.export_table.specs.declared.waits.Wait.{Wait}
 use Rattle.export_table.specs.Waits.{is_wait_of}
 use Rattle.export_table.specs.Index.{EndsNoEarlier}
@@ -13,6 +13,13 @@ pub add-requires-clause-few : goal.add-requires-clause-few
 add-requires-clause-few c =
     let counted = c.self.invariant.index.counted c.args.wait.object in
     let fewer = length-filter (λ (w : Wait). same_id w.object c.args.wait.object) c.self.inside.waits.items in
+    let all : length c.self.inside.waits.items ≡ length c.args.self.now.waits = ap (λ (t : WaitTable). length t.waits) c.self.view_is in
+    let few = c.requires.few in omega arith
+
+pub add-requires-clause-few_returned : goal.add-requires-clause-few_returned
+add-requires-clause-few_returned c =
+    let counted = c.self.invariant.index.returned c.args.wait.uid in
+    let fewer = length-filter (λ (w : Wait). same_uid w.uid c.args.wait.uid) c.self.inside.waits.items in
     let all : length c.self.inside.waits.items ≡ length c.args.self.now.waits = ap (λ (t : WaitTable). length t.waits) c.self.view_is in
     let few = c.requires.few in omega arith
 
@@ -29,4 +36,5 @@ invariant_of-self c =
       list_room = (let a = inv.list_room in let b = c.put.ensures.len in let d = c.put.ensures.capacity in omega arith);
       counts_room = (let a = inv.counts_room in let b = c.add.ensures.counts_room in omega arith);
       references_room = (let a = inv.references_room in let b = c.add.ensures.references_room in omega arith);
+      returns_room = (let a = inv.returns_room in let b = c.add.ensures.returns_room in omega arith);
     }

@@ -1,0 +1,115 @@
+-- How many references of a return are listed, and where the first of them stands.
+use Rattle.std.proofs.Common.{◌≡◌, ℕ, ◌+◌, ◌-◌, List, [], ◌∷◌, ◌++◌, length, take, drop, map, refl, ap, sym, ◌∙◌, arith, cond, Some, None, suc, zero, take-append-drop}
+use Rattle.std.specs.Prelude.{Bool, true, false, ◌&&◌, not, unwrap_or, filter, if◌then◌else◌}
+use Rattle.std.specs.Ordering.{int_eq}
+use Rattle.std.proofs.lemmas.List.Elements.{filter-append}
+use Rattle.object_ids.specs.declared.ids.Uid.{Uid}
+use Rattle.object_ids.specs.declared.ids.ObjId.{ObjId}
+use Rattle.object_ids.specs.Same.{same_id, same_uid}
+use Rattle.object_ids.proofs.Exact.{same_uid-equal}
+use Rattle.indexmap.specs.IndexMap.{IndexMap, get}
+use Rattle.dgc_server.specs.Index.{one_if}
+use Rattle.export_table.specs.declared.waits.Wait.{Wait}
+use Rattle.history.proofs.ListLemmas.{filter-same, every-always, and_false}
+use Rattle.export_table.specs.declared.waits.Stays.TheVariants.{OtherReturns}
+use Rattle.export_table.specs.Waits.{is_wait_of, until_of, of_return, objects}
+use Rattle.export_table.specs.Index.{same_return, returned_at, stays}
+use Rattle.export_table.proofs.Dropped.{slice_from}
+
+-- ---- one count
+
+return-same : (a b : Uid) → same_return a b ≡ same_uid a b
+return-same a b = regrouped (int_eq a.unique b.unique) (int_eq a.time b.time) (int_eq a.count b.count)
+  where
+    regrouped : (p q r : Bool) → (p && (q && r)) ≡ ((p && q) && r)
+    regrouped true q r = refl
+    regrouped false q r = refl
+
+-- n has w at the key of v, and elsewhere what m has
+pub put-returned : {S : Type 0} (v : Uid) (w : ℕ) (m n : IndexMap Uid ℕ S) → ((u : Uid) → get same_return n u ≡ cond (same_return v u) (Some w) (get same_return m u)) →
+    (u : Uid) → returned_at n u ≡ (if same_uid v u then w else returned_at m u)
+put-returned v w m n h u = ap (λ x. unwrap_or x 0) (h u) ∙ ap (λ b. unwrap_or (cond b (Some w) (get same_return m u)) 0) (return-same v u) ∙ go (same_uid v u)
+  where
+    go : (b : Bool) → unwrap_or (cond b (Some w) (get same_return m u)) 0 ≡ (if b then w else returned_at m u)
+    go true = refl
+    go false = refl
+
+-- n has nothing at the key of v, and elsewhere what m has
+pub removed-returned : {S : Type 0} (v : Uid) (m n : IndexMap Uid ℕ S) → ((u : Uid) → get same_return n u ≡ cond (same_return v u) None (get same_return m u)) →
+    (u : Uid) → returned_at n u ≡ (if same_uid v u then 0 else returned_at m u)
+removed-returned v m n h u = ap (λ x. unwrap_or x 0) (h u) ∙ ap (λ b. unwrap_or (cond b None (get same_return m u)) 0) (return-same v u) ∙ go (same_uid v u)
+  where
+    go : (b : Bool) → unwrap_or (cond b None (get same_return m u)) 0 ≡ (if b then 0 else returned_at m u)
+    go true = refl
+    go false = refl
+
+-- a set count, as one more or one fewer
+pub raised-returned : {S : Type 0} (v : Uid) (m n : IndexMap Uid ℕ S) → ((u : Uid) → returned_at n u ≡ (if same_uid v u then returned_at m v + 1 else returned_at m u)) → (u : Uid) → returned_at n u ≡ returned_at m u + one_if (same_uid v u)
+raised-returned v m n h u = h u ∙ go (same_uid v u) refl
+  where
+    go : (b : Bool) → same_uid v u ≡ b → (if b then returned_at m v + 1 else returned_at m u) ≡ returned_at m u + one_if b
+    go true e = ap (λ p. returned_at m p + 1) (same_uid-equal v u e)
+    go false e = omega arith
+
+pub lowered-returned : {S : Type 0} (v : Uid) (w : ℕ) (m n : IndexMap Uid ℕ S) → w + 1 ≡ returned_at m v → ((u : Uid) → returned_at n u ≡ (if same_uid v u then w else returned_at m u)) → (u : Uid) → returned_at n u + one_if (same_uid v u) ≡ returned_at m u
+lowered-returned v w m n less h u = ap (λ x. x + one_if (same_uid v u)) (h u) ∙ go (same_uid v u) refl
+  where
+    go : (b : Bool) → same_uid v u ≡ b → (if b then w else returned_at m u) + one_if b ≡ returned_at m u
+    go true e = less ∙ ap (returned_at m) (same_uid-equal v u e)
+    go false e = omega arith
+
+-- ---- where none of a return stands
+
+-- Those of other returns are all.
+pub others-stay : (u : Uid) (ws : List Wait) → of_return u ws ≡ [] → filter (λ w. not (same_uid w.uid u)) ws ≡ ws
+others-stay u [] h = refl
+others-stay u (w ∷ ws) h = go (same_uid w.uid u) h (others-stay u ws)
+  where
+    go : (b : Bool) → cond b (w ∷ of_return u ws) (of_return u ws) ≡ [] → (of_return u ws ≡ [] → filter (λ v. not (same_uid v.uid u)) ws ≡ ws) →
+        cond (not b) (w ∷ filter (λ v. not (same_uid v.uid u)) ws) (filter (λ v. not (same_uid v.uid u)) ws) ≡ w ∷ ws
+    go true f rest = absurd (cc)
+    go false f rest = ap (λ l. w ∷ l) (rest f)
+
+-- Where none stands before a place, all of a return stand from there on.
+pub of-return-rest : (u : Uid) (ws : List Wait) (n : ℕ) → of_return u (take n ws) ≡ [] → of_return u (drop n ws) ≡ of_return u ws
+of-return-rest u ws n h =
+    ap (λ l. l ++ of_return u (drop n ws)) (sym h)
+    ∙ sym (filter-append (λ w. same_uid w.uid u) (take n ws) (drop n ws))
+    ∙ ap (of_return u) (take-append-drop n ws)
+
+twice-not : (b : Bool) → not (not b) ≡ b
+twice-not true = refl
+twice-not false = refl
+
+-- The objects of a return, by the waits from that place on.
+pub objects-from : (u : Uid) (ws : List Wait) (n : ℕ) → of_return u (take n ws) ≡ [] →
+    map (λ (w : Wait). w.object) (filter (λ w. not (stays (OtherReturns u) w)) (take (length ws - n) (drop n ws))) ≡ objects (of_return u ws)
+objects-from u ws n h =
+    ap (λ l. objects (filter (λ w. not (stays (OtherReturns u) w)) l)) (slice_from n ws)
+    ∙ ap objects
+    (filter-same (λ w. not (stays (OtherReturns u) w)) (λ w. same_uid w.uid u) (drop n ws) (every-always (λ w. not (stays (OtherReturns u) w) ≡ same_uid w.uid u) (λ w. twice-not (same_uid w.uid u)) (drop n ws))
+    ∙ of-return-rest u ws n h)
+
+-- The moment until which a reference waits, by the waits from that place on.
+until-rest : (o : ObjId) (u : Uid) (ws : List Wait) (n : ℕ) → of_return u (take n ws) ≡ [] → until_of o u (drop n ws) ≡ until_of o u ws
+until-rest o u ws zero h = refl
+until-rest o u [] (suc n) h = refl
+until-rest o u (w ∷ ws) (suc n) h = go (same_uid w.uid u) refl h (until-rest o u ws n)
+  where
+    go : (b : Bool) → same_uid w.uid u ≡ b → cond b (w ∷ of_return u (take n ws)) (of_return u (take n ws)) ≡ [] → (of_return u (take n ws) ≡ [] → until_of o u (drop n ws) ≡ until_of o u ws) →
+        until_of o u (drop n ws) ≡ until_of o u (w ∷ ws)
+    go true e f rest = absurd (cc)
+    go false e f rest = rest f ∙ sym (rw (e, and_false (same_id w.object o)) refl)
+
+pub until-from : (o : ObjId) (u : Uid) (ws : List Wait) (n : ℕ) → of_return u (take n ws) ≡ [] → until_of o u (take (length ws - n) (drop n ws)) ≡ until_of o u ws
+until-from o u ws n h = ap (until_of o u) (slice_from n ws) ∙ until-rest o u ws n h
+
+-- Where none of a return stands, no reference of it does.
+pub references-stay : (o : ObjId) (u : Uid) (ws : List Wait) → of_return u ws ≡ [] → filter (λ w. not (is_wait_of o u w)) ws ≡ ws
+references-stay o u [] h = refl
+references-stay o u (w ∷ ws) h = go (same_uid w.uid u) refl h (references-stay o u ws)
+  where
+    go : (b : Bool) → same_uid w.uid u ≡ b → cond b (w ∷ of_return u ws) (of_return u ws) ≡ [] → (of_return u ws ≡ [] → filter (λ v. not (is_wait_of o u v)) ws ≡ ws) →
+        filter (λ v. not (is_wait_of o u v)) (w ∷ ws) ≡ w ∷ ws
+    go true e f rest = absurd (cc)
+    go false e f rest = rw (e, and_false (same_id w.object o)) (ap (λ l. w ∷ l) (rest f))
