@@ -1,13 +1,14 @@
 -- The events of a log's rows.
-use Rattle.std.specs.Prelude.{◌≡◌, ℕ, []}
+use Rattle.std.specs.Prelude.{◌≡◌, ◌<◌, ℕ, ℤ, pos, Option, Some, None, List, [], ◌∷◌, slice_get, unwrap_or}
 use Rattle.object_ids.specs.declared.ids.Uid.{Uid}
+use Rattle.object_ids.specs.Client.{Client}
 use Rattle.history.specs.declared.asks.Event.{Event}
 use Rattle.history.specs.declared.asks.Ask.{Ask}
-use Rattle.history.specs.declared.asks.Ask.TheVariants.{Open, Begin, Finish, Abandon, Ack, List as ListNames, Tick}
+use Rattle.history.specs.declared.asks.Ask.TheVariants.{Open, Begin, Finish, Abandon, Dirty, Clean, Ack, List as ListNames, Tick}
 use Rattle.event_log.specs.Ids.{id_of, uid_of}
 use Rattle.event_log.specs.declared.rows.Row.{Row}
 use Rattle.event_log.specs.declared.rows.What.{What}
-use Rattle.event_log.specs.declared.rows.What.TheVariants.{Opens, Begins, Finishes, Abandons, Acks, ListsNames, Ticks, Whole}
+use Rattle.event_log.specs.declared.rows.What.TheVariants.{Opens, Begins, Finishes, Abandons, Acks, Dirties, Cleans, ListsNames, Ticks, Whole}
 
 -- An ask in a space that has neither lists nor names. A Finish is of an object of the space.
 abbrev pub IsPlain : Uid → Ask → Type 0
@@ -20,17 +21,50 @@ IsPlain space ListNames = Unit {0}
 IsPlain space Tick = Unit {0}
 IsPlain space _ = ⊥
 
--- The event of a connection at a moment that says this.
-abbrev pub event_with : Uid → ℕ → ℕ → What → Event
-event_with space by moment (Opens kind pinned) = record { by = by; moment = moment; ask = Open kind pinned }
-event_with space by moment (Begins object) = record { by = by; moment = moment; ask = Begin (id_of object) }
-event_with space by moment (Finishes number uid) = record { by = by; moment = moment; ask = Finish (record { number = number; space = space }) [] [] (uid_of uid) }
-event_with space by moment (Abandons object) = record { by = by; moment = moment; ask = Abandon (id_of object) }
-event_with space by moment (Acks uid) = record { by = by; moment = moment; ask = Ack (uid_of uid) }
-event_with space by moment ListsNames = record { by = by; moment = moment; ask = ListNames }
-event_with space by moment Ticks = record { by = by; moment = moment; ask = Tick }
-event_with space by moment (Whole event) = event.value
+-- A Dirty or a Clean of the one object of this number of the space.
+abbrev pub IsOfOne : Uid → ℤ → Ask → Type 0
+IsOfOne space object (Dirty client number asked objects) = objects ≡ record { number = object; space = space } ∷ []
+IsOfOne space object (Clean client number objects strong) = objects ≡ record { number = object; space = space } ∷ []
+IsOfOne space object _ = ⊥
+
+-- Whose call of the collector it is.
+abbrev pub client_of : Ask → Option Client
+client_of (Dirty client number asked objects) = Some client
+client_of (Clean client number objects strong) = Some client
+client_of _ = None
+
+-- The client of a number that no client has.
+abbrev pub nobody : Client
+nobody = record { addr = []; uid = record { unique = pos 0; time = pos 0; count = pos 0 } }
+
+-- The client of this number.
+abbrev pub client_at : List Client → ℕ → Client
+client_at clients number = unwrap_or (slice_get clients number) nobody
+
+-- The event of a connection at a moment that says this, where these are the clients by their numbers.
+abbrev pub event_with : Uid → List Client → ℕ → ℕ → What → Event
+event_with space clients by moment (Opens kind pinned) = record { by = by; moment = moment; ask = Open kind pinned }
+event_with space clients by moment (Begins object) = record { by = by; moment = moment; ask = Begin (id_of object) }
+event_with space clients by moment (Finishes number uid) = record { by = by; moment = moment; ask = Finish (record { number = number; space = space }) [] [] (uid_of uid) }
+event_with space clients by moment (Abandons object) = record { by = by; moment = moment; ask = Abandon (id_of object) }
+event_with space clients by moment (Acks uid) = record { by = by; moment = moment; ask = Ack (uid_of uid) }
+event_with space clients by moment (Dirties client number asked object) =
+    record { by = by; moment = moment; ask = Dirty (client_at clients client) number asked (record { number = object; space = space } ∷ []) }
+event_with space clients by moment (Cleans client strong number object) =
+    record { by = by; moment = moment; ask = Clean (client_at clients client) number (record { number = object; space = space } ∷ []) strong }
+event_with space clients by moment ListsNames = record { by = by; moment = moment; ask = ListNames }
+event_with space clients by moment Ticks = record { by = by; moment = moment; ask = Tick }
+event_with space clients by moment (Whole event) = event.value
 
 -- The event of a row, in a space.
-abbrev pub event_of : Uid → Row → Event
-event_of space row = event_with space row.by row.moment row.what
+abbrev pub event_of : Uid → List Client → Row → Event
+event_of space clients row = event_with space clients row.by row.moment row.what
+
+-- The client that it says is one of so many.
+abbrev pub IsAmongClients : ℕ → What → Type 0
+IsAmongClients count (Dirties client number asked object) = client < count
+IsAmongClients count (Cleans client strong number object) = client < count
+IsAmongClients count _ = Unit {0}
+
+abbrev pub IsKnown : ℕ → Row → Type 0
+IsKnown count row = IsAmongClients count row.what

@@ -1,6 +1,7 @@
-//! The events of a history in few bytes: one without lists or names takes 48.
+//! The events of a history in few bytes: one without lists or names, or of one object that a client takes or gives up, takes 48.
 #![tactic(auto)]
 
+mod clients;
 pub mod ids;
 pub mod log;
 mod rows;

@@ -1,9 +1,10 @@
 //! A list of events in few bytes.
-ghost use Rattle.std.specs.Prelude.{◌≡◌, ◌⊎◌, ◌≤◌, ◌<◌, ◌+◌, ◌++◌, ◌∷◌, [], ◌↔◌, true, false, length, slice_get, option_map, Some, IsTrue, OnOk, OnErr};
-ghost use Rattle.event_log.specs.Rows.{IsPlain, event_of};
+ghost use Rattle.std.specs.Prelude.{◌≡◌, ◌⊎◌, ◌≤◌, ◌<◌, ◌+◌, ◌++◌, ◌∷◌, [], ◌↔◌, true, false, length, slice_get, option_map, Some, IsTrue, IfOk, OnOk, OnErr};
+ghost use Rattle.event_log.specs.Rows.{IsPlain};
 ghost use Rattle.event_log.specs.Views.{viewed};
 
-use crate::rows::{Row, is_plain, plain_row, view_of, whole_row};
+use crate::clients::Clients;
+use crate::rows::{Row, is_plain, plain_row, row_of, view_of};
 use crate::view::EventView;
 use history::{Ask, Event};
 use object_ids::Uid;
@@ -11,29 +12,35 @@ use std::alloc::{AllocError, Global};
 use std::marker::Model;
 
 /// The events of a space, oldest first. One that is plain (an Open, a Begin, an Abandon, an Ack, a List, a Tick, or a Finish of an object of
-/// the space that makes and lists nothing) takes 48 bytes, and each other one a box beside. Contracts see it as an `EventRecord`: the list of
-/// its events, how many of them it has room for, and whether it has a box to spare.
+/// the space that makes and lists nothing) takes 48 bytes, and so does a Dirty or a Clean of one object of the space, beside its client, which is
+/// mostly kept once for all its calls; each other event takes a box beside. Contracts see a log as an `EventRecord`: the list of its events, how
+/// many of them it has room for, and whether it has a box and room for a client to spare.
 #[derive(Debug, Drop)]
 pub struct EventLog {
     alloc: Global,
     space: Uid,
+    clients: Clients,
     rows: Vec<Row>,
     spare: Option<Box<Event>>,
 }
 
 impl Model for EventLog {
-    ghost use Rattle.std.specs.Prelude.{map, vec_capacity, is_some};
+    ghost use Rattle.std.specs.Prelude.{◌≡◌, ◌<◌, true, length, map, vec_capacity, is_some};
+    ghost use Rattle.std.specs.List.{AllByRecursion};
     ghost use Rattle.event_log.specs.Log.{EventRecord};
-    ghost use Rattle.event_log.specs.Rows.{event_of};
+    ghost use Rattle.event_log.specs.Rows.{IsKnown, event_of};
 
     ghost Value = { EventRecord };
 
     ghost view = { λ l. record {
       space = l.space;
-      items = map (event_of l.space) l.rows.items;
+      items = map (event_of l.space l.clients.list.items) l.rows.items;
       capacity = vec_capacity l.rows;
       spare = is_some l.spare;
     } };
+
+    ghost invariant = { λ l. AllByRecursion (IsKnown (length l.clients.list.items)) l.rows.items
+        × (is_some l.spare ≡ true → length l.clients.list.items < vec_capacity l.clients.list) };
 }
 
 /// A box with room for an event.
@@ -55,6 +62,7 @@ impl EventLog {
         EventLog {
             alloc,
             space,
+            clients: Clients::new(alloc),
             rows: Vec::new(alloc),
             spare: None,
         }
@@ -74,25 +82,31 @@ impl EventLog {
         self.rows.is_empty()
     }
 
-    /// The event at a place, counted from 0: none where there are no more events than that. It takes no memory.
-    pub fn get(&self, place: usize) -> Option<EventView<'_>>
-        ensures { option_map viewed result ≡ slice_get self.now.items place }
+    /// The event at a place, counted from 0: none where there are no more events than that. It is refused only for want of memory.
+    pub fn get(&self, place: usize) -> Result<Option<EventView<'_>>, AllocError>
+        ensures { IfOk result (λ found. option_map viewed found ≡ slice_get self.now.items place) }
     {
-        match self.rows.get(place) {
-            Some(row) => Some(view_of(self.alloc, self.space, row)),
-            None => None,
+        if place < self.rows.len() {
+            Ok(Some(self.event(place)?))
+        } else {
+            Ok(None)
         }
     }
 
-    /// The event at a place, counted from 0, where there is one. It takes no memory.
-    pub fn event(&self, place: usize) -> EventView<'_>
+    /// The event at a place, counted from 0, where there is one. It is refused only for want of memory.
+    pub fn event(&self, place: usize) -> Result<EventView<'_>, AllocError>
         requires { place < length self.now.items }
-        ensures { slice_get self.now.items place ≡ Some (viewed result) }
+        ensures { IfOk result (λ view. slice_get self.now.items place ≡ Some (viewed view)) }
     {
-        view_of(self.alloc, self.space, &self.rows[place])
+        view_of(
+            self.alloc,
+            self.space,
+            self.clients.list.as_slice(),
+            &self.rows[place],
+        )
     }
 
-    /// Makes room for `more` further events, and for one that isn't plain. After a refusal no room is lost.
+    /// Makes room for `more` further events, and for one of them that isn't plain. After a refusal no room is lost.
     pub fn reserve(&mut self, more: usize) -> Result<(), AllocError>
         ensures space { self.new.space ≡ self.old.space }
         ensures items { self.new.items ≡ self.old.items }
@@ -102,13 +116,14 @@ impl EventLog {
         ensures kept { self.old.spare ≡ true → self.new.spare ≡ true }
     {
         self.rows.reserve(more)?;
+        self.clients.reserve(self.alloc)?;
         if self.spare.is_none() {
             self.spare = Some(room(self.alloc)?);
         }
         Ok(())
     }
 
-    /// Appends an event, for which there is room. It takes no memory; an event that is plain leaves the box that is to spare.
+    /// Appends an event, for which there is room. It takes no memory; an event that is plain leaves what is to spare.
     pub fn push_reserved(&mut self, event: Event)
         requires room { length self.old.items < self.old.capacity }
         requires spare { IsPlain self.old.space event.ask ⊎ (self.old.spare ≡ true) }
@@ -118,10 +133,10 @@ impl EventLog {
         ensures kept { IsPlain self.old.space event.ask → self.new.spare ≡ self.old.spare }
     {
         if is_plain(&self.space, &event.ask) {
-            let row = plain_row(&self.space, &event);
+            let row = plain_row(&self.space, event);
             self.rows.push_reserved(row);
         } else {
-            let row = whole_row(self.spare.take(), event);
+            let row = row_of(&mut self.clients, &mut self.spare, &self.space, event);
             self.rows.push_reserved(row);
         }
     }

@@ -1,29 +1,57 @@
 //! Events as a log keeps them.
-ghost use Rattle.std.specs.Prelude.{◌≡◌, ◌↔◌, ℕ, [], IsTrue, IsSome};
-ghost use Rattle.history.specs.declared.asks.Ask.TheVariants.{Finish as FinishAsk};
-ghost use Rattle.event_log.specs.Rows.{IsPlain, event_of, event_with};
+ghost use Rattle.std.specs.Prelude.{◌≡◌, ◌↔◌, ◌<◌, ◌+◌, ℕ, List, [], ◌∷◌, ◌++◌, length, slice_get, is_some, true, option_copied, IsTrue, IsSome, IfSome, IfOk, vec_capacity};
+ghost use Rattle.history.specs.declared.asks.Ask.TheVariants.{Finish as FinishAsk, Dirty as DirtyAsk, Clean as CleanAsk};
+ghost use Rattle.object_ids.specs.Client.{Client};
+ghost use Rattle.event_log.specs.Rows.{IsPlain, IsOfOne, IsAmongClients, IsKnown, client_at, client_of, event_of, event_with};
 ghost use Rattle.event_log.specs.Views.{viewed};
 
+use crate::clients::Clients;
 use crate::ids::{RowId, RowUid};
 use crate::view::EventView;
 use history::{Ask, Event};
 use mod_utf::list::{Kinds, Same};
-use object_ids::{ObjId, ObjIds, Uid};
-use std::alloc::Global;
+use object_ids::{ObjId, ObjIds, Uid, Vmid};
+use std::alloc::{AllocError, Global};
 
 /// What a row says beside its connection and its moment.
 #[derive(Debug, Drop)]
 pub enum What {
     /// An Open.
-    Opens { kind: u32, pinned: bool },
+    Opens {
+        kind: u32,
+        pinned: bool,
+    },
     /// A Begin.
-    Begins { object: RowId },
+    Begins {
+        object: RowId,
+    },
     /// A Finish that makes and lists nothing, of the log's own object of this number.
-    Finishes { number: i64, uid: RowUid },
+    Finishes {
+        number: i64,
+        uid: RowUid,
+    },
     /// An Abandon.
-    Abandons { object: RowId },
+    Abandons {
+        object: RowId,
+    },
     /// An Ack.
-    Acks { uid: RowUid },
+    Acks {
+        uid: RowUid,
+    },
+    /// A Dirty of the log's own object of this number, by the client of that number.
+    Dirties {
+        client: u32,
+        number: i64,
+        asked: i64,
+        object: i64,
+    },
+    /// A Clean of the log's own object of this number, by the client of that number.
+    Cleans {
+        client: u32,
+        strong: bool,
+        number: i64,
+        object: i64,
+    },
     /// A List.
     ListsNames,
     /// A Tick.
@@ -69,7 +97,8 @@ pub(crate) fn is_plain(space: &Uid, ask: &Ask) -> bool
 /// What the row of an ask says that it keeps alone.
 fn plain_what(space: &Uid, ask: &Ask) -> What
     requires { IsPlain space.now ask.now }
-    ensures { (by moment : ℕ) → event_with space.now by moment result ≡ record { by = by; moment = moment; ask = ask.now } }
+    ensures row { (clients : List Client) → (by moment : ℕ) → event_with space.now clients by moment result ≡ record { by = by; moment = moment; ask = ask.now } }
+    ensures known { (count : ℕ) → IsAmongClients count result }
 {
     match ask {
         Ask::Open { kind, pinned } => What::Opens {
@@ -101,9 +130,10 @@ fn plain_what(space: &Uid, ask: &Ask) -> What
 }
 
 /// The row of an event that is kept in it alone.
-pub(crate) fn plain_row(space: &Uid, event: &Event) -> Row
-    requires { IsPlain space.now event.now.ask }
-    ensures { event_of space.now result ≡ event.now }
+pub(crate) fn plain_row(space: &Uid, event: Event) -> Row
+    requires { IsPlain space.now event.ask }
+    ensures row { (clients : List Client) → event_of space.now clients result ≡ event }
+    ensures known { (count : ℕ) → IsKnown count result }
 {
     Row {
         moment: event.moment,
@@ -112,10 +142,104 @@ pub(crate) fn plain_row(space: &Uid, event: &Event) -> Row
     }
 }
 
+/// The number of the one object of a Dirty or a Clean, where it is of the space; None for any other ask.
+fn only_object(space: &Uid, ask: &Ask) -> Option<i64>
+    ensures call { IfSome result (λ object. IsOfOne space.now object ask.now) }
+    ensures caller { IfSome result (λ object. IsSome (client_of ask.now)) }
+{
+    match ask {
+        Ask::Dirty { objects, .. } => own_object(space, objects),
+        Ask::Clean { objects, .. } => own_object(space, objects),
+        _ => None,
+    }
+}
+
+/// The number of a list's only object, where it is of the space; None for any other list.
+fn own_object(space: &Uid, objects: &ObjIds) -> Option<i64>
+    ensures { IfSome result (λ object. objects.now ≡ record { number = object; space = space.now } ∷ []) }
+{
+    if objects.len() == 1 && objects[0].space.is_same(space) {
+        Some(objects[0].number)
+    } else {
+        None
+    }
+}
+
+/// Whose call of the collector it is.
+fn client_of(ask: &Ask) -> Option<&Vmid>
+    ensures { option_copied result ≡ client_of ask.now }
+{
+    match ask {
+        Ask::Dirty { client, .. } => Some(client),
+        Ask::Clean { client, .. } => Some(client),
+        _ => None,
+    }
+}
+
+/// The same, moved out of it.
+fn client_in(ask: Ask) -> Option<Vmid>
+    ensures { result ≡ client_of ask }
+{
+    match ask {
+        Ask::Dirty { client, .. } => Some(client),
+        Ask::Clean { client, .. } => Some(client),
+        _ => None,
+    }
+}
+
+/// A number of the client whose call it is, if one is found.
+fn number_of(clients: &Clients, ask: &Ask) -> Option<u32>
+    ensures { IfSome result (λ number. slice_get clients.now.list.items number ≡ client_of ask.now) }
+{
+    match client_of(ask) {
+        Some(client) => clients.find(client),
+        None => None,
+    }
+}
+
+/// What the row of a call of the collector of one object says, where its client has this number.
+fn call_what(space: &Uid, client: u32, object: i64, ask: &Ask) -> What
+    requires { IsOfOne space.now object ask.now }
+    ensures row { (clients : List Client) → (by moment : ℕ) → slice_get clients client ≡ client_of ask.now →
+        event_with space.now clients by moment result ≡ record { by = by; moment = moment; ask = ask.now } }
+    ensures known { (count : ℕ) → client < count → IsAmongClients count result }
+{
+    match ask {
+        Ask::Dirty { number, asked, .. } => What::Dirties {
+            client,
+            number: *number,
+            asked: *asked,
+            object,
+        },
+        Ask::Clean { number, strong, .. } => What::Cleans {
+            client,
+            strong: *strong,
+            number: *number,
+            object,
+        },
+        // no other ask is a call of the collector
+        _ => What::Ticks,
+    }
+}
+
+/// The row of a call of the collector of one object, where its client has this number.
+fn call_row(space: &Uid, client: u32, object: i64, event: &Event) -> Row
+    requires { IsOfOne space.now object event.now.ask }
+    ensures row { (clients : List Client) → slice_get clients client ≡ client_of event.now.ask → event_of space.now clients result ≡ event.now }
+    ensures known { (count : ℕ) → client < count → IsKnown count result }
+{
+    Row {
+        moment: event.moment,
+        by: event.by,
+        what: call_what(space, client, object, &event.ask),
+    }
+}
+
 /// The row of an event that is kept whole, in a box that is there.
-pub(crate) fn whole_row(room: Option<Box<Event>>, event: Event) -> Row
+fn whole_row(room: Option<Box<Event>>, event: Event) -> Row
     requires { IsSome room }
-    ensures { (space : Uid) → event_of space result ≡ event }
+    ensures row { (space : Uid) → (clients : List Client) → event_of space clients result ≡ event }
+    ensures known { (count : ℕ) → IsKnown count result }
 {
     let moment = event.moment;
     let by = event.by;
@@ -132,6 +256,71 @@ pub(crate) fn whole_row(room: Option<Box<Event>>, event: Event) -> Row
     }
 }
 
+/// The row of an event that its row doesn't keep alone. There is a box, and room for a client: either the box is used, or the client gets a
+/// number, where it has none, and the box is given up, so that room is made for the next client.
+pub(crate) fn row_of(
+    clients: &mut Clients,
+    spare: &mut Option<Box<Event>>,
+    space: &Uid,
+    event: Event,
+) -> Row
+    requires spare { is_some spare.old ≡ true }
+    requires room { length clients.old.list.items < vec_capacity clients.old.list }
+    ensures row { event_of space.now clients.new.list.items result ≡ event }
+    ensures known { IsKnown (length clients.new.list.items) result }
+    ensures clients { (more : List Client) × (clients.new.list.items ≡ clients.old.list.items ++ more) }
+    ensures room { is_some spare.new ≡ true → length clients.new.list.items < vec_capacity clients.new.list }
+{
+    match only_object(space, &event.ask) {
+        Some(object) => match number_of(clients, &event.ask) {
+            Some(client) => call_row(space, client, object, &event),
+            None => fresh_row(clients, spare, space, object, event),
+        },
+        None => whole_row(spare.take(), event),
+    }
+}
+
+/// The row of a call of the collector of one object, whose client gets a number, where there is one.
+fn fresh_row(
+    clients: &mut Clients,
+    spare: &mut Option<Box<Event>>,
+    space: &Uid,
+    object: i64,
+    event: Event,
+) -> Row
+    requires call { IsOfOne space.now object event.ask }
+    requires caller { IsSome (client_of event.ask) }
+    requires spare { is_some spare.old ≡ true }
+    requires room { length clients.old.list.items < vec_capacity clients.old.list }
+    ensures row { event_of space.now clients.new.list.items result ≡ event }
+    ensures known { IsKnown (length clients.new.list.items) result }
+    ensures clients { (more : List Client) × (clients.new.list.items ≡ clients.old.list.items ++ more) }
+    ensures room { is_some spare.new ≡ true → length clients.new.list.items < vec_capacity clients.new.list }
+{
+    let hand = spare.take();
+    match clients.next() {
+        Some(client) => {
+            let row = call_row(space, client, object, &event);
+            add_caller(clients, client, event.ask);
+            row
+        }
+        None => whole_row(hand, event),
+    }
+}
+
+/// Gives the client whose call it is a number, for which there is room.
+fn add_caller(clients: &mut Clients, number: u32, ask: Ask)
+    requires caller { IsSome (client_of ask) }
+    requires room { length clients.old.list.items < vec_capacity clients.old.list }
+    ensures caller { slice_get clients.new.list.items (length clients.old.list.items) ≡ client_of ask }
+    ensures len { length clients.new.list.items ≡ length clients.old.list.items + 1 }
+    ensures clients { (more : List Client) × (clients.new.list.items ≡ clients.old.list.items ++ more) }
+{
+    if let Some(client) = client_in(ask) {
+        clients.add(number, client);
+    }
+}
+
 /// A Finish that makes and lists nothing.
 fn finish(alloc: Global, space: Uid, number: i64, uid: Uid) -> Ask
     ensures { result ≡ FinishAsk (record { number = number; space = space }) [] [] uid }
@@ -144,12 +333,105 @@ fn finish(alloc: Global, space: Uid, number: i64, uid: Uid) -> Ask
     }
 }
 
-/// The event of a row.
-pub(crate) fn view_of(alloc: Global, space: Uid, row: &Row) -> EventView<'_>
-    ensures { viewed result ≡ event_of space row.now }
+/// The client of this number.
+#[tactic(auto, using(crate::proofs::RowLaws::client_there))]
+fn client_numbered(clients: &[Vmid], number: u32) -> &Vmid
+    requires { number < length clients.now }
+    ensures { result.now ≡ client_at clients.now number }
+{
+    &clients[number as usize]
+}
+
+/// A Dirty of one object.
+fn dirty<'a>(
+    alloc: Global,
+    row: &Row,
+    client: &Vmid,
+    number: i64,
+    asked: i64,
+    object: ObjId,
+) -> Result<EventView<'a>, AllocError>
+    ensures { IfOk result (λ view. viewed view ≡ record { by = row.now.by; moment = row.now.moment; ask = DirtyAsk client.now number asked (object ∷ []) }) }
+{
+    let client = client.copy(alloc)?;
+    let objects = ObjIds::from_slice(alloc, &[object])?;
+    let ask = Ask::Dirty {
+        client,
+        number,
+        asked,
+        objects,
+    };
+    Ok(EventView::Made(Event {
+        by: row.by,
+        moment: row.moment,
+        ask,
+    }))
+}
+
+/// A Clean of one object.
+fn clean<'a>(
+    alloc: Global,
+    row: &Row,
+    client: &Vmid,
+    number: i64,
+    object: ObjId,
+    strong: bool,
+) -> Result<EventView<'a>, AllocError>
+    ensures { IfOk result (λ view. viewed view ≡ record { by = row.now.by; moment = row.now.moment; ask = CleanAsk client.now number (object ∷ []) strong }) }
+{
+    let client = client.copy(alloc)?;
+    let objects = ObjIds::from_slice(alloc, &[object])?;
+    let ask = Ask::Clean {
+        client,
+        number,
+        objects,
+        strong,
+    };
+    Ok(EventView::Made(Event {
+        by: row.by,
+        moment: row.moment,
+        ask,
+    }))
+}
+
+/// The event of a row. It is refused only for want of memory.
+pub(crate) fn view_of<'a>(
+    alloc: Global,
+    space: Uid,
+    clients: &[Vmid],
+    row: &'a Row,
+) -> Result<EventView<'a>, AllocError>
+    requires { IsKnown (length clients.now) row.now }
+    ensures { IfOk result (λ view. viewed view ≡ event_of space clients.now row.now) }
 {
     let ask = match &row.what {
-        What::Whole(event) => return EventView::Kept(event),
+        What::Whole(event) => return Ok(EventView::Kept(event)),
+        What::Dirties {
+            client,
+            number,
+            asked,
+            object,
+        } => {
+            let client = client_numbered(clients, *client);
+            let object = ObjId {
+                number: *object,
+                space,
+            };
+            return dirty(alloc, row, client, *number, *asked, object);
+        }
+        What::Cleans {
+            client,
+            strong,
+            number,
+            object,
+        } => {
+            let client = client_numbered(clients, *client);
+            let object = ObjId {
+                number: *object,
+                space,
+            };
+            return clean(alloc, row, client, *number, object, *strong);
+        }
         What::Opens { kind, pinned } => Ask::Open {
             kind: *kind,
             pinned: *pinned,
@@ -161,9 +443,9 @@ pub(crate) fn view_of(alloc: Global, space: Uid, row: &Row) -> EventView<'_>
         What::ListsNames => Ask::List,
         What::Ticks => Ask::Tick,
     };
-    EventView::Made(Event {
+    Ok(EventView::Made(Event {
         by: row.by,
         moment: row.moment,
         ask,
-    })
+    }))
 }

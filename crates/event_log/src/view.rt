@@ -9,7 +9,7 @@ use history::Event;
 pub enum EventView<'a> {
     /// It is kept whole.
     Kept(&'a Event),
-    /// It was put together. It has neither lists nor names, so that it took no memory.
+    /// It was put together.
     Made(Event),
 }
 

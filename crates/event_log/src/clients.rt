@@ -1,0 +1,148 @@
+//! The clients of a log's events.
+ghost use Rattle.std.specs.Prelude.{◌≡◌, ◌<◌, ◌≤◌, ◌+◌, ◌++◌, ◌∷◌, [], length, slice_get, Some, IfSome, IsTrue, OnOk, vec_capacity};
+
+use mod_utf::list::Same;
+use object_ids::Vmid;
+use std::alloc::{AllocError, Global};
+
+/// What a slot holds that has no number. No client has this number.
+const FREE: u32 = 4_294_967_295;
+
+/// In how many slots, one after the other, a client's number is looked for.
+const TRIES: u64 = 8;
+
+/// The least number of slots, where there are any.
+const LEAST: usize = 16;
+
+/// Clients with a number each: its place in the list. A client may stand in it more than once: its number is looked for in a few
+/// slots alone, so that no choice of clients makes that take long, and is given anew where it isn't found there.
+#[derive(Debug, Drop)]
+pub struct Clients {
+    pub list: Vec<Vmid>,
+    slots: Vec<u32>,
+}
+
+impl Clients {
+    /// No clients. It takes no memory.
+    pub fn new(alloc: Global) -> Clients
+        ensures { result.list.items ≡ [] }
+    {
+        Clients {
+            list: Vec::new(alloc),
+            slots: Vec::new(alloc),
+        }
+    }
+
+    /// Makes room for one more client.
+    pub fn reserve(&mut self, alloc: Global) -> Result<(), AllocError>
+        ensures list { self.new.list.items ≡ self.old.list.items }
+        ensures room { OnOk result (length self.new.list.items < vec_capacity self.new.list) }
+        ensures grow { vec_capacity self.old.list ≤ vec_capacity self.new.list }
+    {
+        self.list.reserve(1)?;
+        if self.slots.len() / 4 <= self.list.len() {
+            let count = self.slots.len().saturating_mul(2).max(LEAST);
+            self.slots = slots_of(alloc, self.list.as_slice(), count)?;
+        }
+        Ok(())
+    }
+
+    /// A number of a client, if one is found.
+    pub fn find(&self, client: &Vmid) -> Option<u32>
+        ensures { IfSome result (λ number. slice_get self.now.list.items number ≡ Some client.now) }
+    {
+        let hash = hash_of(client);
+        for step in 0..TRIES {
+            if let Some(number) = self.slots.get(slot_at(hash, step, self.slots.len())) {
+                if self.is_at(*number, client) {
+                    return Some(*number);
+                }
+            }
+        }
+        None
+    }
+
+    /// Whether a client has this number.
+    fn is_at(&self, number: u32, client: &Vmid) -> bool
+        ensures { IsTrue result → slice_get self.now.list.items number ≡ Some client.now }
+    {
+        match self.list.get(number as usize) {
+            Some(known) => known.is_same(client),
+            None => false,
+        }
+    }
+
+    /// The number of the next client that is added; None where all numbers are given.
+    pub fn next(&self) -> Option<u32>
+        ensures { IfSome result (λ number. number ≡ length self.now.list.items) }
+    {
+        if self.list.len() < FREE as usize {
+            Some(self.list.len() as u32)
+        } else {
+            None
+        }
+    }
+
+    /// Adds a client, for which there is room, under this number. It takes no memory.
+    pub fn add(&mut self, number: u32, client: Vmid)
+        requires { length self.old.list.items < vec_capacity self.old.list }
+        ensures list { self.new.list.items ≡ self.old.list.items ++ client ∷ [] }
+        ensures len { length self.new.list.items ≡ length self.old.list.items + 1 }
+        ensures last { slice_get self.new.list.items (length self.old.list.items) ≡ Some client }
+    {
+        note(&mut self.slots, hash_of(&client), number);
+        self.list.push_reserved(client);
+    }
+}
+
+/// So many slots, a power of 2, with the numbers of these clients.
+fn slots_of(alloc: Global, clients: &[Vmid], count: usize) -> Result<Vec<u32>, AllocError> {
+    let mut slots = vec![in alloc; FREE; count]?;
+    let mut number: u32 = 0;
+    for client in clients {
+        note(&mut slots, hash_of(client), number);
+        number = number.wrapping_add(1);
+    }
+    Ok(slots)
+}
+
+/// Notes a number of a client with this hash in the first of its slots that is free, or else in the first of them.
+fn note(slots: &mut Vec<u32>, hash: u64, number: u32) {
+    let count = slots.len();
+    let mut chosen = slot_at(hash, 0, count);
+    for step in 0..TRIES {
+        let slot = slot_at(hash, step, count);
+        if slots.get(slot) == Some(&FREE) {
+            chosen = slot;
+            break;
+        }
+    }
+    if chosen < slots.len() {
+        slots[chosen] = number;
+    }
+}
+
+/// The slot that is tried after so many others, among so many.
+fn slot_at(hash: u64, step: u64, count: usize) -> usize {
+    (hash.wrapping_add(step) & (count as u64).wrapping_sub(1)) as usize
+}
+
+/// A number by which clients are told apart mostly.
+fn hash_of(client: &Vmid) -> u64 {
+    let uid = client.uid();
+    let mut hash = mixed(
+        uid.time.unsigned_abs(),
+        u64::from(uid.unique.unsigned_abs()),
+    );
+    hash = mixed(hash, u64::from(uid.count.unsigned_abs()));
+    for byte in client.addr() {
+        hash = mixed(hash, u64::from(*byte));
+    }
+    hash
+}
+
+/// A hash with a further number.
+fn mixed(hash: u64, number: u64) -> u64 {
+    let product = (hash ^ number).wrapping_mul(0x9E37_79B9_7F4A_7C15);
+    product ^ (product >> 32)
+}
