@@ -19,12 +19,12 @@ use Rattle.space.specs.Acts.{ForEachLogBy, effective_by, acted, room_refusal, aw
 use Rattle.rmi_registry.specs.declared.binding.Binding.{Binding}
 use Rattle.rmi_registry.specs.Stands.{AreBindings}
 use Rattle.space.specs.Ahead.{HasRoom}
-use Rattle.space.specs.Doubts.{LeasesEndFrom}
+use Rattle.space.specs.Doubts.{HasLog, LeasesEndFrom}
 use Rattle.space.proofs.Acting.{stood_for}
 use Rattle.history.specs.Names.{names}
 use Rattle.space.specs.Kept.{Keeps}
 use Rattle.space.proofs.Keeping.{told_calls, going_now}
-use Rattle.space.proofs.TurnLaws.{HasActed, HasWithdrawn, goes-now}
+use Rattle.space.proofs.TurnLaws.{HasActed, HasWithdrawn, goes-now, is-acted}
 use Rattle.space.proofs.AskLaws.{asked, room-as, gone-few}
 
 -- What is known once an ask has acted.
@@ -48,6 +48,16 @@ has-acted config events e leases leases1 x y runs seen withdrawn told opened use
       told_leases = subst O t ok;
       act = ap (λ i. acted stood effective i e.ask y) t ∙ ap (λ o. acted o effective (max e.moment moment) e.ask y) st;
     }
+
+-- Then there are calls for which the leases stand.
+pub has-log : (config : SpaceConfig) (events : List Event) (e : Event) (leases leases1 : LeaseTable) (exports t : ExportTable) (runs : List Run) (withdrawn : List Withdrawal) (told opened used moment : ℕ) (effective : Bool) →
+    HasActed config events e leases leases1 exports t runs withdrawn told opened used moment effective → HasLog leases1
+has-log config events e leases leases1 exports t runs withdrawn told opened used moment effective a = record {
+  lease = config.lease_ms;
+  moment = max e.moment (now (places config events));
+  calls = told_calls config events e;
+  stands = (is-acted config events e leases leases1 exports t runs withdrawn told opened used moment effective a).leases_stand;
+}
 
 -- What the withdrawal answered, of a table but for its room.
 pub has-withdrawn : (leases1 leases2 : LeaseTable) (t y z : ExportTable) (time : ℕ) (told_gone all_gone : List ObjId) → y ≡ record t { room = y.room } →

@@ -1,6 +1,6 @@
 -- What a turn's entry needs, by what is kept.
-use Rattle.std.proofs.Common.{◌≡◌, ℕ, ◌+◌, ◌≤◌, inl, inr, List, [], ◌∷◌, ◌++◌, length, refl, ap, sym, subst, ◌∙◌, map, drop, arith, Option, Some, None, Ok, Err, length-append}
-use Rattle.std.specs.Prelude.{Bool, true, false, not, ◌⊎◌, filter, if◌then◌else◌, Result, IfOk, OnErr}
+use Rattle.std.proofs.Common.{◌≡◌, ℕ, ◌≤◌, inl, inr, List, [], ◌∷◌, ◌++◌, length, refl, ap, sym, subst, ◌∙◌, arith, Option, Some, None, Ok, Err}
+use Rattle.std.specs.Prelude.{Bool, true, false, ◌⊎◌, if◌then◌else◌, Result, IfOk, OnErr}
 use Rattle.std.proofs.lemmas.List.{length-map}
 use Rattle.object_ids.specs.declared.ids.ObjId.{ObjId}
 use Rattle.history.specs.declared.asks.SpaceConfig.{SpaceConfig}
@@ -9,29 +9,19 @@ use Rattle.history.specs.declared.asks.Ask.{Ask}
 use Rattle.history.specs.declared.asks.Ask.TheVariants.{Open, Begin, Finish, Abandon, Dirty, Clean, Ack, Bind, Rebind, Unbind, Lookup, List as ListNames, Tick}
 use Rattle.history.specs.declared.places.Place.{Place}
 use Rattle.history.specs.declared.places.Exported.{Exported}
-use Rattle.history.specs.declared.places.Withdrawal.{Withdrawal}
 use Rattle.history.specs.declared.replies.Refused.{Refused}
 use Rattle.history.specs.declared.replies.Refused.TheVariants.{OutOfMemory}
 use Rattle.history.specs.declared.replies.Reply.TheVariants.{Started, NoObject, Finished, NotRunning, Done, Bound, AlreadyBound, Unbound, NotBound, Names}
 use Rattle.history.specs.declared.replies.Turn.{Turn}
-use Rattle.history.specs.Limits.{units_of, limits, refusal}
+use Rattle.history.specs.Limits.{limits, refusal}
 use Rattle.history.specs.Places.{exported_from, has, kind_of, next}
 use Rattle.history.specs.Names.{names, stands_for}
-use Rattle.history.specs.Replies.{ids, reply, reply_found, gone}
+use Rattle.history.specs.Replies.{ids, reply, reply_found}
 use Rattle.history.specs.Steps.{turn_of, answer_with, history_with, Step}
-use Rattle.history.specs.Table.{is_effective, exports, is_kept, table, place_of, places, withdrawn}
-use Rattle.history.proofs.GoneLaws.{pending, gone-push}
-use Rattle.history.proofs.TableLaws.{places-numbered, withdrawn-place}
-use Rattle.dgc_server.specs.Stands.{LeaseTable}
-use Rattle.export_table.specs.Table.{ExportTable}
-use Rattle.space.specs.declared.runs.Run.{Run}
+use Rattle.history.specs.Table.{is_effective, exports, table, place_of, places}
 use Rattle.space.specs.Built.{SpaceHistory}
-use Rattle.space.specs.Kept.{Keeps}
-use Rattle.space.specs.Noted.{FitsIn}
-use Rattle.space.proofs.AheadLaws.{some-or-not}
-use Rattle.space.proofs.Keeping.{opened-few}
-use Rattle.space.proofs.Quiet.{adds-length, exported_from-length}
-use Rattle.export_table.specs.Stands.{row_of}
+use Rattle.space.specs.Noted.{FitsIn, made_by, turned}
+use Rattle.space.proofs.Quiet.{exported_from-length}
 
 -- ---- what a step says
 
@@ -53,26 +43,10 @@ refused-turn config h h2 e refused (inl s) = go (refusal limits config (places c
     go (Some x) q a b = (let same : x ≡ refused = (cc) in inl (q ∙ ap (λ y. Some y) same), b)
 refused-turn config h h2 e refused (inr s) = (let same : refused ≡ OutOfMemory = (let first = s.0 in cc) in inr same, s.1)
 
--- ---- the lengths of what a turn tells
+-- ---- what a turn tells
 
-gone-few : (config : SpaceConfig) (events : List Event) (e : Event) (leases : LeaseTable) (exports : ExportTable) (runs : List Run) (withdrawn_before : List Withdrawal) (told opened used moment : ℕ) →
-    Keeps config events leases exports runs withdrawn_before told opened used moment → length (gone config (places config events) e) ≤ length (map (λ (w : Withdrawal). w.object) (drop told withdrawn_before)) + (length exports.rows + units_of e.ask)
-gone-few config events e leases exports runs withdrawn_before told opened used moment k =
-    let all : List Exported = table config (places config events) ++ (place_of config (places config events) e).exported_here in
-    let kept : Exported → Bool = is_kept config (place_of config (places config events) e ∷ places config events) in
-    let rows : length exports.rows ≡ length (table config (places config events)) = ap length k.stands.rows_are ∙ length-map (table config (places config events)) (row_of (places config events)) in
-    let told_before : length (map (λ (w : Withdrawal). w.object) (drop told withdrawn_before)) ≡ length (pending config (places config events)) = ap length k.stands.told_are in
-    let goes : length (ids (withdrawn config (place_of config (places config events) e ∷ places config events))) ≡ length (filter (λ x. not (kept x)) all) =
-    length-map (withdrawn config (place_of config (places config events) e ∷ places config events)) (λ (x : Exported). x.id) ∙ ap length (withdrawn-place config (places config events) e) in
-    let told_all = ap length (gone-push config (places config events) e (places-numbered config events)) ∙ length-append (pending config (places config events)) (ids (withdrawn config (place_of config (places config events) e ∷ places config events))) in
-    let both = some-or-not kept all in
-    let sum = length-append (table config (places config events)) (place_of config (places config events) e).exported_here in
-    let adds = adds-length config (places config events) e in
-    let few = opened-few (is_effective config (places config events) e.by e.ask) e.ask in
-    omega (arith, rows, told_before, goes, told_all, both, sum, adds, few)
-
--- A reply has no more identifiers than the event has units.
-reply-ids : (config : SpaceConfig) (h : List Place) (e : Event) (os : List ObjId) → reply config h e ≡ Finished os → length os ≤ units_of e.ask
+-- A reply has no more identifiers than the return makes objects.
+reply-ids : (config : SpaceConfig) (h : List Place) (e : Event) (os : List ObjId) → reply config h e ≡ Finished os → length os ≤ made_by e.ask
 unfolding reply place_of exports
 reply-ids config h e os s = go e.ask s
   where
@@ -91,9 +65,9 @@ reply-ids config h e os s = go e.ask s
         let long = exported_from-length config.uid (next h) (length h) false made in
         omega (arith, same, all, long)
 
-    finished : (v : Bool) (made : List ℕ) (n : ℕ) → (if v then Finished (ids (if v then exported_from config.uid (next h) (length h) false made else [])) else NotRunning) ≡ Finished os → length os ≤ 1 + length made + n
-    finished true made n t = let few = made-few made (cc) in omega (arith, few)
-    finished false made n t = absurd (cc)
+    finished : (v : Bool) (made : List ℕ) → (if v then Finished (ids (if v then exported_from config.uid (next h) (length h) false made else [])) else NotRunning) ≡ Finished os → length os ≤ length made
+    finished true made t = made-few made (cc)
+    finished false made t = absurd (cc)
 
     bound : (v w : Bool) (n : ℕ) → (if v then Bound else if w then AlreadyBound else NoObject) ≡ Finished os → length os ≤ n
     bound true w n t = absurd (cc)
@@ -112,19 +86,19 @@ reply-ids config h e os s = go e.ask s
     found None n t = absurd (cc)
     found (Some o) n t = absurd (cc)
 
-    go : (a : Ask) → reply config h (record e { ask = a }) ≡ Finished os → length os ≤ units_of a
+    go : (a : Ask) → reply config h (record e { ask = a }) ≡ Finished os → length os ≤ made_by a
     go (Open kind pinned) s = absurd (cc)
-    go (Begin o) s = begun (is_effective config h e.by (Begin o)) (kind_of (table config h) o) 1 s
-    go (Abandon o) s = ended (is_effective config h e.by (Abandon o)) 1 s
+    go (Begin o) s = begun (is_effective config h e.by (Begin o)) (kind_of (table config h) o) 0 s
+    go (Abandon o) s = ended (is_effective config h e.by (Abandon o)) 0 s
     go (Dirty x y z w) s = absurd (cc)
     go (Clean x y z w) s = absurd (cc)
     go (Ack u) s = absurd (cc)
     go Tick s = absurd (cc)
-    go (Finish x y z w) s = finished (is_effective config h e.by (Finish x y z w)) y (length z) s
-    go (Bind n o) s = bound (is_effective config h e.by (Bind n o)) (has (table config h) o) 1 s
-    go (Rebind n o) s = rebound (is_effective config h e.by (Rebind n o)) 1 s
-    go (Unbind n) s = unbound (is_effective config h e.by (Unbind n)) 1 s
-    go (Lookup n u) s = found (stands_for h n) 1 s
+    go (Finish x y z w) s = finished (is_effective config h e.by (Finish x y z w)) y s
+    go (Bind n o) s = bound (is_effective config h e.by (Bind n o)) (has (table config h) o) 0 s
+    go (Rebind n o) s = rebound (is_effective config h e.by (Rebind n o)) 0 s
+    go (Unbind n) s = unbound (is_effective config h e.by (Unbind n)) 0 s
+    go (Lookup n u) s = found (stands_for h n) 0 s
     go ListNames s = absurd (cc)
 
 -- It has names only where they are asked for, and then those of the history.
@@ -177,37 +151,30 @@ reply-names config h e ns s = go e.ask refl s
     go ListNames i s = (i, let same : names h ≡ ns = cc in same)
 
 -- WHAT IS KNOWN of a turn for its copy, of the space that contracts see.
-pub record IsSmall (asked : Ask) (bound : List (List ℕ)) (turn : Turn) (ids_room gone_room : ℕ) : Type 0 where
+pub record IsSmall (asked : Ask) (bound : List (List ℕ)) (turn : Turn) (ids_room : ℕ) : Type 0 where
   pub ids : (os : List ObjId) → turn.reply ≡ Finished os → length os ≤ ids_room
-  pub gone : length turn.gone ≤ gone_room
   pub names : (ns : List (List ℕ)) → turn.reply ≡ Names ns → (asked ≡ ListNames) × (bound ≡ ns)
 
-pub turn-small : (config : SpaceConfig) (events h2 : List Event) (e : Event) (leases : LeaseTable) (exports : ExportTable) (runs : List Run) (withdrawn_before : List Withdrawal) (told opened used moment : ℕ) (s : SpaceHistory) (turn : Turn) →
-    Keeps config events leases exports runs withdrawn_before told opened used moment → record { configuration = config; events = events } ≡ s → Step s.configuration s.events e (Ok turn) h2 →
-    IsSmall e.ask (names (places config events)) turn (units_of e.ask) (length (map (λ (w : Withdrawal). w.object) (drop told withdrawn_before)) + (length exports.rows + units_of e.ask))
-turn-small config events h2 e leases exports runs withdrawn_before told opened used moment s turn k v t =
+pub turn-small : (config : SpaceConfig) (events h2 : List Event) (e : Event) (s : SpaceHistory) (turn : Turn) → record { configuration = config; events = events } ≡ s → Step s.configuration s.events e (Ok turn) h2 →
+    IsSmall e.ask (names (places config events)) turn (made_by e.ask)
+turn-small config events h2 e s turn v t =
     let P : SpaceHistory → Type 0 = λ h. Step h.configuration h.events e (Ok turn) h2 in
     let is : turn ≡ turn_of config events e = (taken-turn config events h2 e turn (subst P (sym v) t)).0 in
-    let R : Turn → Type 0 = λ x. IsSmall e.ask (names (places config events)) x (units_of e.ask) (length (map (λ (w : Withdrawal). w.object) (drop told withdrawn_before)) + (length exports.rows + units_of e.ask)) in
-    subst R (sym is) (record {
-      ids = λ os p. reply-ids config (places config events) e os p;
-      gone = gone-few config events e leases exports runs withdrawn_before told opened used moment k;
-      names = λ ns p. reply-names config (places config events) e ns p;
-    })
+    let R : Turn → Type 0 = λ x. IsSmall e.ask (names (places config events)) x (made_by e.ask) in
+    subst R (sym is) (record { ids = λ os p. reply-ids config (places config events) e os p; names = λ ns p. reply-names config (places config events) e ns p })
 
 -- The same as there is room for a copy.
-pub fits-turn : (config : SpaceConfig) (events h2 : List Event) (e : Event) (leases : LeaseTable) (exports : ExportTable) (runs : List Run) (withdrawn_before : List Withdrawal) (told opened used moment : ℕ) (s : SpaceHistory) (answer : Result Turn Refused) (ids_room gone_room : ℕ) (listed : List (List ℕ)) →
-    Keeps config events leases exports runs withdrawn_before told opened used moment → record { configuration = config; events = events } ≡ s → Step s.configuration s.events e answer h2 →
-    (e.ask ≡ ListNames → listed ≡ names (places config events)) → units_of e.ask ≤ ids_room → length (map (λ (w : Withdrawal). w.object) (drop told withdrawn_before)) + (length exports.rows + units_of e.ask) ≤ gone_room → FitsIn answer ids_room gone_room listed
-fits-turn config events h2 e leases exports runs withdrawn_before told opened used moment s (Ok turn) ids_room gone_room listed k v t l i g =
-    let small = turn-small config events h2 e leases exports runs withdrawn_before told opened used moment s turn k v t in
-    let gone_few = small.gone in
+pub fits-turn : (config : SpaceConfig) (events h2 : List Event) (e : Event) (s : SpaceHistory) (answer : Result (Turn × List ObjId) Refused) (ids_room : ℕ) (listed : List (List ℕ)) →
+    record { configuration = config; events = events } ≡ s → Step s.configuration s.events e (turned answer) h2 →
+    (e.ask ≡ ListNames → listed ≡ names (places config events)) → made_by e.ask ≤ ids_room → IfOk answer (λ x. x.1 ≡ x.0.gone) → FitsIn answer ids_room listed
+fits-turn config events h2 e s (Ok x) ids_room listed v t l i g =
+    let small = turn-small config events h2 e s x.0 v t in
     record {
       ids_fit = λ os p. (let few = small.ids os p in omega (arith, few, i));
-      gone_fit = omega (arith, gone_few, g);
+      gone_are = g;
       names_are = λ ns p. (let two = small.names ns p in l two.0 ∙ two.1);
     }
-fits-turn config events h2 e leases exports runs withdrawn_before told opened used moment s (Err refused) ids_room gone_room listed k v t l i g = tt
+fits-turn config events h2 e s (Err refused) ids_room listed v t l i g = tt
 
 -- What follows of a value follows of it where there is one.
 pub if-ok : {T E : Type 0} (r : Result T E) (P Q : T → Type 0) → IfOk r P → ((x : T) → P x → Q x) → IfOk r Q
@@ -217,3 +184,8 @@ if-ok (Err e) P Q p f = tt
 pub on-err : {T E P Q : Type 0} (r : Result T E) → OnErr r P → (P → Q) → OnErr r Q
 on-err (Ok x) p f = tt
 on-err (Err e) p f = f p
+
+-- A turn without memory was refused.
+pub stays : (answer : Result (Turn × List ObjId) Refused) (P : Type 0) → turned answer ≡ Err OutOfMemory → OnErr answer P → P
+stays (Ok x) P e p = absurd (cc)
+stays (Err refused) P e p = p

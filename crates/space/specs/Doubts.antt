@@ -1,5 +1,5 @@
 -- The objects from which an event, or the time that passed, may have taken what kept them, and the moment before which no lease ends.
-use Rattle.std.specs.Prelude.{◌≡◌, ◌≤◌, ℕ, Bool, true, false, List, [], ◌∷◌, ◌++◌, Option, option_to_list}
+use Rattle.std.specs.Prelude.{◌≡◌, ◌≤◌, ℕ, Bool, true, false, List, [], ◌∷◌, ◌++◌, Option, option_to_list, if◌then◌else◌}
 use Rattle.object_ids.specs.declared.ids.ObjId.{ObjId}
 use Rattle.object_ids.specs.Client.{Client}
 use Rattle.history.specs.declared.asks.SpaceConfig.{SpaceConfig}
@@ -11,6 +11,7 @@ use Rattle.history.specs.LeaseCalls.{lease_calls}
 use Rattle.history.specs.Leases.{calls_of, has_time_left, lease_end}
 use Rattle.history.specs.Places.{now}
 use Rattle.history.specs.Table.{places}
+use Rattle.dgc_server.specs.Stands.{LeaseTable, StandsFor}
 use Rattle.export_table.specs.declared.waits.Wait.{Wait}
 use Rattle.export_table.specs.Waits.{over, of_return, objects}
 
@@ -32,7 +33,18 @@ taken_by waits fresh stood returned _ = []
 abbrev pub in_doubt : ℕ → List Wait → ObjId → Option ObjId → List ObjId → Ask → List ObjId
 in_doubt t waits fresh stood returned ask = objects (over t waits) ++ taken_by waits fresh stood returned ask
 
+-- How many objects can go at most, where so many are exported and so many are in doubt: all where all are looked at.
+abbrev pub most_gone : Bool → ℕ → ℕ → ℕ
+most_gone all exported doubtful = if all then exported else doubtful
+
 -- ---- leases
+
+-- There are calls for which a table of leases stands.
+pub record HasLog (leases : LeaseTable) : Type 0 where
+  pub lease : ℕ
+  pub moment : ℕ
+  pub calls : List Call
+  pub stands : StandsFor lease leases moment calls
 
 -- No lease that has time left at the moment t ends before the moment `due`.
 abbrev pub EndsFrom : ℕ → ℕ → ℕ → List Call → Type 0

@@ -222,6 +222,31 @@ pub(crate) fn gone_ids(alloc: Global, gone: Vec<ObjId>) -> ObjIds
     }
 }
 
+/// A list of objects, in memory of its own length, which is none where there are none. Where there is no such memory, it is in that which has
+/// room for it.
+pub(crate) fn fitting(alloc: Global, room: Vec<ObjId>, objects: &ObjIds) -> ObjIds
+    requires { length objects.now ≤ vec_capacity room }
+    ensures { result ≡ objects.now }
+{
+    match objects.copy(alloc) {
+        Ok(list) => list,
+        Err(_refused) => filled(room, objects),
+    }
+}
+
+/// A list of objects, in memory that has room for it. What was there is dropped.
+pub(crate) fn filled(mut room: Vec<ObjId>, objects: &ObjIds) -> ObjIds
+    requires { length objects.now ≤ vec_capacity room }
+    ensures { result ≡ objects.now }
+{
+    room.clear();
+    match room.extend_from_slice(objects.as_slice()) {
+        Ok(()) => {}
+        Err(_refused) => {}
+    }
+    ObjIds::from_vec(room)
+}
+
 /// Notes that objects, those of a list from a place of it on, were withdrawn at a place of the history. There is room for them.
 pub(crate) fn note_withdrawn(
     withdrawn: &mut Vec<Withdrawal>,

@@ -4,7 +4,7 @@ ghost use Rattle.std.specs.Prelude.{◌≡◌, ◌<◌, ◌≤◌, ◌++◌, ◌
 ghost use Rattle.dgc_server.specs.Stands.{StandsFor, ForEachLog};
 ghost use Rattle.export_table.specs.Rows.{is_row_kept, is_settled_but, held_by, withdrawn, without_all};
 ghost use Rattle.export_table.specs.Waits.{waiting, over};
-ghost use Rattle.space.specs.Doubts.{in_doubt, taken_by};
+ghost use Rattle.space.specs.Doubts.{HasLog, in_doubt, most_gone, taken_by};
 
 use crate::returns::listed;
 use dgc_server::Leases;
@@ -127,4 +127,64 @@ pub(crate) fn withdraw(
     } else {
         exports.withdraw_among(now, leases, doubtful, gone);
     }
+}
+
+/// How many objects can go at most, where so many are exported and so many are in doubt.
+pub(crate) fn most_gone(all: bool, exported: usize, doubtful: usize) -> usize
+    ensures { result ≡ most_gone all exported doubtful }
+{
+    if all { exported } else { doubtful }
+}
+
+/// Does what `withdraw` does, by `scratch`, which has room for every exported object and is empty before and afterwards: `gone` has
+/// room for those that can go, and no more is asked of it.
+pub(crate) fn withdraw_told(
+    exports: &mut Exports,
+    leases: &mut Leases,
+    now: u64,
+    all: bool,
+    doubtful: &[ObjId],
+    scratch: &mut Vec<ObjId>,
+    gone: &mut Vec<ObjId>,
+)
+    requires log { HasLog leases.old }
+    requires empty { scratch.old.items ≡ [] }
+    requires objects { length exports.old.rows ≤ vec_capacity scratch.old }
+    requires room { vec_len gone.old + most_gone all (length exports.old.rows) (length doubtful.now) ≤ vec_capacity gone.old }
+    requires among { all ≡ false → ForEachLog leases.old (λ lease moment calls.
+        let held = held_by lease (max now moment) calls in
+        is_settled_but doubtful.now now held exports.old.waits exports.old.rows ≡ true) }
+    ensures kept { ForEachLog leases.old (λ lease moment calls.
+        let held = held_by lease (max now moment) calls in
+        let rows = filter (is_row_kept now held exports.old.waits) exports.old.rows in
+        let waits = waiting now exports.old.waits in
+        exports.new ≡ record exports.old { rows = rows; waits = waits; room = exports.new.room }) }
+    ensures gone { ForEachLog leases.old (λ lease moment calls.
+        let held = held_by lease (max now moment) calls in
+        gone.new.items ≡ gone.old.items ++ withdrawn now held exports.old.waits exports.old.rows) }
+    ensures dropped { ForEachLog leases.old (λ lease moment calls.
+        let held = held_by lease (max now moment) calls in
+        let dropped = withdrawn now held exports.old.waits exports.old.rows in
+        StandsFor lease leases.new moment (map (without_all dropped) calls)) }
+    ensures few { length gone.new.items ≤ length gone.old.items + most_gone all (length exports.old.rows) (length doubtful.now) }
+    ensures scratch { scratch.new.items ≡ [] }
+    ensures capacity { vec_capacity scratch.old ≤ vec_capacity scratch.new }
+{
+    let _count = exports.count();
+    withdraw(exports, leases, now, all, doubtful, scratch);
+    pour(scratch, gone);
+}
+
+/// Takes all objects out of a list and appends them to another, which has room for them.
+fn pour(from: &mut Vec<ObjId>, to: &mut Vec<ObjId>)
+    requires { vec_len to.old + length from.old.items ≤ vec_capacity to.old }
+    ensures items { to.new.items ≡ to.old.items ++ from.old.items }
+    ensures empty { from.new.items ≡ [] }
+    ensures capacity { vec_capacity from.old ≤ vec_capacity from.new }
+{
+    match to.extend_from_slice(from) {
+        Ok(()) => {}
+        Err(_refused) => {}
+    }
+    from.clear();
 }

@@ -34,7 +34,7 @@ fn put_events(text: &mut ByteList, space: Uid, events: &EventLog) -> Result<(), 
     ensures fits { OnOk result (AllByRecursion (λ e. e.moment < END_OF_TIME → written.EventFits e) events.now.items) }
 {
     for place in 0..events.len() {
-        let view = events.event(place);
+        let view = events.event(place)?;
         put_event_line(text, space, view.event())?;
     }
     Ok(())

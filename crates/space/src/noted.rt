@@ -1,24 +1,20 @@
 //! Turns with their entries.
-ghost use Rattle.std.specs.Prelude.{◌≡◌, ◌≢◌, ◌≤◌, ◌<◌, ◌+◌, ◌^◌, ◌↔◌, ℕ, List, [], length, map, drop, Err, IfOk, OnErr, IsTrue, vec_capacity};
+ghost use Rattle.std.specs.Prelude.{◌≡◌, ◌≢◌, ◌≤◌, ◌<◌, ◌^◌, ℕ, List, length, Err, IfOk, OnErr, vec_capacity};
 ghost use Rattle.object_ids.specs.declared.ids.ObjId.{ObjId};
 ghost use Rattle.history.specs.declared.asks.Ask.TheVariants.{List as ListNames};
 ghost use Rattle.history.specs.declared.replies.Reply.TheVariants.{Finished, Names as NamesReply};
-ghost use Rattle.history.specs.Limits.{units_of};
 ghost use Rattle.history.specs.Running.{running};
 ghost use Rattle.history.specs.Steps.{Step};
 ghost use Rattle.history.specs.Table.{places};
 ghost use Rattle.space.specs.Acts.{event_of};
-ghost use Rattle.space.specs.Entries.{end_of, entry_of};
-ghost use Rattle.space.specs.Noted.{Fits, FitsIn};
+ghost use Rattle.space.specs.Entries.{entry_of};
+ghost use Rattle.space.specs.Noted.{Fits, made_by, turned};
 ghost use Rattle.space.specs.Ports.{IsAnswerTo};
 ghost use Rattle.rmi_registry.specs.Named.{names_in, IsRegistry};
-ghost use Rattle.space.specs.Whole.{IsWhole};
 
-use crate::acts::still_to_tell;
+use crate::acts::filled;
 use crate::asked::{Asked, AskedEnd};
-use crate::tables::Tables;
 use crate::turns::Space;
-use history::plain::limits::units_of;
 use history::{Ask, Refused, Reply, Turn};
 use mod_utf::list::NameList;
 use object_ids::{ObjId, ObjIds};
@@ -42,8 +38,8 @@ impl Space {
         ensures config { self.new.configuration ≡ self.old.configuration }
         ensures err { OnErr result (self.new ≡ self.old) }
     {
-        let note = take_note(&self.tables, &ask)?;
-        let answer = self.turn(by, moment, ask);
+        let note = take_note(self.tables.alloc, &self.tables.names, &ask)?;
+        let answer = self.turn_with(by, moment, ask, true);
         with_entry(moment, note, answer)
     }
 }
@@ -55,35 +51,36 @@ struct Note {
     ask: Ask,
     /// Room for the identifiers that the turn answers.
     ids: Vec<ObjId>,
-    /// Room for the objects that it tells as gone.
-    gone: Vec<ObjId>,
     /// The names that it answers.
     names: NameList,
 }
 
 /// A copy of an ask, and room for a copy of its turn.
-fn take_note(tables: &Tables, ask: &Ask) -> Result<Note, AllocError>
-    requires whole { IsWhole tables.now }
+fn take_note(alloc: Global, names: &Names, ask: &Ask) -> Result<Note, AllocError>
     ensures ask { IfOk result (λ n. n.ask ≡ ask.now) }
-    ensures ids { IfOk result (λ n. units_of ask.now ≤ vec_capacity n.ids) }
-    ensures gone { IfOk result (λ n. length (map (λ w. w.object) (drop tables.now.told tables.now.withdrawn.items))
-        + (length tables.now.exports.rows + units_of ask.now) ≤ vec_capacity n.gone) }
-    ensures names { IfOk result (λ n. ask.now ≡ ListNames → n.names ≡ names_in tables.now.names) }
-    ensures sound { IsRegistry tables.now.names }
+    ensures ids { IfOk result (λ n. made_by ask.now ≤ vec_capacity n.ids) }
+    ensures names { IfOk result (λ n. ask.now ≡ ListNames → n.names ≡ names_in names.now) }
+    ensures sound { IsRegistry names.now }
 {
-    let alloc = tables.alloc;
-    let names = names_for(alloc, &tables.names, ask)?;
-    let units = units_of(ask) as usize;
-    let objects = tables.exports.count() as usize + units;
-    let gone = still_to_tell(alloc, &tables.withdrawn, tables.told, objects)?;
-    let ids = Vec::with_capacity(alloc, units)?;
+    let names = names_for(alloc, names, ask)?;
+    let ids = Vec::with_capacity(alloc, made_by(ask))?;
     let ask = ask.copy(alloc)?;
-    Ok(Note {
-        ask,
-        ids,
-        gone,
-        names,
-    })
+    Ok(Note { ask, ids, names })
+}
+
+/// How many objects an ask makes by a return, whose identifiers it may be answered.
+fn made_by(ask: &Ask) -> usize
+    ensures { result ≡ made_by ask.now }
+{
+    match ask {
+        Ask::Finish {
+            object: _,
+            made,
+            listed: _,
+            uid: _,
+        } => made.len(),
+        _ => 0,
+    }
 }
 
 /// The names, where an ask asks for them.
@@ -102,64 +99,40 @@ fn names_for(alloc: Global, names: &Names, ask: &Ask) -> Result<NameList, AllocE
 fn with_entry(
     moment: u64,
     note: Note,
-    answer: Result<Turn, Refused>,
+    answer: Result<(Turn, ObjIds), Refused>,
 ) -> Result<(Result<Turn, Refused>, Asked), AllocError>
     requires fits { Fits answer note }
-    ensures answer { IfOk result (λ x. x.0 ≡ answer) }
-    ensures noted { IfOk result (λ x. x.1 ≡ entry_of moment note.ask answer) }
+    ensures answer { IfOk result (λ x. x.0 ≡ turned answer) }
+    ensures noted { IfOk result (λ x. x.1 ≡ entry_of moment note.ask (turned answer)) }
     ensures known { IfOk result (λ x. x.0 ≢ Err Refused.OutOfMemory) }
-    ensures err { OnErr result (answer ≡ Err Refused.OutOfMemory) }
+    ensures err { OnErr result (turned answer ≡ Err Refused.OutOfMemory) }
 {
-    if wants_memory(&answer) {
-        return Err(AllocError);
-    }
-    let Note {
-        ask,
-        ids,
-        gone,
-        names,
-    } = note;
-    let end = end_of(&answer, ids, gone, names);
-    Ok((answer, Asked { moment, ask, end }))
-}
-
-/// Whether an event is refused for want of memory.
-fn wants_memory(answer: &Result<Turn, Refused>) -> bool
-    ensures { IsTrue result ↔ (answer.now ≡ Err Refused.OutOfMemory) }
-{
+    let Note { ask, ids, names } = note;
     match answer {
-        Ok(_turn) => false,
-        Err(refused) => *refused == Refused::OutOfMemory,
+        Ok((turn, gone)) => {
+            let end = AskedEnd::Turned(copied(&turn, ids, gone, names));
+            Ok((Ok(turn), Asked { moment, ask, end }))
+        }
+        Err(Refused::OutOfMemory) => Err(AllocError),
+        Err(refused) => {
+            let end = AskedEnd::Refused(refused);
+            Ok((Err(refused), Asked { moment, ask, end }))
+        }
     }
 }
 
-/// How a turn that is answered so ends, in memory that has room for it.
-fn end_of(
-    answer: &Result<Turn, Refused>,
-    ids: Vec<ObjId>,
-    gone: Vec<ObjId>,
-    names: NameList,
-) -> AskedEnd
-    requires fits { FitsIn answer.now (vec_capacity ids) (vec_capacity gone) names }
-    ensures { result ≡ end_of answer.now }
-{
-    match answer {
-        Ok(turn) => AskedEnd::Turned(copied(turn, ids, gone, names)),
-        Err(refused) => AskedEnd::Refused(*refused),
-    }
-}
-
-/// A copy of a turn. There is room for its lists, and `names` are those that it answers.
-fn copied(turn: &Turn, ids: Vec<ObjId>, gone: Vec<ObjId>, names: NameList) -> Turn
+/// A copy of a turn, where these are the objects that it tells as gone. There is room for its identifiers, and `names` are those that it
+/// answers.
+fn copied(turn: &Turn, ids: Vec<ObjId>, gone: ObjIds, names: NameList) -> Turn
     requires ids { (os : List ObjId) → turn.now.reply ≡ Finished os → length os ≤ vec_capacity ids }
-    requires gone { length turn.now.gone ≤ vec_capacity gone }
+    requires gone { gone ≡ turn.now.gone }
     requires names { (ns : List (List ℕ)) → turn.now.reply ≡ NamesReply ns → names ≡ ns }
     ensures { result ≡ turn.now }
 {
     Turn {
         place: turn.place,
         reply: copied_reply(&turn.reply, ids, names),
-        gone: filled(gone, &turn.gone),
+        gone,
     }
 }
 
@@ -183,17 +156,4 @@ fn copied_reply(reply: &Reply, ids: Vec<ObjId>, names: NameList) -> Reply
         Reply::Found(object, kind) => Reply::Found(*object, *kind),
         Reply::Names(_names) => Reply::Names(names),
     }
-}
-
-/// A list of objects, in memory that has room for it. What was there is dropped.
-fn filled(mut room: Vec<ObjId>, objects: &ObjIds) -> ObjIds
-    requires { length objects.now ≤ vec_capacity room }
-    ensures { result ≡ objects.now }
-{
-    room.clear();
-    match room.extend_from_slice(objects.as_slice()) {
-        Ok(()) => {}
-        Err(_refused) => {}
-    }
-    ObjIds::from_vec(room)
 }

@@ -1,23 +1,23 @@
 //! What a turn answers and adds, found before anything changes.
-ghost use Rattle.std.specs.Prelude.{◌≡◌, ◌+◌, ◌≤◌, ◌<◌, ◌^◌, drop, length, map, IfOk, vec_len, vec_capacity};
+ghost use Rattle.std.specs.Prelude.{◌≡◌, ◌+◌, ◌≤◌, ◌<◌, ◌^◌, true, drop, length, map, IfOk, vec_len, vec_capacity};
 ghost use Rattle.rmi_registry.specs.Named.{names_in};
 ghost use Rattle.history.specs.Places.{id_at};
-ghost use Rattle.space.specs.Doubts.{in_doubt};
+ghost use Rattle.space.specs.Doubts.{in_doubt, most_gone};
 ghost use Rattle.space.specs.Acts.{Agrees, await_refusal, opens, reply_at, returned_by};
 
-use crate::acts::still_to_tell;
+use crate::acts::{fitting, gone_ids, still_to_tell};
 use crate::asks::{opens, reply_at};
-use crate::doubts::in_doubt;
+use crate::doubts::{in_doubt, most_gone};
 use crate::returns::returned;
 use export_table::Exports;
 use history::plain::places::id_at;
-use history::{Ask, Refused, Reply, SpaceConfig, Withdrawal};
-use object_ids::ObjId;
+use history::{Ask, Refused, Reply, SpaceConfig, Turn, Withdrawal};
+use object_ids::{ObjId, ObjIds};
 use rmi_registry::Names;
-use std::alloc::Global;
+use std::alloc::{AllocError, Global};
 
 /// What a turn answers and adds.
-#[derive(Debug, Drop)]
+#[derive(Debug)]
 pub(crate) struct Prepared {
     /// How many objects it exports.
     pub opened: u64,
@@ -29,12 +29,63 @@ pub(crate) struct Prepared {
     pub doubtful: Vec<ObjId>,
     /// The objects of the withdrawals that are still to be told, with room for those of the turn.
     pub gone: Vec<ObjId>,
+    /// Room for a copy of them all, where one is asked for.
+    pub spare: Vec<ObjId>,
     /// What it is answered.
     pub reply: Reply,
 }
 
+/// Written out: a function that owns one then calls this at each of its exits.
+impl Drop for Prepared {
+    fn drop(self) {
+        let Prepared {
+            opened: _,
+            objects: _,
+            references,
+            doubtful,
+            gone,
+            spare,
+            reply,
+        } = self;
+        drop(references);
+        drop(doubtful);
+        drop(gone);
+        drop(spare);
+        drop(reply);
+    }
+}
+
+impl Prepared {
+    /// The turn at a place, and a copy of the objects that it tells as gone, where one is asked for: there is room for it.
+    pub(crate) fn into_turn(self, alloc: Global, place: u64, noted: bool) -> (Turn, ObjIds)
+        requires { noted ≡ true → length self.gone.items ≤ vec_capacity self.spare }
+        ensures turn { result.0 ≡ record { place = place; reply = self.reply; gone = self.gone.items } }
+        ensures copy { noted ≡ true → result.1 ≡ result.0.gone }
+    {
+        let Prepared {
+            opened: _,
+            objects: _,
+            references,
+            doubtful,
+            gone,
+            spare,
+            reply,
+        } = self;
+        drop(references);
+        drop(doubtful);
+        let gone = gone_ids(alloc, gone);
+        let copy = if noted {
+            fitting(alloc, spare, &gone)
+        } else {
+            ObjIds::new(alloc)
+        };
+        (Turn { place, reply, gone }, copy)
+    }
+}
+
 /// What a turn at a moment answers and adds, where the next object is the space's k-th, so many withdrawals
-/// were told, and the ask's name stands for `stood`. It is refused where the references that it returns would pass the limit of those that await.
+/// were told, and the ask's name stands for `stood`. Any object may go at it where `all` says so, and else only the doubtful ones. It is
+/// refused where the references that it returns would pass the limit of those that await.
 pub(crate) fn prepare(
     alloc: Global,
     config: &SpaceConfig,
@@ -46,6 +97,8 @@ pub(crate) fn prepare(
     stood: Option<ObjId>,
     effective: bool,
     now: u64,
+    all: bool,
+    noted: bool,
     ask: &Ask,
 ) -> Result<Prepared, Refused>
     requires countable { k + opens effective ask.now < 2 ^ 62 }
@@ -56,7 +109,8 @@ pub(crate) fn prepare(
     ensures doubtful { IfOk result (λ p. p.doubtful.items ≡ in_doubt now exports.now.waits (id_at config.now.uid k) stood
         (returned_by config.now.uid k exports.now.rows stood effective ask.now) ask.now) }
     ensures gone { IfOk result (λ p. p.gone.items ≡ map (λ w. w.object) (drop told withdrawn.now)) }
-    ensures room { IfOk result (λ p. vec_len p.gone + p.objects ≤ vec_capacity p.gone) }
+    ensures room { IfOk result (λ p. vec_len p.gone + most_gone all p.objects (length p.doubtful.items) ≤ vec_capacity p.gone) }
+    ensures spare { IfOk result (λ p. noted ≡ true → vec_len p.gone + most_gone all p.objects (length p.doubtful.items) ≤ vec_capacity p.spare) }
     ensures reply { IfOk result (λ p. p.reply ≡ reply_at config.now k exports.now.rows (names_in names.now) stood effective ask.now) }
     ensures refusal { Agrees (await_refusal now exports.now.rows exports.now.waits stood effective ask.now) result }
 {
@@ -65,7 +119,9 @@ pub(crate) fn prepare(
     let references = returned(alloc, config.uid, k, exports, stood, effective, now, ask)?;
     let fresh = id_at(config.uid, k);
     let doubtful = in_doubt(alloc, exports, now, fresh, stood, &references, ask)?;
-    let gone = still_to_tell(alloc, withdrawn, told, objects)?;
+    let most = most_gone(all, objects, doubtful.len());
+    let gone = still_to_tell(alloc, withdrawn, told, most)?;
+    let spare = room_for_copy(alloc, noted, gone.len() + most)?;
     let reply = reply_at(alloc, config, k, exports, names, stood, effective, ask)?;
     Ok(Prepared {
         opened,
@@ -73,6 +129,18 @@ pub(crate) fn prepare(
         references,
         doubtful,
         gone,
+        spare,
         reply,
     })
+}
+
+/// Room for so many objects, where a copy is asked for.
+fn room_for_copy(alloc: Global, noted: bool, most: usize) -> Result<Vec<ObjId>, AllocError>
+    ensures { IfOk result (λ spare. noted ≡ true → most ≤ vec_capacity spare) }
+{
+    if noted {
+        Vec::with_capacity(alloc, most)
+    } else {
+        Ok(Vec::new(alloc))
+    }
 }

@@ -4,20 +4,20 @@ ghost use Rattle.history.specs.Steps.{Step};
 ghost use Rattle.space.specs.Acts.{event_of};
 ghost use Rattle.space.specs.Whole.{IsWhole, IsWholeWith};
 
-use crate::acts::{act, gone_ids, note_withdrawn};
+use crate::acts::{act, note_withdrawn};
 use crate::asks::{is_effective, room_refusal, stood_for, told_after};
-use crate::doubts::withdraw;
+use crate::doubts::withdraw_told;
 use crate::due::due_after;
 use crate::names::settle;
 use crate::prepared::prepare;
 use crate::rooms::{room_for_event, room_for_gone, room_in_table};
-use crate::runs::{Run, act_on_runs};
+use crate::runs::{Runs, act_on_runs};
 use dgc_server::Leases;
 use event_log::EventLog;
 use export_table::Exports;
 use history::plain::limits::units_of;
 use history::{Ask, Refused, SpaceConfig, Turn, Withdrawal};
-use object_ids::ObjId;
+use object_ids::{ObjId, ObjIds};
 use rmi_registry::Names;
 use std::alloc::Global;
 
@@ -39,7 +39,7 @@ pub struct Tables {
     /// The names, each with the object for which it stands.
     pub names: Names,
     /// The calls that run.
-    pub runs: Vec<Run>,
+    pub runs: Runs,
     /// The events.
     pub events: EventLog,
     /// The withdrawals, in their order.
@@ -55,13 +55,20 @@ pub struct Tables {
 }
 
 impl Tables {
-    /// Does what a turn does but for the event itself, which the caller appends: there is room for it. A refused turn leaves more room at
-    /// most.
-    pub(crate) fn turn(&mut self, by: u32, moment: u64, ask: &Ask) -> Result<Turn, Refused>
+    /// Does what a turn does but for the event itself, which the caller appends: there is room for it. Where the turn is `noted`, a copy of
+    /// the objects that it tells as gone is beside it. A refused turn leaves more room at most.
+    pub(crate) fn turn(
+        &mut self,
+        by: u32,
+        moment: u64,
+        ask: &Ask,
+        noted: bool,
+    ) -> Result<(Turn, ObjIds), Refused>
         requires moment { moment < 2 ^ 62 }
         requires whole { IsWhole self.old }
-        ensures taken { IfOk result (λ turn. let e = event_of by moment ask.now in
-            Step self.old.config self.old.events.items e (Ok turn) (self.old.events.items ++ e ∷ [])) }
+        ensures taken { IfOk result (λ x. let e = event_of by moment ask.now in
+            Step self.old.config self.old.events.items e (Ok x.0) (self.old.events.items ++ e ∷ [])) }
+        ensures copy { IfOk result (λ x. noted ≡ true → x.1 ≡ x.0.gone) }
         ensures refused { IfErr result (λ refused. let e = event_of by moment ask.now in
             Step self.old.config self.old.events.items e (Err refused) self.old.events.items) }
         ensures with_event { OnOk result (IsWholeWith self.new (self.new.events.items ++ event_of by moment ask.now ∷ [])) }
@@ -78,6 +85,7 @@ impl Tables {
             return Err(refused);
         }
         let now = moment.max(self.moment);
+        let all = self.due <= now;
         let mut ready = prepare(
             self.alloc,
             &self.config,
@@ -89,6 +97,8 @@ impl Tables {
             stood,
             effective,
             now,
+            all,
+            noted,
             ask,
         )?;
         room_for_event(&mut self.events, &mut self.runs)?;
@@ -114,12 +124,13 @@ impl Tables {
         );
         act_on_runs(&mut self.runs, effective, by, ask);
         let untold = ready.gone.len();
-        withdraw(
+        withdraw_told(
             &mut self.exports,
             &mut self.leases,
             now,
-            self.due <= now,
+            all,
             &ready.doubtful,
+            &mut self.scratch,
             &mut ready.gone,
         );
         self.due = due_after(
@@ -135,8 +146,6 @@ impl Tables {
         self.added += ready.opened;
         self.units += units_of(ask);
         self.moment = now;
-        let gone = gone_ids(self.alloc, ready.gone);
-        let reply = ready.reply;
-        Ok(Turn { place, reply, gone })
+        Ok(ready.into_turn(self.alloc, place, noted))
     }
 }

@@ -1,20 +1,21 @@
 //! The space, turn by turn.
-ghost use Rattle.std.specs.Prelude.{◌≡◌, ◌≤◌, ◌<◌, ◌^◌, [], length, OnOk, OnErr};
+ghost use Rattle.std.specs.Prelude.{◌≡◌, ◌≤◌, ◌<◌, ◌^◌, [], true, length, IfOk, OnOk, OnErr};
 ghost use Rattle.history.specs.Collector.{Collects};
 ghost use Rattle.history.specs.Places as place_words;
 ghost use Rattle.history.specs.Running.{running};
 ghost use Rattle.history.specs.Steps.{Step, IsLegal};
 ghost use Rattle.history.specs.Table.{places};
 ghost use Rattle.space.specs.Acts.{event_of};
+ghost use Rattle.space.specs.Noted.{turned};
 
 use crate::acts::put_event;
-use crate::runs::count;
+use crate::runs::Runs;
 use crate::tables::Tables;
 use dgc_server::Leases;
 use event_log::EventLog;
 use export_table::Exports;
 use history::{Ask, Event, Refused, SpaceConfig, Turn};
-use object_ids::ObjId;
+use object_ids::{ObjId, ObjIds};
 use rmi_registry::Names;
 use std::alloc::Global;
 use std::marker::Model;
@@ -63,7 +64,7 @@ impl Space {
                 units: 0,
                 leases: Leases::fresh(alloc, config.lease_ms),
                 exports: Exports::fresh(alloc, config.uid, config.ack_ms),
-                runs: Vec::new(alloc),
+                runs: Runs::new(alloc),
                 events: EventLog::new(alloc, config.uid),
                 withdrawn: Vec::new(alloc),
                 told: 0,
@@ -89,7 +90,26 @@ impl Space {
         ensures config { self.new.configuration ≡ self.old.configuration }
         ensures err { OnErr result (self.new ≡ self.old) }
     {
-        let turn = self.tables.turn(by, moment, &ask)?;
+        let (turn, _copy) = self.turn_with(by, moment, ask, false)?;
+        Ok(turn)
+    }
+
+    /// What `turn` does and answers. Where the turn is `noted`, a copy of the objects that it tells as gone is beside it.
+    pub(crate) fn turn_with(
+        &mut self,
+        by: u32,
+        moment: u64,
+        ask: Ask,
+        noted: bool,
+    ) -> Result<(Turn, ObjIds), Refused>
+        requires moment { moment < 2 ^ 62 }
+        ensures step { Step self.old.configuration self.old.events (event_of by moment ask) (turned result) self.new.events }
+        ensures copy { IfOk result (λ x. noted ≡ true → x.1 ≡ x.0.gone) }
+        ensures collector { OnOk result (Collects self.old.configuration self.old.events (event_of by moment ask) self.new.events) }
+        ensures config { self.new.configuration ≡ self.old.configuration }
+        ensures err { OnErr result (self.new ≡ self.old) }
+    {
+        let turn = self.tables.turn(by, moment, &ask, noted)?;
         put_event(&mut self.tables.events, Event { by, moment, ask });
         Ok(turn)
     }
@@ -105,7 +125,7 @@ impl Space {
     pub fn running(&self, by: u32, object: ObjId) -> u32
         ensures { result ≡ running (places self.now.configuration self.now.events) by object }
     {
-        count(&self.tables.runs, by, &object) as u32
+        self.tables.runs.count(by, &object)
     }
 
     /// How many events there are. They are a legal history, what turns leave of the empty one, and none of them is of a

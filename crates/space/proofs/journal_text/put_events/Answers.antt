@@ -16,10 +16,10 @@ one-more events place e at =
 
 pub loop-place-preserved : goal.loop-place-preserved
 loop-place-preserved c =
-    let e : Event = c.event.result.now in
+    let e : Event = c.event-in-loop-place.result.now in
     let P : Event → Type 0 = λ x. x.moment < END_OF_TIME → EventFits x in
     let before : List Event = take c.loop-place.place c.args.events.now.items in
-    let at : slice_get c.args.events.now.items c.loop-place.place ≡ Some e = c.event-view.ensures ∙ ap (λ x. Some x) (sym c.event.ensures) in
+    let at : slice_get c.args.events.now.items c.loop-place.place ≡ Some e = c.in_ok-view.ensures ∙ ap (λ x. Some x) (sym c.event-in-loop-place.ensures) in
     let more = one-more c.args.events.now.items c.loop-place.place e at in (
       (c.in_ok-put_event_line.ensures {u = tt}).text ∙ ap (λ t. t ++ event_line c.args.space e) c.loop-place.invariant.0
           ∙ flat_map_more (event_line c.args.space) c.args.text.now before e

@@ -5,7 +5,7 @@ use Rattle.space.specs.Acts.{event_of}
 use Rattle.space.proofs.CollectLaws.{appended-collects}
 use Rattle.space.proofs.EndLaws.{appended}
 use Rattle.space.proofs.TurnLaws.{step-viewed}
-use Rattle.space.proofs.turns.Space.turn.Goals as goal
+use Rattle.space.proofs.turns.Space.turn_with.Goals as goal
 
 pub put_event-requires-clause-room : goal.put_event-requires-clause-room
 put_event-requires-clause-room c =
@@ -24,8 +24,8 @@ invariant_of-self-2 c =
 
 pub returns-clause-step : goal.returns-clause-step
 returns-clause-step c =
-    let Q : List Event → Type 0 = λ es. Step c.self.inside.tables.config c.self.inside.tables.events.items (event_of c.args.by c.args.moment c.args.ask) (Ok c.in_ok-turn.turn) es in
-    step-viewed c.self.inside.tables.config c.self.inside.tables.events.items c.put_event.new.events.items (event_of c.args.by c.args.moment c.args.ask) (Ok c.in_ok-turn.turn) c.args.self.now c.self.view_is
+    let Q : List Event → Type 0 = λ es. Step c.self.inside.tables.config c.self.inside.tables.events.items (event_of c.args.by c.args.moment c.args.ask) (Ok c.in_ok-turn.turn.0) es in
+    step-viewed c.self.inside.tables.config c.self.inside.tables.events.items c.put_event.new.events.items (event_of c.args.by c.args.moment c.args.ask) (Ok c.in_ok-turn.turn.0) c.args.self.now c.self.view_is
     (subst Q (sym (c.put_event.ensures.items ∙ ap (λ es. es ++ event_of c.args.by c.args.moment c.args.ask ∷ []) c.turn.ensures.events)) (c.in_ok-turn.ensures {u = tt}).taken)
 
 pub returns-clause-collector : goal.returns-clause-collector
