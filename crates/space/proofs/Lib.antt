@@ -8,10 +8,10 @@ pub mod BalanceLaws
 pub mod Bindings
 pub mod Clients
 pub mod CollectLaws
-pub mod CountLaws
 pub mod Doubting
 pub mod EndLaws
 pub mod FewGone
+pub mod FirstLaws
 pub mod Found
 pub mod Fresh
 pub mod Holding

@@ -2,25 +2,25 @@
 ghost use Rattle.std.specs.Prelude.{◌≡◌, ◌≤◌, ◌<◌, ◌+◌, ◌^◌, length, true, IfErr, OnOk, vec_len, vec_capacity};
 ghost use Rattle.history.specs.declared.replies.Refused.TheVariants.{OutOfMemory};
 
-use crate::runs::Runs;
+use crate::runs::Run;
 use event_log::EventLog;
 use export_table::Exports;
 use history::{Refused, Withdrawal};
 use object_ids::ObjId;
 
 /// Makes room for an event, for the events that end the calls that then run, and for a call that it starts.
-pub(crate) fn room_for_event(events: &mut EventLog, runs: &mut Runs) -> Result<(), Refused>
-    requires { length runs.old.items < 2 ^ 32 }
-    ensures event { OnOk result (length events.new.items + length runs.new.items + 2 ≤ events.new.capacity) }
+pub(crate) fn room_for_event(events: &mut EventLog, runs: &mut Vec<Run>) -> Result<(), Refused>
+    requires { vec_len runs.old < 2 ^ 32 }
+    ensures event { OnOk result (length events.new.items + vec_len runs.new + 2 ≤ events.new.capacity) }
     ensures spare { OnOk result (events.new.spare ≡ true) }
-    ensures run { OnOk result (0 < runs.new.room) }
+    ensures run { OnOk result (vec_len runs.new < vec_capacity runs.new) }
     ensures refusal { IfErr result (λ refused. refused ≡ OutOfMemory) }
     ensures events { events.new.items ≡ events.old.items }
     ensures runs { runs.new.items ≡ runs.old.items }
     ensures grow { events.old.capacity ≤ events.new.capacity }
 {
     events.reserve(runs.len() + 2)?;
-    runs.reserve()?;
+    runs.reserve(1)?;
     Ok(())
 }
 
