@@ -3,9 +3,10 @@
    usage: serve rate KIND PORT LINKS WINDOW SECONDS     calls for so long: prints the calls a second
           serve count KIND PORT LINKS WINDOW CALLS      so many calls of each link: prints the calls a second
           serve links PORT COUNT                        links that are opened, pinged once and closed: prints the links a second
-          serve latency PORT SECONDS                    pings of one link: prints the 50th and 99th hundredth of the times, in microseconds
+          serve latency KIND PORT SECONDS               calls of one link: prints the 50th and 99th hundredth of their times, in microseconds
           serve hold PORT COUNT                         opens so many links, pings each, prints `ready`, and holds them until its input ends
-          serve trouble PORT                            the same of two peers: one calls echo and never reads, the other sends a byte a second
+          serve trouble PORT                            the same of three peers: one calls echo and never reads, one sends a byte a second, and one
+                                                        fell silent in the middle of a call
           serve start PORT PROGRAM [WORD..]             prints the milliseconds from the program's start to the first link that it accepts
 
    KIND is ping, get, echo, make, lookup or dirty (bench/jrmp.h): of the object that the registry names counter, echo or maker. Each link has a thread,
@@ -161,14 +162,24 @@ static void ping(int fd) {
     if (answer != PING_ACK) fail("no answer to a ping");
 }
 
-/* Times pings of one link. */
-static void time_pings(int port, double seconds) {
+/* Makes one call, and takes its Return. */
+static void call_once(int fd, unsigned char *got) {
+    unsigned char identifier[IDENTIFIER_LENGTH];
+    send_call(fd, 0);
+    read_all(fd, got, exchange.wanted_length);
+    compare(&exchange, got, 0, exchange.wanted_length, identifier);
+}
+
+/* Times calls of one link. */
+static void time_calls(const char *kind, int port, double seconds) {
     enum { MOST = 1 << 20 };
-    double *times = malloc(MOST * sizeof *times), before = seconds_now(), until = before + seconds;
+    prepare(kind, port);
+    unsigned char *got = malloc(exchange.wanted_length);
     int fd = open_link(port), count = 0;
-    ping(fd);
-    for (before = seconds_now(); count < MOST && before < until; count++) {
-        ping(fd);
+    call_once(fd, got);
+    double *times = malloc(MOST * sizeof *times), before = seconds_now(), until = before + seconds;
+    for (; count < MOST && before < until; count++) {
+        call_once(fd, got);
         double now = seconds_now();
         times[count] = now - before;
         before = now;
@@ -208,10 +219,11 @@ static void *trickle(void *told) {
 }
 
 static void trouble(int port) {
-    static int fds[2];
+    static int fds[3];
     pthread_t threads[2];
     prepare("echo", port);
-    for (int i = 0; i < 2; i++) fds[i] = open_link(port);
+    for (int i = 0; i < 3; i++) fds[i] = open_link(port);
+    write_all(fds[2], exchange.call, exchange.call_length / 2);
     if (pthread_create(&threads[0], 0, deafen, &fds[0]) || pthread_create(&threads[1], 0, trickle, &fds[1])) fail("thread");
     sleep(1);
     hold();
@@ -248,8 +260,8 @@ int main(int count, char **words) {
         load(port, atoi(words[4]), atoi(words[5]), is_rate ? atof(words[6]) : 0, is_rate ? 0 : strtoul(words[6], 0, 10));
     } else if (count == 4 && !strcmp(words[1], "links")) {
         open_and_close(atoi(words[2]), atoi(words[3]));
-    } else if (count == 4 && !strcmp(words[1], "latency")) {
-        time_pings(atoi(words[2]), atof(words[3]));
+    } else if (count == 5 && !strcmp(words[1], "latency")) {
+        time_calls(words[2], atoi(words[3]), atof(words[4]));
     } else if (count == 4 && !strcmp(words[1], "hold")) {
         hold_links(atoi(words[2]), atoi(words[3]));
     } else if (count == 3 && !strcmp(words[1], "trouble")) {

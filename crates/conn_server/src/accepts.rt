@@ -1,7 +1,7 @@
 //! Accepting links, and joining their threads.
 ghost use Rattle.std.specs.Prelude.{◌≡◌, ◌≤◌, List, [], ◌++◌, length, vec_len};
 ghost use Rattle.mod_utf.specs.Utf.{utf};
-ghost use Rattle.wire_io.specs.Links.{Accepted};
+ghost use Rattle.wire_io.specs.Links.{Accepted, Accepts, accepted_as};
 ghost use Rattle.wire_io.specs.Wire.{Rose};
 ghost use Rattle.turn_lock.specs.Handles.{IsRootOf, view_of};
 ghost use Rattle.conn_server.specs.Accepts.{IsAccepting, shown_all, links_of, ticks_of, with_all};
@@ -25,17 +25,51 @@ use std::alloc::Global;
 use std::sync::Wait;
 use std::thread::{Scope, Threads};
 use turn_lock::{Root, TurnLock};
-use wire_io::{Clock, Listener, Sink, Source};
+use wire_io::{Clock, Failed, Link, Listener, Sink, Source};
+
+/// How often a listener that fails is asked for the same link at most: for days.
+const TRIES: u32 = 10_000_000;
+
+/// How often it is asked again, after a pause each, where no link was served when it failed.
+const RESTS: u32 = 4;
 
 /// Why no more links were accepted.
 #[derive(Clone, Copy, Debug, PartialEq, Eq)]
 pub enum Stop {
     /// As many were served as were to be.
     All,
-    /// The listener failed.
+    /// The listener failed, and failed again each further time that it was asked.
     AcceptFault,
     /// There was no memory for a link that was accepted. It is shut, and not reported.
     OutOfMemory,
+}
+
+/// The listener's next link. Where it fails it is asked again, once a link has ended or after a pause: as long as one of those that were begun is served,
+/// whose end gives back a descriptor and memory, and then a few times more.
+fn next_link<R: Wait, L: Listener>(
+    rt: &R,
+    listener: &mut L,
+    ended: &EndedLinks,
+    begun: usize,
+) -> Result<Link<L::In, L::Out, L::Ticks>, Failed>
+    ensures accepts { Accepts (accepted_as L.In.left L.Out.held L.Ticks.given) (L.accepted listener.old) (L.accepted listener.new) (L.faults listener.old) (L.faults listener.new) result }
+    ensures ports { L.ports listener.new ≡ L.ports listener.old }
+{
+    let mut rests = 0u32;
+    for _ in 1..TRIES {
+        let seen = ended.count();
+        if let Ok(link) = listener.accept() {
+            return Ok(link);
+        }
+        if seen >= begun as u64 {
+            rests = rests.saturating_add(1);
+        }
+        ended.pause(rt, seen);
+        if rests >= RESTS {
+            break;
+        }
+    }
+    listener.accept()
 }
 
 /// Accepts so many links. A thread of the scope serves each. Before a link is taken in, threads of links that have ended are joined.
@@ -69,7 +103,7 @@ where
 {
     let mut accepting = accepting;
     for _ in 0..plan.count {
-        let Ok(link) = listener.accept() else {
+        let Ok(link) = next_link(rt, listener, ended, accepting.started.len()) else {
             return (accepting, Stop::AcceptFault);
         };
         let accepted = join_ended(rt, lock, book, ended, plan, accepting);

@@ -102,7 +102,8 @@ where
 /// Accepts the plan's count of links, serves each in a thread of its own as the connection of the next number, joins all threads and closes
 /// the lock. Before each link it makes a Tick as connection 0, at a moment of the link's clock, and tells the link's hand what is
 /// gone; a Tick that is refused HistoryFull is passed over. A link whose thread could not be started is served here. Both halves of a link
-/// are shut when its connection ends. Before a link is taken in, threads of links that have ended are joined.
+/// are shut when its connection ends. Before a link is taken in, threads of links that have ended are joined. A listener that fails is asked again, as
+/// long as a link is served, whose end gives back a descriptor and memory, and then a few times more.
 ///
 /// The stop is AcceptFault only where the listener's count of faults rose, and OutOfMemory where a hand, a Tick or the room of a report finds no
 /// memory; that link is shut and not reported. No more links are accepted then, and those that were are served to their ends.

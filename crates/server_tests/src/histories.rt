@@ -1,8 +1,10 @@
 //! The history that a server leaves, as text.
+use crate::defined::{Defined, Prefix};
+use crate::outlines::outline_of;
 use crate::servers::{CONFIG, SPACE};
 use crate::texts::must;
 use history::plain::turns::answers;
-use history::{Event, Limits, Refused, Turn};
+use history::{Ask, Event, Limits, Refused, Turn};
 use journal::{put_event_line, read_event};
 use mod_utf::list::{ByteList, Same};
 use space::{Asked, AskedEnd, PortEntries, Space, outline};
@@ -118,43 +120,103 @@ fn put_event(rt: &impl Abort, alloc: Global, events: &mut Vec<Event>, line: &str
     }
 }
 
-/// What the definitions answer to each event of a journal; None where there is no memory.
-pub(crate) fn defined_answers(
-    rt: &impl Abort,
-    alloc: Global,
-    text: &str,
-) -> Option<Vec<Result<Turn, Refused>>> {
+/// The events of a journal.
+pub(crate) fn events_of(rt: &impl Abort, alloc: Global, text: &str) -> Vec<Event> {
     let mut events = Vec::new(alloc);
     for line in text.split('\n').skip(1) {
         if !line.is_empty() {
             put_event(rt, alloc, &mut events, line);
         }
     }
-    let limits = Limits::of_space();
-    answers(alloc, &limits, &CONFIG, Vec::new(alloc), events.as_slice()).ok()
+    events
 }
 
-/// Whether an entry was answered as the definitions answer the event at its place. One that was refused, or ended a call without an answer, has none.
-pub(crate) fn is_defined(entry: &Asked, answers: &[Result<Turn, Refused>]) -> bool {
+/// Takes events one after another, and gives what each is answered.
+pub(crate) fn take_all(
+    rt: &impl Abort,
+    alloc: Global,
+    prefix: &mut Prefix,
+    events: &[Event],
+) -> Vec<Turn> {
+    let mut turns = Vec::new(alloc);
+    for event in events {
+        match prefix.take(alloc, event) {
+            Ok(turn) => must(rt, turns.push(turn).is_ok(), "memory"),
+            Err(_full) => must(rt, false, "memory"),
+        }
+    }
+    turns
+}
+
+/// Whether an entry was answered as the definitions answer the event at its place. None was refused, for these histories are short; and one
+/// that ended a call without an answer has a place alone.
+pub(crate) fn is_defined(entry: &Asked, answers: &[Turn]) -> bool {
     match &entry.end {
         AskedEnd::Turned(turn) => match answers.get(turn.place as usize) {
-            Some(Ok(wanted)) => turn.is_same(wanted),
-            _ => false,
+            Some(wanted) => turn.is_same(wanted),
+            None => false,
         },
-        _ => true,
+        AskedEnd::Abandoned(place) => *place < answers.len() as u64,
+        AskedEnd::Refused(_) => false,
     }
 }
 
 /// Looks whether a connection's entries were answered as the definitions answer.
-pub(crate) fn check_answers(
-    rt: &impl Abort,
-    entries: &PortEntries,
-    answers: &[Result<Turn, Refused>],
-) {
+pub(crate) fn check_answers(rt: &impl Abort, entries: &PortEntries, answers: &[Turn]) {
     for place in 0..entries.len() {
         match entries.get(place) {
             Some(view) => must(rt, is_defined(view.entry(), answers), "an answer"),
             None => must(rt, false, "an entry"),
         }
+    }
+}
+
+/// Whether the outline of a space is that of a history by the definitions.
+pub(crate) fn is_outlined(alloc: Global, space: &Space, defined: &Defined) -> bool {
+    match (outline(alloc, space), outline_of(alloc, defined)) {
+        (Ok(told), Ok(wanted)) => told.as_slice() == wanted.as_slice(),
+        _ => false,
+    }
+}
+
+/// Takes a Tick in place of each acknowledgement. As many events are then left, with as many units.
+pub(crate) fn lose_acks(events: &mut [Event]) {
+    for event in events {
+        if let Ask::Ack { .. } = event.ask {
+            event.ask = Ask::Tick;
+        }
+    }
+}
+
+/// Whether `history::plain` answers the same.
+fn are_plain(answers: &[Result<Turn, Refused>], turns: &[Turn]) -> bool {
+    for (place, answer) in answers.iter().enumerate() {
+        let same = match (answer, turns.get(place)) {
+            (Ok(wanted), Some(turn)) => turn.is_same(wanted),
+            _ => false,
+        };
+        if !same {
+            return false;
+        }
+    }
+    answers.len() == turns.len()
+}
+
+/// Looks whether `history::plain` alone answers the events of a short history the same, and gives a history with the same outline.
+pub(crate) fn check_plain(
+    rt: &impl Abort,
+    alloc: Global,
+    events: &[Event],
+    space: &Space,
+    turns: &[Turn],
+) {
+    let limits = Limits::of_space();
+    match answers(alloc, &limits, &CONFIG, Vec::new(alloc), events) {
+        Ok(wanted) => must(rt, are_plain(wanted.as_slice(), turns), "plain answers"),
+        Err(_full) => must(rt, false, "memory"),
+    }
+    match Defined::plainly(alloc, events) {
+        Ok(defined) => must(rt, is_outlined(alloc, space, &defined), "plain outline"),
+        Err(_full) => must(rt, false, "memory"),
     }
 }

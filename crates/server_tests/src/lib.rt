@@ -2,11 +2,15 @@
 #![tactic(auto)]
 
 #[cfg(test)]
+mod defined;
+#[cfg(test)]
 mod gates;
 #[cfg(test)]
 mod histories;
 #[cfg(test)]
 mod many;
+#[cfg(test)]
+mod outlines;
 #[cfg(test)]
 mod recorded;
 #[cfg(test)]

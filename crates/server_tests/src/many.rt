@@ -1,10 +1,15 @@
 //! Many links at once, whose clients make objects, hold them and let go of them.
 ghost use Rattle.std.specs.Prelude.{◌≤◌};
 
-use crate::histories::{check_answers, check_own, check_replayed, defined_answers, is_defined};
+use crate::defined::Prefix;
+use crate::histories::{
+    check_answers, check_own, check_plain, check_replayed, events_of, is_defined, is_outlined,
+    lose_acks, take_all,
+};
 use crate::servers::{Cases, LinkOf, ReportOf, is_told, plan_of, serve_links};
 use crate::texts::{bytes_of, must};
 use conn_server::Stop;
+use history::{Event, Turn};
 use space::journal;
 use std::alloc::Global;
 use std::process::Abort;
@@ -15,8 +20,8 @@ use std::thread::Threads;
 /// How many links there are.
 const LINKS: u32 = 200;
 
-/// How many there are where the definitions answer too.
-const FEW_LINKS: u32 = 2;
+/// How many there are where `history::plain` alone answers too.
+const FEW_LINKS: u32 = 4;
 
 /// What the clients do by turns. Each holds an object that another one may have made, and maybe was not made yet; and acknowledges its own.
 const CLIENTS: &str =
@@ -78,27 +83,67 @@ fn check_all<'t, R: Wait + Sync>(
     check_replayed(rt, alloc, &report.space, text);
 }
 
-/// Looks whether each link, and the server's own Ticks, were answered as the definitions answer.
+/// Looks whether each link, and the server's own Ticks, were answered so.
+fn check_turns<'t, R: Wait + Sync>(rt: &impl Abort, report: &ReportOf<'t, R>, turns: &[Turn]) {
+    for link in report.links.as_slice() {
+        check_answers(rt, &link.asked, turns);
+    }
+    for tick in report.ticks.as_slice() {
+        must(rt, is_defined(tick, turns), "a tick");
+    }
+}
+
+/// Looks whether all answers and the outline of the space are what the definitions say of the events of the history.
 fn check_defined<'t, R: Wait + Sync>(
+    rt: &impl Abort,
+    alloc: Global,
+    report: &ReportOf<'t, R>,
+    events: &[Event],
+) {
+    let mut prefix = Prefix::new(alloc);
+    let turns = take_all(rt, alloc, &mut prefix, events);
+    check_turns(rt, report, turns.as_slice());
+    must(
+        rt,
+        is_outlined(alloc, &report.space, &prefix.defined),
+        "outline by the definitions",
+    );
+    if report.links.len() == FEW_LINKS as usize {
+        check_plain(rt, alloc, events, &report.space, turns.as_slice());
+    }
+}
+
+/// Looks whether the definitions say something else of events that aren't those of the history.
+fn check_others<'t, R: Wait + Sync>(
+    rt: &impl Abort,
+    alloc: Global,
+    report: &ReportOf<'t, R>,
+    events: &[Event],
+) {
+    let mut prefix = Prefix::new(alloc);
+    let _turns = take_all(rt, alloc, &mut prefix, events);
+    must(
+        rt,
+        !is_outlined(alloc, &report.space, &prefix.defined),
+        "another outline",
+    );
+}
+
+/// Looks at what is told of links, by the text of the history that they left.
+fn check_history<'t, R: Wait + Sync>(
     rt: &impl Abort,
     alloc: Global,
     report: &ReportOf<'t, R>,
     text: &str,
 ) {
-    match defined_answers(rt, alloc, text) {
-        Some(answers) => {
-            for link in report.links.as_slice() {
-                check_answers(rt, &link.asked, answers.as_slice());
-            }
-            for tick in report.ticks.as_slice() {
-                must(rt, is_defined(tick, answers.as_slice()), "a tick");
-            }
-        }
-        None => must(rt, false, "memory"),
-    }
+    check_all(rt, alloc, report, text);
+    let mut events = events_of(rt, alloc, text);
+    check_defined(rt, alloc, report, events.as_slice());
+    lose_acks(events.as_mut_slice());
+    check_others(rt, alloc, report, events.as_slice());
 }
 
-/// Serves so many links, and looks at what is told of them, by the definitions too where these are few.
+/// Serves so many links, and looks at what is told of them.
 fn check_many(rt: &(impl Threads + Wait + Abort + Sync), alloc: Global, count: u32)
     requires few { count ≤ 65535 }
 {
@@ -108,12 +153,7 @@ fn check_many(rt: &(impl Threads + Wait + Abort + Sync), alloc: Global, count: u
             must(rt, report.links.len() == count as usize, "all links");
             match journal(alloc, &report.space) {
                 Ok(told) => match str::from_utf8(told.as_slice()) {
-                    Ok(text) => {
-                        check_all(rt, alloc, &report, text);
-                        if count == FEW_LINKS {
-                            check_defined(rt, alloc, &report, text);
-                        }
-                    }
+                    Ok(text) => check_history(rt, alloc, &report, text),
                     Err(_) => must(rt, false, "a text"),
                 },
                 Err(_) => must(rt, false, "memory"),

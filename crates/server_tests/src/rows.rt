@@ -77,14 +77,49 @@ fn a_link_that_fails_ends_alone(rt: HostRuntime) {
     must(&rt, told.is_some(), "memory");
 }
 
-/// A listener that fails once: the link that it would give then is not served.
+/// A listener that fails once, and is asked again.
 const FAILS_ONCE: &str = "0 | 1234 | 0 | | opening ping | ack pong | Ended
 -
 0 | 1234 | 0 | | opening ping | ack pong | Ended";
 
 #[test]
-fn no_link_is_served_after_a_failed_call_for_one(rt: HostRuntime) {
-    let told = served(&rt, rt.alloc(), 2, 1099, Stop::AcceptFault, FAILS_ONCE);
+fn a_link_is_served_after_a_failed_call_for_one(rt: HostRuntime) {
+    let told = served(&rt, rt.alloc(), 2, 1099, Stop::All, FAILS_ONCE);
+    must(&rt, told.is_some(), "memory");
+}
+
+/// A listener that fails often while its first link is served, which waits for the second one.
+const FAILS_OFTEN: &str =
+    "1 | 1234 | 0 | | opening add_one | ack number +5 first 0000000000000002 | Ended
+-
+-
+-
+-
+-
+-
+-
+-
+-
+-
+0 | 1234 | 0 | | opening add_one | ack number +5 first 0000000000000001 | Ended";
+
+#[test]
+fn a_listener_is_asked_again_while_a_link_is_served(rt: HostRuntime) {
+    let told = served(&rt, rt.alloc(), 2, 1099, Stop::All, FAILS_OFTEN);
+    must(&rt, told.is_some(), "memory");
+}
+
+/// A listener that goes on failing when its first links have ended: the link that it would give at last is not served.
+const GOES_ON: &str = "0 | 1234 | 0 | | opening ping | ack pong | Ended
+-
+-
+0 | 1234 | 0 | | opening ping | ack pong | Ended
+- 400
+0 | 1234 | 0 | | opening ping | ack pong | Ended";
+
+#[test]
+fn no_link_is_served_after_lasting_failures(rt: HostRuntime) {
+    let told = served(&rt, rt.alloc(), 3, 1099, Stop::AcceptFault, GOES_ON);
     must(&rt, told.is_some(), "memory");
 }
 

@@ -84,6 +84,13 @@ impl Cases {
         must(rt, noted.is_ok(), "memory");
     }
 
+    /// Adds so many calls for a link that fail.
+    fn add_all_failed(&mut self, rt: &impl Abort, count: u32) {
+        for _ in 0..count {
+            self.add_failed(rt);
+        }
+    }
+
     /// Adds the link that a line tells: for how many others it waits, the peer's port, the moments of its clock, which of its reads or writes fails,
     /// and the words of its input.
     pub(crate) fn add(&mut self, rt: &impl Abort, alloc: Global, line: &str) {
@@ -134,12 +141,14 @@ fn failing_of(rt: &impl Abort, alloc: Global, fault: &str, kind: &str) -> Kinds 
     failing
 }
 
-/// The listener of the links that lines tell. The line `-` is a call for a link that fails.
+/// The listener of the links that lines tell. The line `-` is a call for a link that fails, and `- N` are so many.
 pub(crate) fn listener_of(rt: &impl Abort, alloc: Global, lines: &str) -> Option<Gated> {
     let mut cases = Cases::new(alloc);
     for line in lines.split('\n') {
         if line == "-" {
             cases.add_failed(rt);
+        } else if let Some(count) = line.strip_prefix("- ") {
+            cases.add_all_failed(rt, number_of(rt, count));
         } else {
             cases.add(rt, alloc, line);
         }
@@ -225,21 +234,30 @@ fn check_link<H>(
     must(rt, is_told(alloc, link.end, end), line);
 }
 
-/// Looks at the links that lines tell, in the order of accepting. Those behind a call for a link that fails are not served.
+/// The lines before the first one that tells of many calls for a link that fail, behind which no link is served.
+fn served_lines(lines: &str) -> &str {
+    match lines.split_once("\n- ") {
+        Some((front, _left)) => front,
+        None => lines,
+    }
+}
+
+/// Looks at the links that lines tell, in the order of accepting.
 pub(crate) fn check_all<H>(
     rt: &impl Abort,
     alloc: Global,
     links: &[LinkReport<GatedSource, GatedSink, MemClock, H>],
     lines: &str,
 ) {
-    let (served, _left) = cut(lines, '-');
     let mut place = 0usize;
-    for line in served.split('\n') {
-        match links.get(place) {
-            Some(link) => check_link(rt, alloc, link, line),
-            None => must(rt, false, line),
+    for line in served_lines(lines).split('\n') {
+        if line != "-" {
+            match links.get(place) {
+                Some(link) => check_link(rt, alloc, link, line),
+                None => must(rt, false, line),
+            }
+            place = place.wrapping_add(1);
         }
-        place = place.wrapping_add(1);
     }
     must(rt, place == links.len(), "as many links");
 }

@@ -55,7 +55,7 @@ returns-then-not-taken-clause-links g c =
     let counter = was.count in
     let test = c.loop-test.true in (
       link ∷ [],
-      one_more told (g.L.Listener.accepted c.loop.listener) (g.L.Listener.accepted c.accept.new.self) before link was.links c.in-Ok.ensures.accepts.0 ∙ ap (λ l. with_all told (l ++ link ∷ [])) (sym same),
+      one_more told (g.L.Listener.accepted c.loop.listener) (g.L.Listener.accepted c.next_link.new.listener) before link was.links c.in-Ok.ensures.accepts.0 ∙ ap (λ l. with_all told (l ++ link ∷ [])) (sym same),
       (omega (arith, count, count2, counter, test), refl),
     )
 
@@ -83,7 +83,7 @@ loop-preserved g c =
       turns = omega (arith, room, room2, room3);
       count = omega (arith, count, count2, counter);
       tied = c.take_in-next.ensures.tied;
-      links = one_more told (g.L.Listener.accepted c.loop.listener) (g.L.Listener.accepted c.accept.new.self) before link was.links c.in-Ok.ensures.accepts.0 ∙ ap (with_all told) (sym longer);
+      links = one_more told (g.L.Listener.accepted c.loop.listener) (g.L.Listener.accepted c.next_link.new.listener) before link was.links c.in-Ok.ensures.accepts.0 ∙ ap (with_all told) (sym longer);
       faults = omega (arith, faults, faults2);
       ports = c.in-Ok.ensures.ports ∙ was.ports;
     }
