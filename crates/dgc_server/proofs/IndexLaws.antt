@@ -10,11 +10,12 @@ use Rattle.object_ids.specs.declared.ids.ObjId.{ObjId}
 use Rattle.object_ids.specs.Client.{Client, client_cmp}
 use Rattle.object_ids.specs.Same.{same_id, same_client}
 use Rattle.dgc_server.specs.Numbers.{no_numbers, is_dirty_highest}
-use Rattle.dgc_server.specs.Entry.{ObjectEntry, Entry, lapsed, is_entry_kept, is_empty, has_time_left, entry_holds, entry_without, numbers_of, tenure_forgotten, strong_only, has_strong, dirty_in}
+use Rattle.dgc_server.specs.Entry.{ObjectEntry, Entry, lapsed, is_entry_kept, is_empty, has_time_left, entry_holds, entry_without, numbers_of, has_object, tenure_forgotten, strong_only, has_strong, dirty_in}
 use Rattle.dgc_server.specs.Table.{no_entry, entry_of, with_entry, after_lapse}
 use Rattle.dgc_server.specs.Stands.{is_in_order}
-use Rattle.dgc_server.specs.Index.{one_if, ends_later, IsSettled}
-use Rattle.object_ids.proofs.Exact.{same_client-true}
+use Rattle.dgc_server.specs.Index.{Way, Holding, Naming, is_counted, counts_in, entry_names, one_if, ends_later, IsSettled}
+use Rattle.object_ids.proofs.Exact.{same_client-true, same_id-equal}
+use Rattle.history.proofs.ListLemmas.{and_false}
 use Rattle.dgc_server.proofs.Ordered.{entry-with}
 use Rattle.dgc_server.proofs.Few.{few-with}
 use Rattle.dgc_server.proofs.Outputs.{no_time}
@@ -28,29 +29,29 @@ use Rattle.dgc_server.proofs.HolderLaws.{holding, drop-at, drop-gone}
 pub none-holds : (t : ℕ) (o : ObjId) (c : Client) → entry_holds t o (no_entry c) ≡ false
 none-holds t o c = ap (λ v. v && is_dirty_highest (numbers_of [] o)) (no_time t)
 
--- The client's entry is one of them.
-pub own-counted : (t : ℕ) (o : ObjId) (es : List Entry) (c : Client) → one_if (entry_holds t o (entry_of es c)) ≤ holding t es o
-own-counted t o [] c = rw (none-holds t o c) (omega arith)
-own-counted t o (e ∷ es) c = go (same_client e.client c) (entry_holds t o e) refl (own-counted t o es c)
-  where
-    go : (a b : Bool) → entry_holds t o e ≡ b → one_if (entry_holds t o (entry_of es c)) ≤ holding t es o →
-        one_if (entry_holds t o (if a then e else entry_of es c)) ≤ length (cond b (e ∷ filter (entry_holds t o) es) (filter (entry_holds t o) es))
-    go true true q h = rw q (omega arith)
-    go true false q h = rw q (omega arith)
-    go false true q h = omega arith
-    go false false q h = h
+pub none-is-counted : (t : ℕ) (o : ObjId) (w : Way) (c : Client) → is_counted w t o (no_entry c) ≡ false
+none-is-counted t o Holding c = none-holds t o c
+none-is-counted t o Naming c = refl
 
-pub holding-with : (t : ℕ) (o : ObjId) (e : Entry) (es : List Entry) → is_in_order es ≡ true →
-    holding t (with_entry e es) o + one_if (entry_holds t o (entry_of es e.client)) ≡ holding t es o + one_if (entry_holds t o e)
-holding-with t o e es order = few-with (entry_holds t o) (none-holds t o) e es order
+module _ (p : Entry → Bool) (none : (c : Client) → p (no_entry c) ≡ false) where
+  -- The client's entry is one of them.
+  pub own-counted : (es : List Entry) (c : Client) → one_if (p (entry_of es c)) ≤ length (filter p es)
+  own-counted [] c = rw (none c) (omega arith)
+  own-counted (e ∷ es) c = go (same_client e.client c) (p e) refl (own-counted es c)
+    where
+      go : (a b : Bool) → p e ≡ b → one_if (p (entry_of es c)) ≤ length (filter p es) → one_if (p (if a then e else entry_of es c)) ≤ length (cond b (e ∷ filter p es) (filter p es))
+      go true true q h = rw q (omega arith)
+      go true false q h = rw q (omega arith)
+      go false true q h = omega arith
+      go false false q h = h
 
-pub replaced : (t : ℕ) (o : ObjId) (e : Entry) (es : List Entry) (before after : ℕ) → is_in_order es ≡ true → before ≡ holding t es o →
-    after + one_if (entry_holds t o (entry_of es e.client)) ≡ before + one_if (entry_holds t o e) → after ≡ holding t (with_entry e es) o
-replaced t o e es before after order p q =
-    sums (holding t (with_entry e es) o) (holding t es o) (one_if (entry_holds t o (entry_of es e.client))) (one_if (entry_holds t o e)) before after (holding-with t o e es order) p q
-  where
-    sums : (new all old one before after : ℕ) → new + old ≡ all + one → before ≡ all → after + old ≡ before + one → after ≡ new
-    sums new all old one before after w p q = omega arith
+  pub replaced : (e : Entry) (es : List Entry) (before after : ℕ) → is_in_order es ≡ true → before ≡ length (filter p es) →
+      after + one_if (p (entry_of es e.client)) ≡ before + one_if (p e) → after ≡ length (filter p (with_entry e es))
+  replaced e es before after order x y =
+      sums (length (filter p (with_entry e es))) (length (filter p es)) (one_if (p (entry_of es e.client))) (one_if (p e)) before after (few-with p none e es order) x y
+    where
+      sums : (new all old one before after : ℕ) → new + old ≡ all + one → before ≡ all → after + old ≡ before + one → after ≡ new
+      sums new all old one before after w p q = omega arith
 
 -- A client's entry is the one that was put.
 pub own-with : (e : Entry) (es : List Entry) (c : Client) → e.client ≡ c → entry_of (with_entry e es) c ≡ e
@@ -93,6 +94,10 @@ same-holders m n t o (e ∷ es) le lt a =
     ap (λ b. cond (b && dirty_in e.objects o) (e ∷ filter (entry_holds t o) es) (filter (entry_holds t o) es)) (same-lt m n t e.until le lt a.0.later)
     ∙ ap (λ l. cond (entry_holds m o e) (e ∷ l) l) (same-holders m n t o es le lt a.1)
 
+pub same-counted : (m n t : ℕ) (o : ObjId) (w : Way) (es : List Entry) → m ≤ t → t < n → AllByRecursion (IsSettled m n) es → filter (is_counted w t o) es ≡ filter (is_counted w m o) es
+same-counted m n t o Holding es le lt a = same-holders m n t o es le lt a
+same-counted m n t o Naming es le lt a = refl
+
 -- ---- after time has passed
 
 strong-again : (es : List ObjectEntry) → tenure_forgotten (tenure_forgotten es) ≡ tenure_forgotten es
@@ -130,27 +135,26 @@ settled-after t n (e ∷ es) h = go (is_entry_kept t (lapsed t e)) refl h (settl
         (record { forgotten = lapsed-again t e; kept = q; later = later-is t n (lapsed t e) two.0 }, rest two.1)
     go false q k rest = rest k
 
--- Who holds an object is kept.
-pub holding-lapsed : (t : ℕ) (o : ObjId) (es : List Entry) → holding t (after_lapse t es) o ≡ holding t es o
-holding-lapsed t o [] = refl
-holding-lapsed t o (e ∷ es) = go (nat_lt t e.until) refl (holding-lapsed t o es)
+-- Of whom nothing is left is not counted.
+nothing-counted : (t : ℕ) (o : ObjId) (w : Way) (e : Entry) → is_entry_kept t e ≡ false → is_counted w t o e ≡ false
+nothing-counted t o w e h = go w (nat_lt t e.until) e.objects h
   where
-    over : (x : Entry) (b : Bool) → entry_holds t o x ≡ false → holding t (after_lapse t es) o ≡ holding t es o →
-        length (filter (entry_holds t o) (cond b (x ∷ after_lapse t es) (after_lapse t es))) ≡ holding t es o
-    over x true q h = ap (λ v. length (cond v (x ∷ filter (entry_holds t o) (after_lapse t es)) (filter (entry_holds t o) (after_lapse t es)))) q ∙ h
-    over x false q h = h
+    go : (w : Way) (b : Bool) (os : List ObjectEntry) → (b || not (is_empty os)) ≡ false → counts_in w b os o ≡ false
+    go w true os k = absurd (cc)
+    go Holding false os k = refl
+    go Naming false [] k = refl
+    go Naming false (x ∷ os) k = absurd (cc)
 
-    go : (b : Bool) → nat_lt t e.until ≡ b → holding t (after_lapse t es) o ≡ holding t es o →
-        length (filter (entry_holds t o) (cond (is_entry_kept t (if b then e else record e { objects = tenure_forgotten e.objects })) ((if b then e else record e { objects = tenure_forgotten e.objects }) ∷ after_lapse t es) (after_lapse t es)))
-        ≡ length (cond (entry_holds t o e) (e ∷ filter (entry_holds t o) es) (filter (entry_holds t o) es))
-    go true q h = ap (λ b. length (filter (entry_holds t o) (cond (b || not (is_empty e.objects)) (e ∷ after_lapse t es) (after_lapse t es)))) q ∙ one (entry_holds t o e)
-      where
-        one : (v : Bool) → length (cond v (e ∷ filter (entry_holds t o) (after_lapse t es)) (filter (entry_holds t o) (after_lapse t es))) ≡ length (cond v (e ∷ filter (entry_holds t o) es) (filter (entry_holds t o) es))
-        one true = omega (arith, h)
-        one false = h
-    go false q h =
-        over (record e { objects = tenure_forgotten e.objects }) (is_entry_kept t (record e { objects = tenure_forgotten e.objects })) (ap (λ b. b && dirty_in (tenure_forgotten e.objects) o) q) h
-        ∙ sym (ap (λ v. length (cond (v && dirty_in e.objects o) (e ∷ filter (entry_holds t o) es) (filter (entry_holds t o) es))) q)
+pub kept-counted : (t : ℕ) (o : ObjId) (w : Way) (es : List Entry) → length (filter (is_counted w t o) (filter (is_entry_kept t) es)) ≡ length (filter (is_counted w t o) es)
+kept-counted t o w [] = refl
+kept-counted t o w (e ∷ es) = go (is_entry_kept t e) (is_counted w t o e) refl refl (kept-counted t o w es)
+  where
+    go : (a b : Bool) → is_entry_kept t e ≡ a → is_counted w t o e ≡ b → length (filter (is_counted w t o) (filter (is_entry_kept t) es)) ≡ length (filter (is_counted w t o) es) →
+        length (filter (is_counted w t o) (cond a (e ∷ filter (is_entry_kept t) es) (filter (is_entry_kept t) es))) ≡ length (cond b (e ∷ filter (is_counted w t o) es) (filter (is_counted w t o) es))
+    go true true x y h = rw y (omega arith)
+    go true false x y h = rw y h
+    go false true x y h = absurd (let n = nothing-counted t o w e x in cc)
+    go false false x y h = h
 
 -- Some client holds an object exactly where it is counted.
 pub some-holds : (t : ℕ) (o : ObjId) (es : List Entry) → nat_lt 0 (holding t es o) ≡ list_any (entry_holds t o) es
@@ -162,6 +166,19 @@ some-holds t o (e ∷ es) = go (entry_holds t o e) (some-holds t o es)
     go false h = h
 
 -- ---- an object that is dropped
+
+pub names-without : (o p : ObjId) (es : List ObjectEntry) → has_object (filter (λ x. not (same_id x.object o)) es) p ≡ (not (same_id p o) && has_object es p)
+names-without o p [] = sym (and_false (not (same_id p o)))
+names-without o p (e ∷ es) = go (same_id e.object o) (same_id e.object p) (same_id p o) refl refl refl (names-without o p es)
+  where
+    go : (a b s : Bool) → same_id e.object o ≡ a → same_id e.object p ≡ b → same_id p o ≡ s → has_object (filter (λ x. not (same_id x.object o)) es) p ≡ (not s && has_object es p) →
+        has_object (cond (not a) (e ∷ filter (λ x. not (same_id x.object o)) es) (filter (λ x. not (same_id x.object o)) es)) p ≡ (not s && (b || has_object es p))
+    go true true true x y z h = h
+    go true true false x y z h = absurd (let w : same_id p o ≡ true = ap (λ q. same_id q o) (sym (same_id-equal e.object p y)) ∙ x in cc)
+    go true false s x y z h = h
+    go false true true x y z h = absurd (let w : same_id e.object o ≡ true = ap (λ q. same_id q o) (same_id-equal e.object p y) ∙ z in cc)
+    go false true false x y z h = rw y refl
+    go false false s x y z h = rw y h
 
 pub holding-without : (t : ℕ) (o p : ObjId) (es : List Entry) → holding t (map (entry_without o) es) p ≡ (if same_id p o then 0 else holding t es p)
 holding-without t o p [] = go (same_id p o)
@@ -187,9 +204,32 @@ holding-without t o p (e ∷ es) =
     go true h = none (nat_lt t e.until) h
     go false h = same (entry_holds t p e) h
 
+naming-without : (t : ℕ) (o p : ObjId) (es : List Entry) → length (filter (entry_names p) (map (entry_without o) es)) ≡ (if same_id p o then 0 else length (filter (entry_names p) es))
+naming-without t o p [] = go (same_id p o)
+  where
+    go : (b : Bool) → ◌≡◌ {A = ℕ} 0 (if b then 0 else 0)
+    go true = refl
+    go false = refl
+naming-without t o p (e ∷ es) =
+    ap (λ b. length (cond b (entry_without o e ∷ filter (entry_names p) (map (entry_without o) es)) (filter (entry_names p) (map (entry_without o) es)))) (names-without o p e.objects)
+    ∙ go (same_id p o) (has_object e.objects p) (naming-without t o p es)
+  where
+    go : (s b : Bool) → length (filter (entry_names p) (map (entry_without o) es)) ≡ (if s then 0 else length (filter (entry_names p) es)) →
+        length (cond (not s && b) (entry_without o e ∷ filter (entry_names p) (map (entry_without o) es)) (filter (entry_names p) (map (entry_without o) es)))
+        ≡ (if s then 0 else length (cond b (e ∷ filter (entry_names p) es) (filter (entry_names p) es)))
+    go true b h = h
+    go false true h = omega arith
+    go false false h = h
+
+counting-without : (t : ℕ) (o p : ObjId) (w : Way) (es : List Entry) → length (filter (is_counted w t p) (map (entry_without o) es)) ≡ (if same_id p o then 0 else length (filter (is_counted w t p) es))
+counting-without t o p Holding es = holding-without t o p es
+counting-without t o p Naming es = naming-without t o p es
+
 -- The counts with none for one object.
-pub forgotten : (t : ℕ) (o : ObjId) (es : List Entry) (f g : ObjId → ℕ) → ((p : ObjId) → f p ≡ holding t es p) → ((p : ObjId) → g p ≡ (if same_id o p then 0 else f p)) → (p : ObjId) → g p ≡ holding t (map (entry_without o) es) p
-forgotten t o es f g h k p = k p ∙ ap (λ b. if b then 0 else f p) (same_id-turned o p) ∙ ap (λ n. if same_id p o then 0 else n) (h p) ∙ sym (holding-without t o p es)
+pub forgotten : (t : ℕ) (o : ObjId) (w : Way) (es : List Entry) (f g : ObjId → ℕ) → ((p : ObjId) → f p ≡ length (filter (is_counted w t p) es)) →
+    ((p : ObjId) → g p ≡ (if same_id o p then 0 else f p)) → (p : ObjId) → g p ≡ length (filter (is_counted w t p) (map (entry_without o) es))
+forgotten t o w es f g h k p =
+    k p ∙ ap (λ b. if b then 0 else f p) (same_id-turned o p) ∙ ap (λ n. if same_id p o then 0 else n) (h p) ∙ sym (counting-without t o p w es)
 
 -- ---- a loop over the ends of leases
 

@@ -21,3 +21,7 @@ pub mod HolderLaws
 pub mod IndexLaws
 pub mod SumLaws
 pub mod MarkLaws
+pub mod Freeing
+pub mod Dropping
+pub mod Shares
+pub mod Walking

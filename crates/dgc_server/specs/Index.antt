@@ -1,23 +1,71 @@
--- The index of a lease table: for each object how many clients hold it, and before which moment nothing is due.
-use Rattle.std.specs.Prelude.{◌≡◌, ℕ, ◌≤◌, ◌<◌, Bool, true, not, ◌&&◌, ◌||◌, List, length, filter, nat_lt, nat_le, is_some, unwrap_or, if◌then◌else◌}
+-- The index of a lease table: for each object how many clients hold it and how many name it, and before which moment nothing is due.
+use Rattle.std.specs.Prelude.{◌≡◌, ℕ, ◌≤◌, ◌<◌, Bool, true, not, ◌&&◌, ◌||◌, List, [], length, filter, nat_lt, nat_le, is_some, unwrap_or, if◌then◌else◌}
 use Rattle.std.specs.List.{AllByRecursion}
 use Rattle.std.specs.Ordering.{int_eq}
 use Rattle.object_ids.specs.declared.ids.ObjId.{ObjId}
 use Rattle.indexmap.specs.IndexMap.{IndexMap, get}
+use Rattle.dgc_server.specs.declared.holders.Count.{Count}
+use Rattle.dgc_server.specs.declared.holders.Share.{Share}
+use Rattle.dgc_server.specs.declared.numbers.Numbers.{Numbers}
 use Rattle.dgc_server.specs.declared.table.Sums.{Sums}
-use Rattle.dgc_server.specs.Entry.{Entry, lapsed, is_entry_kept, has_time_left, remembered_of, entry_holds}
+use Rattle.dgc_server.specs.Numbers.{is_dirty_highest}
+use Rattle.dgc_server.specs.Entry.{ObjectEntry, Entry, lapsed, is_entry_kept, has_time_left, remembered_of, has_object, numbers_of, dirty_in, dirty_objects}
 use Rattle.dgc_server.specs.Table.{remembered}
 
 -- Two identifiers that are equal field by field, as keys are compared.
 abbrev pub same_key : ObjId → ObjId → Bool
 same_key a b = int_eq a.number b.number && (int_eq a.space.unique b.space.unique && (int_eq a.space.time b.space.time && int_eq a.space.count b.space.count))
 
--- How many clients hold an object, 0 where it has no count.
-abbrev pub held_at : {S : Type 0} → IndexMap ObjId ℕ S → ObjId → ℕ
-held_at counts o = unwrap_or (get same_key counts o) 0
+-- An object is counted in two ways: by the clients that hold it, and by those of which a number of it is kept.
+pub data Way : Type 0 where
+  Holding : Way
+  Naming : Way
 
-abbrev pub has_count : {S : Type 0} → IndexMap ObjId ℕ S → ObjId → Bool
+-- What is counted of an object that no client names.
+abbrev pub no_count : Count
+no_count = record { holders = 0; clients = 0; place = 0 }
+
+abbrev pub count_by : Way → Count → ℕ
+count_by Holding n = n.holders
+count_by Naming n = n.clients
+
+abbrev pub count_at : {S : Type 0} → IndexMap ObjId Count S → ObjId → Count
+count_at counts o = unwrap_or (get same_key counts o) no_count
+
+-- How many clients hold an object, or name it: 0 where it has no count.
+abbrev pub counted_at : {S : Type 0} → Way → IndexMap ObjId Count S → ObjId → ℕ
+counted_at w counts o = count_by w (count_at counts o)
+
+abbrev pub has_count : {S : Type 0} → IndexMap ObjId Count S → ObjId → Bool
 has_count counts o = is_some (get same_key counts o)
+
+abbrev pub share_by : Way → Share → Bool
+share_by Holding s = s.holds
+share_by Naming s = s.names
+
+-- Whether a client of which these objects are kept is counted for one of them. It says whether the client is counted as a holder at all.
+abbrev pub counts_in : Way → Bool → List ObjectEntry → ObjId → Bool
+counts_in Holding held es o = held && dirty_in es o
+counts_in Naming held es o = has_object es o
+
+-- Whether a client is counted for an object at the moment t.
+abbrev pub is_counted : Way → ℕ → ObjId → Entry → Bool
+is_counted w t o e = counts_in w (has_time_left t e) e.objects o
+
+-- Whether numbers of an object are kept of a client.
+abbrev pub entry_names : ObjId → Entry → Bool
+entry_names o e = has_object e.objects o
+
+-- What a client's share in the count of an object loses as its tenure is forgotten.
+abbrev pub lost_share : Bool → Numbers → Share
+lost_share held n = record { holds = held && is_dirty_highest n; names = not (is_some n.strong) }
+
+abbrev pub loses : Way → Bool → Numbers → Bool
+loses w held n = share_by w (lost_share held n)
+
+-- The object is there, with numbers that pass a test.
+abbrev pub has_with : (Numbers → Bool) → List ObjectEntry → ObjId → Bool
+has_with test es o = has_object es o && test (numbers_of es o)
 
 abbrev pub one_if : Bool → ℕ
 one_if b = if b then 1 else 0
@@ -25,6 +73,10 @@ one_if b = if b then 1 else 0
 -- Whether the lease ends after the first moment and not after the second.
 abbrev pub ends_between : ℕ → ℕ → Entry → Bool
 ends_between from to e = nat_lt from e.until && not (nat_lt to e.until)
+
+-- The objects that a client holds, if its lease ends after the first moment and not after the second.
+abbrev pub freed_of : ℕ → ℕ → Entry → List ObjId
+freed_of from to e = if ends_between from to e then dirty_objects e.objects else []
 
 -- The lease, if it has time left at the moment m, ends no earlier than the moment n.
 abbrev pub ends_later : ℕ → ℕ → Entry → Bool
@@ -37,10 +89,10 @@ pub record IsSettled (m n : ℕ) (e : Entry) : Type 0 where
   pub kept : is_entry_kept m e ≡ true
   pub later : nat_lt m e.until ≡ true → n ≤ e.until
 
--- The index of a table at the moment m: each object is held by so many clients, and no lease ends before the moment n, if that is later.
-pub record IsIndexed {S : Type 0} (m n : ℕ) (counts : IndexMap ObjId ℕ S) (es : List Entry) : Type 0 where
+-- The index of a table at the moment m: so many clients hold or name each object, and no lease ends before the moment n, if that is later.
+pub record IsIndexed {S : Type 0} (m n : ℕ) (counts : IndexMap ObjId Count S) (es : List Entry) : Type 0 where
   pub settled : m < n → AllByRecursion (IsSettled m n) es
-  pub held : (o : ObjId) → held_at counts o ≡ length (filter (entry_holds m o) es)
+  pub counted : (w : Way) (o : ObjId) → counted_at w counts o ≡ length (filter (is_counted w m o) es)
 
 -- How many clients have time left at the moment t, and how many pairs are remembered.
 abbrev pub sums_at : ℕ → List Entry → Sums

@@ -3,10 +3,10 @@ ghost use Rattle.std.specs.Prelude.{◌≡◌, ℕ, ◌+◌, ◌<◌, ◌≤◌,
 ghost use Rattle.object_ids.specs.declared.ids.ObjId.{ObjId};
 ghost use Rattle.history.specs.Leases.{is_dirty_kind};
 ghost use Rattle.dgc_server.specs.Numbers.{is_dirty_highest};
-ghost use Rattle.dgc_server.specs.Entry.{has_time_left, each_has_number, entry_holds, remembered_of, fresh_of, numbers_of, is_in, lapsed, entry_without, is_entry_kept, object_entries};
+ghost use Rattle.dgc_server.specs.Entry.{has_time_left, each_has_number, entry_holds, remembered_of, fresh_of, numbers_of, has_object, is_in, lapsed, entry_without, is_entry_kept, object_entries};
 ghost use Rattle.dgc_server.specs.Stands.{each_once, entry_after};
 ghost use Rattle.dgc_server.specs.Table.{no_entry};
-ghost use Rattle.dgc_server.specs.Index.{held_at, has_count, one_if};
+ghost use Rattle.dgc_server.specs.Index.{Way, counted_at, has_count, one_if, is_counted};
 
 use crate::holders::Counts;
 use crate::marks::{self, Marks};
@@ -119,6 +119,13 @@ impl ClientEntry {
         marks::numbers_in(&self.kept.objects, object)
     }
 
+    /// Whether the client names an object: numbers of it are kept.
+    pub fn names(&self, object: &ObjId) -> bool
+        ensures { result ≡ has_object self.now.objects object.now }
+    {
+        marks::is_there(&self.kept.objects, object)
+    }
+
     /// Whether the client holds an object at this moment.
     pub fn holds(&self, object: &ObjId, at: u64) -> bool
         ensures { result ≡ entry_holds at object.now self.now }
@@ -143,13 +150,15 @@ impl ClientEntry {
     }
 
     /// Notes a call, by which a lease of this duration begins if it is a dirty. The counts are those of the moment `from`, and change
-    /// with what the client holds. It is refused only for want of memory, and then all is as it was.
+    /// with what the client holds and names. They note its place in the list of clients. It is refused only for want of memory, and then all
+    /// is as it was.
     pub fn note(
         &mut self,
         counts: &mut Counts,
         call: &LeaseCall<'_>,
         lease: u64,
         from: u64,
+        place: u32,
     ) -> Result<(), AllocError>
         requires later { from ≤ call.now.at }
         requires early { call.now.at < 2 ^ 62 }
@@ -157,18 +166,18 @@ impl ClientEntry {
         requires short { lease ≤ 2 ^ 40 }
         requires once { IsTrue (each_once self.old.objects) }
         requires has { (o : ObjId) → is_in o call.now.objects.now ≡ true → has_count counts.old o ≡ true }
-        requires enough { (o : ObjId) → one_if (entry_holds from o self.old) ≤ held_at counts.old o }
-        requires few { (o : ObjId) → held_at counts.old o + 1 < 2 ^ 31 }
+        requires enough { (w : Way) (o : ObjId) → one_if (is_counted w from o self.old) ≤ counted_at w counts.old o }
+        requires few { (w : Way) (o : ObjId) → counted_at w counts.old o + 1 < 2 ^ 31 }
         ensures ok { OnOk result (self.new ≡ entry_after lease call.now.kind call.now.number.now call.now.objects.now call.now.at self.old) }
-        ensures counts { OnOk result ((o : ObjId) → held_at counts.new o + one_if (entry_holds from o self.old)
-            ≡ held_at counts.old o + one_if (entry_holds from o self.new)) }
+        ensures counts { OnOk result ((w : Way) (o : ObjId) → counted_at w counts.new o + one_if (is_counted w from o self.old)
+            ≡ counted_at w counts.old o + one_if (is_counted w from o self.new)) }
         ensures err { OnErr result (self.new ≡ self.old) }
         ensures same { OnErr result (counts.new ≡ counts.old) }
     {
         let kept = &mut *self.kept;
-        kept.objects.reserve(call.objects.len())?;
+        marks::make_room(&mut kept.objects, call.objects.len())?;
         let left = call.at < self.until;
-        let is_counted = from < self.until;
+        let held = from < self.until;
         let until = until_after(call.kind, call.at + lease, self.until);
         marks::note(
             &mut kept.objects,
@@ -177,7 +186,8 @@ impl ClientEntry {
             call.kind,
             call.number,
             left,
-            is_counted,
+            held,
+            place,
         );
         self.until = until;
         Ok(())

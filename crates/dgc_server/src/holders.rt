@@ -1,13 +1,12 @@
-//! For each object how many clients hold it.
-ghost use Rattle.std.specs.Prelude.{◌≡◌, ◌+◌, ◌<◌, ◌≤◌, ◌^◌, ◌&&◌, length, filter, IsTrue, OnOk, true, if◌then◌else◌};
+//! For each object how many clients hold it and how many name it.
+ghost use Rattle.std.specs.Prelude.{◌≡◌, ◌+◌, ◌<◌, ◌≤◌, ◌^◌, ◌||◌, length, filter, map, IsTrue, OnOk, true, if◌then◌else◌};
 ghost use Rattle.std.specs.List.{list_all};
 ghost use Rattle.object_ids.specs.declared.ids.ObjId.{ObjId};
 ghost use Rattle.object_ids.specs.Same.{same_id};
-ghost use Rattle.dgc_server.specs.Numbers.{is_dirty_highest};
-ghost use Rattle.dgc_server.specs.Entry.{object_entries, dirty_in, is_in, entry_holds};
+ghost use Rattle.dgc_server.specs.Entry.{object_entries, is_in, lapsed};
 ghost use Rattle.dgc_server.specs.Table.{after_lapse};
 ghost use Rattle.dgc_server.specs.Stands.{each_once};
-ghost use Rattle.dgc_server.specs.Index.{held_at, has_count, one_if, ends_between, IsIndexed};
+ghost use Rattle.dgc_server.specs.Index.{Way, no_count, count_by, count_at, counted_at, has_count, one_if, share_by, lost_share, loses, has_with, is_counted, IsIndexed};
 
 use crate::entry::ClientEntry;
 use crate::marks::Marks;
@@ -17,32 +16,59 @@ use indexmap::IndexMap;
 use object_ids::ObjId;
 use std::alloc::AllocError;
 
-/// How many clients hold each object.
-pub type Counts = IndexMap<ObjId, u32>;
+/// What is counted of an object: how many clients hold it, how many name it (some number of it is kept of them), and at which place in the
+/// list of clients one that names it stood when a call of it was noted last. The place is a hint: where to look first.
+#[derive(Clone, Copy, Debug)]
+pub struct Count {
+    pub holders: u32,
+    pub clients: u32,
+    pub place: u32,
+}
 
-/// How many clients hold an object, by the counts.
-pub fn count_of(counts: &Counts, object: &ObjId) -> u32
-    ensures { result ≡ held_at counts.now object.now }
+/// What a client counts for: whether it holds an object, and whether it names it.
+#[derive(Clone, Copy, Debug)]
+pub struct Share {
+    pub holds: bool,
+    pub names: bool,
+}
+
+/// What is counted of each object.
+pub type Counts = IndexMap<ObjId, Count>;
+
+/// What is counted of an object that no client names.
+fn no_count() -> Count
+    ensures { result ≡ no_count }
 {
-    counts.get(object).copied().unwrap_or(0)
+    Count {
+        holders: 0,
+        clients: 0,
+        place: 0,
+    }
+}
+
+/// What is counted of an object.
+pub fn count_of(counts: &Counts, object: &ObjId) -> Count
+    ensures { result ≡ count_at counts.now object.now }
+{
+    counts.get(object).copied().unwrap_or(no_count())
 }
 
 /// Makes a place for an object's count. No count changes, also where there is no memory.
 pub fn touch(counts: &mut Counts, object: &ObjId) -> Result<(), AllocError>
-    ensures same { (o : ObjId) → held_at counts.new o ≡ held_at counts.old o }
+    ensures same { (w : Way) (o : ObjId) → counted_at w counts.new o ≡ counted_at w counts.old o }
     ensures kept { (o : ObjId) → has_count counts.old o ≡ true → has_count counts.new o ≡ true }
     ensures ok { OnOk result (has_count counts.new object.now ≡ true) }
 {
     if !counts.contains_key(object) {
-        counts.insert(*object, 0)?;
+        counts.insert(*object, no_count())?;
     }
     Ok(())
 }
 
 /// Sets the count of an object that has one. It takes no memory.
-fn put(counts: &mut Counts, object: &ObjId, count: u32)
+fn put(counts: &mut Counts, object: &ObjId, count: Count)
     requires { has_count counts.old object.now ≡ true }
-    ensures value { (o : ObjId) → held_at counts.new o ≡ (if same_id object.now o then count else held_at counts.old o) }
+    ensures value { (o : ObjId) → count_at counts.new o ≡ (if same_id object.now o then count else count_at counts.old o) }
     ensures kept { (o : ObjId) → has_count counts.old o ≡ true → has_count counts.new o ≡ true }
 {
     match counts.insert(*object, count) {
@@ -51,82 +77,120 @@ fn put(counts: &mut Counts, object: &ObjId, count: u32)
     }
 }
 
-/// One more client holds an object that has a count.
-pub fn raise(counts: &mut Counts, object: &ObjId)
-    requires has { has_count counts.old object.now ≡ true }
-    requires few { held_at counts.old object.now ≤ 2 ^ 31 }
-    ensures counts { (o : ObjId) → held_at counts.new o ≡ held_at counts.old o + one_if (same_id object.now o) }
-    ensures kept { (o : ObjId) → has_count counts.old o ≡ true → has_count counts.new o ≡ true }
+/// One fewer, if there is a share in it.
+fn less(count: u32, share: bool) -> u32
+    requires { one_if share ≤ count }
+    ensures { result + one_if share ≡ count }
 {
-    let count = count_of(counts, object);
-    put(counts, object, count + 1);
+    if share { count - 1 } else { count }
 }
 
-/// One client fewer holds an object.
-pub fn lower(counts: &mut Counts, object: &ObjId)
-    requires { 1 ≤ held_at counts.old object.now }
-    ensures counts { (o : ObjId) → held_at counts.new o + one_if (same_id object.now o) ≡ held_at counts.old o }
-    ensures kept { (o : ObjId) → has_count counts.old o ≡ true → has_count counts.new o ≡ true }
+/// One more, if there is a share in it.
+fn more(count: u32, share: bool) -> u32
+    requires { count ≤ 2 ^ 31 }
+    ensures { result ≡ count + one_if share }
 {
-    let count = count_of(counts, object);
-    put(counts, object, count - 1);
+    if share { count + 1 } else { count }
 }
 
-/// Counts a client that held an object before, or not, as one that holds it after, or not.
-pub fn shift(counts: &mut Counts, object: &ObjId, before: bool, after: bool)
-    requires has { has_count counts.old object.now ≡ true }
-    requires enough { one_if before ≤ held_at counts.old object.now }
-    requires few { held_at counts.old object.now ≤ 2 ^ 31 }
-    ensures counts { (o : ObjId) → held_at counts.new o + (if before then one_if (same_id object.now o) else 0)
-        ≡ held_at counts.old o + (if after then one_if (same_id object.now o) else 0) }
-    ensures kept { (o : ObjId) → has_count counts.old o ≡ true → has_count counts.new o ≡ true }
+/// A count without a client's share.
+fn lowered(count: Count, share: Share) -> Count
+    requires { (w : Way) → one_if (share_by w share) ≤ count_by w count }
+    ensures { (w : Way) → count_by w result + one_if (share_by w share) ≡ count_by w count }
 {
-    if after && !before {
-        raise(counts, object);
-    } else if before && !after {
-        lower(counts, object);
+    let holders = less(count.holders, share.holds);
+    let clients = less(count.clients, share.names);
+    Count {
+        holders,
+        clients,
+        place: count.place,
     }
 }
 
-/// A client that has these numbers of an object holds it no more, if it did.
-fn release_one(counts: &mut Counts, object: &ObjId, numbers: &Packed)
-    requires { is_dirty_highest numbers.now ≡ true → 1 ≤ held_at counts.old object.now }
-    ensures counts { (o : ObjId) →
-        held_at counts.new o + (if is_dirty_highest numbers.now then one_if (same_id object.now o) else 0) ≡ held_at counts.old o }
-    ensures kept { (o : ObjId) → has_count counts.old o ≡ true → has_count counts.new o ≡ true }
+/// A count with the share of a client at this place.
+fn raised(count: Count, share: Share, place: u32) -> Count
+    requires { (w : Way) → count_by w count ≤ 2 ^ 31 }
+    ensures { (w : Way) → count_by w result ≡ count_by w count + one_if (share_by w share) }
 {
-    if numbers.is_dirty_highest() {
-        lower(counts, object);
+    let holders = more(count.holders, share.holds);
+    let clients = more(count.clients, share.names);
+    Count {
+        holders,
+        clients,
+        place,
     }
 }
 
-/// A client of which these objects are kept holds none of them any more.
-fn release(counts: &mut Counts, objects: &Marks)
+/// Whether the client counts at all.
+fn is_any(share: Share) -> bool
+    ensures { result ≡ (share.holds || share.names) }
+{
+    share.holds || share.names
+}
+
+/// Takes a client's share out of the count of an object.
+pub fn lower(counts: &mut Counts, object: &ObjId, share: Share)
+    requires { (w : Way) → one_if (share_by w share) ≤ counted_at w counts.old object.now }
+    ensures counts { (w : Way) (o : ObjId) →
+        counted_at w counts.new o + (if share_by w share then one_if (same_id object.now o) else 0) ≡ counted_at w counts.old o }
+    ensures kept { (o : ObjId) → has_count counts.old o ≡ true → has_count counts.new o ≡ true }
+{
+    if is_any(share) {
+        let count = count_of(counts, object);
+        put(counts, object, lowered(count, share));
+    }
+}
+
+/// Counts a client, at this place, for another share in an object.
+pub fn shift(counts: &mut Counts, object: &ObjId, before: Share, after: Share, place: u32)
+    requires has { has_count counts.old object.now ≡ true }
+    requires enough { (w : Way) → one_if (share_by w before) ≤ counted_at w counts.old object.now }
+    requires few { (w : Way) → counted_at w counts.old object.now ≤ 2 ^ 31 }
+    ensures counts { (w : Way) (o : ObjId) → counted_at w counts.new o + (if share_by w before then one_if (same_id object.now o) else 0)
+        ≡ counted_at w counts.old o + (if share_by w after then one_if (same_id object.now o) else 0) }
+    ensures kept { (o : ObjId) → has_count counts.old o ≡ true → has_count counts.new o ≡ true }
+{
+    let count = count_of(counts, object);
+    let rest = lowered(count, before);
+    put(counts, object, raised(rest, after, place));
+}
+
+/// What the share of a client with these numbers loses as the tenure is forgotten.
+fn lost_share(numbers: &Packed, held: bool) -> Share
+    ensures { result ≡ lost_share held numbers.now }
+{
+    Share {
+        holds: held && numbers.is_dirty_highest(),
+        names: !numbers.is_for_good(),
+    }
+}
+
+/// The tenure of a client that has these numbers of an object is forgotten.
+fn release_one(counts: &mut Counts, object: &ObjId, numbers: &Packed, held: bool)
+    requires { (w : Way) → one_if (loses w held numbers.now) ≤ counted_at w counts.old object.now }
+    ensures counts { (w : Way) (o : ObjId) →
+        counted_at w counts.new o + (if loses w held numbers.now then one_if (same_id object.now o) else 0) ≡ counted_at w counts.old o }
+    ensures kept { (o : ObjId) → has_count counts.old o ≡ true → has_count counts.new o ≡ true }
+{
+    lower(counts, object, lost_share(numbers, held));
+}
+
+/// The tenure of a client of which these objects are kept is forgotten, and it was counted as a holder or not. It takes no memory.
+pub fn release(counts: &mut Counts, objects: &Marks, held: bool)
     requires once { IsTrue (each_once (object_entries objects.now.entries)) }
-    requires enough { (o : ObjId) → one_if (dirty_in (object_entries objects.now.entries) o) ≤ held_at counts.old o }
-    ensures counts { (o : ObjId) → held_at counts.new o + one_if (dirty_in (object_entries objects.now.entries) o) ≡ held_at counts.old o }
+    requires enough { (w : Way) (o : ObjId) → one_if (has_with (loses w held) (object_entries objects.now.entries) o) ≤ counted_at w counts.old o }
+    ensures counts { (w : Way) (o : ObjId) →
+        counted_at w counts.new o + one_if (has_with (loses w held) (object_entries objects.now.entries) o) ≡ counted_at w counts.old o }
     ensures kept { (o : ObjId) → has_count counts.old o ≡ true → has_count counts.new o ≡ true }
 {
     for (object, numbers) in objects.iter() {
-        release_one(counts, object, numbers);
-    }
-}
-
-/// A client of which these objects are kept holds none of them any more, if it was counted. It takes no memory.
-pub fn release_if(counts: &mut Counts, objects: &Marks, is_counted: bool)
-    requires once { IsTrue (each_once (object_entries objects.now.entries)) }
-    requires enough { (o : ObjId) → one_if (is_counted && dirty_in (object_entries objects.now.entries) o) ≤ held_at counts.old o }
-    ensures counts { (o : ObjId) → held_at counts.new o + one_if (is_counted && dirty_in (object_entries objects.now.entries) o) ≡ held_at counts.old o }
-    ensures kept { (o : ObjId) → has_count counts.old o ≡ true → has_count counts.new o ≡ true }
-{
-    if is_counted {
-        release(counts, objects);
+        release_one(counts, object, numbers, held);
     }
 }
 
 /// Makes a place for the count of each of these objects. No count changes, also where there is no memory.
 pub fn touch_all(counts: &mut Counts, objects: &[ObjId]) -> Result<(), AllocError>
-    ensures same { (o : ObjId) → held_at counts.new o ≡ held_at counts.old o }
+    ensures same { (w : Way) (o : ObjId) → counted_at w counts.new o ≡ counted_at w counts.old o }
     ensures ok { OnOk result ((o : ObjId) → is_in o objects.now ≡ true → has_count counts.new o ≡ true) }
 {
     for object in objects {
@@ -135,27 +199,33 @@ pub fn touch_all(counts: &mut Counts, objects: &[ObjId]) -> Result<(), AllocErro
     Ok(())
 }
 
-/// As time passes from one moment to another, a client whose lease ends holds nothing any more.
-fn release_if_due(counts: &mut Counts, entry: &ClientEntry, from: u64, to: u64)
+/// As time passes from one moment to another, the tenure of a client whose lease is over is forgotten.
+fn release_over(counts: &mut Counts, entry: &ClientEntry, from: u64, to: u64)
+    requires later { from ≤ to }
     requires once { IsTrue (each_once entry.now.objects) }
-    requires enough { (o : ObjId) → one_if (ends_between from to entry.now && dirty_in entry.now.objects o) ≤ held_at counts.old o }
-    ensures counts { (o : ObjId) → held_at counts.new o + one_if (ends_between from to entry.now && dirty_in entry.now.objects o) ≡ held_at counts.old o }
+    requires enough { (w : Way) (o : ObjId) → one_if (is_counted w from o entry.now) ≤ counted_at w counts.old o }
+    ensures counts { (w : Way) (o : ObjId) → counted_at w counts.new o + one_if (is_counted w from o entry.now)
+        ≡ counted_at w counts.old o + one_if (is_counted w to o (lapsed to entry.now)) }
     ensures kept { (o : ObjId) → has_count counts.old o ≡ true → has_count counts.new o ≡ true }
 {
-    let is_due = entry.has_time_left(from) && !entry.has_time_left(to);
-    release_if(counts, entry.objects(), is_due);
+    let goes_on = entry.has_time_left(to);
+    if goes_on {
+        return;
+    }
+    let held = entry.has_time_left(from);
+    release(counts, entry.objects(), held);
 }
 
-/// As time passes from one moment to another, the clients whose leases end hold nothing any more. It takes no memory.
+/// As time passes from one moment to another, the tenures of clients whose leases are over are forgotten. It takes no memory.
 pub fn release_due(counts: &mut Counts, entries: &[ClientEntry], from: u64, to: u64)
     requires later { from ≤ to }
     requires once { IsTrue (list_all (λ e. each_once e.objects) entries.now) }
-    requires counted { (o : ObjId) → held_at counts.old o ≡ length (filter (entry_holds from o) entries.now) }
-    ensures counted { (o : ObjId) → held_at counts.new o ≡ length (filter (entry_holds to o) entries.now) }
+    requires counted { (w : Way) (o : ObjId) → counted_at w counts.old o ≡ length (filter (is_counted w from o) entries.now) }
+    ensures counted { (w : Way) (o : ObjId) → counted_at w counts.new o ≡ length (filter (is_counted w to o) (map (lapsed to) entries.now)) }
     ensures kept { (o : ObjId) → has_count counts.old o ≡ true → has_count counts.new o ≡ true }
 {
     for entry in entries {
-        release_if_due(counts, entry, from, to);
+        release_over(counts, entry, from, to);
     }
 }
 
@@ -169,10 +239,12 @@ pub fn pass(
     to: u64,
 ) -> u64
     requires later { from ≤ to }
+    requires early { to < 2 ^ 62 }
     requires once { IsTrue (list_all (λ e. each_once e.objects) entries.old.items) }
     requires indexed { IsIndexed from next counts.old entries.old.items }
     ensures entries { entries.new.items ≡ after_lapse to entries.old.items }
     ensures indexed { IsIndexed to result counts.new entries.new.items }
+    ensures later { to < result }
 {
     if to < next {
         return next;
@@ -182,9 +254,9 @@ pub fn pass(
     table::least_end(entries, to)
 }
 
-/// Nobody holds an object any more. It takes no memory.
+/// Nobody holds or names an object any more. It takes no memory.
 pub fn forget(counts: &mut Counts, object: &ObjId)
-    ensures { (o : ObjId) → held_at counts.new o ≡ (if same_id object.now o then 0 else held_at counts.old o) }
+    ensures { (w : Way) (o : ObjId) → counted_at w counts.new o ≡ (if same_id object.now o then 0 else counted_at w counts.old o) }
 {
     counts.swap_remove(object);
 }

@@ -1,5 +1,8 @@
 //! The lease table.
-ghost use Rattle.std.specs.Prelude.{◌≡◌, ◌≢◌, ◌<◌, ◌≤◌, ◌^◌, ◌↔◌, ℕ, List, [], ◌∷◌, length, map, max, IsTrue, OnOk, OnErr, IfOk, if◌then◌else◌};
+ghost use Rattle.std.specs.Prelude.{◌≡◌, ◌≢◌, ◌<◌, ◌≤◌, ◌^◌, ◌↔◌, ℕ, List, [], ◌∷◌, true, false, length, map, max, IsTrue, OnOk, OnErr, IfOk, if◌then◌else◌};
+ghost use Rattle.std.specs.List.{list_any};
+ghost use Rattle.object_ids.specs.declared.ids.ObjId.{ObjId};
+ghost use Rattle.object_ids.specs.Same.{same_id};
 ghost use Rattle.history.specs.declared.calls.Call.{Call};
 ghost use Rattle.history.specs.declared.limits.TheConstants.{MAX_CLIENTS, MAX_PAIRS};
 ghost use Rattle.history.specs.Leases.{is_dirty_kind, is_held, holders, pairs, lease_rows};
@@ -8,6 +11,7 @@ ghost use Rattle.dgc_server.specs.Stands.{IsSound, IsTrimmed, StandsFor, ForEach
 ghost use Rattle.dgc_server.specs.Index.{sums_at};
 ghost use Rattle.dgc_server.specs.Table.{clients_after, pairs_after};
 
+use crate::ended;
 use crate::entry::{ClientEntry, LeaseCall};
 use crate::holders::{Counts, count_of, forget, pass, touch_all};
 use crate::table::{self, Sums};
@@ -46,9 +50,9 @@ pub struct Leases {
     lease: u64,
     moment: u64,
     entries: Vec<ClientEntry>,
-    /// No lease that has time left at the moment ends before this one; nothing is said where it is not later.
+    /// No lease that has time left at the moment ends before this one, which is later.
     next: u64,
-    /// How many clients hold each object at the moment.
+    /// How many clients hold each object at the moment, and how many name it.
     counts: Counts,
     /// How many clients have time left at the moment, and how many pairs are remembered.
     sums: Sums,
@@ -73,7 +77,7 @@ impl Drop for Leases {
 
 impl Model for Leases {
     ghost use Rattle.dgc_server.specs.Stands.{LeaseTable, IsSound};
-    ghost use Rattle.std.specs.Prelude.{◌≡◌};
+    ghost use Rattle.std.specs.Prelude.{◌≡◌, ◌<◌};
     ghost use Rattle.dgc_server.specs.Index.{IsIndexed, sums_at};
 
     ghost Value = { LeaseTable };
@@ -81,7 +85,7 @@ impl Model for Leases {
     ghost view = { λ a. record { lease = a.lease; moment = a.moment; entries = a.entries.items } };
 
     ghost invariant = { λ a. IsSound a.lease a.moment a.entries.items × IsIndexed a.moment a.next a.counts a.entries.items
-        × (a.sums ≡ sums_at a.moment a.entries.items) };
+        × (a.sums ≡ sums_at a.moment a.entries.items) × (a.moment < a.next) };
 }
 
 impl Leases {
@@ -184,10 +188,21 @@ impl Leases {
     {
         let at = self.at(now);
         if at < self.next {
-            count_of(&self.counts, &object) > 0
+            count_of(&self.counts, &object).holders > 0
         } else {
             table::is_held(&self.entries, &object, at)
         }
+    }
+
+    /// Objects that clients hold at the greatest moment so far: at least those that none holds any more once time has passed to `now`, in no order.
+    /// Where no lease ends by then it looks at no client and takes no memory.
+    pub fn freed(&self, alloc: Global, now: u64) -> Result<Vec<ObjId>, AllocError>
+        ensures whole { IfOk result (λ os. ForEachLog self.now (λ lease moment calls. (o : ObjId) → is_held lease moment calls o ≡ true
+            → is_held lease (max now moment) calls o ≡ false → list_any (same_id o) os.items ≡ true)) }
+        ensures held { IfOk result (λ os. ForEachLog self.now (λ lease moment calls. (o : ObjId) → list_any (same_id o) os.items ≡ true
+            → is_held lease moment calls o ≡ true)) }
+    {
+        ended::freed(alloc, &self.entries, self.next, self.moment, self.at(now))
     }
 
     /// How many clients hold an object at this moment. A moment before the greatest one is read as the
@@ -206,10 +221,16 @@ impl Leases {
         ensures stands { ForEachLog self.old (λ lease moment calls.
             StandsFor lease self.new moment (map (without object) calls)) }
     {
-        table::drop_object(&mut self.entries, &object);
+        let count = count_of(&self.counts, &object);
+        table::drop_object(
+            &mut self.entries,
+            &object,
+            count.clients,
+            count.place,
+            self.moment,
+        );
         forget(&mut self.counts, &object);
-        self.sums = table::sums_at(&self.entries, self.moment);
-        self.next = 0;
+        self.sums = table::sums_without(self.sums, count.clients);
     }
 
     /// How many pairs of a client and an object are remembered at this moment: those of clients with time

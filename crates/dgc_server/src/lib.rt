@@ -2,6 +2,7 @@
 //! which object, and until when.
 #![tactic(auto)]
 
+mod ended;
 mod entry;
 mod holders;
 mod leases;

@@ -6,11 +6,11 @@ ghost use Rattle.indexmap.specs.IndexSet.{contains};
 ghost use Rattle.object_ids.specs.declared.ids.ObjId.{ObjId};
 ghost use Rattle.object_ids.specs.Same.{same_id};
 ghost use Rattle.dgc_server.specs.Numbers.{no_numbers, strong_part, is_dirty_highest, is_remembered};
-ghost use Rattle.dgc_server.specs.Entry.{object_entries, each_has_number, numbers_of, is_in, dirty_in, fresh_in, with_numbers, object_noted, objects_noted, objects_after, tenure_forgotten, call_counts};
+ghost use Rattle.dgc_server.specs.Entry.{object_entries, each_has_number, numbers_of, has_object, is_in, fresh_in, with_numbers, object_noted, objects_noted, objects_after, tenure_forgotten, call_counts};
 ghost use Rattle.dgc_server.specs.Stands.{each_once};
-ghost use Rattle.dgc_server.specs.Index.{same_key, held_at, has_count, one_if};
+ghost use Rattle.dgc_server.specs.Index.{Way, same_key, counted_at, has_count, one_if, counts_in};
 
-use crate::holders::{self, Counts};
+use crate::holders::{self, Counts, Share};
 use crate::numbers::Numbers;
 use crate::packed::Packed;
 use history::CallKind;
@@ -30,6 +30,30 @@ pub fn numbers_in(objects: &Marks, object: &ObjId) -> Numbers
     ensures { result ≡ numbers_of (object_entries objects.now.entries) object.now }
 {
     numbers_or_none(objects.get(object))
+}
+
+/// Makes room for so many more objects, and for few beyond: an eighth of those that are kept.
+pub fn make_room(objects: &mut Marks, more: usize) -> Result<(), AllocError>
+    ensures entries { objects.new.entries ≡ objects.old.entries }
+    ensures room { OnOk result (more ≤ spare objects.new) }
+{
+    let long = objects.len();
+    if more <= objects.capacity() - long {
+        return Ok(());
+    }
+    objects.reserve(more)?;
+    let room = objects.capacity();
+    let least = long + more;
+    let few = (room - least).min(long / 8);
+    objects.shrink_to(least + few);
+    Ok(())
+}
+
+/// Whether numbers of an object are kept.
+pub fn is_there(objects: &Marks, object: &ObjId) -> bool
+    ensures { result ≡ has_object (object_entries objects.now.entries) object.now }
+{
+    objects.contains_key(object)
 }
 
 /// The numbers that were found, or none.
@@ -168,7 +192,7 @@ pub fn lapse(objects: &mut Marks, is_over: bool)
 pub fn forget_object(objects: &mut Marks, object: &ObjId)
     ensures { object_entries objects.new.entries ≡ filter (λ x. not (same_id x.object object.now)) (object_entries objects.old.entries) }
 {
-    if objects.contains_key(object) {
+    if is_there(objects, object) {
         keep_others(objects, object);
     }
 }
@@ -185,8 +209,8 @@ fn keep_others(objects: &mut Marks, object: &ObjId)
 }
 
 /// Notes a call of this kind and number that names these objects, for which there is room. Where `left` says that the client has no
-/// time left, its tenure is forgotten first. The counts change with what the client holds: before, if `is_counted` says that it
-/// was counted, and after the call.
+/// time left, its tenure is forgotten first. The counts change with what the client holds and names: what it held before the call counts if
+/// `held` says so. They note its place in the list of clients.
 pub fn note(
     objects: &mut Marks,
     counts: &mut Counts,
@@ -194,21 +218,22 @@ pub fn note(
     kind: CallKind,
     number: &i64,
     left: bool,
-    is_counted: bool,
+    held: bool,
+    place: u32,
 )
     requires room { length named.now ≤ spare objects.old }
     requires once { IsTrue (each_once (object_entries objects.old.entries)) }
     requires has { (o : ObjId) → is_in o named.now ≡ true → has_count counts.old o ≡ true }
-    requires enough { (o : ObjId) → one_if (is_counted && dirty_in (object_entries objects.old.entries) o) ≤ held_at counts.old o }
-    requires few { (o : ObjId) → held_at counts.old o + 1 < 2 ^ 31 }
-    requires leased { left ≡ true → is_counted ≡ true }
+    requires enough { (w : Way) (o : ObjId) → one_if (counts_in w held (object_entries objects.old.entries) o) ≤ counted_at w counts.old o }
+    requires few { (w : Way) (o : ObjId) → counted_at w counts.old o + 1 < 2 ^ 31 }
+    requires leased { left ≡ true → held ≡ true }
     ensures objects { object_entries objects.new.entries ≡ objects_after left kind number.now named.now (object_entries objects.old.entries) }
-    ensures counts { (o : ObjId) → held_at counts.new o + one_if (is_counted && dirty_in (object_entries objects.old.entries) o)
-        ≡ held_at counts.old o + one_if (dirty_in (object_entries objects.new.entries) o) }
+    ensures counts { (w : Way) (o : ObjId) → counted_at w counts.new o + one_if (counts_in w held (object_entries objects.old.entries) o)
+        ≡ counted_at w counts.old o + one_if (counts_in w true (object_entries objects.new.entries) o) }
 {
-    settle(objects, counts, left, is_counted);
+    settle(objects, counts, left, held);
     if counts_for(kind, left) {
-        note_all(objects, counts, named, kind, number);
+        note_all(objects, counts, named, kind, number, place);
     }
 }
 
@@ -224,58 +249,76 @@ pub fn counts_for(kind: CallKind, left: bool) -> bool
 }
 
 /// Where the client has no time left, forgets the tenure and counts the client as a holder no more.
-fn settle(objects: &mut Marks, counts: &mut Counts, left: bool, is_counted: bool)
+fn settle(objects: &mut Marks, counts: &mut Counts, left: bool, held: bool)
     requires once { IsTrue (each_once (object_entries objects.old.entries)) }
-    requires enough { (o : ObjId) → one_if (is_counted && dirty_in (object_entries objects.old.entries) o) ≤ held_at counts.old o }
-    requires leased { left ≡ true → is_counted ≡ true }
+    requires enough { (w : Way) (o : ObjId) → one_if (counts_in w held (object_entries objects.old.entries) o) ≤ counted_at w counts.old o }
+    requires leased { left ≡ true → held ≡ true }
     ensures objects { object_entries objects.new.entries ≡ (if left then object_entries objects.old.entries else tenure_forgotten (object_entries objects.old.entries)) }
-    ensures counts { (o : ObjId) → held_at counts.new o + one_if (is_counted && dirty_in (object_entries objects.old.entries) o)
-        ≡ held_at counts.old o + one_if (dirty_in (object_entries objects.new.entries) o) }
+    ensures counts { (w : Way) (o : ObjId) → counted_at w counts.new o + one_if (counts_in w held (object_entries objects.old.entries) o)
+        ≡ counted_at w counts.old o + one_if (counts_in w true (object_entries objects.new.entries) o) }
     ensures kept { (o : ObjId) → has_count counts.old o ≡ true → has_count counts.new o ≡ true }
     ensures room { spare objects.old ≤ spare objects.new }
 {
     if !left {
-        holders::release_if(counts, objects, is_counted);
+        holders::release(counts, objects, held);
         forget_tenure(objects);
     }
 }
 
 /// Notes a call of this kind and number at each of these objects, for which there is room.
-fn note_all(objects: &mut Marks, counts: &mut Counts, named: &[ObjId], kind: CallKind, number: &i64)
+fn note_all(
+    objects: &mut Marks,
+    counts: &mut Counts,
+    named: &[ObjId],
+    kind: CallKind,
+    number: &i64,
+    place: u32,
+)
     requires room { length named.now ≤ spare objects.old }
     requires has { (o : ObjId) → is_in o named.now ≡ true → has_count counts.old o ≡ true }
-    requires enough { (o : ObjId) → one_if (dirty_in (object_entries objects.old.entries) o) ≤ held_at counts.old o }
-    requires few { (o : ObjId) → held_at counts.old o < 2 ^ 31 }
+    requires enough { (w : Way) (o : ObjId) → one_if (counts_in w true (object_entries objects.old.entries) o) ≤ counted_at w counts.old o }
+    requires few { (w : Way) (o : ObjId) → counted_at w counts.old o < 2 ^ 31 }
     ensures objects { object_entries objects.new.entries ≡ objects_noted kind number.now named.now (object_entries objects.old.entries) }
-    ensures counts { (o : ObjId) → held_at counts.new o + one_if (dirty_in (object_entries objects.old.entries) o)
-        ≡ held_at counts.old o + one_if (dirty_in (object_entries objects.new.entries) o) }
+    ensures counts { (w : Way) (o : ObjId) → counted_at w counts.new o + one_if (counts_in w true (object_entries objects.old.entries) o)
+        ≡ counted_at w counts.old o + one_if (counts_in w true (object_entries objects.new.entries) o) }
 {
     for object in named {
-        note_one(objects, counts, object, kind, number);
+        note_one(objects, counts, object, kind, number, place);
     }
 }
 
 /// Notes a call of this kind and number at an object, for which there is room.
-fn note_one(objects: &mut Marks, counts: &mut Counts, object: &ObjId, kind: CallKind, number: &i64)
+fn note_one(
+    objects: &mut Marks,
+    counts: &mut Counts,
+    object: &ObjId,
+    kind: CallKind,
+    number: &i64,
+    place: u32,
+)
     requires room { 0 < spare objects.old }
     requires has { has_count counts.old object.now ≡ true }
-    requires enough { one_if (dirty_in (object_entries objects.old.entries) object.now) ≤ held_at counts.old object.now }
-    requires few { held_at counts.old object.now ≤ 2 ^ 31 }
+    requires enough { (w : Way) → one_if (counts_in w true (object_entries objects.old.entries) object.now) ≤ counted_at w counts.old object.now }
+    requires few { (w : Way) → counted_at w counts.old object.now ≤ 2 ^ 31 }
     ensures objects { object_entries objects.new.entries ≡ object_noted kind number.now object.now (object_entries objects.old.entries) }
-    ensures counts { (o : ObjId) → held_at counts.new o + one_if (dirty_in (object_entries objects.old.entries) o)
-        ≡ held_at counts.old o + one_if (dirty_in (object_entries objects.new.entries) o) }
+    ensures counts { (w : Way) (o : ObjId) → counted_at w counts.new o + one_if (counts_in w true (object_entries objects.old.entries) o)
+        ≡ counted_at w counts.old o + one_if (counts_in w true (object_entries objects.new.entries) o) }
     ensures kept { (o : ObjId) → has_count counts.old o ≡ true → has_count counts.new o ≡ true }
     ensures room { spare objects.old ≤ spare objects.new + 1 }
 {
+    let names = is_there(objects, object);
     let before = numbers_in(objects, object);
     let after = before.noted(kind, number);
     put(objects, object, after);
-    holders::shift(
-        counts,
-        object,
-        before.is_dirty_highest(),
-        after.is_dirty_highest(),
-    );
+    let share = Share {
+        holds: before.is_dirty_highest(),
+        names,
+    };
+    let next = Share {
+        holds: after.is_dirty_highest(),
+        names: true,
+    };
+    holders::shift(counts, object, share, next, place);
 }
 
 /// Sets the numbers of an object, for which there is room.

@@ -1,12 +1,12 @@
 //! Lists of clients, in the order of clients.
-ghost use Rattle.std.specs.Prelude.{◌≡◌, true, ◌+◌, ◌<◌, ◌≤◌, ◌^◌, length, filter, map, sum_by, nat_lt, min, insert, slice_set, OnOk, OnErr, IfOk, IsTrue, unwrap_or, MatchResult, vec_len, vec_capacity, slice_index_or, if◌then◌else◌};
+ghost use Rattle.std.specs.Prelude.{◌≡◌, true, ◌+◌, ◌<◌, ◌≤◌, ◌^◌, length, filter, map, sum_by, nat_lt, min, insert, remove, slice_set, OnOk, OnErr, IfOk, IsTrue, unwrap_or, MatchResult, vec_len, vec_capacity, slice_index_or, if◌then◌else◌};
 ghost use Rattle.std.specs.List.{list_any, list_all};
 ghost use Rattle.std.specs.Option.{option_copied};
 ghost use Rattle.object_ids.specs.declared.ids.ObjId.{ObjId};
 ghost use Rattle.object_ids.specs.Client.{Client};
 ghost use Rattle.dgc_server.specs.Entry.{Entry, each_has_number, is_in, lapsed, entry_without, is_entry_kept, has_time_left, entry_holds, remembered_of, row_of};
 ghost use Rattle.dgc_server.specs.Stands.{each_once, is_in_order, entry_after};
-ghost use Rattle.dgc_server.specs.Index.{held_at, has_count, ends_later, sums_at, entry_sums};
+ghost use Rattle.dgc_server.specs.Index.{Way, counted_at, has_count, is_counted, entry_names, ends_later, sums_at, entry_sums};
 ghost use Rattle.dgc_server.specs.Table.{remembered as remembered_at};
 ghost use Rattle.dgc_server.specs.Table.{entry_of, no_entry, IsPlaceOf, with_entry, after_lapse, remembered, clients_after, fresh_pairs, pairs_after};
 
@@ -75,24 +75,33 @@ pub fn note(
     requires short { lease ≤ 2 ^ 40 }
     requires ordered { IsTrue (is_in_order entries.old.items) }
     requires once { IsTrue (list_all (λ e. each_once e.objects) entries.old.items) }
-    requires few { length (filter (has_time_left from) entries.old.items) ≤ 65536 }
+    requires few { (w : Way) (o : ObjId) → length (filter (is_counted w from o) entries.old.items) ≤ 262144 }
     requires has { (o : ObjId) → is_in o call.now.objects.now ≡ true → has_count counts.old o ≡ true }
-    requires counted { (o : ObjId) → held_at counts.old o ≡ length (filter (entry_holds from o) entries.old.items) }
+    requires counted { (w : Way) (o : ObjId) → counted_at w counts.old o ≡ length (filter (is_counted w from o) entries.old.items) }
     ensures ok { OnOk result (entries.new.items ≡ with_entry
         (entry_after lease call.now.kind call.now.number.now call.now.objects.now call.now.at (entry_of entries.old.items client.now)) entries.old.items) }
-    ensures counted { OnOk result ((o : ObjId) → held_at counts.new o ≡ length (filter (entry_holds from o) entries.new.items)) }
+    ensures counted { OnOk result ((w : Way) (o : ObjId) → counted_at w counts.new o ≡ length (filter (is_counted w from o) entries.new.items)) }
     ensures err { OnErr result (entries.new.items ≡ entries.old.items) }
     ensures same { OnErr result (counts.new ≡ counts.old) }
 {
     match place_of(entries, client) {
-        Ok(place) => entries[place].note(counts, call, lease, from),
+        Ok(place) => entries[place].note(counts, call, lease, from, hint(place)),
         Err(place) => {
             entries.reserve(1)?;
             let mut entry = ClientEntry::fresh(alloc, client)?;
-            entry.note(counts, call, lease, from)?;
+            entry.note(counts, call, lease, from, hint(place))?;
             insert_within(entries, place, entry);
             Ok(())
         }
+    }
+}
+
+/// A place as a count notes it: the first, if it is too great a number.
+fn hint(place: usize) -> u32 {
+    if place <= u32::MAX as usize {
+        place as u32
+    } else {
+        0
     }
 }
 
@@ -122,7 +131,9 @@ pub fn bound_with(entries: &[ClientEntry], client: &Vmid, bound: u64, at: u64) -
 
 /// A moment before which no lease ends that has time left at this one.
 pub fn least_end(entries: &[ClientEntry], at: u64) -> u64
-    ensures { IsTrue (list_all (ends_later at result) entries.now) }
+    requires { at < 2 ^ 62 }
+    ensures ends { IsTrue (list_all (ends_later at result) entries.now) }
+    ensures later { at < result }
 {
     let mut least = u64::MAX;
     for entry in entries {
@@ -135,6 +146,7 @@ pub fn least_end(entries: &[ClientEntry], at: u64) -> u64
 fn least_with(least: u64, entry: &ClientEntry, at: u64) -> u64
     ensures least { result ≤ least }
     ensures ends { IsTrue (ends_later at result entry.now) }
+    ensures later { at < least → at < result }
 {
     if entry.has_time_left(at) {
         least.min(entry.until())
@@ -160,19 +172,58 @@ fn lapse_each(entries: &mut [ClientEntry], now: u64)
     }
 }
 
-/// Forgets what is kept of an object.
-pub fn drop_object(entries: &mut Vec<ClientEntry>, object: &ObjId)
-    ensures { entries.new.items ≡ map (entry_without object.now) entries.old.items }
+/// Forgets what is kept of an object that so many clients name, and a client of which nothing is left then. It begins to look at this place,
+/// and stops as soon as all that name the object were met. It takes no memory.
+pub fn drop_object(
+    entries: &mut Vec<ClientEntry>,
+    object: &ObjId,
+    clients: u32,
+    place: u32,
+    at: u64,
+)
+    requires kept { IsTrue (list_all (is_entry_kept at) entries.old.items) }
+    requires counted { clients ≡ length (filter (entry_names object.now) entries.old.items) }
+    ensures { entries.new.items ≡ filter (is_entry_kept at) (map (entry_without object.now) entries.old.items) }
 {
-    drop_from_each(entries, object);
+    let left = walk(entries, object, clients, place as usize, at);
+    walk(entries, object, left, 0, at);
 }
 
-/// Forgets what is kept of an object.
-fn drop_from_each(entries: &mut [ClientEntry], object: &ObjId)
-    ensures { entries.new ≡ map (entry_without object.now) entries.old }
+/// From a place on forgets what is kept of an object that so many clients name, and answers how many are left that name it.
+fn walk(entries: &mut Vec<ClientEntry>, object: &ObjId, clients: u32, from: usize, at: u64) -> u32
+    requires kept { IsTrue (list_all (is_entry_kept at) entries.old.items) }
+    requires counted { clients ≡ length (filter (entry_names object.now) entries.old.items) }
+    ensures same { filter (is_entry_kept at) (map (entry_without object.now) entries.new.items)
+        ≡ filter (is_entry_kept at) (map (entry_without object.now) entries.old.items) }
+    ensures kept { IsTrue (list_all (is_entry_kept at) entries.new.items) }
+    ensures counted { result ≡ length (filter (entry_names object.now) entries.new.items) }
+    ensures all { from ≡ 0 → result ≡ 0 }
 {
-    for entry in entries.iter_mut() {
-        entry.drop_object(object);
+    let mut left = clients;
+    let mut i = from;
+    while i < entries.len() {
+        if left == 0 {
+            return 0;
+        }
+        if entries[i].names(object) {
+            drop_at(entries, object, i, at);
+            left -= 1;
+            continue;
+        }
+        i += 1;
+    }
+    left
+}
+
+/// Forgets what is kept of an object at one client, and the client, if nothing is left of it.
+fn drop_at(entries: &mut Vec<ClientEntry>, object: &ObjId, i: usize, at: u64)
+    requires { i < vec_len entries.old }
+    ensures { (d : Entry) → let next = entry_without object.now (slice_index_or entries.old.items i d) in
+        entries.new.items ≡ (if is_entry_kept at next then slice_set entries.old.items i next else remove entries.old.items i) }
+{
+    entries[i].drop_object(object);
+    if !entries[i].is_entry_kept(at) {
+        entries.remove(i);
     }
 }
 
@@ -332,6 +383,18 @@ fn fresh_pairs(
         Some(_) => 0,
         None if counts_for(kind, false) => fresh_count(alloc, &Marks::new(alloc), named, false),
         None => 0,
+    }
+}
+
+/// The sums without an object that so many clients name.
+pub fn sums_without(sums: Sums, clients: u32) -> Sums
+    requires { clients ≤ sums.pairs }
+    ensures leased { result.leased ≡ sums.leased }
+    ensures pairs { result.pairs + clients ≡ sums.pairs }
+{
+    Sums {
+        leased: sums.leased,
+        pairs: sums.pairs - clients as u128,
     }
 }
 

@@ -1,3 +1,4 @@
+pub mod Counting
 pub mod Dropped
 pub mod Indexing
 pub mod Kept

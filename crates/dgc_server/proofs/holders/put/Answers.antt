@@ -1,11 +1,11 @@
 use Rattle.std.proofs.Common.{◌≡◌, ap}
 use Rattle.std.specs.Prelude.{false, is_some}
 use Rattle.dgc_server.specs.Index.{has_count}
-use Rattle.dgc_server.proofs.HolderLaws.{put-held, put-kept}
+use Rattle.dgc_server.proofs.HolderLaws.{put-count, put-kept}
 use Rattle.dgc_server.proofs.holders.put.Goals as goal
 
 pub returns-in-Ok-clause-value : goal.returns-in-Ok-clause-value
-returns-in-Ok-clause-value c = put-held c.args.object.now c.args.count c.args.counts.now c.insert.new.self c.in-Ok.ensures.updates.0
+returns-in-Ok-clause-value c = put-count c.args.object.now c.args.count c.args.counts.now c.insert.new.self c.in-Ok.ensures.updates.0
 
 pub returns-in-Ok-clause-kept : goal.returns-in-Ok-clause-kept
 returns-in-Ok-clause-kept c = put-kept c.args.object.now c.args.count c.args.counts.now c.insert.new.self c.in-Ok.ensures.updates.0

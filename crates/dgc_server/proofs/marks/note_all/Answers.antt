@@ -1,5 +1,6 @@
-use Rattle.std.proofs.Common.{◌≡◌, ◌+◌, ap, sym, ◌∙◌, arith, length, length-drop, drop, get_or}
-use Rattle.dgc_server.specs.Entry.{object_entries, objects_noted, dirty_in}
+use Rattle.std.proofs.Common.{◌≡◌, ◌+◌, ap, sym, ◌∙◌, arith, length, length-drop, drop, get_or, true}
+use Rattle.dgc_server.specs.Entry.{object_entries, objects_noted}
+use Rattle.dgc_server.specs.Index.{counts_in}
 use Rattle.dgc_server.proofs.HolderLaws.{no_id, next-in, drop-at, at-most-one}
 use Rattle.dgc_server.proofs.marks.note_all.Goals as goal
 
@@ -11,14 +12,14 @@ pub note_one-requires-clause-has : goal.note_one-requires-clause-has
 note_one-requires-clause-has c = c.loop-object.invariant.has _ (next-in c.args.named.now c.loop-object.object-index no_id c.loop-object-test.true)
 
 pub note_one-requires-clause-enough : goal.note_one-requires-clause-enough
-note_one-requires-clause-enough c =
+note_one-requires-clause-enough c = λ w.
     let x = get_or c.args.named.now c.loop-object.object-index no_id in
-    let now = c.loop-object.invariant.counts x in let enough = c.requires.enough x in omega arith
+    let now = c.loop-object.invariant.counts w x in let enough = c.requires.enough w x in omega arith
 
 pub note_one-requires-clause-few : goal.note_one-requires-clause-few
-note_one-requires-clause-few c =
+note_one-requires-clause-few c = λ w.
     let x = get_or c.args.named.now c.loop-object.object-index no_id in
-    let now = c.loop-object.invariant.counts x in let few = c.requires.few x in let one = at-most-one (dirty_in (object_entries c.loop-object.objects.entries) x) in omega arith
+    let now = c.loop-object.invariant.counts w x in let few = c.requires.few w x in let one = at-most-one (counts_in w true (object_entries c.loop-object.objects.entries) x) in omega arith
 
 pub loop-object-preserved : goal.loop-object-preserved
 loop-object-preserved c =
@@ -27,7 +28,7 @@ loop-object-preserved c =
       objects = c.loop-object.invariant.objects
           ∙ ap (λ os. objects_noted c.args.kind c.args.number.now os (object_entries c.loop-object.objects.entries)) parted
           ∙ ap (objects_noted c.args.kind c.args.number.now (drop (i + 1) c.args.named.now)) (sym c.note_one.ensures.objects);
-      counts = λ o. (let so_far = c.loop-object.invariant.counts o in let step = c.note_one.ensures.counts o in omega arith);
+      counts = λ w o. (let so_far = c.loop-object.invariant.counts w o in let step = c.note_one.ensures.counts w o in omega arith);
       has = λ o h. c.note_one.ensures.kept o (c.loop-object.invariant.has o h);
       room = (let room = c.loop-object.invariant.room in let step = c.note_one.ensures.room in let long = ap length parted in omega arith);
     }

@@ -1,15 +1,15 @@
 use Rattle.std.proofs.Common.{◌≡◌, ◌+◌, ◌≤◌, true, drop, length}
 use Rattle.indexmap.specs.IndexMap.{spare}
 use Rattle.object_ids.specs.declared.ids.ObjId.{ObjId}
-use Rattle.dgc_server.specs.Entry.{object_entries, objects_noted, is_in, dirty_in}
-use Rattle.dgc_server.specs.Index.{held_at, has_count, one_if}
+use Rattle.dgc_server.specs.Entry.{object_entries, objects_noted, is_in}
+use Rattle.dgc_server.specs.Index.{Way, counted_at, has_count, counts_in, one_if}
 use Rattle.dgc_server.proofs.marks.note_all.Given as goal
 
 abbrev pub invariant-loop-object : goal.invariant-loop-object
 invariant-loop-object l =
     record {
       objects : objects_noted l.kind l.number l.named (object_entries l.initial.objects.entries) ≡ objects_noted l.kind l.number (drop l.object-index l.named) (object_entries l.objects.entries);
-      counts : (o : ObjId) → held_at l.counts o + one_if (dirty_in (object_entries l.initial.objects.entries) o) ≡ held_at l.initial.counts o + one_if (dirty_in (object_entries l.objects.entries) o);
+      counts : (w : Way) (o : ObjId) → counted_at w l.counts o + one_if (counts_in w true (object_entries l.initial.objects.entries) o) ≡ counted_at w l.initial.counts o + one_if (counts_in w true (object_entries l.objects.entries) o);
       has : (o : ObjId) → is_in o l.named ≡ true → has_count l.counts o ≡ true;
       room : length (drop l.object-index l.named) ≤ spare l.objects;
     }

@@ -1,12 +1,11 @@
 use Rattle.std.proofs.Common.{◌≡◌, ◌+◌, ◌≤◌, List, ap, sym, subst, ◌∙◌, arith, Ok, Err}
 use Rattle.std.specs.Prelude.{insert, slice_set, slice_index_or, filter, length, Result, OnOk}
 use Rattle.object_ids.specs.Client.{Client}
-use Rattle.dgc_server.specs.Entry.{Entry, entry_holds}
+use Rattle.dgc_server.specs.Entry.{Entry}
 use Rattle.dgc_server.specs.Table.{entry_of, with_entry}
 use Rattle.dgc_server.specs.Stands.{entry_after}
-use Rattle.dgc_server.specs.Index.{held_at, one_if}
-use Rattle.dgc_server.proofs.Few.{few-holders}
-use Rattle.dgc_server.proofs.IndexLaws.{own-counted, replaced}
+use Rattle.dgc_server.specs.Index.{counted_at, is_counted, one_if}
+use Rattle.dgc_server.proofs.IndexLaws.{none-is-counted, own-counted, replaced}
 use Rattle.dgc_server.proofs.Ordered.{client-of}
 use Rattle.dgc_server.proofs.table.note.Goals as goal
 
@@ -15,23 +14,21 @@ both_ok (Ok x) p q f = f p q
 both_ok (Err e) p q f = tt
 
 pub note-requires-clause-enough : goal.note-requires-clause-enough
-note-requires-clause-enough c = λ o.
+note-requires-clause-enough c = λ w o.
     let es = c.args.entries.now.items in
     let client = c.args.client.now in
     let own : entry_of es client ≡ c.index_mut.result.now =
     ap (λ l. entry_of l client) (sym c.deref.ensures.value) ∙ c.in-Ok.ensures.entry c.index_mut.result.now
     ∙ ap (λ l. slice_index_or l c.in-Ok.place c.index_mut.result.now) c.deref.ensures.value ∙ sym c.index_mut.ensures.value in
-    let counted = c.requires.counted o in
-    let least : one_if (entry_holds c.args.from o (entry_of es client)) ≤ held_at c.args.counts.now o = (let few = own-counted c.args.from o es client in omega arith) in
-    subst (λ e. one_if (entry_holds c.args.from o e) ≤ held_at c.args.counts.now o) own least
+    let counted = c.requires.counted w o in
+    let least : one_if (is_counted w c.args.from o (entry_of es client)) ≤ counted_at w c.args.counts.now o = (let few = own-counted (is_counted w c.args.from o) (none-is-counted c.args.from o w) es client in omega arith) in
+    subst (λ e. one_if (is_counted w c.args.from o e) ≤ counted_at w c.args.counts.now o) own least
 
 pub note-requires-clause-few : goal.note-requires-clause-few
-note-requires-clause-few c = λ o.
-    let few = few-holders c.args.from c.args.from o c.args.entries.now.items 65536 (omega arith) c.requires.few in let counted = c.requires.counted o in omega (arith, few, counted)
+note-requires-clause-few c = λ w o. (let few = c.requires.few w o in let counted = c.requires.counted w o in omega (arith, few, counted))
 
 pub note-requires-in-Err-clause-few : goal.note-requires-in-Err-clause-few
-note-requires-in-Err-clause-few c = λ o.
-    let few = few-holders c.args.from c.args.from o c.args.entries.now.items 65536 (omega arith) c.requires.few in let counted = c.requires.counted o in omega (arith, few, counted)
+note-requires-in-Err-clause-few c = λ w o. (let few = c.requires.few w o in let counted = c.requires.counted w o in omega (arith, few, counted))
 
 pub returns-in-Ok-clause-ok : goal.returns-in-Ok-clause-ok
 returns-in-Ok-clause-ok c =
@@ -58,16 +55,16 @@ returns-in-Ok-clause-counted c =
     let next : Entry = entry_after c.args.lease call.kind call.number.now call.objects.now call.at (entry_of es client) in
     let P : List Entry → Type 0 = λ l. with_entry next l ≡ slice_set l c.in-Ok.place next in
     let put : with_entry next es ≡ slice_set es c.in-Ok.place next = subst P c.deref.ensures.value (c.in-Ok.ensures.place next (client-of es client)) in
-    both_ok c.note.result c.note.ensures.ok c.note.ensures.counts (λ e counts o.
+    both_ok c.note.result c.note.ensures.ok c.note.ensures.counts (λ e counts w o.
     let made : c.note.new.self ≡ next = e ∙ ap (λ (x : Entry). entry_after c.args.lease call.kind call.number.now call.objects.now call.at x) (sym own) in
-    replaced c.args.from o next es (held_at c.args.counts.now o) (held_at c.note.new.counts o) c.requires.ordered (c.requires.counted o)
-    (ap (λ (d : Client). held_at c.note.new.counts o + one_if (entry_holds c.args.from o (entry_of es d))) (client-of es client)
-    ∙ ap (λ (x : Entry). held_at c.note.new.counts o + one_if (entry_holds c.args.from o x)) own
-    ∙ counts o ∙ ap (λ (x : Entry). held_at c.args.counts.now o + one_if (entry_holds c.args.from o x)) made)
-    ∙ ap (λ l. length (filter (entry_holds c.args.from o) l)) (put ∙ ap (slice_set es c.in-Ok.place) (sym made)))
+    replaced (is_counted w c.args.from o) (none-is-counted c.args.from o w) next es (counted_at w c.args.counts.now o) (counted_at w c.note.new.counts o) c.requires.ordered (c.requires.counted w o)
+    (ap (λ (d : Client). counted_at w c.note.new.counts o + one_if (is_counted w c.args.from o (entry_of es d))) (client-of es client)
+    ∙ ap (λ (x : Entry). counted_at w c.note.new.counts o + one_if (is_counted w c.args.from o x)) own
+    ∙ counts w o ∙ ap (λ (x : Entry). counted_at w c.args.counts.now o + one_if (is_counted w c.args.from o x)) made)
+    ∙ ap (λ l. length (filter (is_counted w c.args.from o) l)) (put ∙ ap (slice_set es c.in-Ok.place) (sym made)))
 
 pub returns-in_ok-note-in-Err-clause-counted : goal.returns-in_ok-note-in-Err-clause-counted
-returns-in_ok-note-in-Err-clause-counted c = λ o.
+returns-in_ok-note-in-Err-clause-counted c = λ w o.
     let es = c.args.entries.now.items in
     let client = c.args.client.now in
     let next = c.note-in-Err.new.self in
@@ -78,6 +75,6 @@ returns-in_ok-note-in-Err-clause-counted c = λ o.
     let entries : c.insert_within.new.entries.items ≡ with_entry next es = c.insert_within.ensures ∙ ap (λ l. insert l c.in-Err.place next) c.reserve.ensures.items ∙ sym put in
     let own : entry_of es next.client ≡ c.in_ok-entry-in-Err.entry =
     ap (entry_of es) is_client ∙ ap (λ l. entry_of l client) (sym c.deref.ensures.value) ∙ c.in-Err.ensures.entry ∙ sym c.in_ok-entry-in-Err.ensures in
-    replaced c.args.from o next es (held_at c.args.counts.now o) (held_at c.note-in-Err.new.counts o) c.requires.ordered (c.requires.counted o)
-    (ap (λ (x : Entry). held_at c.note-in-Err.new.counts o + one_if (entry_holds c.args.from o x)) own ∙ c.in_ok-note-in-Err.ensures.counts o)
-    ∙ ap (λ l. length (filter (entry_holds c.args.from o) l)) (sym entries)
+    replaced (is_counted w c.args.from o) (none-is-counted c.args.from o w) next es (counted_at w c.args.counts.now o) (counted_at w c.note-in-Err.new.counts o) c.requires.ordered (c.requires.counted w o)
+    (ap (λ (x : Entry). counted_at w c.note-in-Err.new.counts o + one_if (is_counted w c.args.from o x)) own ∙ c.in_ok-note-in-Err.ensures.counts w o)
+    ∙ ap (λ l. length (filter (is_counted w c.args.from o) l)) (sym entries)

@@ -1,4 +1,4 @@
-use Rattle.dgc_server.proofs.HolderLaws.{removed}
+use Rattle.export_table.proofs.Counting.{removed}
 use Rattle.export_table.proofs.counts.forget.Goals as goal
 
 pub returns-clause-counts : goal.returns-clause-counts

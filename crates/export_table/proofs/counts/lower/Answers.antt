@@ -1,5 +1,5 @@
 use Rattle.std.proofs.Common.{◌-◌, arith}
-use Rattle.dgc_server.proofs.HolderLaws.{lowered}
+use Rattle.export_table.proofs.Counting.{lowered}
 use Rattle.export_table.proofs.counts.lower.Goals as goal
 
 pub returns-then-count-gt1-clause-counts : goal.returns-then-count-gt1-clause-counts

@@ -1,48 +1,80 @@
-use Rattle.std.proofs.Common.{length, map, ap, ◌∙◌, arith}
-use Rattle.std.proofs.lemmas.List.{length-map}
-use Rattle.dgc_server.specs.Entry.{entry_without}
-use Rattle.dgc_server.specs.Stands.{LeaseTable}
-use Rattle.dgc_server.specs.Index.{held_at, sums_at}
-use Rattle.dgc_server.proofs.IndexLaws.{forgotten}
-use Rattle.dgc_server.proofs.Few.{few-without}
-use Rattle.dgc_server.proofs.Kept.{all_numbered, numbered-without, once-without, remembered-without}
-use Rattle.dgc_server.proofs.Tables.{order-without}
-use Rattle.dgc_server.proofs.Without.{table-without}
+use Rattle.std.proofs.Common.{◌≡◌, List, length, map, ap, sym, subst, ◌∙◌, arith, true}
+use Rattle.std.specs.Prelude.{filter}
+use Rattle.dgc_server.specs.declared.holders.Count.{Count}
+use Rattle.dgc_server.specs.declared.table.Sums.{Sums}
+use Rattle.dgc_server.specs.Entry.{Entry, entry_without, is_entry_kept, has_time_left}
+use Rattle.dgc_server.specs.Table.{after_lapse, remembered}
+use Rattle.dgc_server.specs.Stands.{LeaseTable, IsSound, is_in_order}
+use Rattle.dgc_server.specs.Index.{Naming, counted_at, is_counted, entry_names, sums_at}
+use Rattle.dgc_server.proofs.SumLaws.{sums-are}
+use Rattle.dgc_server.proofs.Walking.{rest_of, all-kept, leased-dropped, pairs-dropped}
+use Rattle.dgc_server.proofs.IndexLaws.{forgotten, kept-counted}
+use Rattle.dgc_server.proofs.Dropping.{dropped-lapses, settled-dropped, fewer-dropped, table-dropped}
+use Rattle.dgc_server.proofs.Few.{few-lapse, few-without}
+use Rattle.dgc_server.proofs.Kept.{numbered-lapse, numbered-without, once-lapse, once-without, remembered-lapse, remembered-without}
+use Rattle.dgc_server.proofs.Tables.{order-lapse, order-without}
 use Rattle.dgc_server.proofs.leases.Leases.drop_object.Goals as goal
 
 pub invariant_of-self : goal.invariant_of-self
 invariant_of-self c =
-    let small = c.self.invariant.0.small in
-    let fewer = remembered-without c.self.inside.moment c.args.object c.self.inside.entries.items in
-    rw c.drop_object.ensures (
-      record {
+    let m = c.self.inside.moment in
+    let o = c.args.object in
+    let es = c.self.inside.entries.items in
+    let rest = map (entry_without o) es in
+    let settled = c.self.invariant.1.settled c.self.invariant.3 in
+    let left : c.drop_object.new.entries.items ≡ after_lapse m rest = c.drop_object.ensures ∙ dropped-lapses m c.self.inside.next o es settled in
+    let named : c.count_of-count.result.clients ≡ length (filter (entry_names o) es) = ap (λ (n : Count). n.clients) c.count_of-count.ensures ∙ c.self.invariant.1.counted Naming o in
+    let pairs : c.sums_without-self-inside.result.pairs ≡ remembered m (rest_of o m es) =
+    (let all = pairs-dropped o m c.self.inside.next es settled c.self.invariant.0.noted c.self.invariant.0.once in
+    let before : c.self.inside.sums.pairs ≡ remembered m es = ap (λ (s : Sums). s.pairs) c.self.invariant.2 in
+    let after = c.sums_without-self-inside.ensures.pairs in omega arith) in
+    let P : List Entry → Type 0 = λ l. IsSound c.self.inside.lease m l in (
+      subst P (sym left) record {
         some = c.self.invariant.0.some;
         short = c.self.invariant.0.short;
         early = c.self.invariant.0.early;
-        ordered = order-without c.args.object c.self.inside.entries.items c.self.invariant.0.ordered;
-        few = few-without c.self.inside.moment c.args.object c.self.inside.entries.items _ c.self.invariant.0.few;
-        once = once-without c.args.object c.self.inside.entries.items c.self.invariant.0.once;
-        noted = numbered-without c.args.object c.self.inside.entries.items c.self.invariant.0.noted;
-        small = omega arith;
+        ordered = order-lapse m rest (order-without o es c.self.invariant.0.ordered);
+        few = few-lapse m m rest _ (omega arith) (few-without m o es _ c.self.invariant.0.few);
+        once = once-lapse m rest (once-without o es c.self.invariant.0.once);
+        noted = numbered-lapse m rest (numbered-without o es c.self.invariant.0.noted);
+        small = (let small = c.self.invariant.0.small in let fewer = remembered-without m o es in let kept = remembered-lapse m m rest (omega arith) in omega arith);
       },
       record {
-        settled = λ h. absurd (omega arith);
-        held = forgotten c.self.inside.moment c.args.object c.self.inside.entries.items (held_at c.self.inside.counts) (held_at c.forget.new.counts) c.self.invariant.1.held c.forget.ensures;
+        settled = λ h. rw c.drop_object.ensures (settled-dropped m c.self.inside.next o es settled);
+        counted = λ w p. forgotten m o w es (counted_at w c.self.inside.counts) (counted_at w c.forget.new.counts) (c.self.invariant.1.counted w) (c.forget.ensures w) p
+            ∙ sym (kept-counted m p w rest) ∙ ap (λ l. length (filter (is_counted w m p) l)) (sym c.drop_object.ensures);
       },
-      c.sums_at-self-inside.ensures ∙ ap (sums_at c.self.inside.moment) (c.deref.ensures.value ∙ c.drop_object.ensures),
+      sums-are c.sums_without-self-inside.result (length (filter (has_time_left m) (rest_of o m es))) (remembered m (rest_of o m es))
+          (c.sums_without-self-inside.ensures.leased ∙ ap (λ (s : Sums). s.leased) c.self.invariant.2 ∙ sym (leased-dropped o m es)) pairs
+          ∙ ap (sums_at m) (sym c.drop_object.ensures),
+      c.self.invariant.3,
     )
 
 pub returns-clause-stands : goal.returns-clause-stands
 returns-clause-stands c lease moment calls s =
-    table-without c.args.object lease moment c.args.self.now _ calls s
+    let P : LeaseTable → Type 0 = λ t. is_in_order t.entries ≡ true in
+    let m : c.self.inside.moment ≡ moment = ap (λ (t : LeaseTable). t.moment) c.self.view_is ∙ s.is_moment in
+    table-dropped c.args.object lease moment c.args.self.now _ calls s (subst P c.self.view_is c.self.invariant.0.ordered)
     (ap (λ (t : LeaseTable). t.lease) c.self.view_is) (ap (λ (t : LeaseTable). t.moment) c.self.view_is)
-    (c.drop_object.ensures ∙ ap (λ (t : LeaseTable). map (entry_without c.args.object) t.entries) c.self.view_is)
+    (c.drop_object.ensures ∙ dropped-lapses c.self.inside.moment c.self.inside.next c.args.object c.self.inside.entries.items (c.self.invariant.1.settled c.self.invariant.3)
+    ∙ ap (λ k. after_lapse k (map (entry_without c.args.object) c.self.inside.entries.items)) m
+    ∙ ap (λ (t : LeaseTable). after_lapse moment (map (entry_without c.args.object) t.entries)) c.self.view_is)
 
 pub returns-clause-fewer : goal.returns-clause-fewer
 returns-clause-fewer c =
-    let same = c.drop_object.ensures ∙ ap (λ (t : LeaseTable). map (entry_without c.args.object) t.entries) c.self.view_is in
-    let long = ap length same ∙ length-map c.args.self.now.entries (entry_without c.args.object) in omega arith
+    let same = c.drop_object.ensures ∙ ap (λ (t : LeaseTable). filter (is_entry_kept c.self.inside.moment) (map (entry_without c.args.object) t.entries)) c.self.view_is in
+    let long = ap length same in let fewer = fewer-dropped c.self.inside.moment c.args.object c.args.self.now.entries in omega arith
 
-pub sums_at-self-inside-requires : goal.sums_at-self-inside-requires
-sums_at-self-inside-requires c =
-    ap all_numbered (c.deref.ensures.value ∙ c.drop_object.ensures) ∙ numbered-without c.args.object c.self.inside.entries.items c.self.invariant.0.noted
+pub drop_object-requires-clause-kept : goal.drop_object-requires-clause-kept
+drop_object-requires-clause-kept c = all-kept c.self.inside.moment c.self.inside.next c.self.inside.entries.items (c.self.invariant.1.settled c.self.invariant.3)
+
+pub drop_object-requires-clause-counted : goal.drop_object-requires-clause-counted
+drop_object-requires-clause-counted c = ap (λ (n : Count). n.clients) c.count_of-count.ensures ∙ c.self.invariant.1.counted Naming c.args.object
+
+pub sums_without-self-inside-requires : goal.sums_without-self-inside-requires
+sums_without-self-inside-requires c =
+    let m = c.self.inside.moment in
+    let es = c.self.inside.entries.items in
+    let named : c.count_of-count.result.clients ≡ length (filter (entry_names c.args.object) es) = ap (λ (n : Count). n.clients) c.count_of-count.ensures ∙ c.self.invariant.1.counted Naming c.args.object in
+    let all = pairs-dropped c.args.object m c.self.inside.next es (c.self.invariant.1.settled c.self.invariant.3) c.self.invariant.0.noted c.self.invariant.0.once in
+    let pairs : c.self.inside.sums.pairs ≡ remembered m es = ap (λ (s : Sums). s.pairs) c.self.invariant.2 in omega arith

@@ -27,6 +27,7 @@ invariant_of-self c =
       },
       c.pass-self-inside.ensures.indexed,
       c.sums_after-self-inside.ensures ∙ ap (sums_at c.max-at.result) c.deref.ensures.value,
+      c.pass-self-inside.ensures.later,
     )
 
 pub sums_after-self-inside-requires-clause-quiet : goal.sums_after-self-inside-requires-clause-quiet

@@ -6,18 +6,31 @@ use Rattle.object_ids.specs.Client.{Client}
 use Rattle.history.specs.declared.limits.TheConstants.{MAX_CLIENTS}
 use Rattle.history.specs.Leases.{is_dirty_kind}
 use Rattle.dgc_server.specs.declared.table.Sums.{Sums}
-use Rattle.dgc_server.specs.Entry.{Entry, has_time_left, entry_holds, remembered_of}
+use Rattle.dgc_server.specs.Entry.{Entry, has_time_left, remembered_of}
 use Rattle.dgc_server.specs.Table.{entry_of, with_entry, after_lapse, remembered, clients_after, pairs_after}
 use Rattle.dgc_server.specs.Stands.{LeaseTable, IsSound, is_in_order, entry_after}
-use Rattle.dgc_server.specs.Index.{IsSettled, one_if, sums_at, entry_sums}
+use Rattle.dgc_server.specs.Index.{Naming, is_counted, IsSettled, one_if, sums_at, entry_sums}
 use Rattle.dgc_server.proofs.SumLaws.{own-leased, own-remembered, sums-with, quiet-sums}
-use Rattle.dgc_server.proofs.Few.{few-noted}
+use Rattle.object_ids.specs.declared.ids.ObjId.{ObjId}
+use Rattle.dgc_server.proofs.Few.{few-holders, few-noted}
+use Rattle.dgc_server.proofs.HolderLaws.{each-way}
+use Rattle.dgc_server.proofs.Walking.{rest_of, pairs-dropped}
 use Rattle.dgc_server.proofs.IndexLaws.{own-with, settled-with}
 use Rattle.dgc_server.proofs.Kept.{is_once, is_numbered, all_numbered, each-entry, numbered-after, all_objects_once, numbered-noted, each-with, once-entry, once-noted, remembered-noted}
 use Rattle.dgc_server.proofs.Objects.{once-after}
 use Rattle.dgc_server.proofs.Ordered.{client-of, order-with}
 use Rattle.dgc_server.proofs.Tables.{order-lapse}
 use Rattle.dgc_server.proofs.leases.Leases.note.Goals as goal
+
+pub note-requires-clause-few : goal.note-requires-clause-few
+note-requires-clause-few c =
+    let es = c.self.inside.entries.items in
+    let m = c.self.inside.moment in
+    each-way (λ w. (o : ObjId) → length (filter (is_counted w m o) es) ≤ 262144)
+    (λ o. (let few : length (filter (has_time_left m) es) ≤ 65536 = c.self.invariant.0.few in few-holders m m o es 262144 (omega arith) (omega (arith, few))))
+    (λ o. (let all : remembered m (rest_of o m es) + length (filter (is_counted Naming m o) es) ≡ remembered m es =
+    pairs-dropped o m c.self.inside.next es (c.self.invariant.1.settled c.self.invariant.3) c.self.invariant.0.noted c.self.invariant.0.once in
+    let small : remembered m es ≤ 262144 = c.self.invariant.0.small in omega (arith, all, small)))
 
 pub own_sums-after-requires-clause-ordered : goal.own_sums-after-requires-clause-ordered
 own_sums-after-requires-clause-ordered c =
@@ -76,7 +89,7 @@ pass-self-inside-requires-clause-indexed c =
     c.bound_with-bound.ensures ∙ ap (λ l. bound (entry_of l client)) (c.deref-4.ensures.value ∙ entries) ∙ ap bound (own-with next es client (client-of es client)) in
     rw (entries, bound_is) record {
       settled = settled-with c.self.inside.moment c.self.inside.next c.args.at next es late c.self.invariant.1.settled;
-      held = λ o. c.in_ok-note.ensures.counted o ∙ ap (λ l. length (filter (entry_holds c.self.inside.moment o) l)) entries;
+      counted = λ w o. c.in_ok-note.ensures.counted w o ∙ ap (λ l. length (filter (is_counted w c.self.inside.moment o) l)) entries;
     }
 
 pub sums_after-self-inside-requires-clause-quiet : goal.sums_after-self-inside-requires-clause-quiet
@@ -130,6 +143,7 @@ invariant_of-self-2 c =
       },
       c.pass-self-inside.ensures.indexed,
       c.sums_after-self-inside.ensures ∙ ap (sums_at c.args.at) c.deref-5.ensures.value,
+      c.pass-self-inside.ensures.later,
     )
 
 pub own_sums-after-requires-clause-noted : goal.own_sums-after-requires-clause-noted

@@ -1,0 +1,83 @@
+//! The objects that clients hold whose leases end as time passes.
+ghost use Rattle.std.specs.Prelude.{◌≡◌, ◌++◌, ◌∷◌, [], ◌<◌, ◌≤◌, flat_map, OnOk, IfOk, if◌then◌else◌};
+ghost use Rattle.dgc_server.specs.Numbers.{is_dirty_highest};
+ghost use Rattle.dgc_server.specs.Entry.{object_entries, dirty_objects};
+ghost use Rattle.std.specs.List.{AllByRecursion};
+ghost use Rattle.dgc_server.specs.Index.{freed_of, IsSettled};
+
+use crate::entry::ClientEntry;
+use crate::marks::Marks;
+use crate::packed::Packed;
+use object_ids::ObjId;
+use std::alloc::{AllocError, Global};
+
+/// Appends an object, if by these numbers a client holds it.
+fn append_one(freed: &mut Vec<ObjId>, object: &ObjId, numbers: &Packed) -> Result<(), AllocError>
+    ensures { OnOk result (freed.new.items ≡ freed.old.items ++ (if is_dirty_highest numbers.now then object.now ∷ [] else [])) }
+{
+    if numbers.is_dirty_highest() {
+        freed.push(*object)?;
+    }
+    Ok(())
+}
+
+/// Appends those of a client's objects of which the highest call is a dirty.
+fn append_objects(freed: &mut Vec<ObjId>, objects: &Marks) -> Result<(), AllocError>
+    ensures { OnOk result (freed.new.items ≡ freed.old.items ++ dirty_objects (object_entries objects.now.entries)) }
+{
+    for (object, numbers) in objects.iter() {
+        append_one(freed, object, numbers)?;
+    }
+    Ok(())
+}
+
+/// Appends the objects that a client holds, if its lease ends as time passes from one moment to another.
+fn append_of(
+    freed: &mut Vec<ObjId>,
+    entry: &ClientEntry,
+    from: u64,
+    to: u64,
+) -> Result<(), AllocError>
+    ensures { OnOk result (freed.new.items ≡ freed.old.items ++ freed_of from to entry.now) }
+{
+    if entry.has_time_left(from) && !entry.has_time_left(to) {
+        append_objects(freed, entry.objects())?;
+    }
+    Ok(())
+}
+
+/// Appends the objects that clients hold whose leases end as time passes from one moment to another.
+fn append_all(
+    freed: &mut Vec<ObjId>,
+    entries: &[ClientEntry],
+    from: u64,
+    to: u64,
+) -> Result<(), AllocError>
+    ensures { OnOk result (freed.new.items ≡ freed.old.items ++ flat_map (freed_of from to) entries.now) }
+{
+    for entry in entries {
+        append_of(freed, entry, from, to)?;
+    }
+    Ok(())
+}
+
+/// The objects that clients hold whose leases end as time passes from one moment to another. Where nothing is due it looks at no client
+/// and takes no memory.
+pub fn freed(
+    alloc: Global,
+    entries: &[ClientEntry],
+    next: u64,
+    from: u64,
+    to: u64,
+) -> Result<Vec<ObjId>, AllocError>
+    requires later { from ≤ to }
+    requires settled { from < next → AllByRecursion (IsSettled from next) entries.now }
+    ensures { IfOk result (λ os. os.items ≡ flat_map (freed_of from to) entries.now) }
+{
+    let mut freed = Vec::new(alloc);
+    if to < next {
+        return Ok(freed);
+    }
+    append_all(&mut freed, entries, from, to)?;
+    Ok(freed)
+}
