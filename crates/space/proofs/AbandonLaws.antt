@@ -22,9 +22,11 @@ use Rattle.space.specs.Ahead.{HasRoom}
 use Rattle.space.specs.Built.{SpaceHistory}
 use Rattle.space.specs.Kept.{Keeps}
 use Rattle.space.specs.Runs.{is_run, without_first}
+use Rattle.space.specs.RunTable.{AreSame}
 use Rattle.space.proofs.Acting.{effective-is}
 use Rattle.space.proofs.AheadLaws.{room-next}
 use Rattle.space.proofs.AskLaws.{abandon-counted}
+use Rattle.space.proofs.RunLists.{as-many}
 use Rattle.space.proofs.EndLaws.{goes-few}
 use Rattle.space.proofs.Keeping.{step-taken}
 use Rattle.space.proofs.TurnLaws.{IsAsked, HasActed, HasWithdrawn, taken, turn-keeps}
@@ -101,7 +103,7 @@ end-acted config events by m o leases leases1 exports t runs withdrawn told open
 -- WHAT IS KEPT once the call is ended.
 pub end-keeps : (config : SpaceConfig) (events : List Event) (by m : ℕ) (o : ObjId) (leases leases1 leases2 : LeaseTable) (exports t x3 : ExportTable) (runs : List Run) (withdrawn : List Withdrawal) (told opened used moment time : ℕ) (scratch gone : List ObjId) (place : ℕ) (events' : List Event) (runs' : List Run) (withdrawn' : List Withdrawal) →
     HasActed config events (event_of by m (Abandon o)) leases leases1 exports t runs withdrawn told opened used moment true → time ≡ max m moment → HasWithdrawn leases1 leases2 t x3 time scratch gone → scratch ≡ [] →
-    place ≡ length events → events' ≡ events ++ event_of by m (Abandon o) ∷ [] → runs' ≡ without_first (is_run by o) runs → withdrawn' ≡ withdrawn ++ map (withdrawal_at place) gone →
+    place ≡ length events → events' ≡ events ++ event_of by m (Abandon o) ∷ [] → AreSame runs' (without_first (is_run by o) runs) → withdrawn' ≡ withdrawn ++ map (withdrawal_at place) gone →
     Keeps config events' leases2 x3 runs' withdrawn' told opened (used + 1) time
 end-keeps config events by m o leases leases1 leases2 exports t x3 runs withdrawn told opened used moment time scratch gone place events' runs' withdrawn' a at w none pl ev ru wi =
     let same : opened ≡ opened + 0 = omega arith in
@@ -114,12 +116,12 @@ end-keeps config events by m o leases leases1 leases2 exports t x3 runs withdraw
 -- Its room.
 pub end-room : (config : SpaceConfig) (events events' : List Event) (by m : ℕ) (o : ObjId) (leases leases' : LeaseTable) (x y : ExportTable) (runs runs' : List Run) (withdrawn withdrawn' : List Withdrawal) (told opened used moment told' opened' used' moment' : ℕ) (before scratch : List ObjId) (events_room withdrawn_room scratch_room events_room' withdrawn_room' scratch_room' : ℕ) →
     Keeps config events leases x runs withdrawn told opened used moment → HasRoom events events_room runs withdrawn withdrawn_room x before scratch_room → 0 < running (places config events) by o →
-    Keeps config events' leases' y runs' withdrawn' told' opened' used' moment' → events' ≡ events ++ event_of by m (Abandon o) ∷ [] → runs' ≡ without_first (is_run by o) runs → scratch ≡ [] →
+    Keeps config events' leases' y runs' withdrawn' told' opened' used' moment' → events' ≡ events ++ event_of by m (Abandon o) ∷ [] → AreSame runs' (without_first (is_run by o) runs) → scratch ≡ [] →
     events_room ≤ events_room' → withdrawn_room ≤ withdrawn_room' → scratch_room ≤ scratch_room' →
     HasRoom events' events_room' runs' withdrawn' withdrawn_room' y scratch scratch_room'
 end-room config events events' by m o leases leases' x y runs runs' withdrawn withdrawn' told opened used moment told' opened' used' moment' before scratch events_room withdrawn_room scratch_room events_room' withdrawn_room' scratch_room' k r run l ev ru none er wr sr =
     let longer : length events' ≡ length events + 1 = ap length ev ∙ length-append events (event_of by m (Abandon o) ∷ []) in
-    let calls = ap length ru in
+    let calls = as-many runs' (without_first (is_run by o) runs) ru in
     let fewer = runs-fewer config events by o leases x runs withdrawn told opened used moment k run in
     let ends = r.ends in let goes = r.withdrawals in let objects = r.objects in
     room-next config events events' (event_of by m (Abandon o)) leases leases' x y runs runs' withdrawn withdrawn' told opened used moment told' opened' used' moment' (length x.rows) scratch events_room' withdrawn_room' scratch_room' true (sym (runs-effective config events by o run)) k l ev

@@ -131,5 +131,5 @@ room-nothing events runs withdrawn x scratch events_room withdrawn_room scratch_
     record { ends = omega (arith, a, b); withdrawals = omega (arith, c, d); objects = omega (arith, d); empty = sc }
 
 -- There are not too many running calls.
-pub few-calls : (config : SpaceConfig) (events : List Event) (leases : LeaseTable) (exports : ExportTable) (runs : List Run) (withdrawn : List Withdrawal) (told opened used moment : ℕ) → Keeps config events leases exports runs withdrawn told opened used moment → length runs < 2 ^ 32
+pub few-calls : (config : SpaceConfig) (events : List Event) (leases : LeaseTable) (exports : ExportTable) (runs : List Run) (withdrawn : List Withdrawal) (told opened used moment : ℕ) → Keeps config events leases exports runs withdrawn told opened used moment → length runs < 2 ^ 31
 few-calls config events leases exports runs withdrawn told opened used moment k = let all = k.stands.runs_stand.all in let few = k.stands.within.history in omega (arith, all, few)

@@ -11,8 +11,8 @@ pub mod CollectLaws
 pub mod Doubting
 pub mod EndLaws
 pub mod FewGone
-pub mod FirstLaws
 pub mod Found
+pub mod FirstLaws
 pub mod Fresh
 pub mod Holding
 pub mod Keeping
@@ -31,6 +31,7 @@ pub mod ReferenceLaws
 pub mod Refusals
 pub mod Room
 pub mod RowLaws
+pub mod RunLists
 pub mod RunSteps
 pub mod Settling
 pub mod StepsLaws

@@ -20,6 +20,7 @@ use Rattle.export_table.specs.Rows.{is_row_kept as row_kept, held_by, without_al
 use Rattle.export_table.specs.Table.{ExportTable, Room}
 use Rattle.export_table.specs.Waits.{waiting}
 use Rattle.space.specs.declared.runs.Run.{Run}
+use Rattle.space.specs.RunTable.{AreSame}
 use Rattle.space.specs.Acts.{ForEachLogBy, effective_by, acted, acted_runs, opens, reply_at, withdrawal_at, told_after, room_refusal, await_refusal, told_refusal, first_of_two, Agrees}
 use Rattle.space.specs.Built.{SpaceHistory}
 use Rattle.space.specs.Kept.{live_calls, Keeps}
@@ -33,6 +34,7 @@ use Rattle.export_table.specs.declared.waits.Wait.{Wait}
 use Rattle.space.specs.Runs.{RunsStand, caller_of, object_of}
 use Rattle.export_table.specs.Stands.{WaitsStand, reference_of, end_of}
 use Rattle.space.proofs.Acting.{rows-act, waits-act, runs-act, effective-is, stood_for}
+use Rattle.space.proofs.RunLists.{stand-same}
 use Rattle.space.proofs.Keeping.{IsActed, told_calls, going_now, left, withdrawn_then, keeps-push, call-alike, rows-has, refusal-kept, turn-is, step-refused, step-taken, step-agrees}
 
 pub none-else : (o : Option Refused) → ((r : Refused) → o ≡ Some r → ⊥) → o ≡ None
@@ -183,6 +185,33 @@ keeps-alike config events leases x y runs withdrawn told opened used moment s a 
       legal = k.legal;
     }
 
+-- Nor on the order of the running calls.
+keeps-calls : (config : SpaceConfig) (events : List Event) (leases : LeaseTable) (exports : ExportTable) (runs runs' : List Run) (withdrawn : List Withdrawal) (told opened used moment : ℕ) → AreSame runs' runs →
+    Keeps config events leases exports runs withdrawn told opened used moment → Keeps config events leases exports runs' withdrawn told opened used moment
+keeps-calls config events leases exports runs runs' withdrawn told opened used moment same k = record {
+  durations = k.durations;
+  stands = record {
+    leases_stand = k.stands.leases_stand;
+    space_is = k.stands.space_is;
+    ack_is = k.stands.ack_is;
+    added_is = k.stands.added_is;
+    opened_is = k.stands.opened_is;
+    rows_are = k.stands.rows_are;
+    waits_stand = k.stands.waits_stand;
+    runs_stand = stand-same (places config events) runs' runs same k.stands.runs_stand;
+    withdrawn_are = k.stands.withdrawn_are;
+    told_are = k.stands.told_are;
+    told_within = k.stands.told_within;
+    used_is = k.stands.used_is;
+    moment_is = k.stands.moment_is;
+    within = k.stands.within;
+  };
+  early = k.early;
+  few_events = k.few_events;
+  few_opened = k.few_opened;
+  legal = k.legal;
+}
+
 pub keeps-room : (config : SpaceConfig) (events : List Event) (leases : LeaseTable) (x y : ExportTable) (runs : List Run) (withdrawn : List Withdrawal) (told opened used moment : ℕ) (room : Room) →
     y ≡ record x { room = room } → Keeps config events leases x runs withdrawn told opened used moment → Keeps config events leases y runs withdrawn told opened used moment
 keeps-room config events leases x y runs withdrawn told opened used moment room e k =
@@ -247,7 +276,7 @@ goes-now config events e leases leases1 leases2 exports t x3 runs withdrawn told
 -- WHAT IS KEPT after a turn.
 pub turn-keeps : (config : SpaceConfig) (events : List Event) (e : Event) (leases leases1 leases2 : LeaseTable) (exports t x3 : ExportTable) (runs : List Run) (withdrawn : List Withdrawal) (told opened used moment time : ℕ) (effective : Bool) (told_gone all_gone : List ObjId) →
     HasActed config events e leases leases1 exports t runs withdrawn told opened used moment effective → time ≡ max e.moment moment → HasWithdrawn leases1 leases2 t x3 time told_gone all_gone →
-    (place told' opened' used' : ℕ) (events' : List Event) (runs' : List Run) (withdrawn' : List Withdrawal) → place ≡ length events → events' ≡ events ++ e ∷ [] → runs' ≡ acted_runs effective e.by e.ask runs →
+    (place told' opened' used' : ℕ) (events' : List Event) (runs' : List Run) (withdrawn' : List Withdrawal) → place ≡ length events → events' ≡ events ++ e ∷ [] → AreSame runs' (acted_runs effective e.by e.ask runs) →
     withdrawn' ≡ withdrawn ++ map (withdrawal_at place) (drop (length told_gone) all_gone) → told' ≡ told_after told (length withdrawn') e.ask → opened' ≡ opened + opens effective e.ask → used' ≡ used + units_of e.ask →
     Keeps config events' leases2 x3 runs' withdrawn' told' opened' used' time
 turn-keeps config events e leases leases1 leases2 exports t x3 runs withdrawn told opened used moment time effective told_gone all_gone a m w place told' opened' used' events' runs' withdrawn' at ev rn wd tl op us =
@@ -278,9 +307,8 @@ turn-keeps config events e leases leases1 leases2 exports t x3 runs withdrawn to
     let O : ℕ → Type 0 = λ n. Keeps config (events ++ e ∷ []) leases2 x3 (acted_runs effective e.by e.ask runs) (withdrawn_then config events e t withdrawn) (told_after told (length (withdrawn_then config events e t withdrawn)) e.ask) n used' time in
     let W : List Withdrawal → Type 0 = λ ws. Keeps config (events ++ e ∷ []) leases2 x3 (acted_runs effective e.by e.ask runs) ws (told_after told (length ws) e.ask) opened' used' time in
     let T : ℕ → Type 0 = λ n. Keeps config (events ++ e ∷ []) leases2 x3 (acted_runs effective e.by e.ask runs) withdrawn' n opened' used' time in
-    let R : List Run → Type 0 = λ rs. Keeps config (events ++ e ∷ []) leases2 x3 rs withdrawn' told' opened' used' time in
     let E : List Event → Type 0 = λ es. Keeps config es leases2 x3 runs' withdrawn' told' opened' used' time in
-    subst E (sym ev) (subst R (sym rn) (subst T (sym tl) (subst W (sym all) (subst O (sym op) (subst U (sym us) (subst N (sym same) now_kept))))))
+    subst E (sym ev) (keeps-calls config (events ++ e ∷ []) leases2 x3 (acted_runs effective e.by e.ask runs) runs' withdrawn' told' opened' used' time rn (subst T (sym tl) (subst W (sym all) (subst O (sym op) (subst U (sym us) (subst N (sym same) now_kept))))))
 
 -- WHAT A TURN ANSWERS.
 pub turn-step : (config : SpaceConfig) (events : List Event) (e : Event) (leases leases1 leases2 : LeaseTable) (exports t x3 : ExportTable) (runs : List Run) (withdrawn : List Withdrawal) (told opened used moment time : ℕ) (effective : Bool) (told_gone all_gone : List ObjId) →

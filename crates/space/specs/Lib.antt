@@ -15,6 +15,7 @@ pub mod Noted
 pub mod Ports
 pub mod Rows
 pub mod Runs
+pub mod RunTable
 pub mod TieLaws
 pub mod Ties
 pub mod Summary

@@ -1,4 +1,4 @@
--- Whether there is room for a copy of a turn.
+-- What is beside a turn before it is taken, so that noting it takes no memory: room for the identifiers of a return, the objects that it tells as gone, and the names.
 use Rattle.std.specs.Prelude.{◌≡◌, ◌≤◌, ℕ, List, length, Result, Ok, Err, vec_capacity}
 use Rattle.object_ids.specs.declared.ids.ObjId.{ObjId}
 use Rattle.history.specs.declared.asks.Ask.{Ask}

@@ -9,7 +9,6 @@ ghost use Rattle.space.specs.Acts.{event_of};
 
 use crate::acts::{note_withdrawn, put_event};
 use crate::doubts::{takes_time, withdraw};
-use crate::runs::drop_first;
 use crate::turns::Space;
 use history::{Ask, Event};
 use object_ids::ObjId;
@@ -35,7 +34,7 @@ impl Space {
         let all = takes_time(&self.tables.exports, self.tables.due, now);
         self.tables.leases.lapse(now);
         self.tables.exports.end(object);
-        drop_first(&mut self.tables.runs, by, &object);
+        self.tables.runs.end_one(by, &object);
         withdraw(
             &mut self.tables.exports,
             &mut self.tables.leases,

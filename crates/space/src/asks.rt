@@ -7,7 +7,7 @@ ghost use Rattle.rmi_registry.specs.Named.{names_in, object_of};
 ghost use Rattle.space.specs.Acts.{effective_by, opens, reply_at, room_refusal, started_reply, unbound_reply, found_reply, told_after};
 
 use crate::returns::new_ids;
-use crate::runs::{Run, is_running};
+use crate::runs::Runs;
 use export_table::Exports;
 use history::limits::{MAX_EXPORTS, MAX_UNITS};
 use history::plain::limits::{is_begin, is_end, is_past, units_of};
@@ -41,12 +41,12 @@ pub(crate) fn stood_for(names: &Names, ask: &Ask) -> Option<ObjId>
 /// Whether an ask of a connection is effective, where its name stands for `stood`.
 pub(crate) fn is_effective(
     exports: &Exports,
-    runs: &[Run],
+    runs: &Runs,
     stood: Option<ObjId>,
     by: u32,
     ask: &Ask,
 ) -> bool
-    ensures { result ≡ effective_by exports.now.rows runs.now stood by ask.now }
+    ensures { result ≡ effective_by exports.now.rows runs.now.items stood by ask.now }
 {
     match ask {
         Ask::Begin { object } => is_exported(exports, object),
@@ -55,8 +55,8 @@ pub(crate) fn is_effective(
             made: _,
             listed: _,
             uid: _,
-        } => is_running(runs, by, object),
-        Ask::Abandon { object } => is_running(runs, by, object),
+        } => runs.is_running(by, object),
+        Ask::Abandon { object } => runs.is_running(by, object),
         Ask::Bind { name: _, object } => is_exported(exports, object) && stood.is_none(),
         Ask::Rebind { name: _, object } => is_exported(exports, object),
         Ask::Unbind { name: _ } => stood.is_some(),

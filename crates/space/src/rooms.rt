@@ -1,26 +1,27 @@
 //! Room for what an event adds, made before anything changes. No room is lost.
 ghost use Rattle.std.specs.Prelude.{◌≡◌, ◌≤◌, ◌<◌, ◌+◌, ◌^◌, length, true, IfErr, OnOk, vec_len, vec_capacity};
 ghost use Rattle.history.specs.declared.replies.Refused.TheVariants.{OutOfMemory};
+ghost use Rattle.space.specs.RunTable.{has_room};
 
-use crate::runs::Run;
+use crate::runs::Runs;
 use event_log::EventLog;
 use export_table::Exports;
 use history::{Refused, Withdrawal};
 use object_ids::ObjId;
 
-/// Makes room for an event, for the events that end the calls that then run, and for a call that it starts.
-pub(crate) fn room_for_event(events: &mut EventLog, runs: &mut Vec<Run>) -> Result<(), Refused>
-    requires { vec_len runs.old < 2 ^ 32 }
-    ensures event { OnOk result (length events.new.items + vec_len runs.new + 2 ≤ events.new.capacity) }
+/// Makes room for an event of a connection, for the events that end the calls that then run, and for a call that it starts.
+pub(crate) fn room_for_event(events: &mut EventLog, runs: &mut Runs, by: u32) -> Result<(), Refused>
+    requires { length runs.old.items < 2 ^ 32 }
+    ensures event { OnOk result (length events.new.items + length runs.new.items + 2 ≤ events.new.capacity) }
     ensures spare { OnOk result (events.new.spare ≡ true) }
-    ensures run { OnOk result (vec_len runs.new < vec_capacity runs.new) }
+    ensures run { OnOk result (has_room runs.new.rooms by ≡ true) }
     ensures refusal { IfErr result (λ refused. refused ≡ OutOfMemory) }
     ensures events { events.new.items ≡ events.old.items }
     ensures runs { runs.new.items ≡ runs.old.items }
     ensures grow { events.old.capacity ≤ events.new.capacity }
 {
     events.reserve(runs.len() + 2)?;
-    runs.reserve(1)?;
+    runs.reserve(by)?;
     Ok(())
 }
 

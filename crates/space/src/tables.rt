@@ -11,7 +11,7 @@ use crate::due::due_after;
 use crate::names::settle;
 use crate::prepared::prepare;
 use crate::rooms::{room_for_event, room_for_gone, room_in_table};
-use crate::runs::{Run, act_on_runs};
+use crate::runs::{Runs, act_on_runs};
 use dgc_server::Leases;
 use event_log::EventLog;
 use export_table::Exports;
@@ -39,7 +39,7 @@ pub struct Tables {
     /// The names, each with the object for which it stands.
     pub names: Names,
     /// The calls that run.
-    pub runs: Vec<Run>,
+    pub runs: Runs,
     /// The events.
     pub events: EventLog,
     /// The withdrawals, in their order.
@@ -101,7 +101,7 @@ impl Tables {
             noted,
             ask,
         )?;
-        room_for_event(&mut self.events, &mut self.runs)?;
+        room_for_event(&mut self.events, &mut self.runs, by)?;
         room_for_gone(&mut self.withdrawn, &mut self.scratch, ready.objects)?;
         room_in_table(&mut self.exports, ready.opened, ready.references.len())?;
         settle(

@@ -9,7 +9,7 @@ ghost use Rattle.space.specs.Acts.{event_of};
 ghost use Rattle.space.specs.Noted.{turned};
 
 use crate::acts::put_event;
-use crate::runs::count;
+use crate::runs::Runs;
 use crate::tables::Tables;
 use dgc_server::Leases;
 use event_log::EventLog;
@@ -64,7 +64,7 @@ impl Space {
                 units: 0,
                 leases: Leases::fresh(alloc, config.lease_ms),
                 exports: Exports::fresh(alloc, config.uid, config.ack_ms),
-                runs: Vec::new(alloc),
+                runs: Runs::new(alloc),
                 events: EventLog::new(alloc, config.uid),
                 withdrawn: Vec::new(alloc),
                 told: 0,
@@ -125,7 +125,7 @@ impl Space {
     pub fn running(&self, by: u32, object: ObjId) -> u32
         ensures { result ≡ running (places self.now.configuration self.now.events) by object }
     {
-        count(&self.tables.runs, by, &object) as u32
+        self.tables.runs.count(by, &object) as u32
     }
 
     /// How many events there are. They are a legal history, what turns leave of the empty one, and none of them is of a

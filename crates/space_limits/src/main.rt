@@ -1,9 +1,12 @@
 //! Drives spaces by turns to their limits, and prints what they answer there. Each word of the command line names what is
-//! filled: `history`, `pairs`, `returns`, `clients`, `exports`, or by `many_pairs` the pairs, by calls that each name many objects.
+//! filled: `history`, `pairs`, `returns`, `clients`, `exports`, by `many_pairs` the pairs, by calls that each name many objects, or by
+//! `many_calls` the running calls.
 #![tactic(auto)]
 
+mod many_calls;
 mod many_pairs;
 
+use crate::many_calls::many_calls;
 use crate::many_pairs::many_pairs;
 use history::{Ask, Refused, SpaceConfig};
 use mod_utf::list::{ByteList, Kinds};
@@ -264,6 +267,9 @@ fn show_limits<W: Write>(
 fn try_word<W: Write>(alloc: Global, out: &mut W, word: &str) -> io::Result<()> {
     if word == "many_pairs" {
         return many_pairs(alloc, out);
+    }
+    if word == "many_calls" {
+        return many_calls(alloc, out);
     }
     let mut space = fresh(alloc);
     show_limits(alloc, out, &mut space, word)

@@ -1,4 +1,4 @@
-use Rattle.std.proofs.Common.{◌≡◌, ◌∷◌, ◌++◌, [], ℕ, List, length, refl, ap, sym, subst, ◌∙◌, rules, arith, max, Ok, Err, Result, Option, None, Some}
+use Rattle.std.proofs.Common.{◌≡◌, List, ◌∷◌, ◌++◌, [], ℕ, length, refl, ap, sym, subst, ◌∙◌, rules, arith, max, Ok, Err, Result, Option, None, Some}
 use Rattle.std.specs.Prelude.{IfErr, vec_len, vec_capacity, drop, ◌+◌, map, nat_le, option_and_then}
 use Rattle.object_ids.specs.declared.ids.ObjId.{ObjId}
 use Rattle.history.specs.declared.replies.Refused.{Refused}
@@ -11,6 +11,8 @@ use Rattle.export_table.specs.Rows.{is_exported}
 use Rattle.export_table.specs.Table.{ExportTable}
 use Rattle.dgc_server.proofs.Told.{error-is}
 use Rattle.history.specs.declared.places.Withdrawal.{Withdrawal}
+use Rattle.space.specs.declared.runs.Run.{Run}
+use Rattle.space.specs.RunTable.{AreSame}
 use Rattle.space.specs.Acts.{ForEachLogBy, event_of, acted, acted_runs, reply_at, returned_by, withdrawal_at, told_after, await_refusal, told_refusal, Agrees}
 use Rattle.std.proofs.lemmas.Bool.{leb-false}
 use Rattle.history.specs.Places.{id_at}
@@ -30,8 +32,8 @@ returns-in-Some-clause-refused c =
     let running : c.len-running.result ≡ length c.args.self.now.runs.items = search rules in
     room-step c.args.self.now.config c.args.self.now.events.items (event_of c.args.by c.args.moment c.args.ask.now) c.args.self.now.leases c.args.self.now.exports c.args.self.now.runs.items c.args.self.now.withdrawn.items
     c.args.self.now.told c.args.self.now.added c.args.self.now.units c.args.self.now.moment c.is_effective-effective.result c.in-Some.refused
-    (asked c.args.self.now.config c.args.self.now.events.items (event_of c.args.by c.args.moment c.args.ask.now) c.args.self.now.leases c.args.self.now.exports c.args.self.now.exports c.args.self.now.runs.items c.deref.result.now c.args.self.now.withdrawn.items
-    c.args.self.now.told c.args.self.now.added c.args.self.now.units c.args.self.now.moment c.stood_for-stood.result c.is_effective-effective.result c.requires.whole.0 (c.stood_for-stood.ensures ∙ stood-is (places c.args.self.now.config c.args.self.now.events.items) c.args.self.now.names c.args.ask.now c.requires.whole.2) c.is_effective-effective.ensures c.deref.ensures.value refl)
+    (asked c.args.self.now.config c.args.self.now.events.items (event_of c.args.by c.args.moment c.args.ask.now) c.args.self.now.leases c.args.self.now.exports c.args.self.now.exports c.args.self.now.runs.items c.args.self.now.runs.items c.args.self.now.withdrawn.items
+    c.args.self.now.told c.args.self.now.added c.args.self.now.units c.args.self.now.moment c.stood_for-stood.result c.is_effective-effective.result c.requires.whole.0 (c.stood_for-stood.ensures ∙ stood-is (places c.args.self.now.config c.args.self.now.events.items) c.args.self.now.names c.args.ask.now c.requires.whole.2) c.is_effective-effective.ensures refl refl)
     (room-as c.args.self.now.units c.len-running.result c.count-exported.result c.is_effective-effective.result c.args.ask.now c.args.self.now.runs.items c.args.self.now.exports c.args.self.now.exports c.room_refusal.result (Some c.in-Some.refused)
     c.room_refusal.ensures running c.count-exported.ensures.value refl c.in-Some.is)
 
@@ -120,8 +122,8 @@ returns-in_err-settle-clause-refused c =
     subst P (sym (error-is c.from_residual-in_err-settle.result c.in_err-settle.field-0.0 c.from_residual-in_err-settle.ensures.1))
     (told-step c.args.self.now.config c.args.self.now.events.items (event_of c.args.by c.args.moment c.args.ask.now) c.args.self.now.leases c.room_in_table.new.exports c.args.self.now.runs.items c.args.self.now.withdrawn.items
     c.args.self.now.told c.args.self.now.added c.args.self.now.units c.args.self.now.moment c.is_effective-effective.result c.in_err-settle.field-0.0
-    (asked c.args.self.now.config c.args.self.now.events.items (event_of c.args.by c.args.moment c.args.ask.now) c.args.self.now.leases c.args.self.now.exports c.room_in_table.new.exports c.args.self.now.runs.items c.deref.result.now c.args.self.now.withdrawn.items
-    c.args.self.now.told c.args.self.now.added c.args.self.now.units c.args.self.now.moment c.stood_for-stood.result c.is_effective-effective.result c.requires.whole.0 (c.stood_for-stood.ensures ∙ stood-is (places c.args.self.now.config c.args.self.now.events.items) c.args.self.now.names c.args.ask.now c.requires.whole.2) c.is_effective-effective.ensures c.deref.ensures.value c.room_in_table.ensures.rest)
+    (asked c.args.self.now.config c.args.self.now.events.items (event_of c.args.by c.args.moment c.args.ask.now) c.args.self.now.leases c.args.self.now.exports c.room_in_table.new.exports c.args.self.now.runs.items c.args.self.now.runs.items c.args.self.now.withdrawn.items
+    c.args.self.now.told c.args.self.now.added c.args.self.now.units c.args.self.now.moment c.stood_for-stood.result c.is_effective-effective.result c.requires.whole.0 (c.stood_for-stood.ensures ∙ stood-is (places c.args.self.now.config c.args.self.now.events.items) c.args.self.now.names c.args.ask.now c.requires.whole.2) c.is_effective-effective.ensures refl c.room_in_table.ensures.rest)
     (room-as c.args.self.now.units c.len-running.result c.count-exported.result c.is_effective-effective.result c.args.ask.now c.args.self.now.runs.items c.args.self.now.exports c.room_in_table.new.exports c.room_refusal.result None
     c.room_refusal.ensures running c.count-exported.ensures.value c.room_in_table.ensures.rest (none-else c.room_refusal.result c.in_default.not-Some))
     (ap (λ o. await_refusal (max c.args.moment c.args.self.now.moment) c.room_in_table.new.exports.rows c.room_in_table.new.exports.waits o c.is_effective-effective.result c.args.ask.now) (sym (c.stood_for-stood.ensures ∙ stood-is (places c.args.self.now.config c.args.self.now.events.items) c.args.self.now.names c.args.ask.now c.requires.whole.2))
@@ -138,8 +140,8 @@ returns-in_err-ready-clause-refused c =
     subst P (sym (error-is c.from_residual.result c.in_err-ready.field-0.0 c.from_residual.ensures.1))
     (await-step c.args.self.now.config c.args.self.now.events.items (event_of c.args.by c.args.moment c.args.ask.now) c.args.self.now.leases c.args.self.now.exports c.args.self.now.runs.items c.args.self.now.withdrawn.items
     c.args.self.now.told c.args.self.now.added c.args.self.now.units c.args.self.now.moment c.is_effective-effective.result c.in_err-ready.field-0.0
-    (asked c.args.self.now.config c.args.self.now.events.items (event_of c.args.by c.args.moment c.args.ask.now) c.args.self.now.leases c.args.self.now.exports c.args.self.now.exports c.args.self.now.runs.items c.deref.result.now c.args.self.now.withdrawn.items
-    c.args.self.now.told c.args.self.now.added c.args.self.now.units c.args.self.now.moment c.stood_for-stood.result c.is_effective-effective.result c.requires.whole.0 (c.stood_for-stood.ensures ∙ stood-is (places c.args.self.now.config c.args.self.now.events.items) c.args.self.now.names c.args.ask.now c.requires.whole.2) c.is_effective-effective.ensures c.deref.ensures.value refl)
+    (asked c.args.self.now.config c.args.self.now.events.items (event_of c.args.by c.args.moment c.args.ask.now) c.args.self.now.leases c.args.self.now.exports c.args.self.now.exports c.args.self.now.runs.items c.args.self.now.runs.items c.args.self.now.withdrawn.items
+    c.args.self.now.told c.args.self.now.added c.args.self.now.units c.args.self.now.moment c.stood_for-stood.result c.is_effective-effective.result c.requires.whole.0 (c.stood_for-stood.ensures ∙ stood-is (places c.args.self.now.config c.args.self.now.events.items) c.args.self.now.names c.args.ask.now c.requires.whole.2) c.is_effective-effective.ensures refl refl)
     (room-as c.args.self.now.units c.len-running.result c.count-exported.result c.is_effective-effective.result c.args.ask.now c.args.self.now.runs.items c.args.self.now.exports c.args.self.now.exports c.room_refusal.result None
     c.room_refusal.ensures running c.count-exported.ensures.value refl (none-else c.room_refusal.result c.in_default.not-Some))
     (subst O (c.stood_for-stood.ensures ∙ stood-is (places c.args.self.now.config c.args.self.now.events.items) c.args.self.now.names c.args.ask.now c.requires.whole.2) (subst N time c.in_err-ready.ensures.refusal)))
@@ -153,9 +155,9 @@ returns-clause-taken c =
     let S : Turn → Type 0 = λ t. Step c.args.self.now.config c.args.self.now.events.items (event_of c.args.by c.args.moment c.args.ask.now) (Ok t) (c.args.self.now.events.items ++ (event_of c.args.by c.args.moment c.args.ask.now) ∷ []) in
     subst S (sym c.into_turn.ensures.turn) (turn-step c.args.self.now.config c.args.self.now.events.items (event_of c.args.by c.args.moment c.args.ask.now) c.args.self.now.leases c.settle.new.leases c.withdraw_told.new.leases c.room_in_table.new.exports (acted c.stood_for-stood.result c.is_effective-effective.result c.max-now.result c.args.ask.now c.room_in_table.new.exports) c.withdraw_told.new.exports
     c.args.self.now.runs.items c.args.self.now.withdrawn.items c.args.self.now.told c.args.self.now.added c.args.self.now.units c.args.self.now.moment c.max-now.result c.is_effective-effective.result c.in_ok-ready.ready.gone.items c.withdraw_told.new.gone.items
-    (has-acted c.args.self.now.config c.args.self.now.events.items (event_of c.args.by c.args.moment c.args.ask.now) c.args.self.now.leases c.settle.new.leases c.args.self.now.exports c.room_in_table.new.exports c.args.self.now.runs.items c.deref.result.now c.args.self.now.withdrawn.items
+    (has-acted c.args.self.now.config c.args.self.now.events.items (event_of c.args.by c.args.moment c.args.ask.now) c.args.self.now.leases c.settle.new.leases c.args.self.now.exports c.room_in_table.new.exports c.args.self.now.runs.items c.args.self.now.runs.items c.args.self.now.withdrawn.items
     c.args.self.now.told c.args.self.now.added c.args.self.now.units c.args.self.now.moment c.max-now.result c.len-running.result c.count-exported.result c.stood_for-stood.result (option_and_then (object_of c.args.self.now.names) (name_in c.args.ask.now)) c.is_effective-effective.result c.room_refusal.result (length c.args.self.now.names)
-    c.requires.whole.0 (c.stood_for-stood.ensures ∙ stood-is (places c.args.self.now.config c.args.self.now.events.items) c.args.self.now.names c.args.ask.now c.requires.whole.2) c.stood_for-stood.ensures (bindings-counted c.args.self.now.config c.args.self.now.events.items c.args.self.now.names c.requires.whole.2) c.requires.moment c.is_effective-effective.ensures c.deref.ensures.value c.room_in_table.ensures.rest c.room_refusal.ensures running c.count-exported.ensures.value (none-else c.room_refusal.result c.in_default.not-Some) time
+    c.requires.whole.0 (c.stood_for-stood.ensures ∙ stood-is (places c.args.self.now.config c.args.self.now.events.items) c.args.self.now.names c.args.ask.now c.requires.whole.2) c.stood_for-stood.ensures (bindings-counted c.args.self.now.config c.args.self.now.events.items c.args.self.now.names c.requires.whole.2) c.requires.moment c.is_effective-effective.ensures refl c.room_in_table.ensures.rest c.room_refusal.ensures running c.count-exported.ensures.value (none-else c.room_refusal.result c.in_default.not-Some) time
     (ap (λ (t : ExportTable). await_refusal c.max-now.result t.rows t.waits c.stood_for-stood.result c.is_effective-effective.result c.args.ask.now) c.room_in_table.ensures.rest ∙ c.in_ok-ready.ensures.refusal)
     (c.in_ok-settle.ensures {u = tt}).refusal (c.in_ok-settle.ensures {u = tt}).ok)
     time (has-withdrawn c.settle.new.leases c.withdraw_told.new.leases (acted c.stood_for-stood.result c.is_effective-effective.result c.max-now.result c.args.ask.now c.room_in_table.new.exports) c.act.new.exports c.withdraw_told.new.exports c.max-now.result c.in_ok-ready.ready.gone.items c.withdraw_told.new.gone.items
@@ -165,7 +167,7 @@ returns-clause-taken c =
     (c.in_ok-ready.ensures.reply ∙ ap (λ (t : ExportTable). reply_at c.args.self.now.config c.args.self.now.added t.rows (names_in c.args.self.now.names) c.stood_for-stood.result c.is_effective-effective.result c.args.ask.now) (sym c.room_in_table.ensures.rest)
     ∙ ap (λ ns. reply_at c.args.self.now.config c.args.self.now.added c.room_in_table.new.exports.rows ns c.stood_for-stood.result c.is_effective-effective.result c.args.ask.now) c.requires.whole.2.names
     ∙ ap (λ o. reply_at c.args.self.now.config c.args.self.now.added c.room_in_table.new.exports.rows (names (places c.args.self.now.config c.args.self.now.events.items)) o c.is_effective-effective.result c.args.ask.now) (c.stood_for-stood.ensures ∙ stood-is (places c.args.self.now.config c.args.self.now.events.items) c.args.self.now.names c.args.ask.now c.requires.whole.2))
-    (c.in_ok-ready.ensures.gone ∙ ap (λ l. map (λ (w : Withdrawal). w.object) (drop c.args.self.now.told l)) c.deref-2.ensures.value) refl)
+    (c.in_ok-ready.ensures.gone ∙ ap (λ l. map (λ (w : Withdrawal). w.object) (drop c.args.self.now.told l)) c.deref.ensures.value) refl)
 
 pub returns-clause-with_event : goal.returns-clause-with_event
 returns-clause-with_event c =
@@ -174,11 +176,11 @@ returns-clause-with_event c =
     let untold : c.len-untold.result ≡ length c.in_ok-ready.ready.gone.items = search rules in
     let place : c.len-place.result ≡ length c.room_for_event.new.events.items = search rules in
     let all : c.len-2.result ≡ length c.note_withdrawn.new.withdrawn.items = search rules in
-    let seen : c.deref-5.result.now ≡ c.withdraw_told.new.gone.items = c.deref-5.ensures.value in
+    let seen : c.deref-4.result.now ≡ c.withdraw_told.new.gone.items = c.deref-4.ensures.value in
     let ended : c.room_for_event.new.events.items ++ (event_of c.args.by c.args.moment c.args.ask.now) ∷ [] ≡ c.args.self.now.events.items ++ (event_of c.args.by c.args.moment c.args.ask.now) ∷ [] = ap (λ l. l ++ (event_of c.args.by c.args.moment c.args.ask.now) ∷ []) c.room_for_event.ensures.events in
-    let acts = has-acted c.args.self.now.config c.args.self.now.events.items (event_of c.args.by c.args.moment c.args.ask.now) c.args.self.now.leases c.settle.new.leases c.args.self.now.exports c.room_in_table.new.exports c.args.self.now.runs.items c.deref.result.now c.args.self.now.withdrawn.items
+    let acts = has-acted c.args.self.now.config c.args.self.now.events.items (event_of c.args.by c.args.moment c.args.ask.now) c.args.self.now.leases c.settle.new.leases c.args.self.now.exports c.room_in_table.new.exports c.args.self.now.runs.items c.args.self.now.runs.items c.args.self.now.withdrawn.items
     c.args.self.now.told c.args.self.now.added c.args.self.now.units c.args.self.now.moment c.max-now.result c.len-running.result c.count-exported.result c.stood_for-stood.result (option_and_then (object_of c.args.self.now.names) (name_in c.args.ask.now)) c.is_effective-effective.result c.room_refusal.result (length c.args.self.now.names)
-    c.requires.whole.0 (c.stood_for-stood.ensures ∙ stood-is (places c.args.self.now.config c.args.self.now.events.items) c.args.self.now.names c.args.ask.now c.requires.whole.2) c.stood_for-stood.ensures (bindings-counted c.args.self.now.config c.args.self.now.events.items c.args.self.now.names c.requires.whole.2) c.requires.moment c.is_effective-effective.ensures c.deref.ensures.value c.room_in_table.ensures.rest c.room_refusal.ensures running c.count-exported.ensures.value (none-else c.room_refusal.result c.in_default.not-Some) time
+    c.requires.whole.0 (c.stood_for-stood.ensures ∙ stood-is (places c.args.self.now.config c.args.self.now.events.items) c.args.self.now.names c.args.ask.now c.requires.whole.2) c.stood_for-stood.ensures (bindings-counted c.args.self.now.config c.args.self.now.events.items c.args.self.now.names c.requires.whole.2) c.requires.moment c.is_effective-effective.ensures refl c.room_in_table.ensures.rest c.room_refusal.ensures running c.count-exported.ensures.value (none-else c.room_refusal.result c.in_default.not-Some) time
     (ap (λ (t : ExportTable). await_refusal c.max-now.result t.rows t.waits c.stood_for-stood.result c.is_effective-effective.result c.args.ask.now) c.room_in_table.ensures.rest ∙ c.in_ok-ready.ensures.refusal)
     (c.in_ok-settle.ensures {u = tt}).refusal (c.in_ok-settle.ensures {u = tt}).ok in
     let kept = turn-keeps c.args.self.now.config c.args.self.now.events.items (event_of c.args.by c.args.moment c.args.ask.now) c.args.self.now.leases c.settle.new.leases c.withdraw_told.new.leases c.room_in_table.new.exports (acted c.stood_for-stood.result c.is_effective-effective.result c.max-now.result c.args.ask.now c.room_in_table.new.exports) c.withdraw_told.new.exports
@@ -188,8 +190,8 @@ returns-clause-with_event c =
     c.act.ensures c.withdraw_told.ensures.kept c.withdraw_told.ensures.gone c.withdraw_told.ensures.dropped)
     c.len-place.result c.told_after-self.result _ _ (c.room_for_event.new.events.items ++ (event_of c.args.by c.args.moment c.args.ask.now) ∷ []) c.act_on_runs.new.runs.items c.note_withdrawn.new.withdrawn.items
     (place ∙ ap length c.room_for_event.ensures.events) ended
-    (c.act_on_runs.ensures ∙ ap (acted_runs c.is_effective-effective.result c.args.by c.args.ask.now) c.room_for_event.ensures.runs)
-    (c.note_withdrawn.ensures.items ∙ ap (λ l. l ++ map (withdrawal_at c.len-place.result) (drop c.len-untold.result c.deref-5.result.now)) c.room_for_gone.ensures.withdrawn
+    (let S : List Run → Type 0 = λ rs. AreSame c.act_on_runs.new.runs.items (acted_runs c.is_effective-effective.result c.args.by c.args.ask.now rs) in subst S c.room_for_event.ensures.runs c.act_on_runs.ensures)
+    (c.note_withdrawn.ensures.items ∙ ap (λ l. l ++ map (withdrawal_at c.len-place.result) (drop c.len-untold.result c.deref-4.result.now)) c.room_for_gone.ensures.withdrawn
     ∙ ap (λ l. c.args.self.now.withdrawn.items ++ map (withdrawal_at c.len-place.result) (drop c.len-untold.result l)) seen
     ∙ ap (λ n. c.args.self.now.withdrawn.items ++ map (withdrawal_at c.len-place.result) (drop n c.withdraw_told.new.gone.items)) untold)
     (c.told_after-self.ensures ∙ ap (λ n. told_after c.args.self.now.told n c.args.ask.now) all)
@@ -198,7 +200,6 @@ returns-clause-with_event c =
     let events_room = (c.in_ok-room_for_event.ensures {u = tt}).event in
     let withdrawn_room = (c.in_ok-room_for_gone.ensures {u = tt}).withdrawals in let scratch_room = (c.in_ok-room_for_gone.ensures {u = tt}).objects in
     let withdrawn_grow = c.note_withdrawn.ensures.capacity in let scratch_grow = c.withdraw_told.ensures.capacity in
-    let runs_len : vec_len c.room_for_event.new.runs ≡ length c.room_for_event.new.runs.items = search rules in
     let withdrawn_len : vec_len c.room_for_gone.new.withdrawn ≡ length c.room_for_gone.new.withdrawn.items = search rules in
     let events_same = ap length c.room_for_event.ensures.events in let runs_same = ap length c.room_for_event.ensures.runs in let withdrawn_same = ap length c.room_for_gone.ensures.withdrawn in (
       kept,
@@ -207,7 +208,7 @@ returns-clause-with_event c =
           c.told_after-self.result _ _ c.max-now.result c.in_ok-ready.ready.objects c.withdraw_told.new.scratch.items c.room_for_event.new.events.capacity (vec_capacity c.note_withdrawn.new.withdrawn) (vec_capacity c.withdraw_told.new.scratch)
           c.is_effective-effective.result (is-effective c.args.self.now.config c.args.self.now.events.items (event_of c.args.by c.args.moment c.args.ask.now) c.args.self.now.leases c.room_in_table.new.exports c.args.self.now.runs.items c.args.self.now.withdrawn.items
           c.args.self.now.told c.args.self.now.added c.args.self.now.units c.args.self.now.moment c.is_effective-effective.result acts.asked)
-          c.requires.whole.0 kept ended (omega (arith, objects)) (omega (arith, events_room, events_same, runs_len, runs_same)) (omega (arith, withdrawn_room, withdrawn_grow, withdrawn_len, withdrawn_same))
+          c.requires.whole.0 kept ended (omega (arith, objects)) (omega (arith, events_room, events_same, runs_same)) (omega (arith, withdrawn_room, withdrawn_grow, withdrawn_len, withdrawn_same))
           (omega (arith, scratch_room, scratch_grow)) c.withdraw_told.ensures.scratch,
       bindings-same c.args.self.now.config (c.args.self.now.events.items ++ (event_of c.args.by c.args.moment c.args.ask.now) ∷ []) (c.room_for_event.new.events.items ++ (event_of c.args.by c.args.moment c.args.ask.now) ∷ []) c.settle.new.names c.settle.new.names
           (names-next c.args.self.now.config c.args.self.now.events.items (event_of c.args.by c.args.moment c.args.ask.now) c.is_effective-effective.result c.args.self.now.names c.settle.new.names c.requires.whole.2
@@ -229,17 +230,17 @@ pub act-requires-clause-runs : goal.act-requires-clause-runs
 act-requires-clause-runs c o t s =
     abandon-counted c.args.self.now.config c.args.self.now.events.items (event_of c.args.by c.args.moment c.args.ask.now) c.args.self.now.leases c.room_in_table.new.exports c.args.self.now.runs.items c.args.self.now.withdrawn.items
     c.args.self.now.told c.args.self.now.added c.args.self.now.units c.args.self.now.moment c.is_effective-effective.result
-    (asked c.args.self.now.config c.args.self.now.events.items (event_of c.args.by c.args.moment c.args.ask.now) c.args.self.now.leases c.args.self.now.exports c.room_in_table.new.exports c.args.self.now.runs.items c.deref.result.now c.args.self.now.withdrawn.items
-    c.args.self.now.told c.args.self.now.added c.args.self.now.units c.args.self.now.moment c.stood_for-stood.result c.is_effective-effective.result c.requires.whole.0 (c.stood_for-stood.ensures ∙ stood-is (places c.args.self.now.config c.args.self.now.events.items) c.args.self.now.names c.args.ask.now c.requires.whole.2) c.is_effective-effective.ensures c.deref.ensures.value c.room_in_table.ensures.rest)
+    (asked c.args.self.now.config c.args.self.now.events.items (event_of c.args.by c.args.moment c.args.ask.now) c.args.self.now.leases c.args.self.now.exports c.room_in_table.new.exports c.args.self.now.runs.items c.args.self.now.runs.items c.args.self.now.withdrawn.items
+    c.args.self.now.told c.args.self.now.added c.args.self.now.units c.args.self.now.moment c.stood_for-stood.result c.is_effective-effective.result c.requires.whole.0 (c.stood_for-stood.ensures ∙ stood-is (places c.args.self.now.config c.args.self.now.events.items) c.args.self.now.names c.args.ask.now c.requires.whole.2) c.is_effective-effective.ensures refl c.room_in_table.ensures.rest)
     o t s
 
 pub withdraw_told-requires-clause-log : goal.withdraw_told-requires-clause-log
 withdraw_told-requires-clause-log c =
     let running : c.len-running.result ≡ length c.args.self.now.runs.items = search rules in
     let time : c.max-now.result ≡ max c.args.moment c.args.self.now.moment = search rules in
-    let acts = has-acted c.args.self.now.config c.args.self.now.events.items (event_of c.args.by c.args.moment c.args.ask.now) c.args.self.now.leases c.settle.new.leases c.args.self.now.exports c.room_in_table.new.exports c.args.self.now.runs.items c.deref.result.now c.args.self.now.withdrawn.items
+    let acts = has-acted c.args.self.now.config c.args.self.now.events.items (event_of c.args.by c.args.moment c.args.ask.now) c.args.self.now.leases c.settle.new.leases c.args.self.now.exports c.room_in_table.new.exports c.args.self.now.runs.items c.args.self.now.runs.items c.args.self.now.withdrawn.items
     c.args.self.now.told c.args.self.now.added c.args.self.now.units c.args.self.now.moment c.max-now.result c.len-running.result c.count-exported.result c.stood_for-stood.result (option_and_then (object_of c.args.self.now.names) (name_in c.args.ask.now)) c.is_effective-effective.result c.room_refusal.result (length c.args.self.now.names)
-    c.requires.whole.0 (c.stood_for-stood.ensures ∙ stood-is (places c.args.self.now.config c.args.self.now.events.items) c.args.self.now.names c.args.ask.now c.requires.whole.2) c.stood_for-stood.ensures (bindings-counted c.args.self.now.config c.args.self.now.events.items c.args.self.now.names c.requires.whole.2) c.requires.moment c.is_effective-effective.ensures c.deref.ensures.value c.room_in_table.ensures.rest c.room_refusal.ensures running c.count-exported.ensures.value (none-else c.room_refusal.result c.in_default.not-Some) time
+    c.requires.whole.0 (c.stood_for-stood.ensures ∙ stood-is (places c.args.self.now.config c.args.self.now.events.items) c.args.self.now.names c.args.ask.now c.requires.whole.2) c.stood_for-stood.ensures (bindings-counted c.args.self.now.config c.args.self.now.events.items c.args.self.now.names c.requires.whole.2) c.requires.moment c.is_effective-effective.ensures refl c.room_in_table.ensures.rest c.room_refusal.ensures running c.count-exported.ensures.value (none-else c.room_refusal.result c.in_default.not-Some) time
     (ap (λ (t : ExportTable). await_refusal c.max-now.result t.rows t.waits c.stood_for-stood.result c.is_effective-effective.result c.args.ask.now) c.room_in_table.ensures.rest ∙ c.in_ok-ready.ensures.refusal)
     (c.in_ok-settle.ensures {u = tt}).refusal (c.in_ok-settle.ensures {u = tt}).ok in
     has-log c.args.self.now.config c.args.self.now.events.items (event_of c.args.by c.args.moment c.args.ask.now) c.args.self.now.leases c.settle.new.leases c.room_in_table.new.exports (acted c.stood_for-stood.result c.is_effective-effective.result c.max-now.result c.args.ask.now c.room_in_table.new.exports)
@@ -260,7 +261,7 @@ withdraw_told-requires-clause-room c =
     let few = acted-few c.stood_for-stood.result c.is_effective-effective.result c.max-now.result c.args.ask.now c.room_in_table.new.exports c.act.new.exports c.act.ensures in
     let same = ap (λ (t : ExportTable). length t.rows) c.room_in_table.ensures.rest in
     let objects = c.in_ok-ready.ensures.objects in let room = c.in_ok-ready.ensures.room in
-    let most = most-more (nat_le c.args.self.now.due c.max-now.result) (length c.act.new.exports.rows) c.in_ok-ready.ready.objects (length c.deref-4.result.now) (length c.in_ok-ready.ready.doubtful.items) (omega (arith, few, same, objects)) (ap length c.deref-4.ensures.value) in
+    let most = most-more (nat_le c.args.self.now.due c.max-now.result) (length c.act.new.exports.rows) c.in_ok-ready.ready.objects (length c.deref-3.result.now) (length c.in_ok-ready.ready.doubtful.items) (omega (arith, few, same, objects)) (ap length c.deref-3.ensures.value) in
     omega (arith, room, most)
 
 pub into_turn-requires : goal.into_turn-requires
@@ -270,7 +271,7 @@ into_turn-requires c asked =
     let objects = c.in_ok-ready.ensures.objects in let room = c.in_ok-ready.ensures.spare asked in
     let untold : vec_len c.in_ok-ready.ready.gone ≡ length c.in_ok-ready.ready.gone.items = search rules in
     let few = c.withdraw_told.ensures.few in
-    let most = most-more (nat_le c.args.self.now.due c.max-now.result) (length c.act.new.exports.rows) c.in_ok-ready.ready.objects (length c.deref-4.result.now) (length c.in_ok-ready.ready.doubtful.items) (omega (arith, rows, same, objects)) (ap length c.deref-4.ensures.value) in
+    let most = most-more (nat_le c.args.self.now.due c.max-now.result) (length c.act.new.exports.rows) c.in_ok-ready.ready.objects (length c.deref-3.result.now) (length c.in_ok-ready.ready.doubtful.items) (omega (arith, rows, same, objects)) (ap length c.deref-3.ensures.value) in
     omega (arith, room, untold, few, most)
 
 pub note_withdrawn-requires-clause-within : goal.note_withdrawn-requires-clause-within
@@ -280,14 +281,14 @@ note_withdrawn-requires-clause-within c =
     let untold : c.len-untold.result ≡ length c.in_ok-ready.ready.gone.items = search rules in
     let after = goes-after c.args.self.now.config c.args.self.now.events.items (event_of c.args.by c.args.moment c.args.ask.now) c.args.self.now.leases c.settle.new.leases c.withdraw_told.new.leases c.room_in_table.new.exports (acted c.stood_for-stood.result c.is_effective-effective.result c.max-now.result c.args.ask.now c.room_in_table.new.exports) c.withdraw_told.new.exports
     c.args.self.now.runs.items c.args.self.now.withdrawn.items c.args.self.now.told c.args.self.now.added c.args.self.now.units c.args.self.now.moment c.max-now.result c.is_effective-effective.result c.in_ok-ready.ready.gone.items c.withdraw_told.new.gone.items
-    (has-acted c.args.self.now.config c.args.self.now.events.items (event_of c.args.by c.args.moment c.args.ask.now) c.args.self.now.leases c.settle.new.leases c.args.self.now.exports c.room_in_table.new.exports c.args.self.now.runs.items c.deref.result.now c.args.self.now.withdrawn.items
+    (has-acted c.args.self.now.config c.args.self.now.events.items (event_of c.args.by c.args.moment c.args.ask.now) c.args.self.now.leases c.settle.new.leases c.args.self.now.exports c.room_in_table.new.exports c.args.self.now.runs.items c.args.self.now.runs.items c.args.self.now.withdrawn.items
     c.args.self.now.told c.args.self.now.added c.args.self.now.units c.args.self.now.moment c.max-now.result c.len-running.result c.count-exported.result c.stood_for-stood.result (option_and_then (object_of c.args.self.now.names) (name_in c.args.ask.now)) c.is_effective-effective.result c.room_refusal.result (length c.args.self.now.names)
-    c.requires.whole.0 (c.stood_for-stood.ensures ∙ stood-is (places c.args.self.now.config c.args.self.now.events.items) c.args.self.now.names c.args.ask.now c.requires.whole.2) c.stood_for-stood.ensures (bindings-counted c.args.self.now.config c.args.self.now.events.items c.args.self.now.names c.requires.whole.2) c.requires.moment c.is_effective-effective.ensures c.deref.ensures.value c.room_in_table.ensures.rest c.room_refusal.ensures running c.count-exported.ensures.value (none-else c.room_refusal.result c.in_default.not-Some) time
+    c.requires.whole.0 (c.stood_for-stood.ensures ∙ stood-is (places c.args.self.now.config c.args.self.now.events.items) c.args.self.now.names c.args.ask.now c.requires.whole.2) c.stood_for-stood.ensures (bindings-counted c.args.self.now.config c.args.self.now.events.items c.args.self.now.names c.requires.whole.2) c.requires.moment c.is_effective-effective.ensures refl c.room_in_table.ensures.rest c.room_refusal.ensures running c.count-exported.ensures.value (none-else c.room_refusal.result c.in_default.not-Some) time
     (ap (λ (t : ExportTable). await_refusal c.max-now.result t.rows t.waits c.stood_for-stood.result c.is_effective-effective.result c.args.ask.now) c.room_in_table.ensures.rest ∙ c.in_ok-ready.ensures.refusal)
     (c.in_ok-settle.ensures {u = tt}).refusal (c.in_ok-settle.ensures {u = tt}).ok)
     time (has-withdrawn c.settle.new.leases c.withdraw_told.new.leases (acted c.stood_for-stood.result c.is_effective-effective.result c.max-now.result c.args.ask.now c.room_in_table.new.exports) c.act.new.exports c.withdraw_told.new.exports c.max-now.result c.in_ok-ready.ready.gone.items c.withdraw_told.new.gone.items
     c.act.ensures c.withdraw_told.ensures.kept c.withdraw_told.ensures.gone c.withdraw_told.ensures.dropped) in
-    let seen = ap length c.deref-5.ensures.value in
+    let seen = ap length c.deref-4.ensures.value in
     omega (arith, untold, after, seen)
 
 pub note_withdrawn-requires-clause-room : goal.note_withdrawn-requires-clause-room
@@ -297,9 +298,9 @@ note_withdrawn-requires-clause-room c =
     let untold : c.len-untold.result ≡ length c.in_ok-ready.ready.gone.items = search rules in
     let few = goes-few c.args.self.now.config c.args.self.now.events.items (event_of c.args.by c.args.moment c.args.ask.now) c.args.self.now.leases c.settle.new.leases c.withdraw_told.new.leases c.room_in_table.new.exports (acted c.stood_for-stood.result c.is_effective-effective.result c.max-now.result c.args.ask.now c.room_in_table.new.exports) c.withdraw_told.new.exports
     c.args.self.now.runs.items c.args.self.now.withdrawn.items c.args.self.now.told c.args.self.now.added c.args.self.now.units c.args.self.now.moment c.max-now.result c.is_effective-effective.result c.in_ok-ready.ready.gone.items c.withdraw_told.new.gone.items
-    (has-acted c.args.self.now.config c.args.self.now.events.items (event_of c.args.by c.args.moment c.args.ask.now) c.args.self.now.leases c.settle.new.leases c.args.self.now.exports c.room_in_table.new.exports c.args.self.now.runs.items c.deref.result.now c.args.self.now.withdrawn.items
+    (has-acted c.args.self.now.config c.args.self.now.events.items (event_of c.args.by c.args.moment c.args.ask.now) c.args.self.now.leases c.settle.new.leases c.args.self.now.exports c.room_in_table.new.exports c.args.self.now.runs.items c.args.self.now.runs.items c.args.self.now.withdrawn.items
     c.args.self.now.told c.args.self.now.added c.args.self.now.units c.args.self.now.moment c.max-now.result c.len-running.result c.count-exported.result c.stood_for-stood.result (option_and_then (object_of c.args.self.now.names) (name_in c.args.ask.now)) c.is_effective-effective.result c.room_refusal.result (length c.args.self.now.names)
-    c.requires.whole.0 (c.stood_for-stood.ensures ∙ stood-is (places c.args.self.now.config c.args.self.now.events.items) c.args.self.now.names c.args.ask.now c.requires.whole.2) c.stood_for-stood.ensures (bindings-counted c.args.self.now.config c.args.self.now.events.items c.args.self.now.names c.requires.whole.2) c.requires.moment c.is_effective-effective.ensures c.deref.ensures.value c.room_in_table.ensures.rest c.room_refusal.ensures running c.count-exported.ensures.value (none-else c.room_refusal.result c.in_default.not-Some) time
+    c.requires.whole.0 (c.stood_for-stood.ensures ∙ stood-is (places c.args.self.now.config c.args.self.now.events.items) c.args.self.now.names c.args.ask.now c.requires.whole.2) c.stood_for-stood.ensures (bindings-counted c.args.self.now.config c.args.self.now.events.items c.args.self.now.names c.requires.whole.2) c.requires.moment c.is_effective-effective.ensures refl c.room_in_table.ensures.rest c.room_refusal.ensures running c.count-exported.ensures.value (none-else c.room_refusal.result c.in_default.not-Some) time
     (ap (λ (t : ExportTable). await_refusal c.max-now.result t.rows t.waits c.stood_for-stood.result c.is_effective-effective.result c.args.ask.now) c.room_in_table.ensures.rest ∙ c.in_ok-ready.ensures.refusal)
     (c.in_ok-settle.ensures {u = tt}).refusal (c.in_ok-settle.ensures {u = tt}).ok)
     time (has-withdrawn c.settle.new.leases c.withdraw_told.new.leases (acted c.stood_for-stood.result c.is_effective-effective.result c.max-now.result c.args.ask.now c.room_in_table.new.exports) c.act.new.exports c.withdraw_told.new.exports c.max-now.result c.in_ok-ready.ready.gone.items c.withdraw_told.new.gone.items
@@ -307,7 +308,7 @@ note_withdrawn-requires-clause-room c =
     let same = ap (λ (t : ExportTable). length t.rows) c.act.ensures in
     let rows = acted-few c.stood_for-stood.result c.is_effective-effective.result c.max-now.result c.args.ask.now c.room_in_table.new.exports c.act.new.exports c.act.ensures in
     let before = ap (λ (t : ExportTable). length t.rows) c.room_in_table.ensures.rest in
-    let seen = ap (λ l. length (drop c.len-untold.result l)) c.deref-5.ensures.value in
+    let seen = ap (λ l. length (drop c.len-untold.result l)) c.deref-4.ensures.value in
     let at = ap (λ n. length (drop n c.withdraw_told.new.gone.items)) untold in
     let objects = c.in_ok-ready.ensures.objects in
     let room = (c.in_ok-room_for_gone.ensures {u = tt}).withdrawals in
@@ -325,8 +326,8 @@ pub act-requires-clause-returns : goal.act-requires-clause-returns
 act-requires-clause-returns c o made listed u t s =
     finish-counted c.args.self.now.config c.args.self.now.events.items (event_of c.args.by c.args.moment c.args.ask.now) c.args.self.now.leases c.room_in_table.new.exports c.args.self.now.runs.items c.args.self.now.withdrawn.items
     c.args.self.now.told c.args.self.now.added c.args.self.now.units c.args.self.now.moment c.is_effective-effective.result
-    (asked c.args.self.now.config c.args.self.now.events.items (event_of c.args.by c.args.moment c.args.ask.now) c.args.self.now.leases c.args.self.now.exports c.room_in_table.new.exports c.args.self.now.runs.items c.deref.result.now c.args.self.now.withdrawn.items
-    c.args.self.now.told c.args.self.now.added c.args.self.now.units c.args.self.now.moment c.stood_for-stood.result c.is_effective-effective.result c.requires.whole.0 (c.stood_for-stood.ensures ∙ stood-is (places c.args.self.now.config c.args.self.now.events.items) c.args.self.now.names c.args.ask.now c.requires.whole.2) c.is_effective-effective.ensures c.deref.ensures.value c.room_in_table.ensures.rest)
+    (asked c.args.self.now.config c.args.self.now.events.items (event_of c.args.by c.args.moment c.args.ask.now) c.args.self.now.leases c.args.self.now.exports c.room_in_table.new.exports c.args.self.now.runs.items c.args.self.now.runs.items c.args.self.now.withdrawn.items
+    c.args.self.now.told c.args.self.now.added c.args.self.now.units c.args.self.now.moment c.stood_for-stood.result c.is_effective-effective.result c.requires.whole.0 (c.stood_for-stood.ensures ∙ stood-is (places c.args.self.now.config c.args.self.now.events.items) c.args.self.now.names c.args.ask.now c.requires.whole.2) c.is_effective-effective.ensures refl c.room_in_table.ensures.rest)
     o made listed u t s
 
 pub act-requires-clause-awaiting : goal.act-requires-clause-awaiting
@@ -335,10 +336,10 @@ act-requires-clause-awaiting c o made listed u t s =
     let kept = c.requires.whole.0.stands in
     finish-few c.args.self.now.config c.args.self.now.events.items (event_of c.args.by c.args.moment c.args.ask.now) c.args.self.now.leases c.room_in_table.new.exports c.args.self.now.runs.items c.args.self.now.withdrawn.items
     c.args.self.now.told c.args.self.now.added c.args.self.now.units c.args.self.now.moment c.max-now.result c.is_effective-effective.result
-    (asked c.args.self.now.config c.args.self.now.events.items (event_of c.args.by c.args.moment c.args.ask.now) c.args.self.now.leases c.args.self.now.exports c.room_in_table.new.exports c.args.self.now.runs.items c.deref.result.now c.args.self.now.withdrawn.items
-    c.args.self.now.told c.args.self.now.added c.args.self.now.units c.args.self.now.moment c.stood_for-stood.result c.is_effective-effective.result c.requires.whole.0 (c.stood_for-stood.ensures ∙ stood-is (places c.args.self.now.config c.args.self.now.events.items) c.args.self.now.names c.args.ask.now c.requires.whole.2) c.is_effective-effective.ensures c.deref.ensures.value c.room_in_table.ensures.rest)
-    time (ap (λ o. await_refusal c.max-now.result c.room_in_table.new.exports.rows c.room_in_table.new.exports.waits o c.is_effective-effective.result c.args.ask.now) (sym (c.stood_for-stood.ensures ∙ stood-is (places c.args.self.now.config c.args.self.now.events.items) c.args.self.now.names c.args.ask.now c.requires.whole.2)) ∙ ap (λ (t : ExportTable). await_refusal c.max-now.result t.rows t.waits c.stood_for-stood.result c.is_effective-effective.result c.args.ask.now) c.room_in_table.ensures.rest ∙ c.in_ok-ready.ensures.refusal) c.deref-3.result.now
-    (c.deref-3.ensures.value ∙ c.in_ok-ready.ensures.references
+    (asked c.args.self.now.config c.args.self.now.events.items (event_of c.args.by c.args.moment c.args.ask.now) c.args.self.now.leases c.args.self.now.exports c.room_in_table.new.exports c.args.self.now.runs.items c.args.self.now.runs.items c.args.self.now.withdrawn.items
+    c.args.self.now.told c.args.self.now.added c.args.self.now.units c.args.self.now.moment c.stood_for-stood.result c.is_effective-effective.result c.requires.whole.0 (c.stood_for-stood.ensures ∙ stood-is (places c.args.self.now.config c.args.self.now.events.items) c.args.self.now.names c.args.ask.now c.requires.whole.2) c.is_effective-effective.ensures refl c.room_in_table.ensures.rest)
+    time (ap (λ o. await_refusal c.max-now.result c.room_in_table.new.exports.rows c.room_in_table.new.exports.waits o c.is_effective-effective.result c.args.ask.now) (sym (c.stood_for-stood.ensures ∙ stood-is (places c.args.self.now.config c.args.self.now.events.items) c.args.self.now.names c.args.ask.now c.requires.whole.2)) ∙ ap (λ (t : ExportTable). await_refusal c.max-now.result t.rows t.waits c.stood_for-stood.result c.is_effective-effective.result c.args.ask.now) c.room_in_table.ensures.rest ∙ c.in_ok-ready.ensures.refusal) c.deref-2.result.now
+    (c.deref-2.ensures.value ∙ c.in_ok-ready.ensures.references
     ∙ ap (λ y. returned_by y c.args.self.now.added c.args.self.now.exports.rows c.stood_for-stood.result c.is_effective-effective.result c.args.ask.now) (sym kept.space_is)
     ∙ ap (λ n. returned_by c.args.self.now.exports.space n c.args.self.now.exports.rows c.stood_for-stood.result c.is_effective-effective.result c.args.ask.now) (sym kept.added_is)
     ∙ ap (λ (x : ExportTable). returned_by x.space x.added x.rows c.stood_for-stood.result c.is_effective-effective.result c.args.ask.now) (sym c.room_in_table.ensures.rest)
@@ -350,10 +351,10 @@ act-requires-clause-looks c n u s =
     let kept = c.requires.whole.0.stands in
     lookup-fits c.args.self.now.config c.args.self.now.events.items (event_of c.args.by c.args.moment c.args.ask.now) c.args.self.now.leases c.room_in_table.new.exports c.args.self.now.runs.items c.args.self.now.withdrawn.items
     c.args.self.now.told c.args.self.now.added c.args.self.now.units c.args.self.now.moment c.max-now.result c.is_effective-effective.result
-    (asked c.args.self.now.config c.args.self.now.events.items (event_of c.args.by c.args.moment c.args.ask.now) c.args.self.now.leases c.args.self.now.exports c.room_in_table.new.exports c.args.self.now.runs.items c.deref.result.now c.args.self.now.withdrawn.items
-    c.args.self.now.told c.args.self.now.added c.args.self.now.units c.args.self.now.moment c.stood_for-stood.result c.is_effective-effective.result c.requires.whole.0 (c.stood_for-stood.ensures ∙ stood-is (places c.args.self.now.config c.args.self.now.events.items) c.args.self.now.names c.args.ask.now c.requires.whole.2) c.is_effective-effective.ensures c.deref.ensures.value c.room_in_table.ensures.rest)
-    (ap (λ o. await_refusal c.max-now.result c.room_in_table.new.exports.rows c.room_in_table.new.exports.waits o c.is_effective-effective.result c.args.ask.now) (sym (c.stood_for-stood.ensures ∙ stood-is (places c.args.self.now.config c.args.self.now.events.items) c.args.self.now.names c.args.ask.now c.requires.whole.2)) ∙ ap (λ (t : ExportTable). await_refusal c.max-now.result t.rows t.waits c.stood_for-stood.result c.is_effective-effective.result c.args.ask.now) c.room_in_table.ensures.rest ∙ c.in_ok-ready.ensures.refusal) c.deref-3.result.now
-    (c.deref-3.ensures.value ∙ c.in_ok-ready.ensures.references
+    (asked c.args.self.now.config c.args.self.now.events.items (event_of c.args.by c.args.moment c.args.ask.now) c.args.self.now.leases c.args.self.now.exports c.room_in_table.new.exports c.args.self.now.runs.items c.args.self.now.runs.items c.args.self.now.withdrawn.items
+    c.args.self.now.told c.args.self.now.added c.args.self.now.units c.args.self.now.moment c.stood_for-stood.result c.is_effective-effective.result c.requires.whole.0 (c.stood_for-stood.ensures ∙ stood-is (places c.args.self.now.config c.args.self.now.events.items) c.args.self.now.names c.args.ask.now c.requires.whole.2) c.is_effective-effective.ensures refl c.room_in_table.ensures.rest)
+    (ap (λ o. await_refusal c.max-now.result c.room_in_table.new.exports.rows c.room_in_table.new.exports.waits o c.is_effective-effective.result c.args.ask.now) (sym (c.stood_for-stood.ensures ∙ stood-is (places c.args.self.now.config c.args.self.now.events.items) c.args.self.now.names c.args.ask.now c.requires.whole.2)) ∙ ap (λ (t : ExportTable). await_refusal c.max-now.result t.rows t.waits c.stood_for-stood.result c.is_effective-effective.result c.args.ask.now) c.room_in_table.ensures.rest ∙ c.in_ok-ready.ensures.refusal) c.deref-2.result.now
+    (c.deref-2.ensures.value ∙ c.in_ok-ready.ensures.references
     ∙ ap (λ y. returned_by y c.args.self.now.added c.args.self.now.exports.rows c.stood_for-stood.result c.is_effective-effective.result c.args.ask.now) (sym kept.space_is)
     ∙ ap (λ n. returned_by c.args.self.now.exports.space n c.args.self.now.exports.rows c.stood_for-stood.result c.is_effective-effective.result c.args.ask.now) (sym kept.added_is)
     ∙ ap (λ (x : ExportTable). returned_by x.space x.added x.rows c.stood_for-stood.result c.is_effective-effective.result c.args.ask.now) (sym c.room_in_table.ensures.rest)
@@ -376,25 +377,30 @@ act-requires-clause-few_pins c o =
 pub act-requires-clause-bound : goal.act-requires-clause-bound
 act-requires-clause-bound c o f b =
     ap (λ (t : ExportTable). is_exported t.rows o) c.room_in_table.ensures.rest
-    ∙ bound-exported c.args.self.now.exports.rows c.deref.result.now c.stood_for-stood.result c.args.by c.args.ask.now o (sym c.is_effective-effective.ensures ∙ f) b
+    ∙ bound-exported c.args.self.now.exports.rows c.args.self.now.runs.items c.stood_for-stood.result c.args.by c.args.ask.now o (sym c.is_effective-effective.ensures ∙ f) b
 
 pub room_for_event-requires : goal.room_for_event-requires
 room_for_event-requires c =
     let few = few-calls c.args.self.now.config c.args.self.now.events.items c.args.self.now.leases c.args.self.now.exports c.args.self.now.runs.items c.args.self.now.withdrawn.items c.args.self.now.told c.args.self.now.added c.args.self.now.units c.args.self.now.moment c.requires.whole.0 in
-    let len : vec_len c.args.self.now.runs ≡ length c.args.self.now.runs.items = search rules in
-    omega (arith, few, len)
+    omega (arith, few)
+
+pub act_on_runs-requires-clause-few : goal.act_on_runs-requires-clause-few
+act_on_runs-requires-clause-few c =
+    let few = few-calls c.args.self.now.config c.args.self.now.events.items c.args.self.now.leases c.args.self.now.exports c.args.self.now.runs.items c.args.self.now.withdrawn.items c.args.self.now.told c.args.self.now.added c.args.self.now.units c.args.self.now.moment c.requires.whole.0 in
+    let same = ap length c.room_for_event.ensures.runs in
+    omega (arith, few, same)
 
 pub withdraw_told-requires-clause-among : goal.withdraw_told-requires-clause-among
 withdraw_told-requires-clause-among c late =
     let running : c.len-running.result ≡ length c.args.self.now.runs.items = search rules in
     let time : c.max-now.result ≡ max c.args.moment c.args.self.now.moment = search rules in
-    let acts = has-acted c.args.self.now.config c.args.self.now.events.items (event_of c.args.by c.args.moment c.args.ask.now) c.args.self.now.leases c.settle.new.leases c.args.self.now.exports c.room_in_table.new.exports c.args.self.now.runs.items c.deref.result.now c.args.self.now.withdrawn.items
+    let acts = has-acted c.args.self.now.config c.args.self.now.events.items (event_of c.args.by c.args.moment c.args.ask.now) c.args.self.now.leases c.settle.new.leases c.args.self.now.exports c.room_in_table.new.exports c.args.self.now.runs.items c.args.self.now.runs.items c.args.self.now.withdrawn.items
     c.args.self.now.told c.args.self.now.added c.args.self.now.units c.args.self.now.moment c.max-now.result c.len-running.result c.count-exported.result c.stood_for-stood.result (option_and_then (object_of c.args.self.now.names) (name_in c.args.ask.now)) c.is_effective-effective.result c.room_refusal.result (length c.args.self.now.names)
-    c.requires.whole.0 (c.stood_for-stood.ensures ∙ stood-is (places c.args.self.now.config c.args.self.now.events.items) c.args.self.now.names c.args.ask.now c.requires.whole.2) c.stood_for-stood.ensures (bindings-counted c.args.self.now.config c.args.self.now.events.items c.args.self.now.names c.requires.whole.2) c.requires.moment c.is_effective-effective.ensures c.deref.ensures.value c.room_in_table.ensures.rest c.room_refusal.ensures running c.count-exported.ensures.value (none-else c.room_refusal.result c.in_default.not-Some) time
+    c.requires.whole.0 (c.stood_for-stood.ensures ∙ stood-is (places c.args.self.now.config c.args.self.now.events.items) c.args.self.now.names c.args.ask.now c.requires.whole.2) c.stood_for-stood.ensures (bindings-counted c.args.self.now.config c.args.self.now.events.items c.args.self.now.names c.requires.whole.2) c.requires.moment c.is_effective-effective.ensures refl c.room_in_table.ensures.rest c.room_refusal.ensures running c.count-exported.ensures.value (none-else c.room_refusal.result c.in_default.not-Some) time
     (ap (λ (t : ExportTable). await_refusal c.max-now.result t.rows t.waits c.stood_for-stood.result c.is_effective-effective.result c.args.ask.now) c.room_in_table.ensures.rest ∙ c.in_ok-ready.ensures.refusal)
     (c.in_ok-settle.ensures {u = tt}).refusal (c.in_ok-settle.ensures {u = tt}).ok in
     let stood = c.stood_for-stood.ensures ∙ stood-is (places c.args.self.now.config c.args.self.now.events.items) c.args.self.now.names c.args.ask.now c.requires.whole.2 in
-    settled-roomy c.settle.new.leases (acted c.stood_for-stood.result c.is_effective-effective.result c.max-now.result c.args.ask.now c.room_in_table.new.exports) c.act.new.exports c.max-now.result c.in_ok-ready.ready.doubtful.items c.deref-4.result.now c.act.ensures c.deref-4.ensures.value
+    settled-roomy c.settle.new.leases (acted c.stood_for-stood.result c.is_effective-effective.result c.max-now.result c.args.ask.now c.room_in_table.new.exports) c.act.new.exports c.max-now.result c.in_ok-ready.ready.doubtful.items c.deref-3.result.now c.act.ensures c.deref-3.ensures.value
     (settled-but c.args.self.now.config c.args.self.now.events.items (event_of c.args.by c.args.moment c.args.ask.now) c.args.self.now.leases c.settle.new.leases c.room_in_table.new.exports (acted c.stood_for-stood.result c.is_effective-effective.result c.max-now.result c.args.ask.now c.room_in_table.new.exports)
     c.args.self.now.runs.items c.args.self.now.withdrawn.items c.args.self.now.told c.args.self.now.added c.args.self.now.units c.args.self.now.moment c.is_effective-effective.result acts c.max-now.result c.args.self.now.due c.in_ok-ready.ready.doubtful.items time c.requires.whole.3
     (leb-false c.args.self.now.due c.max-now.result late)

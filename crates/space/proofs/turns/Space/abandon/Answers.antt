@@ -44,15 +44,15 @@ invariant_of-self c =
     let place : c.len-place.result ≡ length c.self.inside.tables.events.items = search rules in
     let gone = c.note_withdrawn.ensures.items ∙ ap (λ l. c.self.inside.tables.withdrawn.items ++ map (withdrawal_at c.len-place.result) l) c.deref.ensures.value in
     let kept = end-keeps c.self.inside.tables.config c.self.inside.tables.events.items c.args.by c.args.moment c.args.object c.self.inside.tables.leases c.lapse.new.self c.withdraw.new.leases c.self.inside.tables.exports c.end.new.self c.withdraw.new.exports c.self.inside.tables.runs.items c.self.inside.tables.withdrawn.items
-    c.self.inside.tables.told c.self.inside.tables.added c.self.inside.tables.units c.self.inside.tables.moment c.max-now.result c.self.inside.tables.scratch.items c.withdraw.new.gone.items c.len-place.result c.put_event.new.events.items c.drop_first.new.runs.items c.note_withdrawn.new.withdrawn.items
-    acts time goes c.self.invariant.1.empty place c.put_event.ensures.items c.drop_first.ensures gone in
+    c.self.inside.tables.told c.self.inside.tables.added c.self.inside.tables.units c.self.inside.tables.moment c.max-now.result c.self.inside.tables.scratch.items c.withdraw.new.gone.items c.len-place.result c.put_event.new.events.items c.end_one.new.self.items c.note_withdrawn.new.withdrawn.items
+    acts time goes c.self.invariant.1.empty place c.put_event.ensures.items c.end_one.ensures gone in
     let clear = c.clear.ensures.capacity in let filled = c.withdraw.ensures.capacity in
     let scratch_room : vec_capacity c.self.inside.tables.scratch ≤ vec_capacity c.clear.new.self = omega (arith, clear, filled) in (
       kept,
-      end-room c.self.inside.tables.config c.self.inside.tables.events.items c.put_event.new.events.items c.args.by c.args.moment c.args.object c.self.inside.tables.leases c.withdraw.new.leases c.self.inside.tables.exports c.withdraw.new.exports c.self.inside.tables.runs.items c.drop_first.new.runs.items
+      end-room c.self.inside.tables.config c.self.inside.tables.events.items c.put_event.new.events.items c.args.by c.args.moment c.args.object c.self.inside.tables.leases c.withdraw.new.leases c.self.inside.tables.exports c.withdraw.new.exports c.self.inside.tables.runs.items c.end_one.new.self.items
           c.self.inside.tables.withdrawn.items c.note_withdrawn.new.withdrawn.items c.self.inside.tables.told c.self.inside.tables.added c.self.inside.tables.units c.self.inside.tables.moment c.self.inside.tables.told c.self.inside.tables.added (c.self.inside.tables.units + 1) c.max-now.result c.self.inside.tables.scratch.items c.clear.new.self.items
           c.self.inside.tables.events.capacity (vec_capacity c.self.inside.tables.withdrawn) (vec_capacity c.self.inside.tables.scratch) c.put_event.new.events.capacity (vec_capacity c.note_withdrawn.new.withdrawn) (vec_capacity c.clear.new.self)
-          c.self.invariant.0 c.self.invariant.1 runs kept c.put_event.ensures.items c.drop_first.ensures c.clear.ensures.items c.put_event.ensures.capacity c.note_withdrawn.ensures.capacity scratch_room,
+          c.self.invariant.0 c.self.invariant.1 runs kept c.put_event.ensures.items c.end_one.ensures c.clear.ensures.items c.put_event.ensures.capacity c.note_withdrawn.ensures.capacity scratch_room,
       bindings-same c.self.inside.tables.config (c.self.inside.tables.events.items ++ event_of c.args.by c.args.moment (Abandon c.args.object) ∷ []) c.put_event.new.events.items c.self.inside.tables.names c.self.inside.tables.names
           (names-next c.self.inside.tables.config c.self.inside.tables.events.items (event_of c.args.by c.args.moment (Abandon c.args.object)) true c.self.inside.tables.names c.self.inside.tables.names c.self.invariant.2 (sym (runs-effective c.self.inside.tables.config c.self.inside.tables.events.items c.args.by c.args.object runs)) refl)
           c.put_event.ensures.items refl,
