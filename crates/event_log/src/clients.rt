@@ -5,20 +5,22 @@ use mod_utf::list::Same;
 use object_ids::Vmid;
 use std::alloc::{AllocError, Global};
 
-/// What a slot holds that has no number. No client has this number.
+/// What a slot without a number holds. No client gets this number.
 const FREE: u32 = 4_294_967_295;
 
-/// In how many slots, one after the other, a client's number is looked for.
+/// How many slots, one after the other, are looked at for a client's number.
 const TRIES: u64 = 8;
 
 /// The least number of slots, where there are any.
 const LEAST: usize = 16;
 
-/// Clients with a number each: its place in the list. A client may stand in it more than once: its number is looked for in a few
-/// slots alone, so that no choice of clients makes that take long, and is given anew where it isn't found there.
+/// Clients by number, which is the place in the list. A client's number is looked for in a few slots only, so that no choice of clients makes
+/// that slow. Where it isn't found there, the client gets a further number, so one may stand in the list more than once.
 #[derive(Debug, Drop)]
 pub struct Clients {
+    /// The clients, each at the place that is its number.
     pub list: Vec<Vmid>,
+    /// Numbers of clients, each among the slots that begin at the client's hash.
     slots: Vec<u32>,
 }
 
@@ -95,7 +97,7 @@ impl Clients {
     }
 }
 
-/// So many slots, a power of 2, with the numbers of these clients.
+/// The numbers of these clients in so many slots, a power of 2.
 fn slots_of(alloc: Global, clients: &[Vmid], count: usize) -> Result<Vec<u32>, AllocError> {
     let mut slots = vec![in alloc; FREE; count]?;
     let mut number: u32 = 0;

@@ -1,4 +1,5 @@
-//! The events of a history in few bytes: one without lists or names, or of one object that a client takes or gives up, takes 48.
+//! The events of a history in few bytes. Most take a row of 48 bytes and no more: those without lists or names, and those by which a client
+//! takes or gives up one object. Each other event takes a box beside its row.
 #![tactic(auto)]
 
 mod clients;

@@ -1,5 +1,5 @@
 //! A list of events in few bytes.
-ghost use Rattle.std.specs.Prelude.{◌≡◌, ◌⊎◌, ◌≤◌, ◌<◌, ◌+◌, ◌++◌, ◌∷◌, [], ◌↔◌, true, false, length, slice_get, option_map, Some, IsTrue, IfOk, OnOk, OnErr};
+ghost use Rattle.std.specs.Prelude.{◌≡◌, ◌⊎◌, ◌≤◌, ◌<◌, ◌+◌, ◌++◌, ◌∷◌, [], ◌↔◌, true, false, length, slice_get, Some, IsTrue, IfOk, OnOk, OnErr};
 ghost use Rattle.event_log.specs.Rows.{IsPlain};
 ghost use Rattle.event_log.specs.Views.{viewed};
 
@@ -11,10 +11,10 @@ use object_ids::Uid;
 use std::alloc::{AllocError, Global};
 use std::marker::Model;
 
-/// The events of a space, oldest first. One that is plain (an Open, a Begin, an Abandon, an Ack, a List, a Tick, or a Finish of an object of
-/// the space that makes and lists nothing) takes 48 bytes, and so does a Dirty or a Clean of one object of the space, beside its client, which is
-/// mostly kept once for all its calls; each other event takes a box beside. Contracts see a log as an `EventRecord`: the list of its events, how
-/// many of them it has room for, and whether it has a box and room for a client to spare.
+/// The events of a space, oldest first. A plain event takes a row of 48 bytes: an Open, a Begin, an Abandon, an Ack, a List, a Tick, or a Finish
+/// of one of the space's own objects that makes and lists nothing. So does a Dirty or a Clean of one of its own objects; the client is kept
+/// beside, mostly once for all its calls. Each other event takes a box beside its row. Contracts see a log as an `EventRecord`: its space, the
+/// list of its events, how many of them it has room for, and whether it has a box and room for a client to spare.
 #[derive(Debug, Drop)]
 pub struct EventLog {
     alloc: Global,
@@ -80,17 +80,6 @@ impl EventLog {
         ensures { IsTrue result ↔ (self.now.items ≡ []) }
     {
         self.rows.is_empty()
-    }
-
-    /// The event at a place, counted from 0: none where there are no more events than that. It is refused only for want of memory.
-    pub fn get(&self, place: usize) -> Result<Option<EventView<'_>>, AllocError>
-        ensures { IfOk result (λ found. option_map viewed found ≡ slice_get self.now.items place) }
-    {
-        if place < self.rows.len() {
-            Ok(Some(self.event(place)?))
-        } else {
-            Ok(None)
-        }
     }
 
     /// The event at a place, counted from 0, where there is one. It is refused only for want of memory.

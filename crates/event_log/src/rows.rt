@@ -56,15 +56,18 @@ pub enum What {
     ListsNames,
     /// A Tick.
     Ticks,
-    /// Any other event, whole. What it says of its connection and its moment is what counts.
+    /// Any other event, whole. Its own connection and moment count, not those of the row.
     Whole(Box<Event>),
 }
 
 /// An event as a log keeps it.
 #[derive(Debug, Drop)]
 pub struct Row {
+    /// The event's moment, in milliseconds.
     pub moment: u64,
+    /// The number of the connection that asks.
     pub by: u32,
+    /// What it says beside these.
     pub what: What,
 }
 
@@ -165,7 +168,7 @@ fn own_object(space: &Uid, objects: &ObjIds) -> Option<i64>
     }
 }
 
-/// Whose call of the collector it is.
+/// The client whose call of the collector it is; None for any other ask.
 fn client_of(ask: &Ask) -> Option<&Vmid>
     ensures { option_copied result ≡ client_of ask.now }
 {
@@ -176,7 +179,7 @@ fn client_of(ask: &Ask) -> Option<&Vmid>
     }
 }
 
-/// The same, moved out of it.
+/// The client whose call of the collector it is, moved out of the ask.
 fn client_in(ask: Ask) -> Option<Vmid>
     ensures { result ≡ client_of ask }
 {
@@ -256,8 +259,8 @@ fn whole_row(room: Option<Box<Event>>, event: Event) -> Row
     }
 }
 
-/// The row of an event that its row doesn't keep alone. There is a box, and room for a client: either the box is used, or the client gets a
-/// number, where it has none, and the box is given up, so that room is made for the next client.
+/// The row of an event that isn't plain. There is a box, and room for a client. A call of a client that has a number needs neither. Where a
+/// client gets a number, the box is given up, so that the next `reserve` makes room for a further client. Any other event is put into the box.
 pub(crate) fn row_of(
     clients: &mut Clients,
     spare: &mut Option<Box<Event>>,

@@ -1,14 +1,15 @@
 -- The words that spell numbers.
-use Rattle.std.proofs.Common.{◌≡◌, ◌≢◌, ℕ, suc, ◌^◌, ◌<◌, ◌≤◌, ◌⊎◌, inl, inr, List, ◌∷◌, length, get_or, drop, Result, Ok, Err, refl, ap, sym, ◌∙◌, arith, ℤ, pos, negsuc, w64}
-use Rattle.std.specs.Str.{IsUtf8}
+use Rattle.std.proofs.Common.{◌≡◌, ◌≢◌, ℕ, suc, ◌^◌, ◌<◌, ◌≤◌, ◌⊎◌, inl, inr, List, [], ◌∷◌, ◌++◌, ◌+◌, length, get_or, take, drop, Option, Some, None, MatchOption, Result, Ok, Err, refl, ap, sym, ◌∙◌, arith, ℤ, pos, negsuc, w64}
+use Rattle.std.specs.Char.{digit_value}
 use Rattle.std.specs.Str.Parse.{AllDigits, digits_value, ParsesUnsigned}
 use Rattle.std.specs.Fmt.{decimal, signed_decimal}
 use Rattle.std.specs.Int.Signed.{mag}
-use Rattle.std.proofs.lemmas.Str.{IsUtf8-from_ascii}
-use Rattle.std.proofs.lemmas.Str.Parse.{IsNumeralModel, numerals_by_value, tells_digits, not_in_digits, parse_plain}
-use Rattle.std.proofs.lemmas.Fmt.{IsAscii-decimal, decimal_nonempty, decimal_digit, first_decimal, decimal_injective, signed_decimal_injective, digits_decimal, decimal-digits_value, parse-decimal}
+use Rattle.std.proofs.lemmas.List.{length-take-le, take_more}
+use Rattle.std.proofs.lemmas.Str.Parse.{IsNumeralModel, numerals_by_value, tells_digits, not_in_digits, parse_plain, digits_value_short}
+use Rattle.std.proofs.lemmas.Fmt.{decimal_nonempty, length-decimal-le, decimal_digit, first_decimal, decimal_injective, signed_decimal_injective, digits_decimal, decimal-digits_value, parse-decimal}
 use Rattle.std.proofs.lemmas.Result.{OkIff-at_ok}
 use Rattle.std.proofs.str.Laws.{order}
+use Rattle.journal.specs.Reading.{Finds}
 use Rattle.journal.specs.Numbers.{BeginsPlainly}
 use Rattle.journal.specs.Grammar.{SpellsBelow, SpellsSigned}
 
@@ -43,9 +44,37 @@ pub unparsed : {E : Type 0} (word : List ℕ) (r : Result ℕ E) → ParsesUnsig
 unparsed word r parses e is n spells =
     let read = parse-decimal 64 n word r spells.0 spells.0 spells.1 parses in cc
 
--- A word that spells a number is text.
-pub is_text : (word : List ℕ) (n : ℕ) → SpellsBelow (2 ^ 64) n word → IsUtf8 word
-is_text word n spells = rw spells.1 (IsUtf8-from_ascii (decimal n) (IsAscii-decimal n spells.0))
+-- A word that spells a number below 10^19 has at most 19 digits.
+pub spelled_short : (word : List ℕ) (n : ℕ) → SpellsBelow (10 ^ 19) n word → length word ≤ 19
+spelled_short word n spells = rw spells.1 (length-decimal-le 19 n (omega arith) spells.0 (omega (arith, spells.0)))
+
+-- Its bytes are digits.
+pub spelled_digits : (word : List ℕ) (n : ℕ) → SpellsBelow (10 ^ 19) n word → AllDigits 10 word
+spelled_digits word n spells = rw spells.1 (digits_decimal own n (omega (arith, spells.0)))
+
+all_digits_append : (xs ys : List ℕ) → AllDigits 10 xs → AllDigits 10 ys → AllDigits 10 (xs ++ ys)
+all_digits_append [] ys of_xs of_ys = of_ys
+all_digits_append (x ∷ xs) ys of_xs of_ys = (of_xs.0, all_digits_append xs ys of_xs.1 of_ys)
+
+-- One more digit.
+pub all_digits_more : (ds : List ℕ) (i : ℕ) → i < length ds → AllDigits 10 (take i ds) → digit_value (get_or ds i 0) < 10 → AllDigits 10 (take (i + 1) ds)
+all_digits_more ds i inside before here = rw (take_more ds i 0 inside) (all_digits_append (take i ds) _ before (here, tt))
+
+-- The value of the digits before the last of at most 19.
+pub value_short : (ds : List ℕ) (i : ℕ) → i < length ds → length ds ≤ 19 → AllDigits 10 (take i ds) → digits_value 10 (take i ds) < 10 ^ 18
+value_short ds i inside short all = digits_value_short own (take i ds) 18 all (omega (arith, length-take-le i ds))
+
+-- Digits that begin plainly spell their value.
+pub digits_spell : (word : List ℕ) → BeginsPlainly word → AllDigits 10 word → length word ≤ 19 → SpellsBelow (10 ^ 19) (digits_value 10 word) word
+digits_spell word plain all short =
+    let below = digits_value_short own word 19 all short in
+    (below, sym (decimal-digits_value own word all plain.first plain.no_zero (omega (arith, below))))
+
+-- What digits are read as is what the word spells.
+pub number_read : (word : List ℕ) (r : Option ℕ) → BeginsPlainly word → length word ≤ 19
+    → MatchOption r (¬ AllDigits 10 word) (λ n. AllDigits 10 word × (n ≡ digits_value 10 word)) → Finds (SpellsBelow (10 ^ 19)) r word
+number_read word None plain short told = λ n spells. told (spelled_digits word n spells)
+number_read word (Some n) plain short told = rw told.1 (digits_spell word plain told.0 short)
 
 -- Digits begin with no minus sign.
 pub no_minus : (n : ℕ) → n < 2 ^ 64 → get_or (decimal n) 0 0 ≢ 45

@@ -2,10 +2,12 @@
 use Rattle.std.proofs.Common.{◌≡◌, ℕ, ◌+◌, ◌<◌, ◌≤◌, Bool, true, false, List, [], ◌∷◌, ◌++◌, length, take, drop, get_or, Some, None, refl, ap, sym, ◌∙◌, arith, All, cond, eqb, eq-eqb, ltb, length-take, get_or-take}
 use Rattle.std.specs.List.{AllByRecursion, position, position_or_len, slice_split, onto_first, join_with_byte}
 use Rattle.std.proofs.lemmas.List.Elements.{All-from_recursion, recursion_from_All, All-from_get_or}
-use Rattle.std.proofs.lemmas.List.Sums.{fails_before_first, passes_at_first, split_at_first}
+use Rattle.std.proofs.lemmas.List.Sums.{fails_before_first}
 use Rattle.std.proofs.lemmas.List.Splits.{slice_split_first, slice_split_none, slice_split_at, join_with_byte-slice_split}
 use Rattle.std.proofs.lemmas.Option.{cond_some}
 use Rattle.std.proofs.lemmas.Bool.{ltb-true, eqb-true, eqb-false}
+use Rattle.std.proofs.lemmas.List.{take-append-drop, drop_more}
+use Rattle.memchr.specs.Find.{Nowhere, NoneBefore, Passes, is_byte}
 use Rattle.journal.specs.Parts.{parts, Lacks}
 
 -- what `position` finds
@@ -64,24 +66,25 @@ parts_exist c (b ∷ bytes) none = by_test (eqb b c) (slice_split (λ x. eqb x c
 
 -- ---- the first occurrence of a byte
 
--- Bytes where it is not found lack it.
-pub lacks_none : (c : ℕ) (bytes : List ℕ) → position (λ b. eqb b c) bytes ≡ None → Lacks c bytes
-lacks_none c bytes is = recursion_from_All (λ b. eqb b c ≡ false) bytes (none_passes (λ b. eqb b c) bytes is)
+not_true : (t : Bool) → ¬ (t ≡ true) → t ≡ false
+not_true true fails = absurd (fails refl)
+not_true false fails = refl
 
--- What stands before it and after it.
-pub found_at : (c : ℕ) (bytes : List ℕ) (i : ℕ) → position (λ b. eqb b c) bytes ≡ Some i → Lacks c (take i bytes) × (bytes ≡ take i bytes ++ c ∷ drop (i + 1) bytes)
-found_at c bytes i is =
-    let at_first = found (λ b. eqb b c) bytes i is in
-    let split = split_at_first (λ b. eqb b c) bytes 0 (omega (arith, at_first.0, at_first.1)) in
-    let here = passes_at_first (λ b. eqb b c) bytes 0 (omega (arith, at_first.0, at_first.1)) in
-    let byte = eqb-true (get_or bytes i 0) c (rw at_first.1 at here) in (
-      before i (omega (arith, at_first.1)) bytes (omega (arith, at_first.0)) (λ k below. fails_before_first (λ b. eqb b c) bytes k 0 (omega (arith, below, at_first.1))),
-      (rw at_first.1 at split) ∙ ap (λ (b : ℕ). take i bytes ++ b ∷ drop (i + 1) bytes) byte,
-    )
+-- Bytes where a search finds it nowhere lack it.
+pub lacks_nowhere : (c : ℕ) (bytes : List ℕ) → Nowhere (Passes (is_byte c) bytes) 0 (length bytes) → Lacks c bytes
+lacks_nowhere c bytes nowhere = recursion_from_All (λ b. eqb b c ≡ false) bytes
+    (All-from_get_or (λ b. eqb b c ≡ false) bytes 0 (λ i inside. not_true _ (nowhere i (omega arith) inside)))
+
+-- What stands before and after the place that a search finds.
+pub searched_at : (c : ℕ) (bytes : List ℕ) (i : ℕ) → NoneBefore (Passes (is_byte c) bytes) 0 (length bytes) i → Passes (is_byte c) bytes i →
+    Lacks c (take i bytes) × (bytes ≡ take i bytes ++ c ∷ drop (i + 1) bytes)
+searched_at c bytes i first here = (
+  recursion_from_All (λ b. eqb b c ≡ false) (take i bytes) (All-from_get_or (λ b. eqb b c ≡ false) (take i bytes) 0 before),
+  sym (take-append-drop i bytes) ∙ ap (λ (l : List ℕ). take i bytes ++ l) (drop_more bytes i 0 first.high ∙ ap (λ (b : ℕ). b ∷ drop (i + 1) bytes) (eqb-true (get_or bytes i 0) c here)),
+)
   where
-    before : (n : ℕ) → n ≤ i → (xs : List ℕ) → n ≤ length xs → ((k : ℕ) → k < n → eqb (get_or xs k 0) c ≡ false) → Lacks c (take n xs)
-    before n small xs inside fails = recursion_from_All (λ b. eqb b c ≡ false) (take n xs)
-        (All-from_get_or (λ b. eqb b c ≡ false) (take n xs) 0 (λ k below. let short : k < n = omega (arith, length-take n xs) in rw (get_or-take) (fails k short)))
+    before : (k : ℕ) → k < length (take i bytes) → eqb (get_or (take i bytes) k 0) c ≡ false
+    before k below = let short : k < i = omega (arith, length-take i bytes) in rw (get_or-take) (not_true _ (first.before k (omega arith) short))
 
 -- Bytes are parted in one way alone at their first separator.
 pub line_injective : (c : ℕ) (a b x y : List ℕ) → Lacks c a → Lacks c b → a ++ c ∷ x ≡ b ++ c ∷ y → (a ≡ b) × (x ≡ y)

@@ -4,7 +4,7 @@ ghost use Rattle.journal.specs.Grammar.{SpellsAddress, SpellsClient};
 
 use crate::fields::{Field, two};
 use crate::hex::read_bytes;
-use crate::parts::Parts;
+use crate::parts::{Parts, is_dash};
 use crate::unread::Unread;
 use mod_utf::list::ByteList;
 use object_ids::{Uid, Vmid};
@@ -21,7 +21,7 @@ impl Field for Address {
     ghost spells = { λ _ addr word. SpellsAddress addr.0 word };
 
     fn read(alloc: Global, _space: Uid, word: &[u8]) -> Result<Address, Unread> {
-        if word == b"-".as_slice() {
+        if is_dash(word) {
             return Ok(Address(ByteList::new(alloc)));
         }
         if word.is_empty() || word.len() > MAX_ADDRESS_DIGITS {

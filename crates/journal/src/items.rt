@@ -5,7 +5,7 @@ ghost use Rattle.journal.specs.Parts.{Lacks};
 ghost use Rattle.journal.specs.Grammar.{SpellsList, SpellsKinds, SpellsObjects};
 
 use crate::fields::Field;
-use crate::parts::Parts;
+use crate::parts::{Parts, is_dash};
 use crate::unread::Unread;
 use mod_utf::list::{Kinds, Sequence};
 use object_ids::{ObjId, ObjIds, Uid};
@@ -21,7 +21,7 @@ pub(crate) fn read_list<A: Field + Drop>(
     ensures { Reads (SpellsList (A.spells space)) result word.now }
 {
     let mut items = Sequence::new(alloc);
-    if word == b"-".as_slice() {
+    if is_dash(word) {
         return Ok(items);
     }
     let mut left = Parts::new(word, b',');

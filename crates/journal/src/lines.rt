@@ -7,9 +7,10 @@ ghost use Rattle.journal.specs.Grammar.{SpellsEvent, EventWords, SpellsConfig, C
 use crate::asks::read_ask;
 use crate::fields::first;
 use crate::number::{Moment, read_duration, read_signed, read_signed_32};
-use crate::parts::{Parts, find_byte};
+use crate::parts::Parts;
 use crate::unread::Unread;
 use history::{Event, SpaceConfig};
+use memchr::memchr;
 use object_ids::Uid;
 use std::alloc::{AllocError, Global};
 
@@ -18,7 +19,7 @@ use std::alloc::{AllocError, Global};
 pub fn split_line(bytes: &[u8]) -> Option<(&[u8], &[u8])>
     ensures { MatchOption result (Lacks 10 bytes.now) (λ p. Lacks 10 p.0.now × (bytes.now ≡ p.0.now ++ 10 ∷ p.1.now)) }
 {
-    let at = find_byte(bytes, b'\n')?;
+    let at = memchr(b'\n', bytes)?;
     Some((&bytes[..at], &bytes[at + 1..]))
 }
 

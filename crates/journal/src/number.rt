@@ -1,5 +1,6 @@
 //! Decimal numbers without needless zeros or signs.
-ghost use Rattle.std.specs.Prelude.{◌≡◌, ◌≢◌, ◌↔◌, ◌^◌, IsTrue, slice_index};
+ghost use Rattle.std.specs.Prelude.{◌≡◌, ◌≢◌, ◌↔◌, ◌^◌, ◌≤◌, IsTrue, MatchOption, length, slice_index};
+ghost use Rattle.std.specs.Str.Parse.{AllDigits, digits_value};
 ghost use Rattle.std.specs.Int.{w16, w32, w64};
 ghost use Rattle.journal.specs.Reading.{Finds};
 ghost use Rattle.journal.specs.Numbers.{BeginsPlainly};
@@ -11,6 +12,9 @@ use history::limits::{END_OF_TIME, MAX_DURATION};
 use object_ids::Uid;
 use std::alloc::Global;
 
+/// The most digits of a number that is read: it is below 10^19, so that 64 bits hold it.
+const MAX_DIGITS: usize = 19;
+
 /// Whether there is a first byte that is no plus sign, and no zero before further bytes.
 fn begins_plainly(word: &[u8]) -> bool
     ensures { IsTrue result ↔ BeginsPlainly word.now }
@@ -18,20 +22,32 @@ fn begins_plainly(word: &[u8]) -> bool
     !word.is_empty() && word[0] != b'+' && (word[0] != b'0' || word.len() == 1)
 }
 
-/// The number below 2^64 that a word spells.
-fn read_unsigned(word: &[u8]) -> Option<u64>
-    ensures { Finds (SpellsBelow (2 ^ 64)) result word.now }
+/// The number that at most 19 digits write, the first one the highest; None where a byte is no digit.
+fn value_of(digits: &[u8]) -> Option<u64>
+    requires { length digits.now ≤ 19 }
+    ensures { MatchOption result (¬ AllDigits 10 digits.now) (λ n. AllDigits 10 digits.now × (n ≡ digits_value 10 digits.now)) }
 {
+    let mut n: u64 = 0;
+    for byte in digits {
+        if !byte.is_ascii_digit() {
+            return None;
+        }
+        n = 10 * n + u64::from(*byte - b'0');
+    }
+    Some(n)
+}
+
+/// The number below 10^19 that a word spells.
+fn read_unsigned(word: &[u8]) -> Option<u64>
+    ensures { Finds (SpellsBelow (10 ^ 19)) result word.now }
+{
+    if word.len() > MAX_DIGITS {
+        return None;
+    }
     if !begins_plainly(word) {
         return None;
     }
-    match str::from_utf8(word) {
-        Ok(text) => match text.parse::<u64>() {
-            Ok(n) => Some(n),
-            Err(_) => None,
-        },
-        Err(_) => None,
-    }
+    value_of(word)
 }
 
 /// Whether a minus sign stands first.
@@ -101,8 +117,9 @@ fn read_signed_16(word: &[u8]) -> Option<i16>
     }
 }
 
-/// The number below a limit that a word spells.
+/// The number below a limit, which is at most 10^19, that a word spells.
 fn read_below(limit: u64, word: &[u8]) -> Option<u64>
+    requires { limit ≤ 10 ^ 19 }
     ensures { Finds (SpellsBelow limit) result word.now }
 {
     let n = read_unsigned(word)?;

@@ -1,5 +1,5 @@
 //! The parts of bytes between separators.
-ghost use Rattle.std.specs.Prelude.{◌≡◌, ◌==◌, ◌∷◌, [], MatchOption, position};
+ghost use Rattle.std.specs.Prelude.{◌≡◌, ◌↔◌, ◌==◌, ◌∷◌, [], IsTrue, MatchOption, codes, position};
 ghost use Rattle.journal.specs.Parts.{parts};
 
 use std::marker::Model;
@@ -62,4 +62,14 @@ pub(crate) fn find_byte(bytes: &[u8], byte: u8) -> Option<usize>
     ensures { result ≡ position (λ b. b == byte) bytes.now }
 {
     bytes.iter().position(|b| *b == byte)
+}
+
+/// Whether a word is the one that stands for an empty list.
+pub(crate) fn is_dash(word: &[u8]) -> bool
+    ensures { IsTrue result ↔ (word.now ≡ codes "-") }
+{
+    match word {
+        b"-" => true,
+        _ => false,
+    }
 }

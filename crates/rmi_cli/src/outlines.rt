@@ -10,8 +10,8 @@ use mod_utf::list::ByteList;
 use space::{Space, outline};
 use std::alloc::{AllocError, Global};
 
-/// How many lines are read before their turns are made.
-const BATCH: usize = 4096;
+/// How many lines are read before their turns are made: so few that what they take is what the allocator had back from those before.
+const BATCH: usize = 8;
 
 /// Why a journal has no outline.
 #[derive(Clone, Copy, Debug, PartialEq, Eq)]
@@ -136,7 +136,7 @@ fn read_batch<'a>(
     ensures fewer { IfOk result (λ batch. batch.is_bad ≡ false → length batch.rest.now < length lines.now) }
     ensures size { IfOk result (λ batch. length batch.events.items + length batch.rest.now ≤ length lines.now) }
 {
-    let mut events = Vec::new(alloc);
+    let mut events = Vec::with_capacity(alloc, BATCH)?;
     let mut rest = lines;
     while !rest.is_empty() && events.len() < BATCH {
         match read_line(alloc, config, rest) {
