@@ -1,5 +1,5 @@
 -- Bytes, and those that are left.
-use Rattle.std.proofs.Common.{◌≡◌, ◌-◌, ◌++◌, inl, inr, sym, ◌∙◌, append_assoc, length-append, ℕ, ◌+◌, ◌<◌, ◌≤◌, ap, List, length, take, drop, true, false, nat_lt, Result, Ok, Err, refl, arith}
+use Rattle.std.proofs.Common.{◌≡◌, ◌-◌, ◌++◌, inl, inr, sym, ◌∙◌, append_assoc, length-append, ℕ, [], ◌∷◌, ◌+◌, ◌<◌, ◌≤◌, ap, List, length, take, drop, true, false, nat_lt, Result, Ok, Err, refl, arith}
 use Rattle.std.proofs.lemmas.Bool.{lt-ltb, le-ltb}
 use Rattle.std.proofs.lemmas.Bool.{cases_lt}
 use Rattle.std.proofs.lemmas.List.{length-take, take-append-drop, append-nil}
@@ -9,7 +9,8 @@ use Rattle.ser_read.specs.declared.fault.StreamFault.TheVariants as faults
 use Rattle.ser_read.specs.declared.fault.Large.TheVariants as larges
 use Rattle.ser_read.specs.declared.fault.StreamFault.{StreamFault}
 use Rattle.ser_read.specs.Here.{Fails}
-use Rattle.ser_values.specs.Reading.{◌>>=◌, Fault, take_at, short}
+use Rattle.std.specs.Int.{w16, from_be_bytes}
+use Rattle.ser_values.specs.Reading.{◌>>=◌, Fault, byte_at, take_at, number_at, short}
 
 pub takes_all : (n : ℕ) (bs : List ℕ) → n ≤ length bs → take_at n bs ≡ Ok (take n bs, drop n bs)
 takes_all n bs le = let k : nat_lt (length bs) n ≡ false = le-ltb _ _ le in rw k refl
@@ -65,3 +66,12 @@ take_more front left more bs piece rest le h =
 
 pub take_end : (front bs : List ℕ) → onto front (take_at 0 bs) ≡ Ok (front, bs)
 take_end front bs = rw (takes_all 0 bs (omega arith)) (ap (λ (xs : List ℕ). Ok (xs, bs)) (append-nil front))
+
+-- ---- two bytes
+
+pub two_is : (bs : List ℕ) → number_at w16 bs ≡ (byte_at bs >>= λ a. byte_at a.1 >>= λ b. Ok (from_be_bytes w16 (a.0 ∷ b.0 ∷ []), b.1))
+two_is [] = refl
+two_is (a ∷ []) = refl
+two_is (a ∷ b ∷ rest) =
+    let both : take_at 2 (a ∷ b ∷ rest) ≡ Ok (a ∷ b ∷ [], rest) = takes_all 2 (a ∷ b ∷ rest) (omega arith) in
+    rw both refl

@@ -11,6 +11,7 @@ pub mod Stopping
 pub mod Parts
 pub mod Bytes
 pub mod Breaking
+pub mod Does
 pub mod Wants
 pub mod Heads
 pub mod Runs

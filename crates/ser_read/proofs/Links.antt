@@ -1,5 +1,5 @@
 -- The chain of a class, step by step.
-use Rattle.std.proofs.Common.{◌≡◌, ℕ, suc, zero, ◌&&◌, Bool, true, false, List, [], ◌∷◌, ◌++◌, reverse, Some, refl, sym, ap, ◌∙◌, append_assoc, ◌-◌, ◌<◌, arith}
+use Rattle.std.proofs.Common.{◌≡◌, ℕ, suc, zero, ◌&&◌, Bool, true, false, List, [], ◌∷◌, ◌++◌, reverse, Some, slice_get, refl, sym, ap, ◌∙◌, append_assoc, ◌-◌, ◌<◌, arith}
 use Rattle.std.proofs.lemmas.List.{map_push, reverse-append}
 use Rattle.class_desc.specs.declared.slot.Slot.{Slot}
 use Rattle.class_desc.specs.declared.slot.Slot.TheVariants as slots
@@ -63,3 +63,11 @@ null_end nodes (suc n) s h = rw h refl
 pub node_end : (nodes : List Node) (n : ℕ) (s : Slot) (k : ℕ) → n ≡ 0 → s ≡ slots.Node k → shown (chain_of n nodes s) ≡ ([], false)
 unfolding chain_of
 node_end nodes n s k z h = rw (z, h) refl
+
+one_link : (nodes : List Node) (n k : ℕ) (d : ClassDesc) → slice_get nodes k ≡ Some (Desc d) → d.parent ≡ slots.Null → chain_of (suc n) nodes (slots.Node k) ≡ ((d.fields, has_flag d.flags 1) ∷ [], has_flag d.flags 2)
+unfolding chain_of
+one_link nodes n k d is top = rw (is, top) refl
+
+-- a class without a superclass
+pub one_chain : (nodes : List Node) (k : ℕ) (d : ClassDesc) → slice_get nodes k ≡ Some (Desc d) → d.parent ≡ slots.Null → chain_of 1048576 nodes (slots.Node k) ≡ ((d.fields, has_flag d.flags 1) ∷ [], has_flag d.flags 2)
+one_chain nodes k d is top = one_link nodes 1048575 k d is top

@@ -3,11 +3,14 @@ pub mod Signed
 pub mod NumberRuns
 pub mod Lists
 pub mod Codes
+pub mod HeldCodes
+pub mod HeldRows
 pub mod Rows
 pub mod Named
 pub mod Fronts
 pub mod Chains
 pub mod Tables
+pub mod Does
 pub mod Whole
 pub mod Words
 pub mod Heads

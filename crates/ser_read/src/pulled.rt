@@ -49,15 +49,16 @@ pub(crate) fn fill<S: Source>(pull: &mut Pull<'_, S>, buf: &mut [u8]) -> Result<
     Ok(())
 }
 
-/// The next two bytes as a number, the highest first.
+/// The next two bytes as a number, the highest first. They are taken one by one, which costs less than to take so few at once.
+#[inline(always)]
 pub(crate) fn two<S: Source>(pull: &mut Pull<'_, S>) -> Result<u16, StreamFault>
     ensures lent { pull.new.source.ghost_name ≡ pull.old.source.ghost_name }
     ensures reads { ReadsTaken S.left S.faults pull.old pull.new result (λ end. number_at w16) (λ x rest. (x, rest)) }
     ensures stops { StopsTaken S.left S.faults pull.old pull.new result (λ end. number_at w16) }
 {
-    let mut bytes = [0; 2];
-    fill(pull, &mut bytes)?;
-    Ok(u16::from_be_bytes(bytes))
+    let high = byte(pull)?;
+    let low = byte(pull)?;
+    Ok(u16::from_be_bytes([high, low]))
 }
 
 /// The next four bytes as a number, the highest first.

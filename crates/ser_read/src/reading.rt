@@ -1,12 +1,9 @@
 //! Reading references and what they begin (Java Object Serialization Specification, 6.4).
-ghost use Rattle.std.specs.Prelude.{◌≡◌, ◌≢◌, ◌-◌, ◌≤◌, ◌<◌, length, IfOk, OnOk};
-ghost use Rattle.class_desc.specs.declared.slot.Slot.TheVariants.{Null};
-ghost use Rattle.ser_values.specs.declared.node.Place.TheVariants.{Text};
+ghost use Rattle.std.specs.Prelude.{◌-◌, ◌≤◌, ◌<◌, length};
 ghost use Rattle.ser_values.specs.declared.limits.TheConstants.{LEVELS, NODES};
 ghost use Rattle.ser_values.specs.Reading.{slot_at, coded, fresh_at, text_at, short_at, long_at};
 ghost use Rattle.ser_read.specs.Named.{class_named};
-ghost use Rattle.ser_read.specs.Tables.{now_of};
-ghost use Rattle.ser_read.specs.Here.{ReadsTaken, StopsTaken};
+ghost use Rattle.ser_read.specs.Does.{Does, GivesNode, GivesText, LeavesRoom};
 
 pub(crate) mod annotations;
 mod arrays;
@@ -38,12 +35,7 @@ fn slot<S: Source>(
     left: u32,
 ) -> Result<Slot, StreamFault>
     requires left { left ≤ LEVELS }
-    ensures lent { pull.new.source.ghost_name ≡ pull.old.source.ghost_name }
-    ensures grows { length table.old.nodes.items ≤ length table.new.nodes.items }
-    ensures unread { OnOk result (table.new.unread.items ≡ table.old.unread.items) }
-    ensures some { place ≡ Text → IfOk result (λ slot. slot ≢ Null) }
-    ensures reads { ReadsTaken S.left S.faults pull.old pull.new result (λ end. slot_at end left place table.old.unread.items (now_of table.old)) (λ x rest. (x, now_of table.new, rest)) }
-    ensures stops { StopsTaken S.left S.faults pull.old pull.new result (λ end. slot_at end left place table.old.unread.items (now_of table.old)) }
+    ensures { Does S.left S.faults pull.old pull.new table.old table.new result (GivesText place) (λ end. slot_at end left place table.old.unread.items) }
 {
     let at = pull.at;
     let code = byte(pull)?;
@@ -63,12 +55,7 @@ pub(crate) fn coded<S: Source>(
     code: u8,
 ) -> Result<Slot, StreamFault>
     requires left { left ≤ LEVELS }
-    ensures lent { pull.new.source.ghost_name ≡ pull.old.source.ghost_name }
-    ensures grows { length table.old.nodes.items ≤ length table.new.nodes.items }
-    ensures unread { OnOk result (table.new.unread.items ≡ table.old.unread.items) }
-    ensures some { place ≡ Text → IfOk result (λ slot. slot ≢ Null) }
-    ensures reads { ReadsTaken S.left S.faults pull.old pull.new result (λ end. coded end left (slot_at end (left - 1)) place table.old.unread.items at code (now_of table.old)) (λ x rest. (x, now_of table.new, rest)) }
-    ensures stops { StopsTaken S.left S.faults pull.old pull.new result (λ end. coded end left (slot_at end (left - 1)) place table.old.unread.items at code (now_of table.old)) }
+    ensures { Does S.left S.faults pull.old pull.new table.old table.new result (GivesText place) (λ end. coded end left (slot_at end (left - 1)) place table.old.unread.items at code) }
 {
     if code == 0x70 {
         null(place, at)
@@ -104,12 +91,7 @@ fn fresh<S: Source>(
 ) -> Result<Slot, StreamFault>
     requires room { length table.old.nodes.items < NODES }
     requires left { left ≤ LEVELS }
-    ensures lent { pull.new.source.ghost_name ≡ pull.old.source.ghost_name }
-    ensures grows { length table.old.nodes.items ≤ length table.new.nodes.items }
-    ensures unread { OnOk result (table.new.unread.items ≡ table.old.unread.items) }
-    ensures some { IfOk result (λ slot. slot ≢ Null) }
-    ensures reads { ReadsTaken S.left S.faults pull.old pull.new result (λ end. fresh_at end at (slot_at end left) table.old.unread.items code (now_of table.old)) (λ x rest. (x, now_of table.new, rest)) }
-    ensures stops { StopsTaken S.left S.faults pull.old pull.new result (λ end. fresh_at end at (slot_at end left) table.old.unread.items code (now_of table.old)) }
+    ensures { Does S.left S.faults pull.old pull.new table.old table.new result GivesNode (λ end. fresh_at end at (slot_at end left) table.old.unread.items code) }
 {
     match code {
         0x72 => desc(alloc, pull, table, at, left),
@@ -132,12 +114,7 @@ fn text<S: Source>(
     table: &mut Table,
 ) -> Result<Slot, StreamFault>
     requires room { length table.old.nodes.items < NODES }
-    ensures lent { pull.new.source.ghost_name ≡ pull.old.source.ghost_name }
-    ensures grows { length table.old.nodes.items ≤ length table.new.nodes.items }
-    ensures unread { OnOk result (table.new.unread.items ≡ table.old.unread.items) }
-    ensures some { IfOk result (λ slot. slot ≢ Null) }
-    ensures reads { ReadsTaken S.left S.faults pull.old pull.new result (λ end. text_at (short_at end) (now_of table.old)) (λ x rest. (x, now_of table.new, rest)) }
-    ensures stops { StopsTaken S.left S.faults pull.old pull.new result (λ end. text_at (short_at end) (now_of table.old)) }
+    ensures { Does S.left S.faults pull.old pull.new table.old table.new result GivesNode (λ end. text_at (short_at end)) }
 {
     let text = short_text(alloc, pull)?;
     let number = table.begin(Node::Text(text))?;
@@ -152,12 +129,7 @@ fn very_long_text<S: Source>(
     table: &mut Table,
 ) -> Result<Slot, StreamFault>
     requires room { length table.old.nodes.items < NODES }
-    ensures lent { pull.new.source.ghost_name ≡ pull.old.source.ghost_name }
-    ensures grows { length table.old.nodes.items ≤ length table.new.nodes.items }
-    ensures unread { OnOk result (table.new.unread.items ≡ table.old.unread.items) }
-    ensures some { IfOk result (λ slot. slot ≢ Null) }
-    ensures reads { ReadsTaken S.left S.faults pull.old pull.new result (λ end. text_at (long_at end) (now_of table.old)) (λ x rest. (x, now_of table.new, rest)) }
-    ensures stops { StopsTaken S.left S.faults pull.old pull.new result (λ end. text_at (long_at end) (now_of table.old)) }
+    ensures { Does S.left S.faults pull.old pull.new table.old table.new result GivesNode (λ end. text_at (long_at end)) }
 {
     let text = long_text(alloc, pull)?;
     let number = table.begin(Node::Text(text))?;
@@ -175,12 +147,7 @@ fn class<S: Source>(
     left: u32,
 ) -> Result<u32, StreamFault>
     requires left { left ≤ LEVELS }
-    ensures lent { pull.new.source.ghost_name ≡ pull.old.source.ghost_name }
-    ensures grows { length table.old.nodes.items ≤ length table.new.nodes.items }
-    ensures unread { OnOk result (table.new.unread.items ≡ table.old.unread.items) }
-    ensures room { OnOk result (length table.new.nodes.items < NODES) }
-    ensures reads { ReadsTaken S.left S.faults pull.old pull.new result (λ end. class_named (slot_at end left) table.old.unread.items at (now_of table.old)) (λ x rest. (x, now_of table.new, rest)) }
-    ensures stops { StopsTaken S.left S.faults pull.old pull.new result (λ end. class_named (slot_at end left) table.old.unread.items at (now_of table.old)) }
+    ensures { Does S.left S.faults pull.old pull.new table.old table.new result (LeavesRoom table.new) (λ end. class_named (slot_at end left) table.old.unread.items at) }
 {
     match slot(alloc, pull, table, Place::Class, left)? {
         Slot::Null => Err(bad(StreamKind::BadCode, at)),

@@ -4,15 +4,16 @@ ghost use Rattle.class_desc.specs.ClassDesc.{has_flag, lacks_flag};
 ghost use Rattle.class_desc.specs.declared.slot.Slot.{Slot};
 ghost use Rattle.class_desc.specs.declared.slot.Slot.TheVariants as slots;
 ghost use Rattle.ser_values.specs.declared.limits.TheConstants.{PARTS};
+ghost use Rattle.ser_values.specs.declared.node.Node.TheVariants.{Desc};
 ghost use Rattle.ser_values.specs.Reading.{Row, chain_above, chain_of, class_fault, rows_of, old_external, bad_desc};
 ghost use Rattle.ser_read.specs.Rows.{class_rows};
 ghost use Rattle.ser_read.specs.Chains.{shown, climbed};
 ghost use Rattle.ser_read.specs.Here.{kind_of, IsInBytes};
 
 use crate::fault::StreamKind;
-use crate::row::{ClassRow, CodeList, codes_of};
+use crate::row::{ClassRow, Codes, Rows, codes_of};
 use crate::table::Table;
-use class_desc::{BLOCK_DATA, ENUM, EXTERNALIZABLE, SERIALIZABLE, Slot, WRITE_METHOD};
+use class_desc::{BLOCK_DATA, ClassDesc, ENUM, EXTERNALIZABLE, SERIALIZABLE, Slot, WRITE_METHOD};
 use ser_values::Node;
 use std::alloc::{AllocError, Global};
 
@@ -41,7 +42,7 @@ pub(crate) enum Climb {
 #[derive(Drop)]
 struct Chain {
     /// The classes' rows.
-    rows: Vec<ClassRow>,
+    rows: Rows,
     /// Whether each class is serializable or a proxy.
     is_serial: bool,
 }
@@ -50,7 +51,7 @@ struct Chain {
 #[derive(Drop)]
 pub(crate) struct ClassShape {
     /// The highest superclass's part first.
-    pub(crate) rows: Vec<ClassRow>,
+    pub(crate) rows: Rows,
     /// Why the class has no objects.
     pub(crate) fault: Option<StreamKind>,
 }
@@ -91,7 +92,7 @@ fn link_of(alloc: Global, node: &Node) -> Result<Climb, AllocError>
         }
         Node::Proxy(proxy) => Ok(Climb::Class {
             row: ClassRow {
-                codes: CodeList::new(alloc),
+                codes: Codes::new(alloc),
                 note: false,
             },
             is_serial: true,
@@ -121,10 +122,10 @@ fn step_up(alloc: Global, nodes: &[Node], slot: Slot) -> Result<Climb, AllocErro
 
 /// The chain of a class, the class's own row first.
 fn chain_up(alloc: Global, nodes: &[Node], class: u32) -> Result<Chain, AllocError>
-    ensures rows { IfOk result (λ chain. reverse chain.rows.items ≡ (shown (chain_of PARTS nodes.now (slots.Node class))).0) }
+    ensures rows { IfOk result (λ chain. reverse chain.rows ≡ (shown (chain_of PARTS nodes.now (slots.Node class))).0) }
     ensures is_serial { IfOk result (λ chain. chain.is_serial ≡ (shown (chain_of PARTS nodes.now (slots.Node class))).1) }
 {
-    let mut rows = Vec::new(alloc);
+    let mut rows = Rows::new();
     let mut is_serial = true;
     let mut slot = Slot::Node(class);
     let mut left = CLASSES;
@@ -142,7 +143,7 @@ fn chain_up(alloc: Global, nodes: &[Node], class: u32) -> Result<Chain, AllocErr
                 is_serial: also,
                 parent,
             } => {
-                rows.push(row)?;
+                rows = rows.and(alloc, row)?;
                 is_serial = both(also, is_serial);
                 slot = parent;
             }
@@ -160,12 +161,39 @@ fn chain_up(alloc: Global, nodes: &[Node], class: u32) -> Result<Chain, AllocErr
 
 /// The chain of a class, the highest superclass first.
 fn chain_of(alloc: Global, nodes: &[Node], class: u32) -> Result<Chain, AllocError>
-    ensures rows { IfOk result (λ chain. chain.rows.items ≡ class_rows (chain_of PARTS nodes.now (slots.Node class)).0) }
+    ensures rows { IfOk result (λ chain. chain.rows ≡ class_rows (chain_of PARTS nodes.now (slots.Node class)).0) }
     ensures is_serial { IfOk result (λ chain. chain.is_serial ≡ (chain_of PARTS nodes.now (slots.Node class)).1) }
 {
-    let mut chain = chain_up(alloc, nodes, class)?;
-    chain.rows.reverse();
-    Ok(chain)
+    let Chain { rows, is_serial } = chain_up(alloc, nodes, class)?;
+    Ok(Chain {
+        rows: rows.reversed(),
+        is_serial,
+    })
+}
+
+/// The chain of a class that is described, the highest superclass first.
+#[tactic(auto, using(crate::proofs::Links::one_chain))]
+fn desc_chain(
+    alloc: Global,
+    nodes: &[Node],
+    class: u32,
+    desc: &ClassDesc,
+) -> Result<Chain, AllocError>
+    requires { slice_get nodes.now class ≡ Some (Desc desc.now) }
+    ensures rows { IfOk result (λ chain. chain.rows ≡ class_rows (chain_of PARTS nodes.now (slots.Node class)).0) }
+    ensures is_serial { IfOk result (λ chain. chain.is_serial ≡ (chain_of PARTS nodes.now (slots.Node class)).1) }
+{
+    match desc.parent {
+        Slot::Null => {
+            let codes = codes_of(alloc, desc.fields.as_slice())?;
+            let note = has_flag(desc.flags, WRITE_METHOD);
+            Ok(Chain {
+                rows: Rows::one(ClassRow { codes, note }),
+                is_serial: has_flag(desc.flags, SERIALIZABLE),
+            })
+        }
+        Slot::Node(_) => chain_of(alloc, nodes, class),
+    }
 }
 
 /// Why a class with these flags has no objects.
@@ -197,21 +225,19 @@ fn proxy_fault(is_serial: bool) -> Option<StreamKind>
 }
 
 /// The one row of an externalizable class: a note alone.
-fn external_rows(alloc: Global) -> Result<Vec<ClassRow>, AllocError>
-    ensures { IfOk result (λ rows. rows.items ≡ class_rows (([], true) ∷ [])) }
+fn external_rows(alloc: Global) -> Rows
+    ensures { result ≡ class_rows (([], true) ∷ []) }
 {
-    let mut rows = Vec::new(alloc);
-    rows.push(ClassRow {
-        codes: CodeList::new(alloc),
+    Rows::one(ClassRow {
+        codes: Codes::new(alloc),
         note: true,
-    })?;
-    Ok(rows)
+    })
 }
 
 /// The parts that an object of a class has, and why the class has no objects. A chain that is looked through has a part for
 /// each of its classes.
 pub(crate) fn shape_of(alloc: Global, table: &Table, class: u32) -> Result<ClassShape, AllocError>
-    ensures rows { IfOk result (λ shape. shape.rows.items ≡ class_rows (rows_of (slice_get table.now.nodes.items class) (chain_of PARTS table.now.nodes.items (slots.Node class)).0)) }
+    ensures rows { IfOk result (λ shape. shape.rows ≡ class_rows (rows_of (slice_get table.now.nodes.items class) (chain_of PARTS table.now.nodes.items (slots.Node class)).0)) }
     ensures fault { IfOk result (λ shape. option_map kind_of shape.fault ≡ class_fault (slice_get table.now.nodes.items class) (chain_of PARTS table.now.nodes.items (slots.Node class)).1) }
     ensures known { IfOk result (λ shape. IfSome shape.fault IsInBytes) }
 {
@@ -219,11 +245,11 @@ pub(crate) fn shape_of(alloc: Global, table: &Table, class: u32) -> Result<Class
         Some(Node::Desc(desc)) => {
             let is_array = table.elements_at(class).is_some();
             if has_flag(desc.flags, EXTERNALIZABLE) {
-                let rows = external_rows(alloc)?;
+                let rows = external_rows(alloc);
                 let fault = desc_fault(desc.flags, is_array, false);
                 Ok(ClassShape { rows, fault })
             } else {
-                let chain = chain_of(alloc, table.nodes.as_slice(), class)?;
+                let chain = desc_chain(alloc, table.nodes.as_slice(), class, desc)?;
                 let fault = desc_fault(desc.flags, is_array, chain.is_serial);
                 Ok(ClassShape {
                     rows: chain.rows,

@@ -10,6 +10,7 @@ use std::alloc::Global;
 /// The text that these bytes spell, as `decode` of `mod_utf` reads it.
 ///
 /// There is room at once for as many units as there are bytes; where each is an ASCII character's, it takes no more.
+#[inline(always)]
 pub(crate) fn spelled(alloc: Global, bytes: &[u8]) -> Result<Units, UtfFault>
     ensures err { IfErr result (λ fault. IsUnread bytes.now fault) }
     ensures value { GivesUnits result (decoded bytes.now) }
@@ -27,6 +28,7 @@ pub(crate) fn spelled(alloc: Global, bytes: &[u8]) -> Result<Units, UtfFault>
 }
 
 /// Appends a unit for each byte, up to one that is no ASCII character's, or is zero, and answers whether none was.
+#[inline(always)]
 fn push_plain(units: &mut Vec<u16>, bytes: &[u8]) -> bool
     requires room { vec_len units.old + length bytes.now ≤ vec_capacity units.old }
     ensures plain { result ≡ true → All SpellsItself bytes.now }
@@ -42,6 +44,7 @@ fn push_plain(units: &mut Vec<u16>, bytes: &[u8]) -> bool
 }
 
 /// The text of characters that take one to three bytes each. There is room at once for as many as are there at least.
+#[inline(never)]
 fn decoded(alloc: Global, bytes: &[u8]) -> Result<Units, UtfFault>
     ensures err { IfErr result (λ fault. IsUnread bytes.now fault) }
     ensures value { GivesUnits result (decoded bytes.now) }

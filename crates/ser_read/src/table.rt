@@ -3,15 +3,17 @@ ghost use Rattle.std.specs.Prelude.{◌≡◌, ◌+◌, ◌<◌, ◌≤◌, ◌+
 ghost use Rattle.ser_values.specs.declared.limits.TheConstants.{NODES, PARTS};
 ghost use Rattle.ser_values.specs.Loose.{elements_in, elements_at};
 ghost use Rattle.ser_values.specs.Node.{has, is_desc, is_text};
+ghost use Rattle.ser_values.specs.declared.node.Node.TheVariants.{Object};
 
 use crate::fault::StreamKind;
 use class_desc::{ENUM, Slot, TypeCode, is_primitive};
 use ser_values::limits::{NODES, PARTS};
-use ser_values::{Node, NodeList, Place, elements_in, fits_node, is_desc, is_text};
+use ser_values::{Node, NodeList, PartList, Place, elements_in, fits_node, is_desc, is_text};
 use std::alloc::{AllocError, Global};
 
-/// For how many nodes there is room when the first one is added: as many as most streams have.
-const ROOM: usize = 16;
+/// For how many nodes there is room when the first one is added: as many as most calls have. A memory allocator keeps blocks of up to about
+/// 1,000 bytes at hand, and takes longer for larger ones.
+const ROOM: usize = 8;
 
 /// The nodes so far. One that is still being read stands there empty, and is written over when it was read.
 #[derive(Drop)]
@@ -46,6 +48,22 @@ fn room_behind(nodes: usize) -> usize
     ensures { 1 ≤ result }
 {
     if nodes == 0 { ROOM } else { 1 }
+}
+
+/// Writes an object. Where an object stands already, as one that was begun does, its fields alone are written over.
+fn write_object(place: &mut Node, class: u32, parts: PartList)
+    ensures { place.new ≡ Object class parts }
+{
+    match place {
+        Node::Object {
+            class: old_class,
+            parts: old_parts,
+        } => {
+            *old_class = class;
+            *old_parts = parts;
+        }
+        other => *other = Node::Object { class, parts },
+    }
 }
 
 impl Table {
@@ -103,6 +121,18 @@ impl Table {
         let place = number as usize;
         self.elements[place] = elements_in(&node);
         self.nodes[place] = node;
+    }
+
+    /// Writes an object, whose parts were read, in the place that it has.
+    pub(crate) fn fill_object(&mut self, number: u32, class: u32, parts: PartList)
+        requires { number < length self.old.nodes.items }
+        ensures now { now_of self.new ≡ fill (now_of self.old) number (Object class parts) }
+        ensures unread { self.new.unread.items ≡ self.old.unread.items }
+        ensures grows { length self.new.nodes.items ≡ length self.old.nodes.items }
+    {
+        let place = number as usize;
+        self.elements[place] = None;
+        write_object(&mut self.nodes[place], class, parts);
     }
 
     /// The description of this number is being read.

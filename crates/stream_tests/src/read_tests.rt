@@ -245,3 +245,29 @@ fn a_list_of_wants_is_read(rt: HostRuntime) {
     let counts = counts_of_wants(&rt, alloc, &mut source, &wants);
     must(&rt, counts == (3, 3, 1, 25), stream);
 }
+
+/// How many answers a reader has for one list of wants and then for another, and how many bytes were taken.
+fn counts_served(
+    rt: &impl Abort,
+    alloc: Global,
+    source: &mut MemSource,
+    first: &[Want],
+    second: &[Want],
+) -> (usize, usize, u64) {
+    let mut pull = Pull::new(source);
+    let mut reader = Reader::start(alloc, &mut pull).expect(rt, "start");
+    let early = reader.serve(alloc, &mut pull, first).expect(rt, "first");
+    let late = reader.serve(alloc, &mut pull, second).expect(rt, "second");
+    (early.len(), late.len(), pull.at())
+}
+
+#[test]
+fn a_reader_serves_lists_of_wants(rt: HostRuntime) {
+    let alloc = rt.alloc();
+    let stream = "ACED0005 770109 7A000000020807 7700 74000161 71007E0000 70";
+    let mut source = source_of(&rt, alloc, stream, 0);
+    let first = [Want::Bytes(3), Want::Slot];
+    let second = [Want::Slot, Want::Slot];
+    let counts = counts_served(&rt, alloc, &mut source, &first, &second);
+    must(&rt, counts == (2, 2, 26), stream);
+}

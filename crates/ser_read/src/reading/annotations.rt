@@ -1,11 +1,10 @@
 //! Annotations: blocks of bytes and references, up to their end.
-ghost use Rattle.std.specs.Prelude.{◌≡◌, ◌-◌, ◌≤◌, length, OnOk, true};
+ghost use Rattle.std.specs.Prelude.{◌-◌, ◌≤◌, true};
 ghost use Rattle.ser_values.specs.declared.node.Place.TheVariants.{Reference};
 ghost use Rattle.ser_values.specs.declared.limits.TheConstants.{LEVELS};
 ghost use Rattle.ser_values.specs.Reading.{slot_at, coded, items_at, note_at};
 ghost use Rattle.ser_read.specs.Named.{item_at};
-ghost use Rattle.ser_read.specs.Tables.{now_of};
-ghost use Rattle.ser_read.specs.Here.{ReadsTaken, StopsTaken};
+ghost use Rattle.ser_read.specs.Does.{Does, Any};
 
 use crate::fault::StreamFault;
 use crate::pieces::add;
@@ -29,11 +28,7 @@ pub(super) fn note<S: Source>(
     left: u32,
 ) -> Result<Items, StreamFault>
     requires left { left ≤ LEVELS }
-    ensures lent { pull.new.source.ghost_name ≡ pull.old.source.ghost_name }
-    ensures grows { length table.old.nodes.items ≤ length table.new.nodes.items }
-    ensures unread { OnOk result (table.new.unread.items ≡ table.old.unread.items) }
-    ensures reads { ReadsTaken S.left S.faults pull.old pull.new result (λ end. note_at end (slot_at end left Reference table.old.unread.items) writes (now_of table.old)) (λ x rest. (x, now_of table.new, rest)) }
-    ensures stops { StopsTaken S.left S.faults pull.old pull.new result (λ end. note_at end (slot_at end left Reference table.old.unread.items) writes (now_of table.old)) }
+    ensures { Does S.left S.faults pull.old pull.new table.old table.new result Any (λ end. note_at end (slot_at end left Reference table.old.unread.items) writes) }
 {
     if writes {
         items(alloc, pull, table, left)
@@ -51,11 +46,7 @@ pub(super) fn items<S: Source>(
     left: u32,
 ) -> Result<Items, StreamFault>
     requires left { left ≤ LEVELS }
-    ensures lent { pull.new.source.ghost_name ≡ pull.old.source.ghost_name }
-    ensures grows { length table.old.nodes.items ≤ length table.new.nodes.items }
-    ensures unread { OnOk result (table.new.unread.items ≡ table.old.unread.items) }
-    ensures reads { ReadsTaken S.left S.faults pull.old pull.new result (λ end. items_at end (slot_at end left Reference table.old.unread.items) true (now_of table.old)) (λ x rest. (x, now_of table.new, rest)) }
-    ensures stops { StopsTaken S.left S.faults pull.old pull.new result (λ end. items_at end (slot_at end left Reference table.old.unread.items) true (now_of table.old)) }
+    ensures { Does S.left S.faults pull.old pull.new table.old table.new result Any (λ end. items_at end (slot_at end left Reference table.old.unread.items) true) }
 {
     let mut items = Vec::new(alloc);
     loop {
@@ -81,11 +72,7 @@ pub(crate) fn item<S: Source>(
     left: u32,
 ) -> Result<Item, StreamFault>
     requires left { left ≤ LEVELS }
-    ensures lent { pull.new.source.ghost_name ≡ pull.old.source.ghost_name }
-    ensures grows { length table.old.nodes.items ≤ length table.new.nodes.items }
-    ensures unread { OnOk result (table.new.unread.items ≡ table.old.unread.items) }
-    ensures reads { ReadsTaken S.left S.faults pull.old pull.new result (λ end. item_at end (coded end left (slot_at end (left - 1)) Reference table.old.unread.items at code) code (now_of table.old)) (λ x rest. (x, now_of table.new, rest)) }
-    ensures stops { StopsTaken S.left S.faults pull.old pull.new result (λ end. item_at end (coded end left (slot_at end (left - 1)) Reference table.old.unread.items at code) code (now_of table.old)) }
+    ensures { Does S.left S.faults pull.old pull.new table.old table.new result Any (λ end. item_at end (coded end left (slot_at end (left - 1)) Reference table.old.unread.items at code) code) }
 {
     if code == 0x77 {
         let n = byte(pull)?;

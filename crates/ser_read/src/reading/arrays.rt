@@ -1,11 +1,9 @@
 //! Arrays.
-ghost use Rattle.std.specs.Prelude.{◌≡◌, ◌≢◌, ◌≤◌, ◌<◌, length, IfOk, OnOk, Some};
-ghost use Rattle.class_desc.specs.declared.slot.Slot.TheVariants.{Null};
+ghost use Rattle.std.specs.Prelude.{◌≤◌, ◌<◌, length, Some};
 ghost use Rattle.ser_values.specs.declared.node.Place.TheVariants.{Reference};
 ghost use Rattle.ser_values.specs.declared.limits.TheConstants.{LEVELS, NODES};
 ghost use Rattle.ser_values.specs.Reading.{slot_at, many_at, elements_at, with_class, array_at, array_of};
-ghost use Rattle.ser_read.specs.Tables.{now_of};
-ghost use Rattle.ser_read.specs.Here.{ReadsTaken, StopsTaken};
+ghost use Rattle.ser_read.specs.Does.{Does, Any, GivesNode};
 
 use crate::fault::{StreamFault, StreamKind};
 use crate::numbers::primitives;
@@ -31,12 +29,7 @@ pub(super) fn array<S: Source>(
     left: u32,
 ) -> Result<Slot, StreamFault>
     requires left { left ≤ LEVELS }
-    ensures lent { pull.new.source.ghost_name ≡ pull.old.source.ghost_name }
-    ensures grows { length table.old.nodes.items ≤ length table.new.nodes.items }
-    ensures unread { OnOk result (table.new.unread.items ≡ table.old.unread.items) }
-    ensures some { IfOk result (λ slot. slot ≢ Null) }
-    ensures reads { ReadsTaken S.left S.faults pull.old pull.new result (λ end. with_class (slot_at end left) table.old.unread.items at (array_at end at (slot_at end left Reference table.old.unread.items)) (now_of table.old)) (λ x rest. (x, now_of table.new, rest)) }
-    ensures stops { StopsTaken S.left S.faults pull.old pull.new result (λ end. with_class (slot_at end left) table.old.unread.items at (array_at end at (slot_at end left Reference table.old.unread.items)) (now_of table.old)) }
+    ensures { Does S.left S.faults pull.old pull.new table.old table.new result GivesNode (λ end. with_class (slot_at end left) table.old.unread.items at (array_at end at (slot_at end left Reference table.old.unread.items))) }
 {
     let class = class(alloc, pull, table, at, left)?;
     array_in(alloc, pull, table, at, class, left)
@@ -55,12 +48,7 @@ fn array_in<S: Source>(
 ) -> Result<Slot, StreamFault>
     requires room { length table.old.nodes.items < NODES }
     requires left { left ≤ LEVELS }
-    ensures lent { pull.new.source.ghost_name ≡ pull.old.source.ghost_name }
-    ensures grows { length table.old.nodes.items ≤ length table.new.nodes.items }
-    ensures unread { OnOk result (table.new.unread.items ≡ table.old.unread.items) }
-    ensures some { IfOk result (λ slot. slot ≢ Null) }
-    ensures reads { ReadsTaken S.left S.faults pull.old pull.new result (λ end. array_at end at (slot_at end left Reference table.old.unread.items) class (now_of table.old)) (λ x rest. (x, now_of table.new, rest)) }
-    ensures stops { StopsTaken S.left S.faults pull.old pull.new result (λ end. array_at end at (slot_at end left Reference table.old.unread.items) class (now_of table.old)) }
+    ensures { Does S.left S.faults pull.old pull.new table.old table.new result GivesNode (λ end. array_at end at (slot_at end left Reference table.old.unread.items) class) }
 {
     match table.element_type(class) {
         None => Err(bad(StreamKind::BadDesc, at)),
@@ -81,12 +69,7 @@ fn array_of<S: Source>(
 ) -> Result<Slot, StreamFault>
     requires room { length table.old.nodes.items < NODES }
     requires left { left ≤ LEVELS }
-    ensures lent { pull.new.source.ghost_name ≡ pull.old.source.ghost_name }
-    ensures grows { length table.old.nodes.items ≤ length table.new.nodes.items }
-    ensures unread { OnOk result (table.new.unread.items ≡ table.old.unread.items) }
-    ensures some { IfOk result (λ slot. slot ≢ Null) }
-    ensures reads { ReadsTaken S.left S.faults pull.old pull.new result (λ end. array_of end 0 (slot_at end left Reference table.old.unread.items) class (Some code) (now_of table.old)) (λ x rest. (x, now_of table.new, rest)) }
-    ensures stops { StopsTaken S.left S.faults pull.old pull.new result (λ end. array_of end 0 (slot_at end left Reference table.old.unread.items) class (Some code) (now_of table.old)) }
+    ensures { Does S.left S.faults pull.old pull.new table.old table.new result GivesNode (λ end. array_of end 0 (slot_at end left Reference table.old.unread.items) class (Some code)) }
 {
     let n = count(pull)?;
     let number = table.begin(Node::Array {
@@ -110,11 +93,7 @@ fn elements<S: Source>(
     left: u32,
 ) -> Result<Values, StreamFault>
     requires left { left ≤ LEVELS }
-    ensures lent { pull.new.source.ghost_name ≡ pull.old.source.ghost_name }
-    ensures grows { length table.old.nodes.items ≤ length table.new.nodes.items }
-    ensures unread { OnOk result (table.new.unread.items ≡ table.old.unread.items) }
-    ensures reads { ReadsTaken S.left S.faults pull.old pull.new result (λ end. elements_at (slot_at end left Reference table.old.unread.items) code n (now_of table.old)) (λ x rest. (x, now_of table.new, rest)) }
-    ensures stops { StopsTaken S.left S.faults pull.old pull.new result (λ end. elements_at (slot_at end left Reference table.old.unread.items) code n (now_of table.old)) }
+    ensures { Does S.left S.faults pull.old pull.new table.old table.new result Any (λ end. elements_at (slot_at end left Reference table.old.unread.items) code n) }
 {
     if is_primitive(code) {
         primitives(alloc, pull, code, n)
@@ -134,11 +113,7 @@ fn slots<S: Source>(
     left: u32,
 ) -> Result<SlotList, StreamFault>
     requires left { left ≤ LEVELS }
-    ensures lent { pull.new.source.ghost_name ≡ pull.old.source.ghost_name }
-    ensures grows { length table.old.nodes.items ≤ length table.new.nodes.items }
-    ensures unread { OnOk result (table.new.unread.items ≡ table.old.unread.items) }
-    ensures reads { ReadsTaken S.left S.faults pull.old pull.new result (λ end. many_at (slot_at end left Reference table.old.unread.items) n (now_of table.old)) (λ x rest. (x, now_of table.new, rest)) }
-    ensures stops { StopsTaken S.left S.faults pull.old pull.new result (λ end. many_at (slot_at end left Reference table.old.unread.items) n (now_of table.old)) }
+    ensures { Does S.left S.faults pull.old pull.new table.old table.new result Any (λ end. many_at (slot_at end left Reference table.old.unread.items) n) }
 {
     let mut slots = SlotList::new(alloc);
     for _ in 0..n {

@@ -1,11 +1,9 @@
 //! Constants of enums, and classes as values.
-ghost use Rattle.std.specs.Prelude.{◌≡◌, ◌≢◌, ◌≤◌, ◌<◌, length, IfOk, OnOk};
-ghost use Rattle.class_desc.specs.declared.slot.Slot.TheVariants.{Null};
+ghost use Rattle.std.specs.Prelude.{◌≤◌, ◌<◌, length};
 ghost use Rattle.ser_values.specs.declared.node.Place.TheVariants.{Text};
 ghost use Rattle.ser_values.specs.declared.limits.TheConstants.{LEVELS, NODES};
 ghost use Rattle.ser_values.specs.Reading.{slot_at, with_class, class_at, enum_at};
-ghost use Rattle.ser_read.specs.Tables.{now_of};
-ghost use Rattle.ser_read.specs.Here.{ReadsTaken, StopsTaken};
+ghost use Rattle.ser_read.specs.Does.{Does, GivesNode};
 
 use crate::fault::{StreamFault, StreamKind};
 use crate::pieces::bad;
@@ -28,12 +26,7 @@ pub(super) fn class_value<S: Source>(
     left: u32,
 ) -> Result<Slot, StreamFault>
     requires left { left ≤ LEVELS }
-    ensures lent { pull.new.source.ghost_name ≡ pull.old.source.ghost_name }
-    ensures grows { length table.old.nodes.items ≤ length table.new.nodes.items }
-    ensures unread { OnOk result (table.new.unread.items ≡ table.old.unread.items) }
-    ensures some { IfOk result (λ slot. slot ≢ Null) }
-    ensures reads { ReadsTaken S.left S.faults pull.old pull.new result (λ end. with_class (slot_at end left) table.old.unread.items at class_at (now_of table.old)) (λ x rest. (x, now_of table.new, rest)) }
-    ensures stops { StopsTaken S.left S.faults pull.old pull.new result (λ end. with_class (slot_at end left) table.old.unread.items at class_at (now_of table.old)) }
+    ensures { Does S.left S.faults pull.old pull.new table.old table.new result GivesNode (λ end. with_class (slot_at end left) table.old.unread.items at class_at) }
 {
     let class = class(alloc, pull, table, at, left)?;
     let number = table.begin(Node::Class { class })?;
@@ -51,12 +44,7 @@ pub(super) fn constant<S: Source>(
     left: u32,
 ) -> Result<Slot, StreamFault>
     requires left { left ≤ LEVELS }
-    ensures lent { pull.new.source.ghost_name ≡ pull.old.source.ghost_name }
-    ensures grows { length table.old.nodes.items ≤ length table.new.nodes.items }
-    ensures unread { OnOk result (table.new.unread.items ≡ table.old.unread.items) }
-    ensures some { IfOk result (λ slot. slot ≢ Null) }
-    ensures reads { ReadsTaken S.left S.faults pull.old pull.new result (λ end. with_class (slot_at end left) table.old.unread.items at (enum_at at (slot_at end left Text table.old.unread.items)) (now_of table.old)) (λ x rest. (x, now_of table.new, rest)) }
-    ensures stops { StopsTaken S.left S.faults pull.old pull.new result (λ end. with_class (slot_at end left) table.old.unread.items at (enum_at at (slot_at end left Text table.old.unread.items)) (now_of table.old)) }
+    ensures { Does S.left S.faults pull.old pull.new table.old table.new result GivesNode (λ end. with_class (slot_at end left) table.old.unread.items at (enum_at at (slot_at end left Text table.old.unread.items))) }
 {
     let class = class(alloc, pull, table, at, left)?;
     constant_in(alloc, pull, table, at, class, left)
@@ -75,12 +63,7 @@ fn constant_in<S: Source>(
 ) -> Result<Slot, StreamFault>
     requires room { length table.old.nodes.items < NODES }
     requires left { left ≤ LEVELS }
-    ensures lent { pull.new.source.ghost_name ≡ pull.old.source.ghost_name }
-    ensures grows { length table.old.nodes.items ≤ length table.new.nodes.items }
-    ensures unread { OnOk result (table.new.unread.items ≡ table.old.unread.items) }
-    ensures some { IfOk result (λ slot. slot ≢ Null) }
-    ensures reads { ReadsTaken S.left S.faults pull.old pull.new result (λ end. enum_at at (slot_at end left Text table.old.unread.items) class (now_of table.old)) (λ x rest. (x, now_of table.new, rest)) }
-    ensures stops { StopsTaken S.left S.faults pull.old pull.new result (λ end. enum_at at (slot_at end left Text table.old.unread.items) class (now_of table.old)) }
+    ensures { Does S.left S.faults pull.old pull.new table.old table.new result GivesNode (λ end. enum_at at (slot_at end left Text table.old.unread.items) class) }
 {
     if !table.is_enum(class) {
         return Err(bad(StreamKind::BadDesc, at));

@@ -1,12 +1,10 @@
 //! Descriptions of classes and of dynamic proxy classes.
-ghost use Rattle.std.specs.Prelude.{◌≡◌, ◌≢◌, ◌≤◌, ◌<◌, length, IfOk, OnOk, Some};
-ghost use Rattle.class_desc.specs.declared.slot.Slot.TheVariants.{Null};
+ghost use Rattle.std.specs.Prelude.{◌≤◌, ◌<◌, length, Some};
 ghost use Rattle.ser_values.specs.declared.node.Place.TheVariants.{Text};
 ghost use Rattle.ser_values.specs.declared.limits.TheConstants.{LEVELS, NODES};
 ghost use Rattle.ser_values.specs.Reading.{slot_at, many_at, field_at, field_of, desc_at, proxy_at};
 ghost use Rattle.ser_read.specs.Fronts.{desc_behind};
-ghost use Rattle.ser_read.specs.Tables.{now_of};
-ghost use Rattle.ser_read.specs.Here.{ReadsTaken, StopsTaken};
+ghost use Rattle.ser_read.specs.Does.{Does, Any, GivesNode};
 
 use crate::fault::{StreamFault, StreamKind};
 use crate::front::{DescFront, desc_front};
@@ -36,12 +34,7 @@ pub(super) fn desc<S: Source>(
 ) -> Result<Slot, StreamFault>
     requires room { length table.old.nodes.items < NODES }
     requires left { left ≤ LEVELS }
-    ensures lent { pull.new.source.ghost_name ≡ pull.old.source.ghost_name }
-    ensures grows { length table.old.nodes.items ≤ length table.new.nodes.items }
-    ensures unread { OnOk result (table.new.unread.items ≡ table.old.unread.items) }
-    ensures some { IfOk result (λ slot. slot ≢ Null) }
-    ensures reads { ReadsTaken S.left S.faults pull.old pull.new result (λ end. desc_at end at (slot_at end left) table.old.unread.items (now_of table.old)) (λ x rest. (x, now_of table.new, rest)) }
-    ensures stops { StopsTaken S.left S.faults pull.old pull.new result (λ end. desc_at end at (slot_at end left) table.old.unread.items (now_of table.old)) }
+    ensures { Does S.left S.faults pull.old pull.new table.old table.new result GivesNode (λ end. desc_at end at (slot_at end left) table.old.unread.items) }
 {
     let name = short_text(alloc, pull)?;
     let front = desc_front(pull)?;
@@ -66,11 +59,7 @@ fn desc_behind<S: Source>(
     left: u32,
 ) -> Result<ClassDesc, StreamFault>
     requires left { left ≤ LEVELS }
-    ensures lent { pull.new.source.ghost_name ≡ pull.old.source.ghost_name }
-    ensures grows { length table.old.nodes.items ≤ length table.new.nodes.items }
-    ensures unread { OnOk result (table.new.unread.items ≡ table.old.unread.items) }
-    ensures reads { ReadsTaken S.left S.faults pull.old pull.new result (λ end. desc_behind end at (slot_at end left) table.old.unread.items name front (now_of table.old)) (λ x rest. (x, now_of table.new, rest)) }
-    ensures stops { StopsTaken S.left S.faults pull.old pull.new result (λ end. desc_behind end at (slot_at end left) table.old.unread.items name front (now_of table.old)) }
+    ensures { Does S.left S.faults pull.old pull.new table.old table.new result Any (λ end. desc_behind end at (slot_at end left) table.old.unread.items name front) }
 {
     let fields = fields(alloc, pull, table, at, front.fields, left)?;
     let mut desc = ClassDesc {
@@ -100,11 +89,7 @@ fn fields<S: Source>(
     left: u32,
 ) -> Result<FieldList, StreamFault>
     requires left { left ≤ LEVELS }
-    ensures lent { pull.new.source.ghost_name ≡ pull.old.source.ghost_name }
-    ensures grows { length table.old.nodes.items ≤ length table.new.nodes.items }
-    ensures unread { OnOk result (table.new.unread.items ≡ table.old.unread.items) }
-    ensures reads { ReadsTaken S.left S.faults pull.old pull.new result (λ end. many_at (field_at end at (slot_at end left Text table.old.unread.items)) n (now_of table.old)) (λ x rest. (x, now_of table.new, rest)) }
-    ensures stops { StopsTaken S.left S.faults pull.old pull.new result (λ end. many_at (field_at end at (slot_at end left Text table.old.unread.items)) n (now_of table.old)) }
+    ensures { Does S.left S.faults pull.old pull.new table.old table.new result Any (λ end. many_at (field_at end at (slot_at end left Text table.old.unread.items)) n) }
 {
     let mut fields = FieldList::new(alloc);
     for _ in 0..n {
@@ -125,11 +110,7 @@ fn field<S: Source>(
     left: u32,
 ) -> Result<FieldDesc, StreamFault>
     requires left { left ≤ LEVELS }
-    ensures lent { pull.new.source.ghost_name ≡ pull.old.source.ghost_name }
-    ensures grows { length table.old.nodes.items ≤ length table.new.nodes.items }
-    ensures unread { OnOk result (table.new.unread.items ≡ table.old.unread.items) }
-    ensures reads { ReadsTaken S.left S.faults pull.old pull.new result (λ end. field_at end at (slot_at end left Text table.old.unread.items) (now_of table.old)) (λ x rest. (x, now_of table.new, rest)) }
-    ensures stops { StopsTaken S.left S.faults pull.old pull.new result (λ end. field_at end at (slot_at end left Text table.old.unread.items) (now_of table.old)) }
+    ensures { Does S.left S.faults pull.old pull.new table.old table.new result Any (λ end. field_at end at (slot_at end left Text table.old.unread.items)) }
 {
     let letter = byte(pull)?;
     match TypeCode::from_letter(letter) {
@@ -150,11 +131,7 @@ fn field_of<S: Source>(
     left: u32,
 ) -> Result<FieldDesc, StreamFault>
     requires left { left ≤ LEVELS }
-    ensures lent { pull.new.source.ghost_name ≡ pull.old.source.ghost_name }
-    ensures grows { length table.old.nodes.items ≤ length table.new.nodes.items }
-    ensures unread { OnOk result (table.new.unread.items ≡ table.old.unread.items) }
-    ensures reads { ReadsTaken S.left S.faults pull.old pull.new result (λ end. field_of end at (slot_at end left Text table.old.unread.items) (Some code) (now_of table.old)) (λ x rest. (x, now_of table.new, rest)) }
-    ensures stops { StopsTaken S.left S.faults pull.old pull.new result (λ end. field_of end at (slot_at end left Text table.old.unread.items) (Some code) (now_of table.old)) }
+    ensures { Does S.left S.faults pull.old pull.new table.old table.new result Any (λ end. field_of end at (slot_at end left Text table.old.unread.items) (Some code)) }
 {
     let name = short_text(alloc, pull)?;
     if is_primitive(code) {
@@ -186,12 +163,7 @@ pub(super) fn proxy<S: Source>(
 ) -> Result<Slot, StreamFault>
     requires room { length table.old.nodes.items < NODES }
     requires left { left ≤ LEVELS }
-    ensures lent { pull.new.source.ghost_name ≡ pull.old.source.ghost_name }
-    ensures grows { length table.old.nodes.items ≤ length table.new.nodes.items }
-    ensures unread { OnOk result (table.new.unread.items ≡ table.old.unread.items) }
-    ensures some { IfOk result (λ slot. slot ≢ Null) }
-    ensures reads { ReadsTaken S.left S.faults pull.old pull.new result (λ end. proxy_at end (slot_at end left) table.old.unread.items (now_of table.old)) (λ x rest. (x, now_of table.new, rest)) }
-    ensures stops { StopsTaken S.left S.faults pull.old pull.new result (λ end. proxy_at end (slot_at end left) table.old.unread.items (now_of table.old)) }
+    ensures { Does S.left S.faults pull.old pull.new table.old table.new result GivesNode (λ end. proxy_at end (slot_at end left) table.old.unread.items) }
 {
     let n = count(pull)?;
     let number = table.begin(blank(alloc))?;

@@ -1,12 +1,10 @@
 //! Objects: for each class of the chain its values and its annotation.
-ghost use Rattle.std.specs.Prelude.{◌≡◌, ◌≢◌, ◌≤◌, ◌<◌, ◌+◌, length, IfOk, OnOk};
-ghost use Rattle.class_desc.specs.declared.slot.Slot.TheVariants.{Null};
+ghost use Rattle.std.specs.Prelude.{◌≤◌, ◌<◌, ◌+◌, length};
 ghost use Rattle.ser_values.specs.declared.node.Place.TheVariants.{Reference};
 ghost use Rattle.ser_values.specs.declared.limits.TheConstants.{LEVELS, NODES, PARTS};
 ghost use Rattle.ser_values.specs.Reading.{slot_at, value_at, with_class, object_at};
 ghost use Rattle.ser_read.specs.Rows.{values_by, part_by, parts_by, object_by};
-ghost use Rattle.ser_read.specs.Tables.{now_of};
-ghost use Rattle.ser_read.specs.Here.{ReadsTaken, StopsTaken};
+ghost use Rattle.ser_read.specs.Does.{Does, Any, GivesNode};
 
 use crate::fault::{Large, StreamFault};
 use crate::numbers::primitive;
@@ -33,12 +31,7 @@ pub(super) fn object<S: Source>(
     left: u32,
 ) -> Result<Slot, StreamFault>
     requires left { left ≤ LEVELS }
-    ensures lent { pull.new.source.ghost_name ≡ pull.old.source.ghost_name }
-    ensures grows { length table.old.nodes.items ≤ length table.new.nodes.items }
-    ensures unread { OnOk result (table.new.unread.items ≡ table.old.unread.items) }
-    ensures some { IfOk result (λ slot. slot ≢ Null) }
-    ensures reads { ReadsTaken S.left S.faults pull.old pull.new result (λ end. with_class (slot_at end left) table.old.unread.items at (object_at end at (slot_at end left Reference table.old.unread.items)) (now_of table.old)) (λ x rest. (x, now_of table.new, rest)) }
-    ensures stops { StopsTaken S.left S.faults pull.old pull.new result (λ end. with_class (slot_at end left) table.old.unread.items at (object_at end at (slot_at end left Reference table.old.unread.items)) (now_of table.old)) }
+    ensures { Does S.left S.faults pull.old pull.new table.old table.new result GivesNode (λ end. with_class (slot_at end left) table.old.unread.items at (object_at end at (slot_at end left Reference table.old.unread.items))) }
 {
     let class = class(alloc, pull, table, at, left)?;
     object_in(alloc, pull, table, at, class, left)
@@ -57,12 +50,7 @@ fn object_in<S: Source>(
 ) -> Result<Slot, StreamFault>
     requires room { length table.old.nodes.items < NODES }
     requires left { left ≤ LEVELS }
-    ensures lent { pull.new.source.ghost_name ≡ pull.old.source.ghost_name }
-    ensures grows { length table.old.nodes.items ≤ length table.new.nodes.items }
-    ensures unread { OnOk result (table.new.unread.items ≡ table.old.unread.items) }
-    ensures some { IfOk result (λ slot. slot ≢ Null) }
-    ensures reads { ReadsTaken S.left S.faults pull.old pull.new result (λ end. object_at end at (slot_at end left Reference table.old.unread.items) class (now_of table.old)) (λ x rest. (x, now_of table.new, rest)) }
-    ensures stops { StopsTaken S.left S.faults pull.old pull.new result (λ end. object_at end at (slot_at end left Reference table.old.unread.items) class (now_of table.old)) }
+    ensures { Does S.left S.faults pull.old pull.new table.old table.new result GivesNode (λ end. object_at end at (slot_at end left Reference table.old.unread.items) class) }
 {
     let shape = shape_of(alloc, table, class)?;
     let rows = shape.rows.as_slice();
@@ -92,12 +80,7 @@ fn object_after<S: Source>(
     requires room { length table.old.nodes.items < NODES }
     requires parts { table.old.parts + length rows.now ≤ PARTS }
     requires left { left ≤ LEVELS }
-    ensures lent { pull.new.source.ghost_name ≡ pull.old.source.ghost_name }
-    ensures grows { length table.old.nodes.items ≤ length table.new.nodes.items }
-    ensures unread { OnOk result (table.new.unread.items ≡ table.old.unread.items) }
-    ensures some { IfOk result (λ slot. slot ≢ Null) }
-    ensures reads { ReadsTaken S.left S.faults pull.old pull.new result (λ end. object_by end (slot_at end left Reference table.old.unread.items) class rows.now (now_of table.old)) (λ x rest. (x, now_of table.new, rest)) }
-    ensures stops { StopsTaken S.left S.faults pull.old pull.new result (λ end. object_by end (slot_at end left Reference table.old.unread.items) class rows.now (now_of table.old)) }
+    ensures { Does S.left S.faults pull.old pull.new table.old table.new result GivesNode (λ end. object_by end (slot_at end left Reference table.old.unread.items) class rows.now) }
 {
     table.add_parts(rows.len());
     let number = table.begin(Node::Object {
@@ -105,7 +88,7 @@ fn object_after<S: Source>(
         parts: PartList::new(alloc),
     })?;
     let parts = parts(alloc, pull, table, rows, left)?;
-    table.fill(number, Node::Object { class, parts });
+    table.fill_object(number, class, parts);
     Ok(Slot::Node(number))
 }
 
@@ -119,11 +102,7 @@ fn parts<S: Source>(
     left: u32,
 ) -> Result<PartList, StreamFault>
     requires left { left ≤ LEVELS }
-    ensures lent { pull.new.source.ghost_name ≡ pull.old.source.ghost_name }
-    ensures grows { length table.old.nodes.items ≤ length table.new.nodes.items }
-    ensures unread { OnOk result (table.new.unread.items ≡ table.old.unread.items) }
-    ensures reads { ReadsTaken S.left S.faults pull.old pull.new result (λ end. parts_by end (slot_at end left Reference table.old.unread.items) rows.now (now_of table.old)) (λ x rest. (x, now_of table.new, rest)) }
-    ensures stops { StopsTaken S.left S.faults pull.old pull.new result (λ end. parts_by end (slot_at end left Reference table.old.unread.items) rows.now (now_of table.old)) }
+    ensures { Does S.left S.faults pull.old pull.new table.old table.new result Any (λ end. parts_by end (slot_at end left Reference table.old.unread.items) rows.now) }
 {
     let mut parts = PartList::new(alloc);
     for row in rows {
@@ -144,11 +123,7 @@ fn part<S: Source>(
     left: u32,
 ) -> Result<Part, StreamFault>
     requires left { left ≤ LEVELS }
-    ensures lent { pull.new.source.ghost_name ≡ pull.old.source.ghost_name }
-    ensures grows { length table.old.nodes.items ≤ length table.new.nodes.items }
-    ensures unread { OnOk result (table.new.unread.items ≡ table.old.unread.items) }
-    ensures reads { ReadsTaken S.left S.faults pull.old pull.new result (λ end. part_by end (slot_at end left Reference table.old.unread.items) row.now (now_of table.old)) (λ x rest. (x, now_of table.new, rest)) }
-    ensures stops { StopsTaken S.left S.faults pull.old pull.new result (λ end. part_by end (slot_at end left Reference table.old.unread.items) row.now (now_of table.old)) }
+    ensures { Does S.left S.faults pull.old pull.new table.old table.new result Any (λ end. part_by end (slot_at end left Reference table.old.unread.items) row.now) }
 {
     let values = values(alloc, pull, table, row.codes.as_slice(), left)?;
     let note = note(alloc, pull, table, row.note, left)?;
@@ -165,11 +140,7 @@ fn values<S: Source>(
     left: u32,
 ) -> Result<ValueList, StreamFault>
     requires left { left ≤ LEVELS }
-    ensures lent { pull.new.source.ghost_name ≡ pull.old.source.ghost_name }
-    ensures grows { length table.old.nodes.items ≤ length table.new.nodes.items }
-    ensures unread { OnOk result (table.new.unread.items ≡ table.old.unread.items) }
-    ensures reads { ReadsTaken S.left S.faults pull.old pull.new result (λ end. values_by (slot_at end left Reference table.old.unread.items) codes.now (now_of table.old)) (λ x rest. (x, now_of table.new, rest)) }
-    ensures stops { StopsTaken S.left S.faults pull.old pull.new result (λ end. values_by (slot_at end left Reference table.old.unread.items) codes.now (now_of table.old)) }
+    ensures { Does S.left S.faults pull.old pull.new table.old table.new result Any (λ end. values_by (slot_at end left Reference table.old.unread.items) codes.now) }
 {
     let mut values = ValueList::new(alloc);
     for code in codes {
@@ -190,11 +161,7 @@ fn value<S: Source>(
     left: u32,
 ) -> Result<Value, StreamFault>
     requires left { left ≤ LEVELS }
-    ensures lent { pull.new.source.ghost_name ≡ pull.old.source.ghost_name }
-    ensures grows { length table.old.nodes.items ≤ length table.new.nodes.items }
-    ensures unread { OnOk result (table.new.unread.items ≡ table.old.unread.items) }
-    ensures reads { ReadsTaken S.left S.faults pull.old pull.new result (λ end. value_at (slot_at end left Reference table.old.unread.items) code (now_of table.old)) (λ x rest. (x, now_of table.new, rest)) }
-    ensures stops { StopsTaken S.left S.faults pull.old pull.new result (λ end. value_at (slot_at end left Reference table.old.unread.items) code (now_of table.old)) }
+    ensures { Does S.left S.faults pull.old pull.new table.old table.new result Any (λ end. value_at (slot_at end left Reference table.old.unread.items) code) }
 {
     if is_primitive(code) {
         primitive(pull, code)

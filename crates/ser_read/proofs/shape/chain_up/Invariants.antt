@@ -7,7 +7,7 @@ use Rattle.ser_read.proofs.shape.chain_up.Given as goal
 abbrev pub invariant-loop-left : goal.invariant-loop-left
 invariant-loop-left l =
     record {
-      rows : (shown (chain_of l.left l.nodes l.slot)).0 ++ reverse l.rows.items ≡ (shown (chain_of 1048576 l.nodes (Node l.class))).0;
+      rows : (shown (chain_of l.left l.nodes l.slot)).0 ++ reverse l.rows ≡ (shown (chain_of 1048576 l.nodes (Node l.class))).0;
       serial : (chain_of l.left l.nodes l.slot).1 && l.is_serial ≡ (chain_of 1048576 l.nodes (Node l.class)).1;
     }
 
