@@ -8,12 +8,13 @@ use Rattle.class_desc.specs.declared.slot.Item.TheVariants as items
 use Rattle.ser_values.specs.Spelled.{joined}
 use Rattle.ser_values.specs.Reading.{short, magic_at}
 use Rattle.ser_read.specs.Here.{Caused, Reads, IsTold, env, coming}
-use Rattle.ser_read.specs.Wants.{WantFault, inside, ◌▸◌, lifted, Stand, nothing_read, bytes_at, serve_to_close, ReaderState, WantFails, WantBreaks}
+use Rattle.ser_read.specs.Wants.{WantFault, inside, ◌▸◌, lifted, Stand, nothing_read, bytes_at, want_at, serve, serve_to_close, ReaderState, WantFails, WantBreaks}
+use Rattle.jrmp_frames.specs.declared.arguments.Arg.{Arg}
 use Rattle.jrmp_frames.specs.declared.head.CallHead.{CallHead}
 use Rattle.jrmp_frames.specs.declared.arguments.Arguments.{Arguments}
 use Rattle.jrmp_frames.specs.declared.fault.FrameFault.{FrameFault}
 use Rattle.jrmp_frames.specs.declared.fault.FrameFault.TheVariants.{Stream}
-use Rattle.jrmp_frames.specs.Messages.{head_bytes, wants_of, args_of, CallBytes}
+use Rattle.jrmp_frames.specs.Messages.{head_bytes, want_of, wants_of, arg_of, args_of, CallBytes}
 
 -- The head of a call behind its code, as it is read: the magic number and the version, and then 34 bytes of block data
 unfoldable pub head_at : ℕ → List ℕ → Result (List ℕ × Stand × List ℕ) WantFault
@@ -28,6 +29,18 @@ ReadsHead old new head stand = Reads (inside short) old new head_at (λ rest. (h
 -- The reader stands behind 34 bytes of block data, and it has no other item of its stream.
 abbrev pub HasHead : ReaderState → Type 0
 HasHead reader = (reader.refused ≡ None) × (bytes : List ℕ) × (length bytes ≡ 34) × (reader.stand.items ≡ items.Bytes bytes ∷ [])
+
+-- From where the reader stood, the argument for a parameter of this type was taken, and it stands so behind it.
+pub record ReadsArgument (old new : Place) (stand later : Stand) (code : TypeCode) (arg : Arg) : Type 0 where
+  pub answer : Item
+  pub reads : Reads (inside short) old new (λ end. want_at end (want_of code) stand) (λ rest. (answer, later, rest))
+  pub value : arg ≡ arg_of code answer
+
+-- The same of the arguments for parameters of these types, one after the other.
+pub record ReadsEach (old new : Place) (stand later : Stand) (params : List TypeCode) (args : List Arg) : Type 0 where
+  pub answers : List Item
+  pub reads : Reads (inside short) old new (λ end. serve end (wants_of params) stand) (λ rest. (answers, later, rest))
+  pub values : args ≡ args_of params answers
 
 -- From where the reader stood, the arguments for parameters of these types were taken up to their end.
 pub record ReadsArguments (old new : Place) (stand : Stand) (params : List TypeCode) (arguments : Arguments) : Type 0 where

@@ -1,22 +1,21 @@
 //! The arguments of a call.
-ghost use Rattle.std.specs.Prelude.{◌≡◌, length, [], ◌∷◌, true, Some, is_some, IfOk, IfErr, None};
+ghost use Rattle.std.specs.Prelude.{◌≡◌, length, ◌∷◌, true, Some, is_some, IfOk, IfErr, OnOk, None};
 ghost use Rattle.wire_io.specs.Pulled.{Place, place};
 ghost use Rattle.ser_values.specs.Fronts.{without_front};
-ghost use Rattle.ser_read.specs.Wants.{StopsWant, WantTaken, serve_to_close, wants_at};
-ghost use Rattle.ser_read.specs.Asked.{Fits};
+ghost use Rattle.ser_read.specs.Wants.{StopsWant, want_at, serve, serve_to_close, wants_at};
 ghost use Rattle.ser_read.specs.declared.serving.Want.TheVariants as wanted;
 ghost use Rattle.jrmp_frames.specs.declared.head.CallHead.{CallHead};
-ghost use Rattle.jrmp_frames.specs.Messages.{width_of, want_of, wants_of, value_of, arg_of, args_of};
-ghost use Rattle.jrmp_frames.specs.Calls.{HasHead, ReadsHead, ReadsArguments, BreaksIn, CausedIn, TakesCall};
+ghost use Rattle.jrmp_frames.specs.Messages.{width_of, want_of, wants_of, value_of};
+ghost use Rattle.jrmp_frames.specs.Calls.{HasHead, ReadsHead, ReadsArgument, ReadsEach, ReadsArguments, BreaksIn, CausedIn, TakesCall};
 
 use crate::fault::FrameFault;
 use crate::head::HEAD_BYTES;
-use class_desc::{Item, Items, Slot, TypeCode};
+use class_desc::{Slot, TypeCode};
 use method_hash::Method;
 use mod_utf::list::Sequence;
 use ser_read::{Reader, StreamFault, Want};
 use ser_values::{Graph, Value};
-use std::alloc::{AllocError, Global};
+use std::alloc::Global;
 use wire_io::pull::Pull;
 use wire_io::source::Source;
 
@@ -74,17 +73,6 @@ fn want_of(code: TypeCode) -> Want
     }
 }
 
-/// What is wanted of a stream for parameters of these types.
-fn wants_of(alloc: Global, params: &[TypeCode]) -> Result<Vec<Want>, AllocError>
-    ensures { IfOk result (λ wants. wants.items ≡ wants_of params.now) }
-{
-    let mut wants = Vec::new(alloc);
-    for code in params {
-        wants.push(want_of(*code))?;
-    }
-    Ok(wants)
-}
-
 /// The value of a primitive type that these bytes spell; null for the type of references.
 fn value_of(code: TypeCode, bytes: &[u8]) -> Value
     requires { length bytes.now ≡ width_of code }
@@ -107,48 +95,51 @@ fn value_of(code: TypeCode, bytes: &[u8]) -> Value
     }
 }
 
-/// The argument that a stream gave for a parameter of this type.
-fn arg_of(code: TypeCode, answer: &Item) -> Arg
-    requires { Fits (want_of code ∷ []) (answer.now ∷ []) }
-    ensures { result ≡ arg_of code answer.now }
-{
-    match answer {
-        Item::Bytes(bytes) => Arg::Prim(value_of(code, bytes.as_slice())),
-        Item::Ref(slot) => Arg::Ref(*slot),
-    }
-}
-
-/// The arguments that a stream gave for parameters of these types.
-fn args_of(alloc: Global, params: &[TypeCode], answers: &[Item]) -> Result<ArgList, AllocError>
-    requires { Fits (wants_of params.now) answers.now }
-    ensures { IfOk result (λ args. args ≡ args_of params.now answers.now) }
-{
-    let mut args = ArgList::new(alloc);
-    let mut i = 0;
-    while i < params.len() && i < answers.len() {
-        args.push(arg_of(params[i], &answers[i]))?;
-        i += 1;
-    }
-    Ok(args)
-}
-
-/// What a stream gives for these wants, up to its end, and the graph of all that was read of it.
-#[tactic(auto, unfolding(ser_read::specs::Wants::serve_to_close))]
-fn read_answers<S: Source>(
+/// The argument that comes next, for a parameter of this type.
+fn read_arg<S: Source>(
     alloc: Global,
     pull: &mut Pull<'_, S>,
-    reader: Reader,
-    wants: &[Want],
-) -> Result<(Items, Graph), StreamFault>
-    requires kept { reader.refused ≡ None }
+    reader: &mut Reader,
+    code: TypeCode,
+) -> Result<Arg, StreamFault>
+    requires kept { reader.old.refused ≡ None }
+    ensures kept { OnOk result (reader.new.refused ≡ None) }
     ensures lent { pull.new.source.ghost_name ≡ pull.old.source.ghost_name }
-    ensures reads { WantTaken S.left S.faults pull.old pull.new result (λ end. serve_to_close end wants.now reader.stand) (λ x rest. (x.0, x.1.nodes, x.1.items, rest)) }
-    ensures stops { StopsWant S.left S.faults pull.old pull.new result (λ end. serve_to_close end wants.now reader.stand) }
+    ensures reads { IfOk result (ReadsArgument (place S.left S.faults pull.old) (place S.left S.faults pull.new) reader.old.stand reader.new.stand code) }
+    ensures stops { StopsWant S.left S.faults pull.old pull.new result (λ end. want_at end (want_of code) reader.old.stand) }
 {
-    let mut reader = reader;
-    let answers = reader.serve(alloc, pull, wants)?;
-    let graph = reader.close(pull)?;
-    Ok((answers, graph))
+    match want_of(code) {
+        Want::Bytes(n) => {
+            let bytes = reader.bytes(alloc, pull, n)?;
+            Ok(Arg::Prim(value_of(code, bytes.as_slice())))
+        }
+        Want::Slot => {
+            let slot = reader.slot(alloc, pull)?;
+            Ok(Arg::Ref(slot))
+        }
+    }
+}
+
+/// The arguments that come next, for parameters of these types.
+fn read_each<S: Source>(
+    alloc: Global,
+    pull: &mut Pull<'_, S>,
+    reader: &mut Reader,
+    params: &[TypeCode],
+) -> Result<ArgList, StreamFault>
+    requires kept { reader.old.refused ≡ None }
+    ensures kept { OnOk result (reader.new.refused ≡ None) }
+    ensures lent { pull.new.source.ghost_name ≡ pull.old.source.ghost_name }
+    ensures reads { IfOk result (ReadsEach (place S.left S.faults pull.old) (place S.left S.faults pull.new) reader.old.stand reader.new.stand params.now) }
+    ensures stops { StopsWant S.left S.faults pull.old pull.new result (λ end. serve end (wants_of params.now) reader.old.stand) }
+{
+    let mut args = ArgList::new(alloc);
+    args.reserve(params.len())?;
+    for code in params {
+        let arg = read_arg(alloc, pull, reader, *code)?;
+        args.push(arg)?;
+    }
+    Ok(args)
 }
 
 /// A call's graph less the bytes of its head.
@@ -164,6 +155,7 @@ fn without_head(alloc: Global, whole: Graph) -> Graph
 }
 
 /// Reads the arguments for parameters of these types.
+#[tactic(auto, unfolding(ser_read::specs::Wants::serve_to_close))]
 fn read_values<S: Source>(
     alloc: Global,
     pull: &mut Pull<'_, S>,
@@ -175,9 +167,9 @@ fn read_values<S: Source>(
     ensures reads { IfOk result (λ arguments. ReadsArguments (place S.left S.faults pull.old) (place S.left S.faults pull.new) reader.stand params.now arguments) }
     ensures stops { StopsWant S.left S.faults pull.old pull.new result (λ end. serve_to_close end (wants_of params.now) reader.stand) }
 {
-    let wants = wants_of(alloc, params)?;
-    let (answers, whole) = read_answers(alloc, pull, reader, &wants)?;
-    let values = args_of(alloc, params, answers.as_slice())?;
+    let mut reader = reader;
+    let values = read_each(alloc, pull, &mut reader, params)?;
+    let whole = reader.close(pull)?;
     Ok(Arguments {
         graph: without_head(alloc, whole),
         values,
