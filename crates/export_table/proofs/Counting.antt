@@ -1,5 +1,5 @@
 -- One count of an index, after it is set or taken out.
-use Rattle.std.proofs.Common.{◌≡◌, ℕ, ◌+◌, ◌∙◌, ap, refl, arith, cond, Some, None}
+use Rattle.std.proofs.Common.{◌≡◌, ℕ, ◌+◌, ◌∙◌, ap, refl, arith, cond, Option, Some, None}
 use Rattle.std.specs.Prelude.{Bool, true, false, unwrap_or, if◌then◌else◌}
 use Rattle.object_ids.specs.declared.ids.ObjId.{ObjId}
 use Rattle.object_ids.specs.Same.{same_id}

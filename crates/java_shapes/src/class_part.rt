@@ -22,7 +22,7 @@ pub(crate) fn copy_text(alloc: Global, text: &Units) -> Result<Units, AllocError
     Units::from_slice(alloc, text.as_slice())
 }
 
-/// Whether a text is this one of ASCII characters. All units are compared, so that several of them are in one step.
+/// Whether a text is this one of ASCII characters.
 pub(crate) fn is_text(units: &Units, text: &str) -> bool
     ensures { result ≡ same_text units.now text.now }
 {
@@ -31,13 +31,14 @@ pub(crate) fn is_text(units: &Units, text: &str) -> bool
     if units.len() != bytes.len() {
         return false;
     }
-    let mut same = true;
     let mut at = 0;
     while at < units.len() && at < bytes.len() {
-        same = same & (units[at] == u16::from(bytes[at]));
+        if units[at] != u16::from(bytes[at]) {
+            return false;
+        }
         at += 1;
     }
-    same
+    true
 }
 
 /// Whether a field has this type and this name.

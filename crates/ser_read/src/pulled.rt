@@ -39,7 +39,6 @@ fn see(bytes: &[u8])
 }
 
 /// Takes the next bytes into the whole of `buf`.
-#[inline(always)]
 pub(crate) fn fill<S: Source>(pull: &mut Pull<'_, S>, buf: &mut [u8]) -> Result<(), StreamFault>
     ensures lent { pull.new.source.ghost_name ≡ pull.old.source.ghost_name }
     ensures reads { ReadsTaken S.left S.faults pull.old pull.new result (λ end. take_at (length buf.old)) (λ x rest. (buf.new, rest)) }

@@ -39,4 +39,3 @@ pub mod SummaryLaws
 pub mod TextLaws
 pub mod TieSteps
 pub mod TurnLaws
-pub mod WithdrawalLaws

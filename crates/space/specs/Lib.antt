@@ -20,4 +20,3 @@ pub mod TieLaws
 pub mod Ties
 pub mod Summary
 pub mod Whole
-pub mod Withdrawals

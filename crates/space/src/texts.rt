@@ -6,10 +6,9 @@ ghost use Rattle.dgc_server.specs.Stands.{ForEachLog};
 ghost use Rattle.space.specs.Rows.{held_row, binding_text};
 
 use crate::turns::Space;
-use crate::withdrawals::Withdrawals;
 use dgc_server::{LeaseRow, Leases};
 use export_table::ExportRow;
-use history::SpaceConfig;
+use history::{SpaceConfig, Withdrawal};
 use journal::ObjectRow;
 use journal::outline::{
     put_events_line, put_lease_line, put_name_line, put_object_line, put_withdrawal_line,
@@ -119,12 +118,11 @@ fn put_names(
 fn put_withdrawals(
     text: &mut ByteList,
     config: &SpaceConfig,
-    withdrawn: &Withdrawals,
+    withdrawn: &[Withdrawal],
 ) -> Result<(), AllocError>
-    ensures { OnOk result (text.new ≡ text.old ++ flat_map (lines.withdrawal_line config.now) withdrawn.now.items) }
+    ensures { OnOk result (text.new ≡ text.old ++ flat_map (lines.withdrawal_line config.now) withdrawn.now) }
 {
-    for k in 0..withdrawn.len() {
-        let withdrawal = withdrawn.get(k);
+    for withdrawal in withdrawn {
         put_withdrawal_line(text, *config, withdrawal.object, withdrawal.place)?;
     }
     Ok(())

@@ -64,8 +64,6 @@ impl<R: Read> Ahead<R> {
     }
 
     /// Reads where all that was read ahead is given: ahead, or into `buf` where that is no shorter.
-    #[cold]
-    #[inline(never)]
     fn read_more(&mut self, buf: &mut [u8]) -> Result<usize, Failed>
         requires { self.old.end ≤ self.old.start }
         ensures bound { ReadsAtMost result buf.new }
@@ -134,23 +132,11 @@ fn copy_front(from: &[u8], to: &mut [u8]) -> usize
     ensures count { result ≡ min (length from.now) (length to.old) }
     ensures copied { to.new ≡ take result from.now ++ drop result to.old }
 {
-    let count = to.len();
-    if count <= from.len() {
-        to.copy_from_slice(&from[..count]);
-        count
+    let count = from.len().min(to.len());
+    if count == 1 {
+        to[0] = from[0];
     } else {
-        copy_all(from, to)
+        to[..count].copy_from_slice(&from[..count]);
     }
-}
-
-/// Copies fewer bytes than `to` has to its front, and answers how many.
-#[cold]
-#[inline(never)]
-fn copy_all(from: &[u8], to: &mut [u8]) -> usize
-    requires { length from.now ≤ length to.old }
-    ensures count { result ≡ length from.now }
-    ensures copied { to.new ≡ from.now ++ drop (length from.now) to.old }
-{
-    to[..from.len()].copy_from_slice(from);
-    from.len()
+    count
 }

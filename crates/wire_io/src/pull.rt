@@ -137,43 +137,11 @@ impl<'s, S: Source> Pull<'s, S> {
     ///
     /// It answers as so many calls of [`Pull::byte`] would, and takes no memory. After an answer other than `Ok` a front of the bytes was
     /// taken and is lost, and the position is behind it.
-    #[inline(always)]
     pub fn take_into(&mut self, buf: &mut [u8]) -> Result<(), PullEnd>
         ensures gives { GivesBytes (place S.left S.faults self.old) (place S.left S.faults self.new) (length buf.old) (with_bytes buf.new result) }
         ensures lent { self.new.source.ghost_name ≡ self.old.source.ghost_name }
     {
-        let wanted = buf.len();
-        if 0 < wanted && wanted as u64 <= self.stop - self.at {
-            match self.fill(buf) {
-                Ok(count) => {
-                    if count == wanted {
-                        return Ok(());
-                    }
-                    match self.take_rest(buf, count) {
-                        Ok(()) => Ok(()),
-                        Err(end) => Err(end),
-                    }
-                }
-                Err(end) => Err(end),
-            }
-        } else {
-            match self.take_rest(buf, 0) {
-                Ok(()) => Ok(()),
-                Err(end) => Err(end),
-            }
-        }
-    }
-
-    /// Takes the next bytes into `buf` from this place on, up to its end.
-    #[cold]
-    #[inline(never)]
-    fn take_rest(&mut self, buf: &mut [u8], from: usize) -> Result<(), PullEnd>
-        requires { from ≤ length buf.old }
-        ensures kept { take from buf.new ≡ take from buf.old }
-        ensures gives { GivesBytes (place S.left S.faults self.old) (place S.left S.faults self.new) (length (drop from buf.old)) (with_bytes (drop from buf.new) result) }
-        ensures lent { self.new.source.ghost_name ≡ self.old.source.ghost_name }
-    {
-        let mut done = from;
+        let mut done = 0;
         while done < buf.len() {
             match self.fill_some(&mut buf[done..]) {
                 Ok(count) => done += count,
