@@ -114,3 +114,15 @@ pub freed-held : (lease m t : ℕ) (table : LeaseTable) (calls : List Call) (os 
 freed-held lease m t table calls os s order once e o there =
     sym (held-entries lease m m table calls o (omega arith) s order)
     ∙ ended-held m t table.entries o (sym (ap (list_any (same_id o)) e ∙ among-all m t table.entries o once) ∙ there)
+
+-- Where nothing is due, who holds an object holds it on.
+still-holds : (m n t : ℕ) (o : ObjId) (es : List Entry) → m ≤ t → t < n → AllByRecursion (IsSettled m n) es → list_any (entry_holds t o) es ≡ list_any (entry_holds m o) es
+still-holds m n t o [] le lt a = refl
+still-holds m n t o (e ∷ es) le lt a =
+    ap (λ b. (b && dirty_in e.objects o) || list_any (entry_holds t o) es) (same-lt m n t e.until le lt a.0.later)
+    ∙ ap (λ b. entry_holds m o e || b) (still-holds m n t o es le lt a.1)
+
+pub held-still : (lease m n t : ℕ) (table : LeaseTable) (calls : List Call) (o : ObjId) → m ≤ t → t < n → AllByRecursion (IsSettled m n) table.entries → StandsFor lease table m calls →
+    is_in_order table.entries ≡ true → is_held lease m calls o ≡ true → is_held lease t calls o ≡ true
+held-still lease m n t table calls o le lt a s order h =
+    sym (held-entries lease m t table calls o le s order) ∙ still-holds m n t o table.entries le lt a ∙ held-entries lease m m table calls o (omega arith) s order ∙ h

@@ -1,7 +1,6 @@
 -- Counts of an index: one count after it is set, and the counts over the objects of a client.
 use Rattle.std.proofs.Common.{◌≡◌, ℕ, ◌+◌, ◌≤◌, ◌<◌, List, [], ◌∷◌, refl, ap, sym, subst, ◌∙◌, arith, cond, Option, Some, None, length, map, drop, suc, zero}
 use Rattle.std.specs.Prelude.{Bool, true, false, ◌&&◌, ◌||◌, not, is_some, unwrap_or, filter, if◌then◌else◌}
-use Rattle.std.specs.Ordering.{int_eq}
 use Rattle.std.proofs.Common.{add-one, get_or, take}
 use Rattle.std.specs.Prelude.{pos}
 use Rattle.std.proofs.lemmas.List.{take_more}
@@ -9,25 +8,18 @@ use Rattle.std.proofs.lemmas.List.Folds.{list_any-append}
 use Rattle.std.proofs.Math.Seq.{drop-cons}
 use Rattle.std.proofs.lemmas.Bool.{and_parts}
 use Rattle.object_ids.specs.declared.ids.ObjId.{ObjId}
-use Rattle.object_ids.specs.Same.{same_id}
-use Rattle.object_ids.proofs.Exact.{same_id-self, same_id-equal}
+use Rattle.object_ids.specs.Same.{same_id, same_key}
+use Rattle.object_ids.proofs.Exact.{same_id-self, same_id-equal, same_key-same}
 use Rattle.indexmap.specs.IndexMap.{IndexMap, get}
 use Rattle.dgc_server.specs.declared.holders.Count.{Count}
 use Rattle.dgc_server.specs.declared.holders.Share.{Share}
 use Rattle.dgc_server.specs.declared.numbers.Numbers.{Numbers}
 use Rattle.dgc_server.specs.Entry.{ObjectEntry, Entry, numbers_of, has_object, is_in, entry_holds}
 use Rattle.dgc_server.specs.Stands.{each_once}
-use Rattle.dgc_server.specs.Index.{Way, Holding, Naming, no_count, count_by, count_at, counted_at, share_by, has_with, same_key, has_count, one_if}
+use Rattle.dgc_server.specs.Index.{Way, Holding, Naming, no_count, count_by, count_at, counted_at, share_by, has_with, has_count, one_if}
 use Rattle.dgc_server.proofs.Distinct.{absent_is}
 
 -- ---- one count
-
-pub key-same : (a b : ObjId) → same_key a b ≡ same_id a b
-key-same a b = ap (λ v. int_eq a.number b.number && v) (regrouped (int_eq a.space.unique b.space.unique) (int_eq a.space.time b.space.time) (int_eq a.space.count b.space.count))
-  where
-    regrouped : (p q r : Bool) → (p && (q && r)) ≡ ((p && q) && r)
-    regrouped true q r = refl
-    regrouped false q r = refl
 
 -- What holds of both ways to count.
 pub each-way : (P : Way → Type 0) → P Holding → P Naming → (w : Way) → P w
@@ -39,14 +31,14 @@ abbrev pub Puts : {S : Type 0} → ObjId → Count → IndexMap ObjId Count S �
 Puts k w m n = (q : ObjId) → get same_key n q ≡ cond (same_key k q) (Some w) (get same_key m q)
 
 pub put-count : {S : Type 0} (k : ObjId) (w : Count) (m n : IndexMap ObjId Count S) → Puts k w m n → (o : ObjId) → count_at n o ≡ (if same_id k o then w else count_at m o)
-put-count k w m n h o = ap (λ v. unwrap_or v no_count) (h o) ∙ ap (λ b. unwrap_or (cond b (Some w) (get same_key m o)) no_count) (key-same k o) ∙ go (same_id k o)
+put-count k w m n h o = ap (λ v. unwrap_or v no_count) (h o) ∙ ap (λ b. unwrap_or (cond b (Some w) (get same_key m o)) no_count) (same_key-same k o) ∙ go (same_id k o)
   where
     go : (b : Bool) → unwrap_or (cond b (Some w) (get same_key m o)) no_count ≡ (if b then w else count_at m o)
     go true = refl
     go false = refl
 
 pub put-has : {S : Type 0} (k : ObjId) (w : Count) (m n : IndexMap ObjId Count S) → Puts k w m n → (o : ObjId) → has_count n o ≡ (same_id k o || has_count m o)
-put-has k w m n h o = ap is_some (h o) ∙ ap (λ b. is_some (cond b (Some w) (get same_key m o))) (key-same k o) ∙ go (same_id k o)
+put-has k w m n h o = ap is_some (h o) ∙ ap (λ b. is_some (cond b (Some w) (get same_key m o))) (same_key-same k o) ∙ go (same_id k o)
   where
     go : (b : Bool) → is_some (cond b (Some w) (get same_key m o)) ≡ (b || has_count m o)
     go true = refl
@@ -77,7 +69,7 @@ touched k m n w new h none v o = ap (count_by v) (put-count k w m n h o ∙ go (
 pub removed : {S : Type 0} (k : ObjId) (m n : IndexMap ObjId Count S) → ((q : ObjId) → get same_key n q ≡ cond (same_key k q) None (get same_key m q)) →
     (w : Way) (o : ObjId) → counted_at w n o ≡ (if same_id k o then 0 else counted_at w m o)
 removed k m n h w o =
-    ap (λ v. count_by w (unwrap_or v no_count)) (h o) ∙ ap (λ b. count_by w (unwrap_or (cond b None (get same_key m o)) no_count)) (key-same k o) ∙ go (same_id k o) w
+    ap (λ v. count_by w (unwrap_or v no_count)) (h o) ∙ ap (λ b. count_by w (unwrap_or (cond b None (get same_key m o)) no_count)) (same_key-same k o) ∙ go (same_id k o) w
   where
     go : (b : Bool) (w : Way) → count_by w (unwrap_or (cond b None (get same_key m o)) no_count) ≡ (if b then 0 else counted_at w m o)
     go true Holding = refl

@@ -8,8 +8,8 @@ use Rattle.std.proofs.Math.Seq.{drop-cons}
 use Rattle.std.proofs.lemmas.Bool.{lt-ltb, and_parts}
 use Rattle.indexmap.specs.IndexMap.{insert_entry}
 use Rattle.object_ids.specs.declared.ids.ObjId.{ObjId}
-use Rattle.object_ids.specs.Same.{same_id}
-use Rattle.object_ids.proofs.Exact.{same_id-equal}
+use Rattle.object_ids.specs.Same.{same_id, same_key}
+use Rattle.object_ids.proofs.Exact.{same_id-equal, same_key-same}
 use Rattle.history.specs.Lists.{distinct}
 use Rattle.history.specs.Leases.{is_dirty_kind}
 use Rattle.history.specs.declared.calls.CallKind.{CallKind}
@@ -19,14 +19,14 @@ use Rattle.dgc_server.specs.declared.numbers.Numbers.{Numbers}
 use Rattle.dgc_server.specs.Numbers.{no_numbers, strong_part, is_dirty_highest, is_remembered}
 use Rattle.dgc_server.specs.Entry.{has_number, each_has_number, ObjectEntry, object_entry, object_entries, numbers_of, has_object, is_in, with_numbers, objects_after, entry_holds, Entry, has_strong, strong_only, tenure_forgotten, is_empty, dirty_in}
 use Rattle.dgc_server.specs.Stands.{each_once, entry_after}
-use Rattle.dgc_server.specs.Index.{same_key, one_if}
+use Rattle.dgc_server.specs.Index.{one_if}
 use Rattle.dgc_server.proofs.Fresh.{same_id-turned, counted}
 use Rattle.dgc_server.proofs.Objects.{numbers_after, numbers-with, numbers-forgotten, numbers-after}
 use Rattle.dgc_server.proofs.Steps.{earlier}
-use Rattle.dgc_server.proofs.HolderLaws.{key-same, drop-at}
+use Rattle.dgc_server.proofs.HolderLaws.{drop-at}
 
 key-turned : (a b : ObjId) → same_key a b ≡ same_id b a
-key-turned a b = key-same a b ∙ same_id-turned a b
+key-turned a b = same_key-same a b ∙ same_id-turned a b
 
 -- ---- one object
 
@@ -181,7 +181,7 @@ pub seen-step : (os : List ObjId) (i : ℕ) (d : ObjId) (before after : ObjId �
 seen-step os i d before after some within seen step o =
     let x = get_or os (i - 1) d in
     let next : i - 1 + 1 ≡ i = omega arith in
-    step o ∙ ap (λ b. cond b true (before o)) (key-same x o) ∙ go (same_id x o)
+    step o ∙ ap (λ b. cond b true (before o)) (same_key-same x o) ∙ go (same_id x o)
     ∙ ap (λ b. same_id x o || b) (seen o ∙ ap (λ n. is_in o (drop n os)) (sym next))
     ∙ ap (is_in o) (sym (drop-at os (i - 1) d (omega arith)))
   where

@@ -1,8 +1,8 @@
 -- The index of a lease table: for each object how many clients hold it and how many name it, and before which moment nothing is due.
 use Rattle.std.specs.Prelude.{◌≡◌, ℕ, ◌≤◌, ◌<◌, Bool, true, not, ◌&&◌, ◌||◌, List, [], length, filter, nat_lt, nat_le, is_some, unwrap_or, if◌then◌else◌}
 use Rattle.std.specs.List.{AllByRecursion}
-use Rattle.std.specs.Ordering.{int_eq}
 use Rattle.object_ids.specs.declared.ids.ObjId.{ObjId}
+use Rattle.object_ids.specs.Same.{same_key}
 use Rattle.indexmap.specs.IndexMap.{IndexMap, get}
 use Rattle.dgc_server.specs.declared.holders.Count.{Count}
 use Rattle.dgc_server.specs.declared.holders.Share.{Share}
@@ -11,10 +11,6 @@ use Rattle.dgc_server.specs.declared.table.Sums.{Sums}
 use Rattle.dgc_server.specs.Numbers.{is_dirty_highest}
 use Rattle.dgc_server.specs.Entry.{ObjectEntry, Entry, lapsed, is_entry_kept, has_time_left, remembered_of, has_object, numbers_of, dirty_in, dirty_objects}
 use Rattle.dgc_server.specs.Table.{remembered}
-
--- Two identifiers that are equal field by field, as keys are compared.
-abbrev pub same_key : ObjId → ObjId → Bool
-same_key a b = int_eq a.number b.number && (int_eq a.space.unique b.space.unique && (int_eq a.space.time b.space.time && int_eq a.space.count b.space.count))
 
 -- An object is counted in two ways: by the clients that hold it, and by those of which a number of it is kept.
 pub data Way : Type 0 where

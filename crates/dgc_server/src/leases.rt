@@ -205,6 +205,19 @@ impl Leases {
         ended::freed(alloc, &self.entries, self.next, self.moment, self.at(now))
     }
 
+    /// Whether a lease may end as time passes to `now`. Where none may, each object that a client holds at the greatest moment so far is held then, too.
+    /// It looks at no client and takes no memory.
+    pub fn is_due(&self, now: u64) -> bool
+        ensures { result ≡ false → ForEachLog self.now (λ lease moment calls. (o : ObjId) → is_held lease moment calls o ≡ true
+            → is_held lease (max now moment) calls o ≡ true) }
+    {
+        let at = self.at(now);
+        if at < self.next {
+            return false;
+        }
+        true
+    }
+
     /// How many clients hold an object at this moment. A moment before the greatest one is read as the
     /// greatest.
     pub fn holders(&self, object: ObjId, now: u64) -> u32

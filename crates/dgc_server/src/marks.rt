@@ -4,11 +4,11 @@ ghost use Rattle.std.specs.Option.{option_copied};
 ghost use Rattle.indexmap.specs.IndexMap.{spare, values};
 ghost use Rattle.indexmap.specs.IndexSet.{contains};
 ghost use Rattle.object_ids.specs.declared.ids.ObjId.{ObjId};
-ghost use Rattle.object_ids.specs.Same.{same_id};
+ghost use Rattle.object_ids.specs.Same.{same_id, same_key};
 ghost use Rattle.dgc_server.specs.Numbers.{no_numbers, strong_part, is_dirty_highest, is_remembered};
 ghost use Rattle.dgc_server.specs.Entry.{object_entries, each_has_number, numbers_of, has_object, is_in, fresh_in, with_numbers, object_noted, objects_noted, objects_after, tenure_forgotten, call_counts};
 ghost use Rattle.dgc_server.specs.Stands.{each_once};
-ghost use Rattle.dgc_server.specs.Index.{Way, same_key, counted_at, has_count, one_if, counts_in};
+ghost use Rattle.dgc_server.specs.Index.{Way, counted_at, has_count, one_if, counts_in};
 
 use crate::holders::{self, Counts, Share};
 use crate::numbers::Numbers;

@@ -1,18 +1,17 @@
 -- One count of an index, after it is set or taken out.
-use Rattle.std.proofs.Common.{◌≡◌, ℕ, ◌+◌, ◌∙◌, ap, refl, arith, cond, Option, Some, None}
+use Rattle.std.proofs.Common.{◌≡◌, ℕ, ◌+◌, ◌∙◌, ap, refl, arith, cond, Some, None}
 use Rattle.std.specs.Prelude.{Bool, true, false, unwrap_or, if◌then◌else◌}
 use Rattle.object_ids.specs.declared.ids.ObjId.{ObjId}
-use Rattle.object_ids.specs.Same.{same_id}
-use Rattle.object_ids.proofs.Exact.{same_id-equal}
+use Rattle.object_ids.specs.Same.{same_id, same_key}
+use Rattle.object_ids.proofs.Exact.{same_id-equal, same_key-same}
 use Rattle.indexmap.specs.IndexMap.{IndexMap, get}
-use Rattle.dgc_server.specs.Index.{same_key, one_if}
-use Rattle.dgc_server.proofs.HolderLaws.{key-same}
+use Rattle.dgc_server.specs.Index.{one_if}
 use Rattle.export_table.specs.Index.{count_at}
 
 -- n has w at the key of k, and elsewhere what m has
 pub put-count : {S : Type 0} (k : ObjId) (w : ℕ) (m n : IndexMap ObjId ℕ S) → ((q : ObjId) → get same_key n q ≡ cond (same_key k q) (Some w) (get same_key m q)) →
     (o : ObjId) → count_at n o ≡ (if same_id k o then w else count_at m o)
-put-count k w m n h o = ap (λ v. unwrap_or v 0) (h o) ∙ ap (λ b. unwrap_or (cond b (Some w) (get same_key m o)) 0) (key-same k o) ∙ go (same_id k o)
+put-count k w m n h o = ap (λ v. unwrap_or v 0) (h o) ∙ ap (λ b. unwrap_or (cond b (Some w) (get same_key m o)) 0) (same_key-same k o) ∙ go (same_id k o)
   where
     go : (b : Bool) → unwrap_or (cond b (Some w) (get same_key m o)) 0 ≡ (if b then w else count_at m o)
     go true = refl
@@ -21,7 +20,7 @@ put-count k w m n h o = ap (λ v. unwrap_or v 0) (h o) ∙ ap (λ b. unwrap_or (
 -- n has nothing at the key of k, and elsewhere what m has
 pub removed : {S : Type 0} (k : ObjId) (m n : IndexMap ObjId ℕ S) → ((q : ObjId) → get same_key n q ≡ cond (same_key k q) None (get same_key m q)) →
     (o : ObjId) → count_at n o ≡ (if same_id k o then 0 else count_at m o)
-removed k m n h o = ap (λ v. unwrap_or v 0) (h o) ∙ ap (λ b. unwrap_or (cond b None (get same_key m o)) 0) (key-same k o) ∙ go (same_id k o)
+removed k m n h o = ap (λ v. unwrap_or v 0) (h o) ∙ ap (λ b. unwrap_or (cond b None (get same_key m o)) 0) (same_key-same k o) ∙ go (same_id k o)
   where
     go : (b : Bool) → unwrap_or (cond b None (get same_key m o)) 0 ≡ (if b then 0 else count_at m o)
     go true = refl

@@ -8,13 +8,11 @@ use Rattle.std.proofs.lemmas.List.{take_more}
 use Rattle.std.proofs.lemmas.List.Elements.{filter-append}
 use Rattle.object_ids.specs.declared.ids.Uid.{Uid}
 use Rattle.object_ids.specs.declared.ids.ObjId.{ObjId}
-use Rattle.object_ids.specs.Same.{same_id, same_uid}
-use Rattle.object_ids.proofs.Exact.{same_id-self, same_id-equal, same_uid-self, same_uid-equal}
+use Rattle.object_ids.specs.Same.{same_id, same_uid, same_key}
+use Rattle.object_ids.proofs.Exact.{same_id-self, same_id-equal, same_uid-self, same_uid-equal, same_key-same, same_uid_key-same}
 use Rattle.indexmap.specs.IndexMap.{IndexMap}
 use Rattle.indexmap.specs.IndexSet.{IndexSet, contains}
-use Rattle.std.specs.Ordering.{int_eq}
-use Rattle.dgc_server.specs.Index.{same_key}
-use Rattle.dgc_server.proofs.HolderLaws.{key-same, no_id}
+use Rattle.dgc_server.proofs.HolderLaws.{no_id}
 use Rattle.dgc_server.specs.Index.{one_if}
 use Rattle.export_table.specs.declared.counts.Reference.{Reference}
 use Rattle.export_table.specs.declared.waits.Wait.{Wait}
@@ -200,14 +198,10 @@ once-step false xs w ys h = once-without xs w ys h
 
 -- ---- keys
 
-regrouped : (p q r : Bool) → (p && (q && r)) ≡ ((p && q) && r)
-regrouped true q r = refl
-regrouped false q r = refl
-
 reference-same : (o : ObjId) (u : Uid) (p : ObjId) (v : Uid) → same_reference (record { object = o; uid = u }) (record { object = p; uid = v }) ≡ is_reference o u p v
 reference-same o u p v =
-    ap (λ b. same_key o p && b) (regrouped (int_eq u.unique v.unique) (int_eq u.time v.time) (int_eq u.count v.count))
-    ∙ ap (λ b. b && same_uid u v) (key-same o p)
+    ap (λ b. same_key o p && b) (same_uid_key-same u v)
+    ∙ ap (λ b. b && same_uid u v) (same_key-same o p)
 
 pub noted : {S : Type 0} (k : ObjId) (v : Uid) (r s : IndexSet Reference S) → ((q : Reference) → contains same_reference s q ≡ cond (same_reference (record { object = k; uid = v }) q) true (contains same_reference r q)) → Notes k v r s
 noted k v r s h o u = h (record { object = o; uid = u }) ∙ ap (λ b. cond b true (has_reference r o u)) (reference-same k v o u) ∙ go (is_reference k v o u) (has_reference r o u)

@@ -1,45 +1,37 @@
 -- How many references of a return are listed, and where the first of them stands.
 use Rattle.std.proofs.Common.{◌≡◌, ℕ, ◌+◌, ◌-◌, List, [], ◌∷◌, ◌++◌, length, take, drop, map, refl, ap, sym, ◌∙◌, arith, cond, Some, None, suc, zero, take-append-drop}
-use Rattle.std.specs.Prelude.{Bool, true, false, ◌&&◌, not, unwrap_or, filter, if◌then◌else◌}
-use Rattle.std.specs.Ordering.{int_eq}
+use Rattle.std.specs.Prelude.{Bool, true, false, not, unwrap_or, filter, if◌then◌else◌}
 use Rattle.std.proofs.lemmas.List.Elements.{filter-append}
 use Rattle.object_ids.specs.declared.ids.Uid.{Uid}
 use Rattle.object_ids.specs.declared.ids.ObjId.{ObjId}
-use Rattle.object_ids.specs.Same.{same_id, same_uid}
-use Rattle.object_ids.proofs.Exact.{same_uid-equal}
+use Rattle.object_ids.specs.Same.{same_id, same_uid, same_uid_key}
+use Rattle.object_ids.proofs.Exact.{same_uid-equal, same_uid_key-same}
 use Rattle.indexmap.specs.IndexMap.{IndexMap, get}
 use Rattle.dgc_server.specs.Index.{one_if}
 use Rattle.export_table.specs.declared.waits.Wait.{Wait}
 use Rattle.history.proofs.ListLemmas.{filter-same, every-always, and_false}
 use Rattle.export_table.specs.declared.waits.Stays.TheVariants.{OtherReturns}
 use Rattle.export_table.specs.Waits.{is_wait_of, until_of, of_return, objects}
-use Rattle.export_table.specs.Index.{same_return, returned_at, stays}
+use Rattle.export_table.specs.Index.{returned_at, stays}
 use Rattle.export_table.proofs.Dropped.{slice_from}
 
 -- ---- one count
 
-return-same : (a b : Uid) → same_return a b ≡ same_uid a b
-return-same a b = regrouped (int_eq a.unique b.unique) (int_eq a.time b.time) (int_eq a.count b.count)
-  where
-    regrouped : (p q r : Bool) → (p && (q && r)) ≡ ((p && q) && r)
-    regrouped true q r = refl
-    regrouped false q r = refl
-
 -- n has w at the key of v, and elsewhere what m has
-pub put-returned : {S : Type 0} (v : Uid) (w : ℕ) (m n : IndexMap Uid ℕ S) → ((u : Uid) → get same_return n u ≡ cond (same_return v u) (Some w) (get same_return m u)) →
+pub put-returned : {S : Type 0} (v : Uid) (w : ℕ) (m n : IndexMap Uid ℕ S) → ((u : Uid) → get same_uid_key n u ≡ cond (same_uid_key v u) (Some w) (get same_uid_key m u)) →
     (u : Uid) → returned_at n u ≡ (if same_uid v u then w else returned_at m u)
-put-returned v w m n h u = ap (λ x. unwrap_or x 0) (h u) ∙ ap (λ b. unwrap_or (cond b (Some w) (get same_return m u)) 0) (return-same v u) ∙ go (same_uid v u)
+put-returned v w m n h u = ap (λ x. unwrap_or x 0) (h u) ∙ ap (λ b. unwrap_or (cond b (Some w) (get same_uid_key m u)) 0) (same_uid_key-same v u) ∙ go (same_uid v u)
   where
-    go : (b : Bool) → unwrap_or (cond b (Some w) (get same_return m u)) 0 ≡ (if b then w else returned_at m u)
+    go : (b : Bool) → unwrap_or (cond b (Some w) (get same_uid_key m u)) 0 ≡ (if b then w else returned_at m u)
     go true = refl
     go false = refl
 
 -- n has nothing at the key of v, and elsewhere what m has
-pub removed-returned : {S : Type 0} (v : Uid) (m n : IndexMap Uid ℕ S) → ((u : Uid) → get same_return n u ≡ cond (same_return v u) None (get same_return m u)) →
+pub removed-returned : {S : Type 0} (v : Uid) (m n : IndexMap Uid ℕ S) → ((u : Uid) → get same_uid_key n u ≡ cond (same_uid_key v u) None (get same_uid_key m u)) →
     (u : Uid) → returned_at n u ≡ (if same_uid v u then 0 else returned_at m u)
-removed-returned v m n h u = ap (λ x. unwrap_or x 0) (h u) ∙ ap (λ b. unwrap_or (cond b None (get same_return m u)) 0) (return-same v u) ∙ go (same_uid v u)
+removed-returned v m n h u = ap (λ x. unwrap_or x 0) (h u) ∙ ap (λ b. unwrap_or (cond b None (get same_uid_key m u)) 0) (same_uid_key-same v u) ∙ go (same_uid v u)
   where
-    go : (b : Bool) → unwrap_or (cond b None (get same_return m u)) 0 ≡ (if b then 0 else returned_at m u)
+    go : (b : Bool) → unwrap_or (cond b None (get same_uid_key m u)) 0 ≡ (if b then 0 else returned_at m u)
     go true = refl
     go false = refl
 

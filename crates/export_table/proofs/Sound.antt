@@ -49,11 +49,11 @@ sound-changed space ack k rows waits f o same s =
 
 -- ---- one more row
 
-below-next : (n : ℤ) (k : ℕ) → int_lt n (pos (16 + k)) ≡ true → int_lt n (pos (16 + (k + 1))) ≡ true
+pub below-next : (n : ℤ) (k : ℕ) → int_lt n (pos (16 + k)) ≡ true → int_lt n (pos (16 + (k + 1))) ≡ true
 below-next (pos m) k h = lt-ltb m (16 + (k + 1)) (let less = ltb-true m (16 + k) h in omega arith)
 below-next (negsuc m) k h = refl
 
-new-below : (k : ℕ) → int_lt (pos (16 + k)) (pos (16 + (k + 1))) ≡ true
+pub new-below : (k : ℕ) → int_lt (pos (16 + k)) (pos (16 + (k + 1))) ≡ true
 new-below k = lt-ltb (16 + k) (16 + (k + 1)) (omega arith)
 
 given-next : (space : Uid) (k : ℕ) (os : List ObjId) → list_all (is_given space k) os ≡ true → list_all (is_given space (k + 1)) os ≡ true

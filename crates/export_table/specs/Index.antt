@@ -1,13 +1,11 @@
 -- The index of the references that await: how many there are of each object and of each return, which there are, and before which moment none of them ends.
 use Rattle.std.specs.Prelude.{◌≡◌, ℕ, ◌≤◌, Bool, not, ◌&&◌, List, length, filter, unwrap_or}
 use Rattle.std.specs.List.{list_any, AllByRecursion}
-use Rattle.std.specs.Ordering.{int_eq}
 use Rattle.object_ids.specs.declared.ids.Uid.{Uid}
 use Rattle.object_ids.specs.declared.ids.ObjId.{ObjId}
-use Rattle.object_ids.specs.Same.{same_id, same_uid}
+use Rattle.object_ids.specs.Same.{same_id, same_uid, same_key, same_uid_key}
 use Rattle.indexmap.specs.IndexMap.{IndexMap, get}
 use Rattle.indexmap.specs.IndexSet.{IndexSet, contains}
-use Rattle.dgc_server.specs.Index.{same_key}
 use Rattle.export_table.specs.declared.counts.Reference.{Reference}
 use Rattle.export_table.specs.declared.waits.Wait.{Wait}
 use Rattle.export_table.specs.declared.waits.Stays.{Stays}
@@ -16,7 +14,7 @@ use Rattle.export_table.specs.Waits.{is_wait_of, goes_on, of_return}
 
 -- Two references that are equal field by field, as keys are compared.
 abbrev pub same_reference : Reference → Reference → Bool
-same_reference a b = same_key a.object b.object && (int_eq a.uid.unique b.uid.unique && (int_eq a.uid.time b.uid.time && int_eq a.uid.count b.uid.count))
+same_reference a b = same_key a.object b.object && same_uid_key a.uid b.uid
 
 -- The first reference is the second one.
 abbrev pub is_reference : ObjId → Uid → ObjId → Uid → Bool
@@ -29,13 +27,9 @@ count_at counts o = unwrap_or (get same_key counts o) 0
 abbrev pub has_reference : {S : Type 0} → IndexSet Reference S → ObjId → Uid → Bool
 has_reference references o u = contains same_reference references (record { object = o; uid = u })
 
--- Two identifiers of returns that are equal field by field, as keys are compared.
-abbrev pub same_return : Uid → Uid → Bool
-same_return a b = int_eq a.unique b.unique && (int_eq a.time b.time && int_eq a.count b.count)
-
 -- How many references of a return there are, 0 where it has no count.
 abbrev pub returned_at : {S : Type 0} → IndexMap Uid ℕ S → Uid → ℕ
-returned_at returns u = unwrap_or (get same_return returns u) 0
+returned_at returns u = unwrap_or (get same_uid_key returns u) 0
 
 -- The references to an object.
 abbrev pub of_object : ObjId → List Wait → List Wait

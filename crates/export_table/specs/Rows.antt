@@ -1,5 +1,5 @@
 -- Exported objects, by rising number.
-use Rattle.std.specs.Prelude.{◌≡◌, ◌⊎◌, ℕ, pos, ◌+◌, ◌-◌, ◌<◌, Bool, true, not, ◌&&◌, ◌||◌, IsTrue, List, [], ◌∷◌, map, length, filter, find, nat_lt, int_lt, get_or, slice_set, Option, Some, None, option_map, unwrap_or, if◌then◌else◌}
+use Rattle.std.specs.Prelude.{◌≡◌, ◌⊎◌, ℕ, pos, ◌+◌, ◌-◌, Bool, true, not, ◌&&◌, ◌||◌, List, [], ◌∷◌, map, length, filter, find, nat_lt, int_lt, Option, Some, None, option_map, unwrap_or, if◌then◌else◌}
 use Rattle.std.specs.List.{list_any, list_all}
 use Rattle.object_ids.specs.declared.ids.Uid.{Uid}
 use Rattle.object_ids.specs.declared.ids.ObjId.{ObjId}
@@ -94,17 +94,9 @@ is_among os x = list_any (same_id x.id) os
 abbrev pub is_settled_but : List ObjId → ℕ → (ObjId → Bool) → List Wait → List Export → Bool
 is_settled_but os t held waits rows = list_all (λ x. is_among os x || is_row_kept t held waits x) rows
 
--- Each of these objects that is exported is kept.
-abbrev pub is_each_kept : List ObjId → ℕ → (ObjId → Bool) → List Wait → List Export → Bool
-is_each_kept os t held waits rows = list_all (λ x. not (is_among os x) || is_row_kept t held waits x) rows
-
--- The rows that are left where these objects are looked at: all, if each of them that is exported is kept, and else those that are kept.
-abbrev pub rows_left : List ObjId → ℕ → (ObjId → Bool) → List Wait → List Export → List Export
-rows_left os t held waits rows = if is_each_kept os t held waits rows then rows else filter (is_row_kept t held waits) rows
-
--- The objects that go then.
-abbrev pub withdrawn_among : List ObjId → ℕ → (ObjId → Bool) → List Wait → List Export → List ObjId
-withdrawn_among os t held waits rows = if is_each_kept os t held waits rows then [] else withdrawn t held waits rows
+-- A row stays where only these objects are looked at: it is not among them, or it is kept.
+abbrev pub stays_among : List ObjId → ℕ → (ObjId → Bool) → List Wait → Export → Bool
+stays_among os t held waits x = not (is_among os x) || is_row_kept t held waits x
 
 -- A call as if it had named none of these objects.
 abbrev pub without_all : List ObjId → Call → Call
@@ -125,13 +117,6 @@ is_rising (o ∷ os) = list_all (λ p. int_lt o.number p.number) os && is_rising
 -- It is of this space, and its number is below that of the space's k-th object.
 abbrev pub is_given : Uid → ℕ → ObjId → Bool
 is_given space k o = same_uid o.space space && int_lt o.number (pos (16 + k))
-
--- An object stands at this place, and there alone.
-pub record IsPlace (rows : List Export) (o : ObjId) (i : ℕ) : Type 0 where
-  pub within : i < length rows
-  pub there : is_exported rows o ≡ true
-  pub row : (d : Export) → row_of rows o ≡ Some (get_or rows i d)
-  pub change : IsTrue (is_rising (ids rows)) → (f : Export → Export) (d : Export) → slice_set rows i (f (get_or rows i d)) ≡ changed f o rows
 
 -- The first list has some of the second's items, in their order.
 abbrev pub IsPart : {X : Type 0} → List X → List X → Type 0

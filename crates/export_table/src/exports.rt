@@ -6,9 +6,10 @@ ghost use Rattle.object_ids.specs.declared.ids.FullKind.TheVariants.{Exports as 
 ghost use Rattle.dgc_server.specs.Stands.{StandsFor, ForEachLog};
 ghost use Rattle.export_table.specs.Waits.{waiting, goes_on, over, of_return, objects, is_waiting, listed, acknowledged};
 ghost use Rattle.std.specs.List.{list_any};
-ghost use Rattle.export_table.specs.Rows.{is_exported, kind_of, running_of, pins_of, ids, is_rising, new_row, changed, begun, ended, pinned_once, unpinned_once, is_row_kept, held_by, withdrawn, rows_left, withdrawn_among, without_all, row_at};
+ghost use Rattle.export_table.specs.Rows.{is_exported, kind_of, running_of, pins_of, ids, is_rising, new_row, changed, begun, ended, pinned_once, unpinned_once, is_row_kept, held_by, withdrawn, stays_among, without_all, row_at};
 ghost use Rattle.export_table.specs.Table.{IsSound, no_room};
 
+use crate::row_table::RowTable;
 use crate::rows::{self, Export, RowList};
 use crate::wait_list::WaitList;
 use dgc_server::Leases;
@@ -43,8 +44,7 @@ impl From<AllocError> for ExportFault {
 pub struct Exports {
     space: Uid,
     ack: u64,
-    added: u64,
-    rows: Vec<Export>,
+    rows: RowTable,
     waits: WaitList,
 }
 
@@ -54,7 +54,6 @@ impl Drop for Exports {
         let Exports {
             space: _,
             ack: _,
-            added: _,
             rows,
             waits,
         } = self;
@@ -64,7 +63,6 @@ impl Drop for Exports {
 }
 
 impl Model for Exports {
-    ghost use Rattle.std.specs.Prelude.{◌-◌, vec_len, vec_capacity};
     ghost use Rattle.export_table.specs.Table.{ExportTable, IsSound};
 
     ghost Value = { ExportTable };
@@ -72,16 +70,16 @@ impl Model for Exports {
     ghost view = { λ e. record {
       space = e.space;
       ack = e.ack;
-      added = e.added;
-      rows = e.rows.items;
+      added = e.rows.added;
+      rows = e.rows.rows;
       waits = e.waits.waits;
       room = record {
-        exports = vec_capacity e.rows - vec_len e.rows;
+        exports = e.rows.room;
         waits = e.waits.room;
       };
     } };
 
-    ghost invariant = { λ e. IsSound e.space e.ack e.added e.rows.items e.waits.waits };
+    ghost invariant = { λ e. IsSound e.space e.ack e.rows.added e.rows.rows e.waits.waits };
 }
 
 impl Exports {
@@ -95,8 +93,7 @@ impl Exports {
         Exports {
             space: uid,
             ack: ack_ms,
-            added: 0,
-            rows: Vec::new(alloc),
+            rows: RowTable::new(alloc),
             waits: WaitList::new(alloc),
         }
     }
@@ -117,13 +114,12 @@ impl Exports {
         ensures exports_room { self.old.room.exports ≤ self.new.room.exports + 1 }
         ensures waits_room { self.new.room.waits ≡ self.old.room.waits }
     {
-        if self.rows.len() as u64 >= MAX_EXPORTS {
+        if self.rows.count() as u64 >= MAX_EXPORTS {
             return Err(ExportFault::Full(FullKind::Exports));
         }
         self.rows.reserve(1)?;
-        let id = id_at(self.space, self.added);
-        rows::put(&mut self.rows, Export::new(&id, kind, pinned));
-        self.added += 1;
+        let id = id_at(self.space, self.rows.added());
+        self.rows.put(Export::new(&id, kind, pinned));
         Ok(id)
     }
 
@@ -131,7 +127,7 @@ impl Exports {
     pub fn find(&self, id: ObjId) -> Option<u32>
         ensures { result ≡ kind_of self.now.rows id }
     {
-        rows::kind_of(&self.rows, &id)
+        self.rows.kind_of(&id)
     }
 
     /// Makes room, so that the next so many calls of `add` and of `wait_for` need no memory.
@@ -186,14 +182,14 @@ impl Exports {
         ensures value { result ≡ length self.now.rows }
         ensures sound { IsSound self.now.space self.now.ack self.now.added self.now.rows self.now.waits }
     {
-        self.rows.len() as u32
+        self.rows.count() as u32
     }
 
     /// The exported objects as they are at this moment, by rising number.
     pub fn rows(&self, alloc: Global, now: u64) -> Result<RowList, AllocError>
         ensures { IfOk result (λ rows. rows ≡ map (row_at now self.now.waits) self.now.rows) }
     {
-        rows::list(alloc, &self.rows, &self.waits, now)
+        self.rows.list(alloc, &self.waits, now)
     }
 
     /// Begins a call of an object. It answers false exactly where the object isn't exported, and then nothing
@@ -204,7 +200,7 @@ impl Exports {
         ensures begun { self.new ≡ record self.old { rows = changed begun id self.old.rows } }
         ensures absent { result ≡ false → self.new ≡ self.old }
     {
-        rows::begin(&mut self.rows, &id)
+        self.rows.begin(&id)
     }
 
     /// Ends a call of an object.
@@ -212,7 +208,7 @@ impl Exports {
         requires { 0 < running_of self.old.rows id }
         ensures { self.new ≡ record self.old { rows = changed ended id self.old.rows } }
     {
-        rows::end(&mut self.rows, &id);
+        self.rows.end(&id);
     }
 
     /// Notes that a return has a reference to an exported object, which awaits its acknowledgement from now on, and no shorter than it did
@@ -257,7 +253,7 @@ impl Exports {
         requires few { pins_of self.old.rows id < 2 ^ 31 }
         ensures { self.new ≡ record self.old { rows = changed pinned_once id self.old.rows } }
     {
-        rows::pin(&mut self.rows, &id);
+        self.rows.pin(&id);
     }
 
     /// Takes a pin off an exported object. An object that was added pinned stays so.
@@ -266,7 +262,7 @@ impl Exports {
         requires stands { 0 < pins_of self.old.rows id }
         ensures { self.new ≡ record self.old { rows = changed unpinned_once id self.old.rows } }
     {
-        rows::unpin(&mut self.rows, &id);
+        self.rows.unpin(&id);
     }
 
     /// Withdraws each object that isn't kept at this moment, appends its identifier to `gone`, by rising number, and drops it from the
@@ -295,9 +291,8 @@ impl Exports {
         drop_all(leases, &gone[before..]);
     }
 
-    /// Where one of the objects `doubtful` is exported and isn't kept at this moment, does what `withdraw` does; else no object goes, and only the waits that ended
-    /// are forgotten. It looks at no other object unless one of these goes. So it does what `withdraw` does where each object that isn't kept is among
-    /// `doubtful`. It takes no memory.
+    /// Withdraws each of the objects `doubtful` that isn't kept at this moment, as `withdraw` does, and looks at no other object. Waits that ended
+    /// are forgotten. So it does what `withdraw` does where each object that isn't kept is among `doubtful`. It takes no memory.
     pub fn withdraw_among(
         &mut self,
         now: u64,
@@ -305,18 +300,18 @@ impl Exports {
         doubtful: &[ObjId],
         gone: &mut Vec<ObjId>,
     )
-        requires { vec_len gone.old + length self.old.rows ≤ vec_capacity gone.old }
+        requires { vec_len gone.old + length doubtful.now ≤ vec_capacity gone.old }
         ensures kept { ForEachLog leases.old (λ lease moment calls.
             let held = held_by lease (max now moment) calls in
-            let rows = rows_left doubtful.now now held self.old.waits self.old.rows in
+            let rows = filter (stays_among doubtful.now now held self.old.waits) self.old.rows in
             let waits = waiting now self.old.waits in
             self.new ≡ record self.old { rows = rows; waits = waits; room = self.new.room }) }
         ensures gone { ForEachLog leases.old (λ lease moment calls.
             let held = held_by lease (max now moment) calls in
-            gone.new.items ≡ gone.old.items ++ withdrawn_among doubtful.now now held self.old.waits self.old.rows) }
+            gone.new.items ≡ gone.old.items ++ ids (filter (λ x. not (stays_among doubtful.now now held self.old.waits x)) self.old.rows)) }
         ensures dropped { ForEachLog leases.old (λ lease moment calls.
             let held = held_by lease (max now moment) calls in
-            let dropped = withdrawn_among doubtful.now now held self.old.waits self.old.rows in
+            let dropped = ids (filter (λ x. not (stays_among doubtful.now now held self.old.waits x)) self.old.rows) in
             StandsFor lease leases.new moment (map (without_all dropped) calls)) }
         ensures exports_room { self.old.room.exports ≤ self.new.room.exports }
         ensures waits_room { self.old.room.waits ≤ self.new.room.waits }

@@ -7,7 +7,9 @@ mod exports;
 mod index;
 pub mod laws;
 mod returns;
+mod row_table;
 mod rows;
+mod slots;
 mod wait_list;
 mod waits;
 

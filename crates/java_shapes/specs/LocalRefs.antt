@@ -4,6 +4,7 @@ use Rattle.std.specs.List.{list_any}
 use Rattle.std.specs.Ordering.{int_eq}
 use Rattle.class_desc.specs.declared.slot.Slot.TheVariants as slots
 use Rattle.object_ids.specs.declared.ids.ObjId.{ObjId}
+use Rattle.object_ids.specs.Same.{same_key}
 use Rattle.ser_values.specs.declared.node.Node.{Node}
 use Rattle.java_shapes.specs.declared.ref_views.LiveRef.{LiveRef}
 use Rattle.java_shapes.specs.Objects.{same_text}
@@ -21,10 +22,6 @@ refs_below nodes (suc n) = refs_below nodes n ++ as_list (live_ref_at nodes (slo
 -- The references that the nodes are.
 abbrev pub refs_in : List Node → List LiveRef
 refs_in nodes = refs_below nodes (length nodes)
-
--- Two identifiers that are equal, number by number.
-abbrev pub same_key : ObjId → ObjId → Bool
-same_key a b = int_eq a.number b.number && (int_eq a.space.unique b.space.unique && (int_eq a.space.time b.space.time && int_eq a.space.count b.space.count))
 
 -- one more at the end, unless it is there
 abbrev pub add_once : List ObjId → ObjId → List ObjId

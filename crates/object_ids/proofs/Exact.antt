@@ -6,7 +6,7 @@ use Rattle.std.proofs.lemmas.Bool.Decides.{Decides-int_eq, Decides-eqb}
 use Rattle.object_ids.specs.declared.ids.Uid.{Uid}
 use Rattle.object_ids.specs.declared.ids.ObjId.{ObjId}
 use Rattle.object_ids.specs.Client.{Client}
-use Rattle.object_ids.specs.Same.{same_uid, same_id, same_bytes, same_client}
+use Rattle.object_ids.specs.Same.{same_uid, same_id, same_uid_key, same_key, same_bytes, same_client}
 
 -- both of two tests that hold together
 pub both : (a b : Bool) → (a && b) ≡ true → (a ≡ true) × (b ≡ true)
@@ -19,6 +19,19 @@ and_true a b p q = rw (p, q) refl
 
 int_eq-self : (x : ℤ) → int_eq x x ≡ true
 int_eq-self x = (Decides-int_eq x x).1 refl
+
+-- Keys are the same exactly where the identifiers are.
+pub same_uid_key-same : (a b : Uid) → same_uid_key a b ≡ same_uid a b
+same_uid_key-same a b = regrouped (int_eq a.time b.time) (int_eq a.unique b.unique) (int_eq a.count b.count)
+  where
+    regrouped : (t u c : Bool) → (t && (u && c)) ≡ ((u && t) && c)
+    regrouped true true c = refl
+    regrouped true false c = refl
+    regrouped false true c = refl
+    regrouped false false c = refl
+
+pub same_key-same : (a b : ObjId) → same_key a b ≡ same_id a b
+same_key-same a b = ap (λ v. int_eq a.number b.number && v) (same_uid_key-same a.space b.space)
 
 pub same_uid-equal : (a b : Uid) → same_uid a b ≡ true → a ≡ b
 same_uid-equal a b h =

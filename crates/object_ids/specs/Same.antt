@@ -8,8 +8,15 @@ use Rattle.object_ids.specs.Client.{Client}
 abbrev pub same_uid : Uid → Uid → Bool
 same_uid a b = int_eq a.unique b.unique && int_eq a.time b.time && int_eq a.count b.count
 
+-- Equal field by field, in the order in which the type has its fields: so keys of maps are compared.
+abbrev pub same_uid_key : Uid → Uid → Bool
+same_uid_key a b = int_eq a.time b.time && (int_eq a.unique b.unique && int_eq a.count b.count)
+
 abbrev pub same_id : ObjId → ObjId → Bool
 same_id a b = int_eq a.number b.number && same_uid a.space b.space
+
+abbrev pub same_key : ObjId → ObjId → Bool
+same_key a b = int_eq a.number b.number && same_uid_key a.space b.space
 
 abbrev pub same_bytes : List ℕ → List ℕ → Bool
 same_bytes [] [] = true

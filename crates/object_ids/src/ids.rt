@@ -11,10 +11,10 @@ use std::marker::Model;
 /// An identifier that is unique on the machine that made it (`java.rmi.server.UID`).
 #[derive(Clone, Copy, Debug, PartialEq, Eq, Hash)]
 pub struct Uid {
-    /// What tells apart the virtual machines that run at one time.
-    pub unique: i32,
     /// A moment at which that virtual machine ran, in milliseconds.
     pub time: i64,
+    /// What tells apart the virtual machines that run at one time.
+    pub unique: i32,
     /// The number among the identifiers of that moment.
     pub count: i16,
 }

@@ -126,7 +126,7 @@ fn no_link_is_served_after_lasting_failures(rt: HostRuntime) {
 /// A client that acknowledges what another one was returned, whereupon it is gone.
 const FOR_ANOTHER: &str =
     "0 | 1234 | 0 | | opening make | ack return +5 first counter 0000000000000013 of_space | Ended
-1 | 1234 | 0 | | opening acknowledge 00000006 first get_made | ack refused +5 first no_object | NoSuchObject { id: ObjId { number: 19, space: Uid { unique: 7, time: 9, count: 0 } } }";
+1 | 1234 | 0 | | opening acknowledge 00000006 first get_made | ack refused +5 first no_object | NoSuchObject { id: ObjId { number: 19, space: Uid { time: 9, unique: 7, count: 0 } } }";
 
 #[test]
 fn an_acknowledgement_counts_from_any_link(rt: HostRuntime) {

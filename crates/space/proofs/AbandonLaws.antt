@@ -1,5 +1,5 @@
 -- A running call is ended, by what its parts answered.
-use Rattle.std.proofs.Common.{◌≡◌, ℕ, suc, ◌+◌, ◌<◌, ◌≤◌, ◌^◌, List, [], ◌∷◌, ◌++◌, length, refl, ap, sym, subst, ◌∙◌, map, max, drop, arith, None, Ok, length-append}
+use Rattle.std.proofs.Common.{◌≡◌, ℕ, suc, ◌+◌, ◌<◌, ◌≤◌, ◌^◌, List, [], ◌∷◌, ◌++◌, length, refl, ap, sym, subst, ◌∙◌, map, max, arith, None, Ok, length-append}
 use Rattle.std.specs.Prelude.{Bool, true, false, ◌||◌, if◌then◌else◌}
 use Rattle.std.specs.List.{list_any}
 use Rattle.std.proofs.lemmas.Bool.{lt-ltb, le-ltb}
@@ -27,7 +27,6 @@ use Rattle.space.proofs.Acting.{effective-is}
 use Rattle.space.proofs.AheadLaws.{room-next}
 use Rattle.space.proofs.AskLaws.{abandon-counted}
 use Rattle.space.proofs.RunLists.{as-many}
-use Rattle.space.proofs.EndLaws.{goes-few}
 use Rattle.space.proofs.Keeping.{step-taken}
 use Rattle.space.proofs.TurnLaws.{IsAsked, HasActed, HasWithdrawn, taken, turn-keeps}
 use Rattle.export_table.specs.Stands.{rows_of}
@@ -101,31 +100,29 @@ end-acted config events by m o leases leases1 exports t runs withdrawn told open
 }
 
 -- WHAT IS KEPT once the call is ended.
-pub end-keeps : (config : SpaceConfig) (events : List Event) (by m : ℕ) (o : ObjId) (leases leases1 leases2 : LeaseTable) (exports t x3 : ExportTable) (runs : List Run) (withdrawn : List Withdrawal) (told opened used moment time : ℕ) (scratch gone : List ObjId) (place : ℕ) (events' : List Event) (runs' : List Run) (withdrawn' : List Withdrawal) →
-    HasActed config events (event_of by m (Abandon o)) leases leases1 exports t runs withdrawn told opened used moment true → time ≡ max m moment → HasWithdrawn leases1 leases2 t x3 time scratch gone → scratch ≡ [] →
+pub end-keeps : (config : SpaceConfig) (events : List Event) (by m : ℕ) (o : ObjId) (leases leases1 leases2 : LeaseTable) (exports t x3 : ExportTable) (runs : List Run) (withdrawn : List Withdrawal) (told opened used moment time : ℕ) (gone : List ObjId) (place : ℕ) (events' : List Event) (runs' : List Run) (withdrawn' : List Withdrawal) →
+    HasActed config events (event_of by m (Abandon o)) leases leases1 exports t runs withdrawn told opened used moment true → time ≡ max m moment → HasWithdrawn leases1 leases2 t x3 time [] gone →
     place ≡ length events → events' ≡ events ++ event_of by m (Abandon o) ∷ [] → AreSame runs' (without_first (is_run by o) runs) → withdrawn' ≡ withdrawn ++ map (withdrawal_at place) gone →
     Keeps config events' leases2 x3 runs' withdrawn' told opened (used + 1) time
-end-keeps config events by m o leases leases1 leases2 exports t x3 runs withdrawn told opened used moment time scratch gone place events' runs' withdrawn' a at w none pl ev ru wi =
+end-keeps config events by m o leases leases1 leases2 exports t x3 runs withdrawn told opened used moment time gone place events' runs' withdrawn' a at w pl ev ru wi =
     let same : opened ≡ opened + 0 = omega arith in
     let P : ℕ → Type 0 = λ n. Keeps config events' leases2 x3 runs' withdrawn' told n (used + 1) time in
-    let all : gone ≡ drop (length scratch) gone = sym (ap (λ l. drop (length l) gone) none) in
     subst P (sym same)
-    (turn-keeps config events (event_of by m (Abandon o)) leases leases1 leases2 exports t x3 runs withdrawn told opened used moment time true scratch gone a at w
-    place told (opened + 0) (used + 1) events' runs' withdrawn' pl ev ru (wi ∙ ap (λ l. withdrawn ++ map (withdrawal_at place) l) all) refl refl refl)
+    (turn-keeps config events (event_of by m (Abandon o)) leases leases1 leases2 exports t x3 runs withdrawn told opened used moment time true [] gone a at w
+    place told (opened + 0) (used + 1) events' runs' withdrawn' pl ev ru wi refl refl refl)
 
 -- Its room.
-pub end-room : (config : SpaceConfig) (events events' : List Event) (by m : ℕ) (o : ObjId) (leases leases' : LeaseTable) (x y : ExportTable) (runs runs' : List Run) (withdrawn withdrawn' : List Withdrawal) (told opened used moment told' opened' used' moment' : ℕ) (before scratch : List ObjId) (events_room withdrawn_room scratch_room events_room' withdrawn_room' scratch_room' : ℕ) →
-    Keeps config events leases x runs withdrawn told opened used moment → HasRoom events events_room runs withdrawn withdrawn_room x before scratch_room → 0 < running (places config events) by o →
-    Keeps config events' leases' y runs' withdrawn' told' opened' used' moment' → events' ≡ events ++ event_of by m (Abandon o) ∷ [] → AreSame runs' (without_first (is_run by o) runs) → scratch ≡ [] →
-    events_room ≤ events_room' → withdrawn_room ≤ withdrawn_room' → scratch_room ≤ scratch_room' →
-    HasRoom events' events_room' runs' withdrawn' withdrawn_room' y scratch scratch_room'
-end-room config events events' by m o leases leases' x y runs runs' withdrawn withdrawn' told opened used moment told' opened' used' moment' before scratch events_room withdrawn_room scratch_room events_room' withdrawn_room' scratch_room' k r run l ev ru none er wr sr =
+pub end-room : (config : SpaceConfig) (events events' : List Event) (by m : ℕ) (o : ObjId) (leases leases' : LeaseTable) (x y : ExportTable) (runs runs' : List Run) (withdrawn withdrawn' : List Withdrawal) (told opened used moment told' opened' used' moment' events_room withdrawn_room events_room' withdrawn_room' : ℕ) →
+    Keeps config events leases x runs withdrawn told opened used moment → HasRoom events events_room runs withdrawn withdrawn_room x → 0 < running (places config events) by o →
+    Keeps config events' leases' y runs' withdrawn' told' opened' used' moment' → events' ≡ events ++ event_of by m (Abandon o) ∷ [] → AreSame runs' (without_first (is_run by o) runs) →
+    events_room ≤ events_room' → withdrawn_room ≤ withdrawn_room' → HasRoom events' events_room' runs' withdrawn' withdrawn_room' y
+end-room config events events' by m o leases leases' x y runs runs' withdrawn withdrawn' told opened used moment told' opened' used' moment' events_room withdrawn_room events_room' withdrawn_room' k r run l ev ru er wr =
     let longer : length events' ≡ length events + 1 = ap length ev ∙ length-append events (event_of by m (Abandon o) ∷ []) in
     let calls = as-many runs' (without_first (is_run by o) runs) ru in
     let fewer = runs-fewer config events by o leases x runs withdrawn told opened used moment k run in
-    let ends = r.ends in let goes = r.withdrawals in let objects = r.objects in
-    room-next config events events' (event_of by m (Abandon o)) leases leases' x y runs runs' withdrawn withdrawn' told opened used moment told' opened' used' moment' (length x.rows) scratch events_room' withdrawn_room' scratch_room' true (sym (runs-effective config events by o run)) k l ev
-    (omega arith) (omega (arith, longer, calls, fewer, ends, er)) (omega (arith, goes, wr)) (omega (arith, objects, sr)) none
+    let ends = r.ends in let goes = r.withdrawals in
+    room-next config events events' (event_of by m (Abandon o)) leases leases' x y runs runs' withdrawn withdrawn' told opened used moment told' opened' used' moment' (length x.rows) events_room' withdrawn_room' true (sym (runs-effective config events by o run)) k l ev
+    (omega arith) (omega (arith, longer, calls, fewer, ends, er)) (omega (arith, goes, wr))
 
 -- WHAT IT IS ANSWERED, of the space that contracts see.
 pub end-step : (config : SpaceConfig) (events events' : List Event) (by m : ℕ) (o : ObjId) (leases leases1 : LeaseTable) (exports t : ExportTable) (runs : List Run) (withdrawn : List Withdrawal) (told opened used moment : ℕ) (s : SpaceHistory) →
@@ -147,11 +144,7 @@ changed-length f o (x ∷ rows) = ap suc (changed-length f o rows)
 pub end-rows : (exports t : ExportTable) (o : ObjId) → t ≡ record exports { rows = changed ended o exports.rows } → length t.rows ≡ length exports.rows
 end-rows exports t o e = ap (λ (x : ExportTable). length x.rows) e ∙ changed-length ended o exports.rows
 
--- No more objects go than were exported.
-pub end-goes : (config : SpaceConfig) (events : List Event) (by m : ℕ) (o : ObjId) (leases leases1 leases2 : LeaseTable) (exports t x3 : ExportTable) (runs : List Run) (withdrawn : List Withdrawal) (told opened used moment time : ℕ) (scratch gone : List ObjId) →
-    HasActed config events (event_of by m (Abandon o)) leases leases1 exports t runs withdrawn told opened used moment true → time ≡ max m moment → HasWithdrawn leases1 leases2 t x3 time scratch gone → scratch ≡ [] → length gone ≤ length exports.rows
-end-goes config events by m o leases leases1 leases2 exports t x3 runs withdrawn told opened used moment time scratch gone a at w none =
-    let all : length gone ≡ length (drop (length scratch) gone) = sym (ap (λ l. length (drop (length l) gone)) none) in
-    let few = goes-few config events (event_of by m (Abandon o)) leases leases1 leases2 exports t x3 runs withdrawn told opened used moment time true scratch gone a at w in
-    let same = end-rows exports t o a.act in
-    omega (arith, all, few, same)
+-- Some object is exported where one has a running call.
+pub some-rows : (rows : List Export) (o : ObjId) → 0 < running_of rows o → 1 ≤ length rows
+some-rows [] o h = absurd (let none : 0 < 0 = h in omega (arith, none))
+some-rows (x ∷ rows) o h = omega arith

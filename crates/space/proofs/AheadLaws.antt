@@ -2,7 +2,6 @@
 use Rattle.std.proofs.Common.{◌≡◌, ℕ, ◌+◌, ◌<◌, ◌≤◌, ◌^◌, List, [], ◌∷◌, ◌++◌, length, refl, ap, sym, subst, ◌∙◌, cond, arith, length-append}
 use Rattle.std.specs.Prelude.{Bool, true, false, not, filter}
 use Rattle.std.proofs.lemmas.List.{length-map}
-use Rattle.object_ids.specs.declared.ids.ObjId.{ObjId}
 use Rattle.history.specs.declared.asks.SpaceConfig.{SpaceConfig}
 use Rattle.history.specs.declared.asks.Event.{Event}
 use Rattle.history.specs.declared.places.Exported.{Exported}
@@ -64,71 +63,47 @@ objects-next config events e leases leases' x y runs runs' withdrawn_before with
     let sum = length-append (table config (places config events)) (place_of config (places config events) e).exported_here in
     omega (arith, rows_before, rows_after, goes_before, goes_after, both, sum)
 
--- No withdrawal is forgotten.
-withdrawals-next : (config : SpaceConfig) (events : List Event) (e : Event) (leases leases' : LeaseTable) (x y : ExportTable) (runs runs' : List Run) (withdrawn withdrawn' : List Withdrawal) (told opened used moment told' opened' used' moment' : ℕ) →
-    Keeps config events leases x runs withdrawn told opened used moment → Keeps config (events ++ e ∷ []) leases' y runs' withdrawn' told' opened' used' moment' → length withdrawn ≤ length withdrawn'
-withdrawals-next config events e leases leases' x y runs runs' withdrawn withdrawn' told opened used moment told' opened' used' moment' k l =
-    let before = ap length k.stands.withdrawn_are in
-    let after = ap length (l.stands.withdrawn_are ∙ ap (withdrawals config) (places-push config events e) ∙ withdrawals-push config (place_of config (places config events) e) (places config events))
-    ∙ length-append (withdrawals config (places config events)) (withdrawals_at_end config (place_of config (places config events) e ∷ places config events)) in
-    omega (arith, before, after)
-
 at-most-one : (b : Bool) → one_if b ≤ 1
 unfolding one_if
 at-most-one true = omega arith
 at-most-one false = omega arith
 
 -- THE ROOM after an event, by what there was of it before.
-pub room-next : (config : SpaceConfig) (events events' : List Event) (e : Event) (leases leases' : LeaseTable) (x y : ExportTable) (runs runs' : List Run) (withdrawn withdrawn' : List Withdrawal) (told opened used moment told' opened' used' moment' objects : ℕ) (scratch : List ObjId) (events_room withdrawn_room scratch_room : ℕ) (effective : Bool) → effective ≡ is_effective config (places config events) e.by e.ask →
+pub room-next : (config : SpaceConfig) (events events' : List Event) (e : Event) (leases leases' : LeaseTable) (x y : ExportTable) (runs runs' : List Run) (withdrawn withdrawn' : List Withdrawal) (told opened used moment told' opened' used' moment' objects events_room withdrawn_room : ℕ) (effective : Bool) → effective ≡ is_effective config (places config events) e.by e.ask →
     Keeps config events leases x runs withdrawn told opened used moment → Keeps config events' leases' y runs' withdrawn' told' opened' used' moment' → events' ≡ events ++ e ∷ [] →
-    length x.rows + opens effective e.ask ≤ objects → length events' + length runs' ≤ events_room → length withdrawn + objects ≤ withdrawn_room → objects ≤ scratch_room → scratch ≡ [] →
-    HasRoom events' events_room runs' withdrawn' withdrawn_room y scratch scratch_room
-room-next config events events' e leases leases' x y runs runs' withdrawn withdrawn' told opened used moment told' opened' used' moment' objects scratch events_room withdrawn_room scratch_room effective f k l ev few er wr sr s =
+    length x.rows + opens effective e.ask ≤ objects → length events' + length runs' ≤ events_room → length withdrawn + objects ≤ withdrawn_room → HasRoom events' events_room runs' withdrawn' withdrawn_room y
+room-next config events events' e leases leases' x y runs runs' withdrawn withdrawn' told opened used moment told' opened' used' moment' objects events_room withdrawn_room effective f k l ev few er wr =
     let P : List Event → Type 0 = λ es. Keeps config es leases' y runs' withdrawn' told' opened' used' moment' in
-    let next = subst P ev l in
-    let all = objects-next config events e leases leases' x y runs runs' withdrawn withdrawn' told opened used moment told' opened' used' moment' k next in
-    let goes = withdrawals-next config events e leases leases' x y runs runs' withdrawn withdrawn' told opened used moment told' opened' used' moment' k next in
+    let all = objects-next config events e leases leases' x y runs runs' withdrawn withdrawn' told opened used moment told' opened' used' moment' k (subst P ev l) in
     let adds = adds-length config (places config events) e ∙ ap (λ v. opens v e.ask) (sym f) in
-    record {
-      ends = er;
-      withdrawals = omega (arith, all, adds, few, wr);
-      objects = omega (arith, all, adds, few, sr, goes);
-      empty = s;
-    }
+    record { ends = er; withdrawals = omega (arith, all, adds, few, wr) }
 
 -- One more call runs after an event, at most.
-pub room-turned : (config : SpaceConfig) (events events' : List Event) (e : Event) (leases leases' : LeaseTable) (x y : ExportTable) (runs runs' : List Run) (withdrawn withdrawn' : List Withdrawal) (told opened used moment told' opened' used' moment' objects : ℕ) (scratch : List ObjId) (events_room withdrawn_room scratch_room : ℕ) (effective : Bool) → effective ≡ is_effective config (places config events) e.by e.ask →
+pub room-turned : (config : SpaceConfig) (events events' : List Event) (e : Event) (leases leases' : LeaseTable) (x y : ExportTable) (runs runs' : List Run) (withdrawn withdrawn' : List Withdrawal) (told opened used moment told' opened' used' moment' objects events_room withdrawn_room : ℕ) (effective : Bool) → effective ≡ is_effective config (places config events) e.by e.ask →
     Keeps config events leases x runs withdrawn told opened used moment → Keeps config events' leases' y runs' withdrawn' told' opened' used' moment' → events' ≡ events ++ e ∷ [] →
-    length x.rows + opens effective e.ask ≤ objects → length events + length runs + 2 ≤ events_room → length withdrawn + objects ≤ withdrawn_room → objects ≤ scratch_room → scratch ≡ [] →
-    HasRoom events' events_room runs' withdrawn' withdrawn_room y scratch scratch_room
-room-turned config events events' e leases leases' x y runs runs' withdrawn withdrawn' told opened used moment told' opened' used' moment' objects scratch events_room withdrawn_room scratch_room effective f k l ev few er wr sr s =
+    length x.rows + opens effective e.ask ≤ objects → length events + length runs + 2 ≤ events_room → length withdrawn + objects ≤ withdrawn_room → HasRoom events' events_room runs' withdrawn' withdrawn_room y
+room-turned config events events' e leases leases' x y runs runs' withdrawn withdrawn' told opened used moment told' opened' used' moment' objects events_room withdrawn_room effective f k l ev few er wr =
     let P : List Event → Type 0 = λ es. Keeps config es leases' y runs' withdrawn' told' opened' used' moment' in
     let calls = runs-next config events e leases leases' x y runs runs' withdrawn withdrawn' told opened used moment told' opened' used' moment' k (subst P ev l) in
     let one = at-most-one (starts (place_of config (places config events) e)) in
     let longer : length events' ≡ length events + 1 = ap length ev ∙ length-append events (e ∷ []) in
     let within : length events' + length runs' ≤ events_room = omega (arith, calls, one, longer, er) in
-    room-next config events events' e leases leases' x y runs runs' withdrawn withdrawn' told opened used moment told' opened' used' moment' objects scratch events_room withdrawn_room scratch_room effective f k l ev few within wr sr s
+    room-next config events events' e leases leases' x y runs runs' withdrawn withdrawn' told opened used moment told' opened' used' moment' objects events_room withdrawn_room effective f k l ev few within wr
 
 -- What was made of room does not matter to what is refused.
-pub room-grown : (events events' : List Event) (runs runs' : List Run) (withdrawn withdrawn' : List Withdrawal) (x y : ExportTable) (scratch scratch' : List ObjId) (events_room withdrawn_room scratch_room events_room' withdrawn_room' scratch_room' : ℕ) →
-    HasRoom events events_room runs withdrawn withdrawn_room x scratch scratch_room → events' ≡ events → runs' ≡ runs → withdrawn' ≡ withdrawn → y ≡ record x { room = y.room } → scratch' ≡ scratch →
-    events_room ≤ events_room' → withdrawn_room ≤ withdrawn_room' → scratch_room ≤ scratch_room' → HasRoom events' events_room' runs' withdrawn' withdrawn_room' y scratch' scratch_room'
-room-grown events events' runs runs' withdrawn withdrawn' x y scratch scratch' events_room withdrawn_room scratch_room events_room' withdrawn_room' scratch_room' r ev ru wi ex sc er wr sr =
+pub room-grown : (events events' : List Event) (runs runs' : List Run) (withdrawn withdrawn' : List Withdrawal) (x y : ExportTable) (events_room withdrawn_room events_room' withdrawn_room' : ℕ) →
+    HasRoom events events_room runs withdrawn withdrawn_room x → events' ≡ events → runs' ≡ runs → withdrawn' ≡ withdrawn → y ≡ record x { room = y.room } →
+    events_room ≤ events_room' → withdrawn_room ≤ withdrawn_room' → HasRoom events' events_room' runs' withdrawn' withdrawn_room' y
+room-grown events events' runs runs' withdrawn withdrawn' x y events_room withdrawn_room events_room' withdrawn_room' r ev ru wi ex er wr =
     let a = ap length ev in let b = ap length ru in let c = ap length wi in let d = ap (λ (t : ExportTable). length t.rows) ex in
-    let ends = r.ends in let goes = r.withdrawals in let objects = r.objects in
-    record {
-      ends = omega (arith, a, b, ends, er);
-      withdrawals = omega (arith, c, d, goes, wr);
-      objects = omega (arith, d, objects, sr);
-      empty = sc ∙ r.empty;
-    }
+    let ends = r.ends in let goes = r.withdrawals in
+    record { ends = omega (arith, a, b, ends, er); withdrawals = omega (arith, c, d, goes, wr) }
 
 -- No event, and no room.
-pub room-nothing : (events : List Event) (runs : List Run) (withdrawn : List Withdrawal) (x : ExportTable) (scratch : List ObjId) (events_room withdrawn_room scratch_room : ℕ) → events ≡ [] → runs ≡ [] → withdrawn ≡ [] → x.rows ≡ [] → scratch ≡ [] →
-    HasRoom events events_room runs withdrawn withdrawn_room x scratch scratch_room
-room-nothing events runs withdrawn x scratch events_room withdrawn_room scratch_room ev ru wi ex sc =
+pub room-nothing : (events : List Event) (runs : List Run) (withdrawn : List Withdrawal) (x : ExportTable) (events_room withdrawn_room : ℕ) → events ≡ [] → runs ≡ [] → withdrawn ≡ [] → x.rows ≡ [] → HasRoom events events_room runs withdrawn withdrawn_room x
+room-nothing events runs withdrawn x events_room withdrawn_room ev ru wi ex =
     let a = ap length ev in let b = ap length ru in let c = ap length wi in let d = ap length ex in
-    record { ends = omega (arith, a, b); withdrawals = omega (arith, c, d); objects = omega (arith, d); empty = sc }
+    record { ends = omega (arith, a, b); withdrawals = omega (arith, c, d) }
 
 -- There are not too many running calls.
 pub few-calls : (config : SpaceConfig) (events : List Event) (leases : LeaseTable) (exports : ExportTable) (runs : List Run) (withdrawn : List Withdrawal) (told opened used moment : ℕ) → Keeps config events leases exports runs withdrawn told opened used moment → length runs < 2 ^ 31

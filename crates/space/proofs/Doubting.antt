@@ -2,7 +2,7 @@
 use Rattle.std.proofs.Common.{◌≡◌, ℕ, ◌+◌, ◌≤◌, inl, inr, List, [], ◌∷◌, ◌++◌, refl, ap, sym, ◌∙◌, cond, max, arith, Option, Some, None}
 use Rattle.std.specs.Prelude.{Bool, true, false, not, ◌&&◌, ◌||◌, filter, nat_lt, option_to_list, if◌then◌else◌}
 use Rattle.std.specs.List.{list_any, list_all}
-use Rattle.std.proofs.lemmas.Bool.{and_parts, and_from, or_left, or_right, lt-ltb}
+use Rattle.std.proofs.lemmas.Bool.{and_parts, and_from, or_left, or_right, lt-ltb, true≢false}
 use Rattle.std.proofs.lemmas.List.Folds.{list_any-append, list_all-append}
 use Rattle.object_ids.specs.declared.ids.ObjId.{ObjId}
 use Rattle.object_ids.specs.declared.ids.Uid.{Uid}
@@ -16,6 +16,7 @@ use Rattle.history.specs.LeaseCalls.{call_with}
 use Rattle.history.specs.Leases.{is_naming, is_held}
 use Rattle.history.specs.Places.{id_at}
 use Rattle.history.proofs.ListLemmas.{list_any-filter, filter-same, every-always}
+use Rattle.dgc_server.specs.Stands.{LeaseTable, ForEachLog}
 use Rattle.export_table.specs.declared.rows.Export.{Export}
 use Rattle.export_table.specs.declared.waits.Wait.{Wait}
 use Rattle.export_table.specs.Rows.{is_of, is_exported, is_pinned, is_among, new_row, changed, begun, ended, pinned_once, unpinned_once, unpinned}
@@ -23,7 +24,7 @@ use Rattle.export_table.specs.Stands.{added_rows}
 use Rattle.export_table.specs.Table.{ExportTable}
 use Rattle.export_table.specs.Waits.{is_wait_of, goes_on, waiting, over, of_return, objects, is_awaited, until_of, listed, listed_each, acknowledged}
 use Rattle.space.specs.Acts.{acted, new_ids, returned_by}
-use Rattle.space.specs.Doubts.{taken_by}
+use Rattle.space.specs.Doubts.{taken_by, AreInDoubt}
 use Rattle.space.proofs.Holding.{any-weaker, held-call}
 
 abbrev pub among : List ObjId → ObjId → Bool
@@ -289,3 +290,26 @@ safe-after os test stood effective t (Dirty c n g named) x f h = h
 safe-after os test stood effective t (Clean c n named strong) x f h = h
 safe-after os test stood effective t Tick x f h = h
 safe-after os test stood effective t ListNames x f h = h
+
+-- ---- the list of the objects in doubt
+
+pub in-doubt : (leases : LeaseTable) (t : ℕ) (waits : List Wait) (taken freed ended os : List ObjId) →
+    ForEachLog leases (λ lease moment calls. (o : ObjId) → is_held lease moment calls o ≡ true → is_held lease (max t moment) calls o ≡ false → among freed o ≡ true) →
+    ended ≡ objects (over t waits) → os ≡ (freed ++ ended) ++ taken → AreInDoubt leases t waits taken os
+in-doubt leases t waits taken freed ended os f e all = record {
+  freed = λ lease moment calls s o held none. there o (any-left (same_id o) (freed ++ ended) taken (any-left (same_id o) freed ended (f lease moment calls s o held none)));
+  ended = λ o h. there o (any-left (same_id o) (freed ++ ended) taken (any-right (same_id o) freed ended (ap (λ l. among l o) e ∙ h)));
+  taken = λ o h. there o (any-right (same_id o) (freed ++ ended) taken h);
+}
+  where
+    there : (o : ObjId) → among ((freed ++ ended) ++ taken) o ≡ true → among os o ≡ true
+    there o h = ap (λ l. among l o) all ∙ h
+
+-- Where time takes nothing, those from which the ask takes something.
+pub in-doubt-taken : (leases : LeaseTable) (t : ℕ) (waits : List Wait) (taken : List ObjId) →
+    ForEachLog leases (λ lease moment calls. (o : ObjId) → is_held lease moment calls o ≡ true → is_held lease (max t moment) calls o ≡ true) → over t waits ≡ [] → AreInDoubt leases t waits taken taken
+in-doubt-taken leases t waits taken still none = record {
+  freed = λ lease moment calls s o held lost. absurd (true≢false (sym (still lease moment calls s o held) ∙ lost));
+  ended = λ o h. absurd (true≢false (sym h ∙ ap (λ ws. among (objects ws) o) none));
+  taken = λ o h. h;
+}

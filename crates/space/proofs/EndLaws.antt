@@ -19,7 +19,7 @@ use Rattle.space.specs.Acts.{ForEachLogBy, effective_by, acted, room_refusal, aw
 use Rattle.rmi_registry.specs.declared.binding.Binding.{Binding}
 use Rattle.rmi_registry.specs.Stands.{AreBindings}
 use Rattle.space.specs.Ahead.{HasRoom}
-use Rattle.space.specs.Doubts.{HasLog, LeasesEndFrom}
+use Rattle.space.specs.Doubts.{HasLog}
 use Rattle.space.proofs.Acting.{stood_for}
 use Rattle.history.specs.Names.{names}
 use Rattle.space.specs.Kept.{Keeps}
@@ -88,12 +88,11 @@ goes-few config events e leases leases1 leases2 exports t x3 runs withdrawn told
     omega (arith, rest, seam, few)
 
 -- What is kept of events, once they are there and there is as much room.
-pub appended : (config : SpaceConfig) (events events' : List Event) (leases : LeaseTable) (exports : ExportTable) (runs : List Run) (withdrawn : List Withdrawal) (told opened used moment : ℕ) (scratch : List ObjId) (room room' withdrawn_room scratch_room : ℕ) (bindings : List Binding) (due : ℕ) →
-    Keeps config events leases exports runs withdrawn told opened used moment × HasRoom events room runs withdrawn withdrawn_room exports scratch scratch_room × AreBindings (places config events) bindings × LeasesEndFrom config events due → events' ≡ events → room ≤ room' →
-    Keeps config events' leases exports runs withdrawn told opened used moment × HasRoom events' room' runs withdrawn withdrawn_room exports scratch scratch_room × AreBindings (places config events') bindings × LeasesEndFrom config events' due
-appended config events events' leases exports runs withdrawn told opened used moment scratch room room' withdrawn_room scratch_room bindings due (k, r, b, d) e le =
+pub appended : (config : SpaceConfig) (events events' : List Event) (leases : LeaseTable) (exports : ExportTable) (runs : List Run) (withdrawn : List Withdrawal) (told opened used moment room room' withdrawn_room : ℕ) (bindings : List Binding) →
+    Keeps config events leases exports runs withdrawn told opened used moment × HasRoom events room runs withdrawn withdrawn_room exports × AreBindings (places config events) bindings → events' ≡ events → room ≤ room' →
+    Keeps config events' leases exports runs withdrawn told opened used moment × HasRoom events' room' runs withdrawn withdrawn_room exports × AreBindings (places config events') bindings
+appended config events events' leases exports runs withdrawn told opened used moment room room' withdrawn_room bindings (k, r, b) e le =
     let P : List Event → Type 0 = λ es. Keeps config es leases exports runs withdrawn told opened used moment in
     let N : List Event → Type 0 = λ es. AreBindings (places config es) bindings in
-    let D : List Event → Type 0 = λ es. LeasesEndFrom config es due in
     let ends = r.ends in let same = ap length e in
-    (subst P (sym e) k, record { ends = omega (arith, ends, same, le); withdrawals = r.withdrawals; objects = r.objects; empty = r.empty }, subst N (sym e) b, subst D (sym e) d)
+    (subst P (sym e) k, record { ends = omega (arith, ends, same, le); withdrawals = r.withdrawals }, subst N (sym e) b)

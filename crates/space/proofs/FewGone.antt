@@ -1,5 +1,5 @@
 -- How many objects go: no more than are in doubt, where each that isn't kept is among these.
-use Rattle.std.proofs.Common.{◌≡◌, ℕ, ◌≤◌, inl, inr, List, [], ◌∷◌, length, refl, ap, sym, subst, cond, max, arith}
+use Rattle.std.proofs.Common.{◌≡◌, ℕ, ◌+◌, ◌≤◌, inl, inr, List, [], ◌∷◌, ◌++◌, length, refl, ap, sym, subst, cond, max, arith, length-append}
 use Rattle.std.specs.Prelude.{Bool, true, false, ◌||◌, not, filter}
 use Rattle.std.specs.List.{list_any}
 use Rattle.std.proofs.lemmas.Bool.{and_parts}
@@ -14,13 +14,8 @@ use Rattle.export_table.specs.Rows.{ids, is_rising, is_among, is_row_kept, is_se
 use Rattle.export_table.specs.Table.{ExportTable}
 use Rattle.export_table.proofs.Parts.{part-map, part-rising}
 use Rattle.export_table.proofs.RowLaws.{rising-once}
-use Rattle.space.specs.Doubts.{HasLog, most_gone}
-use Rattle.space.proofs.AskLaws.{gone-few}
+use Rattle.space.specs.Doubts.{HasLog}
 use Rattle.space.proofs.RowLaws.{object-equality}
-
-pub most-more : (all : Bool) (m n d e : ℕ) → m ≤ n → d ≡ e → most_gone all m d ≤ most_gone all n e
-most-more true m n d e le same = le
-most-more false m n d e le same = omega (arith, same)
 
 part-filter : (q : Export → Bool) (rows : List Export) → IsPart (filter q rows) rows
 part-filter q [] = refl
@@ -63,17 +58,14 @@ doubtful-few os t held waits rows r s =
     (rising-once (ids others) (part-rising (ids others) (ids rows) (part-map (λ (y : Export). y.id) others rows (part-filter (λ y. not (is_row_kept t held waits y)) rows)) r))
     (goes-doubtful os t held waits rows s)
 
--- WHAT GOES, all looked at or those in doubt alone.
-pub few-go : (all : Bool) (leases : LeaseTable) (time : ℕ) (x : ExportTable) (os gone : List ObjId) → HasLog leases → is_rising (ids x.rows) ≡ true →
-    (all ≡ false → ForEachLog leases (λ lease m calls. is_settled_but os time (held_by lease (max time m) calls) x.waits x.rows ≡ true)) →
-    ForEachLog leases (λ lease m calls. gone ≡ withdrawn time (held_by lease (max time m) calls) x.waits x.rows) → length gone ≤ most_gone all (length x.rows) (length os)
-few-go all leases time x os gone log r among goes =
+-- WHAT GOES, after others.
+pub few-go : (leases : LeaseTable) (time : ℕ) (x : ExportTable) (os before all : List ObjId) → HasLog leases → is_rising (ids x.rows) ≡ true →
+    ForEachLog leases (λ lease m calls. is_settled_but os time (held_by lease (max time m) calls) x.waits x.rows ≡ true) →
+    ForEachLog leases (λ lease m calls. all ≡ before ++ withdrawn time (held_by lease (max time m) calls) x.waits x.rows) → length all ≤ length before + length os
+few-go leases time x os before all log r among goes =
     let same = ap length (goes log.lease log.moment log.calls log.stands) in
-    let few = go all (λ f. among f log.lease log.moment log.calls log.stands) in omega (arith, same, few)
+    let both = length-append before (withdrawn time held x.waits x.rows) in
+    let few = doubtful-few os time held x.waits x.rows r (among log.lease log.moment log.calls log.stands) in omega (arith, same, both, few)
   where
     held : ObjId → Bool
     held = held_by log.lease (max time log.moment) log.calls
-
-    go : (b : Bool) → (b ≡ false → is_settled_but os time held x.waits x.rows ≡ true) → length (withdrawn time held x.waits x.rows) ≤ most_gone b (length x.rows) (length os)
-    go true f = gone-few time held x.waits x.rows
-    go false f = doubtful-few os time held x.waits x.rows r (f refl)

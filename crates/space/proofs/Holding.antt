@@ -1,8 +1,8 @@
 -- What a client holds, it holds on until its lease ends or a clean call names the object.
-use Rattle.std.proofs.Common.{true≢false, ◌≡◌, ℕ, ◌+◌, ◌≤◌, ◌⊎◌, inl, inr, List, [], ◌∷◌, ◌++◌, refl, ap, sym, ◌∙◌, cond, map, arith, Some}
+use Rattle.std.proofs.Common.{◌≡◌, ℕ, ◌+◌, ◌≤◌, ◌⊎◌, inl, inr, List, [], ◌∷◌, ◌++◌, refl, ap, sym, ◌∙◌, cond, arith, Some}
 use Rattle.std.specs.Prelude.{Bool, true, false, ◌&&◌, ◌||◌, filter, find, nat_lt, int_lt, option_map, unwrap_or}
-use Rattle.std.specs.List.{list_any, list_all, AllByRecursion}
-use Rattle.std.proofs.lemmas.Bool.{and_parts, and_from, or_left, or_right, lt-ltb, ltb-true, ltb-false}
+use Rattle.std.specs.List.{list_any, list_all}
+use Rattle.std.proofs.lemmas.Bool.{and_parts, and_from, or_left, or_right, lt-ltb}
 use Rattle.std.proofs.lemmas.List.Elements.{filter-append}
 use Rattle.object_ids.specs.declared.ids.ObjId.{ObjId}
 use Rattle.object_ids.specs.Client.{Client}
@@ -11,15 +11,13 @@ use Rattle.object_ids.proofs.Exact.{same_client-equal}
 use Rattle.history.specs.declared.calls.Call.{Call}
 use Rattle.history.specs.declared.calls.CallKind.{CallKind}
 use Rattle.history.specs.declared.calls.CallKind.TheVariants.{Dirty as DirtyCall, Weak, Strong}
-use Rattle.history.specs.declared.calls.LeaseRow.{LeaseRow}
-use Rattle.history.specs.Leases.{is_dirty, is_dirty_kind, is_strong, is_strong_kind, is_naming, lease_end, has_time_left, tenure, strong_cleans, counting_calls, highest_is_dirty, holds, calls_of, clients, clients_with_time_left, lease_rows, is_held}
-use Rattle.history.proofs.LeaseLaws.{highest_is_dirty-scan, is_held-calls, list_any-clients}
+use Rattle.history.specs.Leases.{is_dirty, is_dirty_kind, is_strong, is_strong_kind, is_naming, lease_end, has_time_left, tenure, strong_cleans, counting_calls, highest_is_dirty, holds, calls_of, is_held}
+use Rattle.history.proofs.LeaseLaws.{highest_is_dirty-scan, is_held-calls}
 use Rattle.history.proofs.ListLemmas.{Somewhere, Somewhere-test, test-Somewhere}
 use Rattle.dgc_server.specs.Stands.{LeaseTable, StandsFor}
 use Rattle.dgc_server.specs.Entry.{entry_holds}
 use Rattle.dgc_server.specs.Table.{entry_of}
 use Rattle.dgc_server.proofs.Outputs.{time-called, holds-entry}
-use Rattle.space.specs.Doubts.{EndsFrom}
 
 -- ---- lists
 
@@ -35,12 +33,6 @@ witness test (x ∷ xs) s = elim s [ inl here ↦ (x, here) | inr there ↦ witn
 holds-left : (lease t : ℕ) (own : List Call) (o : ObjId) → holds lease t own o ≡ true → has_time_left lease t own ≡ true
 unfolding holds
 holds-left lease t own o h = (and_parts (has_time_left lease t own) (highest_is_dirty (counting_calls lease own o)) h).0
-
--- Until its time is over.
-holds-later : (lease m t : ℕ) (own : List Call) (o : ObjId) → holds lease m own o ≡ true → has_time_left lease t own ≡ true → holds lease t own o ≡ true
-unfolding holds
-holds-later lease m t own o h left =
-    and_from (has_time_left lease t own) (highest_is_dirty (counting_calls lease own o)) left (and_parts (has_time_left lease m own) (highest_is_dirty (counting_calls lease own o)) h).1
 
 -- One more dirty leaves a dirty highest.
 dirty-more : (x : Call) (calls : List Call) → is_dirty x ≡ true → highest_is_dirty calls ≡ true → highest_is_dirty (x ∷ calls) ≡ true
@@ -120,14 +112,7 @@ held-when lease t calls o c h =
     (λ x e. ap (λ (d : Client). holds lease t (calls_of d calls) o) (sym (same_client-equal c x.client e)) ∙ h)
     calls (time-called lease t c calls (holds-left lease t (calls_of c calls) o h))
 
--- An object is held on where no lease ends.
-pub held-later : (lease m t : ℕ) (calls : List Call) (o : ObjId) → ((c : Client) → has_time_left lease m (calls_of c calls) ≡ true → has_time_left lease t (calls_of c calls) ≡ true) →
-    is_held lease m calls o ≡ true → is_held lease t calls o ≡ true
-held-later lease m t calls o on h =
-    let one = held-where lease m calls o h in
-    held-when lease t calls o one.0 (holds-later lease m t (calls_of one.0 calls) o one.1 (on one.0 (holds-left lease m (calls_of one.0 calls) o one.1)))
-
--- And after a call that is a dirty or does not name it.
+-- An object is held on after a call that is a dirty or does not name it.
 pub held-call : (lease : ℕ) (calls : List Call) (x : Call) (o : ObjId) → 1 ≤ lease → (is_dirty x ≡ true) ⊎ (is_naming o x ≡ false) → is_held lease x.moment calls o ≡ true → is_held lease x.moment (x ∷ calls) o ≡ true
 unfolding calls_of
 held-call lease calls x o some kind h =
@@ -146,46 +131,3 @@ held-alike lease n m k t s table calls others o a b early soon same h =
     let one = held-where lease t calls o h in
     let entry = sym (holds-entry lease m t (entry_of table.entries one.0) (calls_of one.0 calls) o early (a.each one.0)) ∙ one.1 in
     held-when n s others o one.0 (holds-entry n k s (entry_of table.entries one.0) (calls_of one.0 others) o soon (b.each one.0) ∙ ap (λ i. entry_holds i o (entry_of table.entries one.0)) same ∙ entry)
-
--- ---- the ends of leases
-
--- No lease that a row shows ends before a moment, so none does.
-ends-none : (due lease t : ℕ) (calls : List Call) (cs : List Client) →
-    AllByRecursion (λ (r : LeaseRow). due ≤ r.until) (map (λ c. record { client = c; until = lease_end lease (calls_of c calls) }) (filter (λ c. has_time_left lease t (calls_of c calls)) cs)) →
-    list_any (λ c. has_time_left lease t (calls_of c calls) && nat_lt (lease_end lease (calls_of c calls)) due) cs ≡ false
-ends-none due lease t calls [] a = refl
-ends-none due lease t calls (c ∷ cs) a = go (has_time_left lease t (calls_of c calls)) a (ends-none due lease t calls cs)
-  where
-    row : Client → LeaseRow
-    row d = record { client = d; until = lease_end lease (calls_of d calls) }
-
-    left : Client → Bool
-    left d = has_time_left lease t (calls_of d calls)
-
-    never : (n k : ℕ) → k ≤ n → (b : Bool) → nat_lt n k ≡ b → b ≡ false
-    never n k le false e = refl
-    never n k le true e = absurd (let less = ltb-true n k e in omega (arith, less, le))
-
-    go : (b : Bool) → AllByRecursion (λ (r : LeaseRow). due ≤ r.until) (map row (cond b (c ∷ filter left cs) (filter left cs))) →
-        (AllByRecursion (λ (r : LeaseRow). due ≤ r.until) (map row (filter left cs)) → list_any (λ d. left d && nat_lt (lease_end lease (calls_of d calls)) due) cs ≡ false) →
-        ((b && nat_lt (lease_end lease (calls_of c calls)) due) || list_any (λ d. left d && nat_lt (lease_end lease (calls_of d calls)) due) cs) ≡ false
-    go true q f = ap (λ v. v || list_any (λ d. left d && nat_lt (lease_end lease (calls_of d calls)) due) cs) (never (lease_end lease (calls_of c calls)) due q.0 (nat_lt (lease_end lease (calls_of c calls)) due) refl) ∙ f q.1
-    go false q f = f q
-
-pub rows-end : (due lease t : ℕ) (calls : List Call) → AllByRecursion (λ (r : LeaseRow). due ≤ r.until) (lease_rows lease t calls) → EndsFrom due lease t calls
-unfolding lease_rows clients_with_time_left
-rows-end due lease t calls a c h = go (nat_lt (lease_end lease (calls_of c calls)) due) refl
-  where
-    early : Client → Bool
-    early d = has_time_left lease t (calls_of d calls) && nat_lt (lease_end lease (calls_of d calls)) due
-
-    go : (b : Bool) → nat_lt (lease_end lease (calls_of c calls)) due ≡ b → due ≤ lease_end lease (calls_of c calls)
-    go false e = ltb-false (lease_end lease (calls_of c calls)) due e
-    go true e = absurd (true≢false (
-        sym (any-weaker (λ (x : Call). same_client c x.client) (λ (x : Call). early x.client)
-        (λ x k. ap early (sym (same_client-equal c x.client k)) ∙ and_from (has_time_left lease t (calls_of c calls)) (nat_lt (lease_end lease (calls_of c calls)) due) h e) calls (time-called lease t c calls h))
-        ∙ sym (list_any-clients early calls) ∙ ends-none due lease t calls (clients calls) a))
-
--- From the beginning on, any may end.
-pub ends-at_once : (lease t : ℕ) (calls : List Call) → EndsFrom 0 lease t calls
-ends-at_once lease t calls c h = omega arith

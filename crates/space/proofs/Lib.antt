@@ -39,3 +39,4 @@ pub mod SummaryLaws
 pub mod TextLaws
 pub mod TieSteps
 pub mod TurnLaws
+pub mod WithdrawalLaws

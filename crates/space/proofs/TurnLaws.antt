@@ -337,6 +337,6 @@ pub memory-step : (config : SpaceConfig) (events events' : List Event) (e : Even
 memory-step config events events' e refused r s = inr (ap (λ x. Err x) r, s)
 
 -- What holds in any case holds of a refusal.
-pub whole-err : {T E A B C D : Type 0} (r : Result T E) → A → B → C → D → OnErr r (A × B × C × D)
-whole-err (Ok x) a b d f = tt
-whole-err (Err e) a b d f = (a, b, d, f)
+pub whole-err : {T E A B C : Type 0} (r : Result T E) → A → B → C → OnErr r (A × B × C)
+whole-err (Ok x) a b d = tt
+whole-err (Err e) a b d = (a, b, d)

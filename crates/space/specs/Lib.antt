@@ -20,3 +20,4 @@ pub mod TieLaws
 pub mod Ties
 pub mod Summary
 pub mod Whole
+pub mod Withdrawals

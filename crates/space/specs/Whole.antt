@@ -1,20 +1,18 @@
 -- What a space keeps stands for its events, with room for the ends of its calls.
-use Rattle.std.specs.Prelude.{List, vec_capacity}
+use Rattle.std.specs.Prelude.{List}
 use Rattle.history.specs.declared.asks.Event.{Event}
 use Rattle.history.specs.Table.{places}
 use Rattle.rmi_registry.specs.Stands.{AreBindings}
 use Rattle.space.specs.declared.tables.Tables.{Tables}
 use Rattle.space.specs.Ahead.{HasRoom}
-use Rattle.space.specs.Doubts.{LeasesEndFrom}
 use Rattle.space.specs.Kept.{Keeps}
 
--- It is what is kept of these events, and has room; and no lease ends before the moment that it notes.
+-- It is what is kept of these events, and has room.
 abbrev pub IsWholeWith : Tables → List Event → Type 0
 IsWholeWith t events =
     Keeps t.config events t.leases t.exports t.runs.items t.withdrawn.items t.told t.added t.units t.moment
-    × HasRoom events t.events.capacity t.runs.items t.withdrawn.items (vec_capacity t.withdrawn) t.exports t.scratch.items (vec_capacity t.scratch)
+    × HasRoom events t.events.capacity t.runs.items t.withdrawn.items t.withdrawn.room t.exports
     × AreBindings (places t.config events) t.names
-    × LeasesEndFrom t.config events t.due
 
 -- The same of the events that are there.
 abbrev pub IsWhole : Tables → Type 0

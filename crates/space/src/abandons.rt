@@ -7,8 +7,8 @@ ghost use Rattle.history.specs.Steps.{Step, turn_of};
 ghost use Rattle.history.specs.Table.{places};
 ghost use Rattle.space.specs.Acts.{event_of};
 
-use crate::acts::{note_withdrawn, put_event};
-use crate::doubts::{takes_time, withdraw};
+use crate::acts::put_event;
+use crate::doubts::takes_time;
 use crate::turns::Space;
 use history::{Ask, Event};
 use object_ids::ObjId;
@@ -31,20 +31,18 @@ impl Space {
     {
         let now = moment.max(self.tables.moment);
         let place = self.tables.events.len() as u64;
-        let all = takes_time(&self.tables.exports, self.tables.due, now);
+        let all = takes_time(&self.tables.exports, &self.tables.leases, now);
         self.tables.leases.lapse(now);
         self.tables.exports.end(object);
         self.tables.runs.end_one(by, &object);
-        withdraw(
+        self.tables.withdrawn.withdraw(
             &mut self.tables.exports,
             &mut self.tables.leases,
             now,
             all,
             &[object],
-            &mut self.tables.scratch,
+            place,
         );
-        note_withdrawn(&mut self.tables.withdrawn, &self.tables.scratch, 0, place);
-        self.tables.scratch.clear();
         self.tables.units += 1;
         self.tables.moment = now;
         let ask = Ask::Abandon { object };

@@ -1,5 +1,5 @@
-//! What an ask does to the exported objects and to the withdrawals.
-ghost use Rattle.std.specs.Prelude.{◌≡◌, ◌⊎◌, ◌≤◌, ◌<◌, ◌+◌, ◌^◌, ◌++◌, ◌∷◌, [], ℕ, List, Bool, true, Some, map, drop, length, IfOk, vec_len, vec_capacity};
+//! What an ask does to the exported objects.
+ghost use Rattle.std.specs.Prelude.{◌≡◌, ◌⊎◌, ◌≤◌, ◌<◌, ◌+◌, ◌^◌, ◌++◌, ◌∷◌, [], ℕ, List, Bool, true, Some, length, vec_capacity};
 ghost use Rattle.std.specs.List.{AllByRecursion};
 ghost use Rattle.object_ids.specs.declared.ids.ObjId.{ObjId};
 ghost use Rattle.object_ids.specs.declared.ids.Uid.{Uid};
@@ -9,40 +9,15 @@ ghost use Rattle.history.specs.Names.{object_bound};
 ghost use Rattle.event_log.specs.Rows.{IsPlain};
 ghost use Rattle.history.specs.Places.{id_at};
 ghost use Rattle.export_table.specs.Rows.{is_exported, running_of, pins_of, new_row, changed, pinned_once, unpinned};
-ghost use Rattle.space.specs.Acts.{acted, awaiting_with, new_rows, opens, returned_by, returned_from, withdrawal_at};
+ghost use Rattle.space.specs.Acts.{acted, awaiting_with, new_rows, opens, returned_by, returned_from};
 ghost use Rattle.export_table.specs.Stands.{waits_once, reference_of};
 ghost use Rattle.export_table.specs.Waits.{listed_each};
 
 use event_log::EventLog;
 use export_table::Exports;
-use history::{Ask, Event, Withdrawal};
+use history::{Ask, Event};
 use object_ids::{ObjId, ObjIds, Uid};
-use std::alloc::{AllocError, Global};
-
-/// The objects of the withdrawals that are still to be told as gone, with room for so many more.
-pub(crate) fn still_to_tell(
-    alloc: Global,
-    withdrawn: &[Withdrawal],
-    told: usize,
-    more: usize,
-) -> Result<Vec<ObjId>, AllocError>
-    requires { told ≤ length withdrawn.now }
-    ensures items { IfOk result (λ gone. gone.items ≡ map (λ w. w.object) (drop told withdrawn.now)) }
-    ensures room { IfOk result (λ gone. vec_len gone + more ≤ vec_capacity gone) }
-{
-    let mut gone = objects_of(alloc, &withdrawn[told..])?;
-    gone.reserve(more)?;
-    Ok(gone)
-}
-
-fn objects_of(alloc: Global, withdrawn: &[Withdrawal]) -> Result<Vec<ObjId>, AllocError>
-    ensures { IfOk result (λ objects. objects.items ≡ map (λ w. w.object) withdrawn.now) }
-{
-    withdrawn
-        .iter()
-        .map(|withdrawal| withdrawal.object)
-        .collect(alloc)
-}
+use std::alloc::Global;
 
 /// Does what an ask, whose name stood for `stood`, does to the exported objects at a moment, but for the withdrawals. There is room for
 /// what it adds, and it returns references to the objects `returned`.
@@ -245,46 +220,6 @@ pub(crate) fn filled(mut room: Vec<ObjId>, objects: &ObjIds) -> ObjIds
         Err(_refused) => {}
     }
     ObjIds::from_vec(room)
-}
-
-/// Notes that objects, those of a list from a place of it on, were withdrawn at a place of the history. There is room for them.
-pub(crate) fn note_withdrawn(
-    withdrawn: &mut Vec<Withdrawal>,
-    gone: &[ObjId],
-    from: usize,
-    place: u64,
-)
-    requires within { from ≤ length gone.now }
-    requires room { vec_len withdrawn.old + length (drop from gone.now) ≤ vec_capacity withdrawn.old }
-    ensures items { withdrawn.new.items ≡ withdrawn.old.items ++ map (withdrawal_at place) (drop from gone.now) }
-    ensures capacity { vec_capacity withdrawn.old ≤ vec_capacity withdrawn.new }
-{
-    note_all(withdrawn, &gone[from..], place);
-}
-
-fn note_all(withdrawn: &mut Vec<Withdrawal>, gone: &[ObjId], place: u64)
-    requires { vec_len withdrawn.old + length gone.now ≤ vec_capacity withdrawn.old }
-    ensures items { withdrawn.new.items ≡ withdrawn.old.items ++ map (withdrawal_at place) gone.now }
-    ensures capacity { vec_capacity withdrawn.old ≤ vec_capacity withdrawn.new }
-{
-    for object in gone {
-        put(
-            withdrawn,
-            Withdrawal {
-                object: *object,
-                place,
-            },
-        );
-    }
-}
-
-fn put(withdrawn: &mut Vec<Withdrawal>, withdrawal: Withdrawal)
-    requires { vec_len withdrawn.old < vec_capacity withdrawn.old }
-    ensures items { withdrawn.new.items ≡ withdrawn.old.items ++ withdrawal ∷ [] }
-    ensures len { vec_len withdrawn.new ≡ vec_len withdrawn.old + 1 }
-    ensures capacity { vec_capacity withdrawn.old ≤ vec_capacity withdrawn.new }
-{
-    withdrawn.push_reserved(withdrawal);
 }
 
 /// Appends an event, for which there is room.

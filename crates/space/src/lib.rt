@@ -12,7 +12,6 @@ mod asks;
 mod calls;
 pub mod direct_port;
 mod doubts;
-mod due;
 pub mod journal_text;
 pub mod laws;
 pub mod lists;
@@ -26,6 +25,7 @@ mod runs;
 mod tables;
 pub mod texts;
 pub mod turns;
+mod withdrawals;
 
 pub use asked::{Asked, AskedEnd, AskedList};
 pub use asked_log::{AskedLog, PortEntries};

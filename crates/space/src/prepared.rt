@@ -2,18 +2,17 @@
 ghost use Rattle.std.specs.Prelude.{◌≡◌, ◌+◌, ◌≤◌, ◌<◌, ◌^◌, true, drop, length, map, IfOk, vec_len, vec_capacity};
 ghost use Rattle.rmi_registry.specs.Named.{names_in};
 ghost use Rattle.history.specs.Places.{id_at};
-ghost use Rattle.space.specs.Doubts.{in_doubt, most_gone};
+ghost use Rattle.space.specs.Doubts.{AreInDoubt, taken_by};
 ghost use Rattle.space.specs.Acts.{Agrees, await_refusal, opens, reply_at, returned_by};
 
-use crate::acts::{fitting, gone_ids, still_to_tell};
+use crate::acts::{fitting, gone_ids};
 use crate::asks::{opens, reply_at};
-use crate::doubts::{in_doubt, most_gone};
+use crate::doubts::in_doubt;
 use crate::returns::returned;
-use export_table::Exports;
+use crate::tables::Tables;
 use history::plain::places::id_at;
-use history::{Ask, Refused, Reply, SpaceConfig, Turn, Withdrawal};
+use history::{Ask, Refused, Reply, Turn};
 use object_ids::{ObjId, ObjIds};
-use rmi_registry::Names;
 use std::alloc::{AllocError, Global};
 
 /// What a turn answers and adds.
@@ -27,7 +26,7 @@ pub(crate) struct Prepared {
     pub references: Vec<ObjId>,
     /// The objects from which it, or the time that passed, may take what keeps them.
     pub doubtful: Vec<ObjId>,
-    /// The objects of the withdrawals that are still to be told, with room for those of the turn.
+    /// The objects of the withdrawals that are still to be told, with room for the doubtful ones.
     pub gone: Vec<ObjId>,
     /// Room for a copy of them all, where one is asked for.
     pub spare: Vec<ObjId>,
@@ -83,46 +82,68 @@ impl Prepared {
     }
 }
 
-/// What a turn at a moment answers and adds, where the next object is the space's k-th, so many withdrawals
-/// were told, and the ask's name stands for `stood`. Any object may go at it where `all` says so, and else only the doubtful ones. It is
-/// refused where the references that it returns would pass the limit of those that await.
+/// What a turn at a moment answers and adds, where the ask's name stands for `stood`. It is refused where the references that it returns would pass
+/// the limit of those that await.
 pub(crate) fn prepare(
-    alloc: Global,
-    config: &SpaceConfig,
-    k: u64,
-    exports: &Exports,
-    names: &Names,
-    withdrawn: &[Withdrawal],
-    told: usize,
+    tables: &Tables,
     stood: Option<ObjId>,
     effective: bool,
     now: u64,
-    all: bool,
     noted: bool,
     ask: &Ask,
 ) -> Result<Prepared, Refused>
-    requires countable { k + opens effective ask.now < 2 ^ 62 }
-    requires told { told ≤ length withdrawn.now }
+    requires countable { tables.now.added + opens effective ask.now < 2 ^ 62 }
+    requires told { tables.now.told ≤ length tables.now.withdrawn.items }
     ensures opened { IfOk result (λ p. p.opened ≡ opens effective ask.now) }
-    ensures objects { IfOk result (λ p. p.objects ≡ length exports.now.rows + opens effective ask.now) }
-    ensures references { IfOk result (λ p. p.references.items ≡ returned_by config.now.uid k exports.now.rows stood effective ask.now) }
-    ensures doubtful { IfOk result (λ p. p.doubtful.items ≡ in_doubt now exports.now.waits (id_at config.now.uid k) stood
-        (returned_by config.now.uid k exports.now.rows stood effective ask.now) ask.now) }
-    ensures gone { IfOk result (λ p. p.gone.items ≡ map (λ w. w.object) (drop told withdrawn.now)) }
-    ensures room { IfOk result (λ p. vec_len p.gone + most_gone all p.objects (length p.doubtful.items) ≤ vec_capacity p.gone) }
-    ensures spare { IfOk result (λ p. noted ≡ true → vec_len p.gone + most_gone all p.objects (length p.doubtful.items) ≤ vec_capacity p.spare) }
-    ensures reply { IfOk result (λ p. p.reply ≡ reply_at config.now k exports.now.rows (names_in names.now) stood effective ask.now) }
-    ensures refusal { Agrees (await_refusal now exports.now.rows exports.now.waits stood effective ask.now) result }
+    ensures objects { IfOk result (λ p. p.objects ≡ length tables.now.exports.rows + opens effective ask.now) }
+    ensures references { IfOk result (λ p. p.references.items ≡ returned_by tables.now.config.uid tables.now.added tables.now.exports.rows stood effective ask.now) }
+    ensures doubtful { IfOk result (λ p. AreInDoubt tables.now.leases now tables.now.exports.waits
+        (taken_by tables.now.exports.waits (id_at tables.now.config.uid tables.now.added) stood p.references.items ask.now) p.doubtful.items) }
+    ensures gone { IfOk result (λ p. p.gone.items ≡ map (λ w. w.object) (drop tables.now.told tables.now.withdrawn.items)) }
+    ensures room { IfOk result (λ p. vec_len p.gone + length p.doubtful.items ≤ vec_capacity p.gone) }
+    ensures spare { IfOk result (λ p. noted ≡ true → vec_len p.gone + length p.doubtful.items ≤ vec_capacity p.spare) }
+    ensures reply { IfOk result (λ p. p.reply ≡ reply_at tables.now.config tables.now.added tables.now.exports.rows (names_in tables.now.names) stood effective ask.now) }
+    ensures refusal { Agrees (await_refusal now tables.now.exports.rows tables.now.exports.waits stood effective ask.now) result }
 {
+    let alloc = tables.alloc;
+    let exports = &tables.exports;
     let opened = opens(effective, ask);
     let objects = exports.count() as usize + opened as usize;
-    let references = returned(alloc, config.uid, k, exports, stood, effective, now, ask)?;
-    let fresh = id_at(config.uid, k);
-    let doubtful = in_doubt(alloc, exports, now, fresh, stood, &references, ask)?;
-    let most = most_gone(all, objects, doubtful.len());
-    let gone = still_to_tell(alloc, withdrawn, told, most)?;
+    let uid = tables.config.uid;
+    let references = returned(
+        alloc,
+        uid,
+        tables.added,
+        exports,
+        stood,
+        effective,
+        now,
+        ask,
+    )?;
+    let fresh = id_at(uid, tables.added);
+    let doubtful = in_doubt(
+        alloc,
+        exports,
+        &tables.leases,
+        now,
+        fresh,
+        stood,
+        &references,
+        ask,
+    )?;
+    let most = doubtful.len();
+    let gone = tables.withdrawn.still_to_tell(alloc, tables.told, most)?;
     let spare = room_for_copy(alloc, noted, gone.len() + most)?;
-    let reply = reply_at(alloc, config, k, exports, names, stood, effective, ask)?;
+    let reply = reply_at(
+        alloc,
+        &tables.config,
+        tables.added,
+        exports,
+        &tables.names,
+        stood,
+        effective,
+        ask,
+    )?;
     Ok(Prepared {
         opened,
         objects,

@@ -1,13 +1,13 @@
 //! Room for what an event adds, made before anything changes. No room is lost.
-ghost use Rattle.std.specs.Prelude.{◌≡◌, ◌≤◌, ◌<◌, ◌+◌, ◌^◌, length, true, IfErr, OnOk, vec_len, vec_capacity};
+ghost use Rattle.std.specs.Prelude.{◌≡◌, ◌≤◌, ◌<◌, ◌+◌, ◌^◌, length, true, IfErr, OnOk};
 ghost use Rattle.history.specs.declared.replies.Refused.TheVariants.{OutOfMemory};
 ghost use Rattle.space.specs.RunTable.{has_room};
 
 use crate::runs::Runs;
+use crate::withdrawals::Withdrawals;
 use event_log::EventLog;
 use export_table::Exports;
-use history::{Refused, Withdrawal};
-use object_ids::ObjId;
+use history::Refused;
 
 /// Makes room for an event of a connection, for the events that end the calls that then run, and for a call that it starts.
 pub(crate) fn room_for_event(events: &mut EventLog, runs: &mut Runs, by: u32) -> Result<(), Refused>
@@ -25,22 +25,14 @@ pub(crate) fn room_for_event(events: &mut EventLog, runs: &mut Runs, by: u32) ->
     Ok(())
 }
 
-/// Makes room for so many withdrawals, and for so many objects in `scratch`.
-pub(crate) fn room_for_gone(
-    withdrawn: &mut Vec<Withdrawal>,
-    scratch: &mut Vec<ObjId>,
-    objects: usize,
-) -> Result<(), Refused>
-    ensures withdrawals { OnOk result (vec_len withdrawn.new + objects ≤ vec_capacity withdrawn.new) }
-    ensures objects { OnOk result (objects ≤ vec_capacity scratch.new) }
+/// Makes room for so many withdrawals.
+pub(crate) fn room_for_gone(withdrawn: &mut Withdrawals, objects: usize) -> Result<(), Refused>
+    ensures withdrawals { OnOk result (length withdrawn.new.items + objects ≤ withdrawn.new.room) }
     ensures refusal { IfErr result (λ refused. refused ≡ OutOfMemory) }
     ensures withdrawn { withdrawn.new.items ≡ withdrawn.old.items }
-    ensures scratch { scratch.new.items ≡ scratch.old.items }
-    ensures withdrawn_grow { vec_capacity withdrawn.old ≤ vec_capacity withdrawn.new }
-    ensures scratch_grow { vec_capacity scratch.old ≤ vec_capacity scratch.new }
+    ensures grow { withdrawn.old.room ≤ withdrawn.new.room }
 {
     withdrawn.reserve(objects)?;
-    scratch.reserve(objects)?;
     Ok(())
 }
 

@@ -4,20 +4,20 @@ ghost use Rattle.history.specs.Steps.{Step};
 ghost use Rattle.space.specs.Acts.{event_of};
 ghost use Rattle.space.specs.Whole.{IsWhole, IsWholeWith};
 
-use crate::acts::{act, note_withdrawn};
+use crate::acts::act;
 use crate::asks::{is_effective, room_refusal, stood_for, told_after};
-use crate::doubts::withdraw_told;
-use crate::due::due_after;
+use crate::doubts::withdraw_few;
 use crate::names::settle;
 use crate::prepared::prepare;
 use crate::rooms::{room_for_event, room_for_gone, room_in_table};
 use crate::runs::{Runs, act_on_runs};
+use crate::withdrawals::Withdrawals;
 use dgc_server::Leases;
 use event_log::EventLog;
 use export_table::Exports;
 use history::plain::limits::units_of;
-use history::{Ask, Refused, SpaceConfig, Turn, Withdrawal};
-use object_ids::{ObjId, ObjIds};
+use history::{Ask, Refused, SpaceConfig, Turn};
+use object_ids::ObjIds;
 use rmi_registry::Names;
 use std::alloc::Global;
 
@@ -43,15 +43,11 @@ pub struct Tables {
     /// The events.
     pub events: EventLog,
     /// The withdrawals, in their order.
-    pub withdrawn: Vec<Withdrawal>,
+    pub withdrawn: Withdrawals,
     /// How many withdrawals were told as gone.
     pub told: usize,
     /// How many objects were ever exported.
     pub added: u64,
-    /// No lease ends before this moment.
-    pub due: u64,
-    /// Empty between two calls, with room for every exported object.
-    pub scratch: Vec<ObjId>,
 }
 
 impl Tables {
@@ -85,24 +81,9 @@ impl Tables {
             return Err(refused);
         }
         let now = moment.max(self.moment);
-        let all = self.due <= now;
-        let mut ready = prepare(
-            self.alloc,
-            &self.config,
-            self.added,
-            &self.exports,
-            &self.names,
-            &self.withdrawn,
-            self.told,
-            stood,
-            effective,
-            now,
-            all,
-            noted,
-            ask,
-        )?;
+        let mut ready = prepare(self, stood, effective, now, noted, ask)?;
         room_for_event(&mut self.events, &mut self.runs, by)?;
-        room_for_gone(&mut self.withdrawn, &mut self.scratch, ready.objects)?;
+        room_for_gone(&mut self.withdrawn, ready.objects)?;
         room_in_table(&mut self.exports, ready.opened, ready.references.len())?;
         settle(
             self.alloc,
@@ -124,24 +105,14 @@ impl Tables {
         );
         act_on_runs(&mut self.runs, effective, by, ask);
         let untold = ready.gone.len();
-        withdraw_told(
+        withdraw_few(
             &mut self.exports,
             &mut self.leases,
             now,
-            all,
             &ready.doubtful,
-            &mut self.scratch,
             &mut ready.gone,
         );
-        self.due = due_after(
-            self.alloc,
-            &self.leases,
-            self.due,
-            now,
-            self.config.lease_ms,
-            ask,
-        );
-        note_withdrawn(&mut self.withdrawn, &ready.gone, untold, place);
+        self.withdrawn.note(&ready.gone, untold, place);
         self.told = told_after(self.told, self.withdrawn.len(), ask);
         self.added += ready.opened;
         self.units += units_of(ask);

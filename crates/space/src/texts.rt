@@ -6,9 +6,10 @@ ghost use Rattle.dgc_server.specs.Stands.{ForEachLog};
 ghost use Rattle.space.specs.Rows.{held_row, binding_text};
 
 use crate::turns::Space;
+use crate::withdrawals::Withdrawals;
 use dgc_server::{LeaseRow, Leases};
 use export_table::ExportRow;
-use history::{SpaceConfig, Withdrawal};
+use history::SpaceConfig;
 use journal::ObjectRow;
 use journal::outline::{
     put_events_line, put_lease_line, put_name_line, put_object_line, put_withdrawal_line,
@@ -118,11 +119,12 @@ fn put_names(
 fn put_withdrawals(
     text: &mut ByteList,
     config: &SpaceConfig,
-    withdrawn: &[Withdrawal],
+    withdrawn: &Withdrawals,
 ) -> Result<(), AllocError>
-    ensures { OnOk result (text.new ≡ text.old ++ flat_map (lines.withdrawal_line config.now) withdrawn.now) }
+    ensures { OnOk result (text.new ≡ text.old ++ flat_map (lines.withdrawal_line config.now) withdrawn.now.items) }
 {
-    for withdrawal in withdrawn {
+    for k in 0..withdrawn.len() {
+        let withdrawal = withdrawn.get(k);
         put_withdrawal_line(text, *config, withdrawal.object, withdrawal.place)?;
     }
     Ok(())

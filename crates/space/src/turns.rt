@@ -11,6 +11,7 @@ ghost use Rattle.space.specs.Noted.{turned};
 use crate::acts::put_event;
 use crate::runs::Runs;
 use crate::tables::Tables;
+use crate::withdrawals::Withdrawals;
 use dgc_server::Leases;
 use event_log::EventLog;
 use export_table::Exports;
@@ -66,11 +67,9 @@ impl Space {
                 exports: Exports::fresh(alloc, config.uid, config.ack_ms),
                 runs: Runs::new(alloc),
                 events: EventLog::new(alloc, config.uid),
-                withdrawn: Vec::new(alloc),
+                withdrawn: Withdrawals::new(alloc),
                 told: 0,
                 added: 0,
-                due: u64::MAX,
-                scratch: Vec::new(alloc),
                 names: Names::fresh(alloc),
             },
         }

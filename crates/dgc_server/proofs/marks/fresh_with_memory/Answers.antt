@@ -2,9 +2,9 @@ use Rattle.std.proofs.Common.{◌≡◌, ◌+◌, ap, sym, ◌∙◌, arith}
 use Rattle.std.specs.Prelude.{not, if◌then◌else◌}
 use Rattle.indexmap.specs.IndexSet.{contains}
 use Rattle.object_ids.specs.declared.ids.ObjId.{ObjId}
+use Rattle.object_ids.specs.Same.{same_key}
 use Rattle.dgc_server.specs.Numbers.{is_remembered}
 use Rattle.dgc_server.specs.Entry.{object_entries, numbers_of}
-use Rattle.dgc_server.specs.Index.{same_key}
 use Rattle.dgc_server.proofs.MarkLaws.{counting-step, seen-step}
 use Rattle.dgc_server.proofs.marks.fresh_with_memory.Goals as goal
 

@@ -1,11 +1,10 @@
 use Rattle.std.proofs.Common.{◌≡◌, ◌+◌, ◌≤◌, drop, filter, length, not}
 use Rattle.indexmap.specs.IndexSet.{contains}
 use Rattle.object_ids.specs.declared.ids.ObjId.{ObjId}
-use Rattle.object_ids.specs.Same.{same_id}
+use Rattle.object_ids.specs.Same.{same_id, same_key}
 use Rattle.history.specs.Lists.{distinct}
 use Rattle.dgc_server.specs.Numbers.{is_remembered}
 use Rattle.dgc_server.specs.Entry.{object_entries, numbers_of, is_in}
-use Rattle.dgc_server.specs.Index.{same_key}
 use Rattle.dgc_server.proofs.marks.fresh_with_memory.Given as goal
 
 abbrev pub decreases-loop-i : goal.decreases-loop-i

@@ -1,59 +1,35 @@
-use Rattle.std.proofs.Common.{◌≡◌, List, [], ◌++◌, max, ap, sym, ◌∙◌, append-nil, false, true}
-use Rattle.std.specs.Prelude.{filter, if◌then◌else◌}
+use Rattle.std.proofs.Common.{List, ◌++◌, max, ap, sym, subst, ◌∙◌, arith}
+use Rattle.std.specs.Prelude.{not, filter}
 use Rattle.export_table.specs.declared.waits.Wait.{Wait}
 use Rattle.export_table.specs.declared.rows.Export.{Export}
-use Rattle.export_table.specs.Rows.{is_row_kept, is_each_kept, held_by, withdrawn}
-use Rattle.export_table.proofs.Doubts.{each-forgotten}
-use Rattle.export_table.proofs.Indexing.{rows-forgotten, withdrawn-forgotten}
-use Rattle.export_table.proofs.Kept.{part-same}
+use Rattle.export_table.specs.Rows.{ids, stays_among, held_by, IsPart}
+use Rattle.export_table.specs.Slots.{RowsHeld}
+use Rattle.export_table.proofs.Among.{staying-forgotten, gone-forgotten}
+use Rattle.export_table.proofs.Held.{held-closed}
 use Rattle.export_table.proofs.rows.sift_among.Goals as goal
 
-pub returns-then-not-are_kept-clause-items : goal.returns-then-not-are_kept-clause-items
-returns-then-not-are_kept-clause-items c lease moment calls s =
+pub returns-clause-rows : goal.returns-clause-rows
+returns-clause-rows c lease moment calls s =
     let held = held_by lease (max c.args.now moment) calls in
-    let some : is_each_kept c.args.objects.now c.args.now held c.args.waits.now.waits c.args.rows.now.items ≡ false =
-    sym (each-forgotten c.args.objects.now c.args.now held c.args.waits.now.waits c.args.rows.now.items)
-    ∙ sym (ap (λ (l : List Wait). is_each_kept c.args.objects.now c.args.now held l c.args.rows.now.items) c.forget.ensures.waits)
-    ∙ ap (λ (rs : List Export). is_each_kept c.args.objects.now c.args.now held c.forget.new.self.waits rs) (sym c.deref.ensures.value)
-    ∙ sym (c.are_kept.ensures lease moment calls s) ∙ c.if-not-are_kept.true in
-    c.keep.ensures.items lease moment calls s
-    ∙ ap (λ (l : List Wait). filter (is_row_kept c.args.now held l) c.args.rows.now.items) c.forget.ensures.waits
-    ∙ rows-forgotten c.args.now held c.args.waits.now.waits c.args.rows.now.items
-    ∙ ap (λ b. if b then c.args.rows.now.items else filter (is_row_kept c.args.now held c.args.waits.now.waits) c.args.rows.now.items) (sym some)
+    ap (λ (t : RowsHeld). t.rows) c.close.ensures.rest
+    ∙ c.keep_among.ensures.rows lease moment calls s
+    ∙ ap (λ (l : List Wait). filter (stays_among c.args.objects.now c.args.now held l) c.args.rows.now.rows) c.forget.ensures.waits
+    ∙ staying-forgotten c.args.objects.now c.args.now held c.args.waits.now.waits c.args.rows.now.rows
 
-pub returns-then-not-are_kept-clause-gone : goal.returns-then-not-are_kept-clause-gone
-returns-then-not-are_kept-clause-gone c lease moment calls s =
+pub returns-clause-gone : goal.returns-clause-gone
+returns-clause-gone c lease moment calls s =
     let held = held_by lease (max c.args.now moment) calls in
-    let some : is_each_kept c.args.objects.now c.args.now held c.args.waits.now.waits c.args.rows.now.items ≡ false =
-    sym (each-forgotten c.args.objects.now c.args.now held c.args.waits.now.waits c.args.rows.now.items)
-    ∙ sym (ap (λ (l : List Wait). is_each_kept c.args.objects.now c.args.now held l c.args.rows.now.items) c.forget.ensures.waits)
-    ∙ ap (λ (rs : List Export). is_each_kept c.args.objects.now c.args.now held c.forget.new.self.waits rs) (sym c.deref.ensures.value)
-    ∙ sym (c.are_kept.ensures lease moment calls s) ∙ c.if-not-are_kept.true in
-    c.keep.ensures.gone lease moment calls s
-    ∙ ap (λ (l : List Wait). c.args.gone.now.items ++ withdrawn c.args.now held l c.args.rows.now.items) c.forget.ensures.waits
-    ∙ ap (λ l. c.args.gone.now.items ++ l) (withdrawn-forgotten c.args.now held c.args.waits.now.waits c.args.rows.now.items)
-    ∙ ap (λ b. c.args.gone.now.items ++ (if b then [] else withdrawn c.args.now held c.args.waits.now.waits c.args.rows.now.items)) (sym some)
+    c.keep_among.ensures.gone lease moment calls s
+    ∙ ap (λ (l : List Wait). c.args.gone.now.items ++ ids (filter (λ x. not (stays_among c.args.objects.now c.args.now held l x)) c.args.rows.now.rows)) c.forget.ensures.waits
+    ∙ ap (λ l. c.args.gone.now.items ++ l) (gone-forgotten c.args.objects.now c.args.now held c.args.waits.now.waits c.args.rows.now.rows)
 
-pub returns-else-not-are_kept-clause-items : goal.returns-else-not-are_kept-clause-items
-returns-else-not-are_kept-clause-items c lease moment calls s =
-    let held = held_by lease (max c.args.now moment) calls in
-    let all : is_each_kept c.args.objects.now c.args.now held c.args.waits.now.waits c.args.rows.now.items ≡ true =
-    sym (each-forgotten c.args.objects.now c.args.now held c.args.waits.now.waits c.args.rows.now.items)
-    ∙ sym (ap (λ (l : List Wait). is_each_kept c.args.objects.now c.args.now held l c.args.rows.now.items) c.forget.ensures.waits)
-    ∙ ap (λ (rs : List Export). is_each_kept c.args.objects.now c.args.now held c.forget.new.self.waits rs) (sym c.deref.ensures.value)
-    ∙ sym (c.are_kept.ensures lease moment calls s) ∙ c.if-not-are_kept.false in
-    ap (λ b. if b then c.args.rows.now.items else filter (is_row_kept c.args.now held c.args.waits.now.waits) c.args.rows.now.items) (sym all)
+pub returns-clause-part : goal.returns-clause-part
+returns-clause-part c =
+    let P : List Export → Type 0 = λ l. IsPart l c.args.rows.now.rows in subst P (sym (ap (λ (t : RowsHeld). t.rows) c.close.ensures.rest)) c.keep_among.ensures.part
 
-pub returns-else-not-are_kept-clause-gone : goal.returns-else-not-are_kept-clause-gone
-returns-else-not-are_kept-clause-gone c lease moment calls s =
-    let held = held_by lease (max c.args.now moment) calls in
-    let all : is_each_kept c.args.objects.now c.args.now held c.args.waits.now.waits c.args.rows.now.items ≡ true =
-    sym (each-forgotten c.args.objects.now c.args.now held c.args.waits.now.waits c.args.rows.now.items)
-    ∙ sym (ap (λ (l : List Wait). is_each_kept c.args.objects.now c.args.now held l c.args.rows.now.items) c.forget.ensures.waits)
-    ∙ ap (λ (rs : List Export). is_each_kept c.args.objects.now c.args.now held c.forget.new.self.waits rs) (sym c.deref.ensures.value)
-    ∙ sym (c.are_kept.ensures lease moment calls s) ∙ c.if-not-are_kept.false in
-    sym (append-nil c.args.gone.now.items)
-    ∙ ap (λ b. c.args.gone.now.items ++ (if b then [] else withdrawn c.args.now held c.args.waits.now.waits c.args.rows.now.items)) (sym all)
+pub returns-clause-rest : goal.returns-clause-rest
+returns-clause-rest c = held-closed c.args.rows.now c.keep_among.new.self c.close.new.self c.keep_among.ensures.rest c.close.ensures.rest
 
-pub returns-else-not-are_kept-clause-part : goal.returns-else-not-are_kept-clause-part
-returns-else-not-are_kept-clause-part c = part-same c.args.rows.now.items
+pub returns-clause-room : goal.returns-clause-room
+returns-clause-room c =
+    let same = ap (λ (t : RowsHeld). t.room) c.keep_among.ensures.rest in let more = c.close.ensures.room in omega (arith, same)

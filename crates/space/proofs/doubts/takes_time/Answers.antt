@@ -1,6 +1,8 @@
 use Rattle.std.proofs.Common.{sym, ◌∙◌}
 use Rattle.export_table.proofs.Doubts.{nothing-over}
+use Rattle.space.proofs.Doubting.{in-doubt-taken}
 use Rattle.space.proofs.doubts.takes_time.Goals as goal
 
-pub returns-else-due-now-clause-waits : goal.returns-else-due-now-clause-waits
-returns-else-due-now-clause-waits c none = nothing-over c.args.now c.args.exports.now.waits (sym c.has_ended.ensures ∙ none)
+pub returns-else-is_due : goal.returns-else-is_due
+returns-else-is_due c none taken =
+    in-doubt-taken c.args.leases.now c.args.now c.args.exports.now.waits taken (c.is_due.ensures c.if-is_due.false) (nothing-over c.args.now c.args.exports.now.waits (sym c.has_ended.ensures ∙ none))

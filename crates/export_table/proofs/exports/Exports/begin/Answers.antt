@@ -9,7 +9,7 @@ use Rattle.export_table.proofs.exports.Exports.begin.Goals as goal
 
 pub invariant_of-self : goal.invariant_of-self
 invariant_of-self c =
-    rw c.begin.ensures.items (sound-changed c.self.inside.space c.self.inside.ack c.self.inside.added c.self.inside.rows.items c.self.inside.waits.waits begun c.args.id (λ x. refl) c.self.invariant)
+    rw c.begin.ensures.rows (sound-changed c.self.inside.space c.self.inside.ack c.self.inside.rows.added c.self.inside.rows.rows c.self.inside.waits.waits begun c.args.id (λ x. refl) c.self.invariant)
 
 -- Two tables are one by a third.
 by_way_of : (u : ExportTable) {t v : ExportTable} → t ≡ u → u ≡ v → t ≡ v

@@ -5,4 +5,4 @@ use Rattle.export_table.proofs.exports.Exports.end.Goals as goal
 
 pub invariant_of-self : goal.invariant_of-self
 invariant_of-self c =
-    rw c.end.ensures.items (sound-changed c.self.inside.space c.self.inside.ack c.self.inside.added c.self.inside.rows.items c.self.inside.waits.waits ended c.args.id (λ x. refl) c.self.invariant)
+    rw c.end.ensures (sound-changed c.self.inside.space c.self.inside.ack c.self.inside.rows.added c.self.inside.rows.rows c.self.inside.waits.waits ended c.args.id (λ x. refl) c.self.invariant)

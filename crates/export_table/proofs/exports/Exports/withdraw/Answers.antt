@@ -1,10 +1,11 @@
-use Rattle.std.proofs.Common.{◌≡◌, ℕ, List, length, drop, map, max, ap, subst, ◌∙◌, rules}
+use Rattle.std.proofs.Common.{◌≡◌, ℕ, List, length, drop, map, max, ap, sym, subst, ◌∙◌, rules}
 use Rattle.std.specs.Prelude.{vec_len}
 use Rattle.std.proofs.lemmas.List.Prefix.{front_rest}
 use Rattle.object_ids.specs.declared.ids.ObjId.{ObjId}
 use Rattle.dgc_server.specs.Stands.{StandsFor}
 use Rattle.export_table.specs.Rows.{held_by, withdrawn, without_all}
-use Rattle.export_table.specs.Table.{ExportTable}
+use Rattle.export_table.specs.Table.{ExportTable, IsSound}
+use Rattle.export_table.specs.Slots.{RowsHeld}
 use Rattle.export_table.specs.Waits.{goes_on}
 use Rattle.export_table.proofs.Dropped.{slice_from}
 use Rattle.export_table.proofs.Sound.{sound-part, sound-filter}
@@ -12,9 +13,11 @@ use Rattle.export_table.proofs.exports.Exports.withdraw.Goals as goal
 
 pub invariant_of-self : goal.invariant_of-self
 invariant_of-self c =
-    rw c.sift.ensures.waits
-    (sound-filter c.self.inside.space c.self.inside.ack c.self.inside.added c.sift.new.rows.items c.self.inside.waits.waits (goes_on c.args.now)
-    (sound-part c.self.inside.space c.self.inside.ack c.self.inside.added c.self.inside.rows.items c.sift.new.rows.items c.self.inside.waits.waits c.sift.ensures.part c.self.invariant))
+    let P : ℕ → Type 0 = λ n. IsSound c.self.inside.space c.self.inside.ack n c.sift.new.rows.rows c.sift.new.waits.waits in
+    subst P (sym (ap (λ (t : RowsHeld). t.added) c.sift.ensures.rest))
+    (rw c.sift.ensures.waits
+    (sound-filter c.self.inside.space c.self.inside.ack c.self.inside.rows.added c.sift.new.rows.rows c.self.inside.waits.waits (goes_on c.args.now)
+    (sound-part c.self.inside.space c.self.inside.ack c.self.inside.rows.added c.self.inside.rows.rows c.sift.new.rows.rows c.self.inside.waits.waits c.sift.ensures.part c.self.invariant)))
 
 pub returns-clause-dropped : goal.returns-clause-dropped
 returns-clause-dropped c lease moment calls s =

@@ -1,5 +1,5 @@
 use Rattle.std.proofs.Common.{◌≡◌, List, ◌∷◌, ◌++◌, [], ℕ, length, refl, ap, sym, subst, ◌∙◌, rules, arith, max, Ok, Err, Result, Option, None, Some}
-use Rattle.std.specs.Prelude.{IfErr, vec_len, vec_capacity, drop, ◌+◌, map, nat_le, option_and_then}
+use Rattle.std.specs.Prelude.{IfErr, vec_len, drop, ◌+◌, map, option_and_then}
 use Rattle.object_ids.specs.declared.ids.ObjId.{ObjId}
 use Rattle.history.specs.declared.replies.Refused.{Refused}
 use Rattle.history.specs.declared.replies.Turn.{Turn}
@@ -10,18 +10,15 @@ use Rattle.history.specs.Table.{places}
 use Rattle.export_table.specs.Rows.{is_exported}
 use Rattle.export_table.specs.Table.{ExportTable}
 use Rattle.dgc_server.proofs.Told.{error-is}
-use Rattle.history.specs.declared.places.Withdrawal.{Withdrawal}
 use Rattle.space.specs.declared.runs.Run.{Run}
 use Rattle.space.specs.RunTable.{AreSame}
 use Rattle.space.specs.Acts.{ForEachLogBy, event_of, acted, acted_runs, reply_at, returned_by, withdrawal_at, told_after, await_refusal, told_refusal, Agrees}
-use Rattle.std.proofs.lemmas.Bool.{leb-false}
 use Rattle.history.specs.Places.{id_at}
-use Rattle.space.specs.Doubts.{in_doubt}
-use Rattle.space.proofs.Settling.{settled-but, settled-roomy, due-turned, due-same}
+use Rattle.space.specs.Doubts.{taken_by, AreInDoubt}
+use Rattle.space.proofs.Settling.{settled-but, settled-roomy}
 use Rattle.space.proofs.TurnLaws.{is-effective, none-else, room-step, await-step, memory-step, told-step, turn-keeps, turn-step, whole-err}
 use Rattle.space.proofs.AheadLaws.{room-grown, room-turned, few-calls}
 use Rattle.space.proofs.EndLaws.{has-acted, has-log, has-withdrawn, goes-after, goes-few}
-use Rattle.space.proofs.FewGone.{most-more}
 use Rattle.space.proofs.AskLaws.{stood-is, stood-pinned, few-pins, bound-exported, lookup-fits, keeps-roomy, asked, room-as, few-run, abandon-counted, finish-counted, finish-few, room-units, returned-few, acted-few}
 use Rattle.rmi_registry.specs.Named.{names_in, object_of}
 use Rattle.space.proofs.Bindings.{bindings-counted, bindings-same, names-next}
@@ -44,12 +41,9 @@ returns-in_err-room_for_event-clause-whole c =
     c.args.self.now.withdrawn.items c.args.self.now.withdrawn.items c.args.self.now.told c.args.self.now.added c.args.self.now.units c.args.self.now.moment
     c.requires.whole.0 refl c.room_for_event.ensures.events refl c.room_for_event.ensures.runs refl)
     (room-grown c.args.self.now.events.items c.room_for_event.new.events.items c.args.self.now.runs.items c.room_for_event.new.runs.items c.args.self.now.withdrawn.items c.args.self.now.withdrawn.items c.args.self.now.exports c.args.self.now.exports
-    c.args.self.now.scratch.items c.args.self.now.scratch.items c.args.self.now.events.capacity (vec_capacity c.args.self.now.withdrawn) (vec_capacity c.args.self.now.scratch)
-    c.room_for_event.new.events.capacity (vec_capacity c.args.self.now.withdrawn) (vec_capacity c.args.self.now.scratch)
-    c.requires.whole.1 c.room_for_event.ensures.events c.room_for_event.ensures.runs refl refl refl
-    c.room_for_event.ensures.grow (omega arith) (omega arith))
+    c.args.self.now.events.capacity c.args.self.now.withdrawn.room c.room_for_event.new.events.capacity c.args.self.now.withdrawn.room
+    c.requires.whole.1 c.room_for_event.ensures.events c.room_for_event.ensures.runs refl refl c.room_for_event.ensures.grow (omega arith))
     (bindings-same c.args.self.now.config c.args.self.now.events.items c.room_for_event.new.events.items c.args.self.now.names c.args.self.now.names c.requires.whole.2 c.room_for_event.ensures.events refl)
-    (due-same c.args.self.now.config c.args.self.now.events.items c.room_for_event.new.events.items c.args.self.now.due c.requires.whole.3 c.room_for_event.ensures.events)
 
 pub returns-in_err-room_for_gone-clause-whole : goal.returns-in_err-room_for_gone-clause-whole
 returns-in_err-room_for_gone-clause-whole c =
@@ -58,12 +52,10 @@ returns-in_err-room_for_gone-clause-whole c =
     c.args.self.now.withdrawn.items c.room_for_gone.new.withdrawn.items c.args.self.now.told c.args.self.now.added c.args.self.now.units c.args.self.now.moment
     c.requires.whole.0 refl c.room_for_event.ensures.events refl c.room_for_event.ensures.runs c.room_for_gone.ensures.withdrawn)
     (room-grown c.args.self.now.events.items c.room_for_event.new.events.items c.args.self.now.runs.items c.room_for_event.new.runs.items c.args.self.now.withdrawn.items c.room_for_gone.new.withdrawn.items c.args.self.now.exports c.args.self.now.exports
-    c.args.self.now.scratch.items c.room_for_gone.new.scratch.items c.args.self.now.events.capacity (vec_capacity c.args.self.now.withdrawn) (vec_capacity c.args.self.now.scratch)
-    c.room_for_event.new.events.capacity (vec_capacity c.room_for_gone.new.withdrawn) (vec_capacity c.room_for_gone.new.scratch)
-    c.requires.whole.1 c.room_for_event.ensures.events c.room_for_event.ensures.runs c.room_for_gone.ensures.withdrawn refl c.room_for_gone.ensures.scratch
-    c.room_for_event.ensures.grow c.room_for_gone.ensures.withdrawn_grow c.room_for_gone.ensures.scratch_grow)
+    c.args.self.now.events.capacity c.args.self.now.withdrawn.room c.room_for_event.new.events.capacity c.room_for_gone.new.withdrawn.room
+    c.requires.whole.1 c.room_for_event.ensures.events c.room_for_event.ensures.runs c.room_for_gone.ensures.withdrawn refl
+    c.room_for_event.ensures.grow c.room_for_gone.ensures.grow)
     (bindings-same c.args.self.now.config c.args.self.now.events.items c.room_for_event.new.events.items c.args.self.now.names c.args.self.now.names c.requires.whole.2 c.room_for_event.ensures.events refl)
-    (due-same c.args.self.now.config c.args.self.now.events.items c.room_for_event.new.events.items c.args.self.now.due c.requires.whole.3 c.room_for_event.ensures.events)
 
 pub returns-in_err-room_in_table-clause-whole : goal.returns-in_err-room_in_table-clause-whole
 returns-in_err-room_in_table-clause-whole c =
@@ -72,12 +64,10 @@ returns-in_err-room_in_table-clause-whole c =
     c.args.self.now.withdrawn.items c.room_for_gone.new.withdrawn.items c.args.self.now.told c.args.self.now.added c.args.self.now.units c.args.self.now.moment
     c.requires.whole.0 c.room_in_table.ensures.rest c.room_for_event.ensures.events refl c.room_for_event.ensures.runs c.room_for_gone.ensures.withdrawn)
     (room-grown c.args.self.now.events.items c.room_for_event.new.events.items c.args.self.now.runs.items c.room_for_event.new.runs.items c.args.self.now.withdrawn.items c.room_for_gone.new.withdrawn.items c.args.self.now.exports c.room_in_table.new.exports
-    c.args.self.now.scratch.items c.room_for_gone.new.scratch.items c.args.self.now.events.capacity (vec_capacity c.args.self.now.withdrawn) (vec_capacity c.args.self.now.scratch)
-    c.room_for_event.new.events.capacity (vec_capacity c.room_for_gone.new.withdrawn) (vec_capacity c.room_for_gone.new.scratch)
-    c.requires.whole.1 c.room_for_event.ensures.events c.room_for_event.ensures.runs c.room_for_gone.ensures.withdrawn c.room_in_table.ensures.rest c.room_for_gone.ensures.scratch
-    c.room_for_event.ensures.grow c.room_for_gone.ensures.withdrawn_grow c.room_for_gone.ensures.scratch_grow)
+    c.args.self.now.events.capacity c.args.self.now.withdrawn.room c.room_for_event.new.events.capacity c.room_for_gone.new.withdrawn.room
+    c.requires.whole.1 c.room_for_event.ensures.events c.room_for_event.ensures.runs c.room_for_gone.ensures.withdrawn c.room_in_table.ensures.rest
+    c.room_for_event.ensures.grow c.room_for_gone.ensures.grow)
     (bindings-same c.args.self.now.config c.args.self.now.events.items c.room_for_event.new.events.items c.args.self.now.names c.args.self.now.names c.requires.whole.2 c.room_for_event.ensures.events refl)
-    (due-same c.args.self.now.config c.args.self.now.events.items c.room_for_event.new.events.items c.args.self.now.due c.requires.whole.3 c.room_for_event.ensures.events)
 
 pub returns-in_err-settle-clause-whole : goal.returns-in_err-settle-clause-whole
 returns-in_err-settle-clause-whole c =
@@ -86,12 +76,10 @@ returns-in_err-settle-clause-whole c =
     c.args.self.now.withdrawn.items c.room_for_gone.new.withdrawn.items c.args.self.now.told c.args.self.now.added c.args.self.now.units c.args.self.now.moment
     c.requires.whole.0 c.room_in_table.ensures.rest c.room_for_event.ensures.events (c.in_err-settle.ensures {u = tt}).err c.room_for_event.ensures.runs c.room_for_gone.ensures.withdrawn)
     (room-grown c.args.self.now.events.items c.room_for_event.new.events.items c.args.self.now.runs.items c.room_for_event.new.runs.items c.args.self.now.withdrawn.items c.room_for_gone.new.withdrawn.items c.args.self.now.exports c.room_in_table.new.exports
-    c.args.self.now.scratch.items c.room_for_gone.new.scratch.items c.args.self.now.events.capacity (vec_capacity c.args.self.now.withdrawn) (vec_capacity c.args.self.now.scratch)
-    c.room_for_event.new.events.capacity (vec_capacity c.room_for_gone.new.withdrawn) (vec_capacity c.room_for_gone.new.scratch)
-    c.requires.whole.1 c.room_for_event.ensures.events c.room_for_event.ensures.runs c.room_for_gone.ensures.withdrawn c.room_in_table.ensures.rest c.room_for_gone.ensures.scratch
-    c.room_for_event.ensures.grow c.room_for_gone.ensures.withdrawn_grow c.room_for_gone.ensures.scratch_grow)
+    c.args.self.now.events.capacity c.args.self.now.withdrawn.room c.room_for_event.new.events.capacity c.room_for_gone.new.withdrawn.room
+    c.requires.whole.1 c.room_for_event.ensures.events c.room_for_event.ensures.runs c.room_for_gone.ensures.withdrawn c.room_in_table.ensures.rest
+    c.room_for_event.ensures.grow c.room_for_gone.ensures.grow)
     (bindings-same c.args.self.now.config c.args.self.now.events.items c.room_for_event.new.events.items c.args.self.now.names c.settle.new.names c.requires.whole.2 c.room_for_event.ensures.events (c.in_err-settle.ensures {u = tt}).kept)
-    (due-same c.args.self.now.config c.args.self.now.events.items c.room_for_event.new.events.items c.args.self.now.due c.requires.whole.3 c.room_for_event.ensures.events)
 
 pub returns-in_err-room_for_event-clause-refused : goal.returns-in_err-room_for_event-clause-refused
 returns-in_err-room_for_event-clause-refused c =
@@ -153,21 +141,21 @@ returns-clause-taken c =
     let untold : c.len-untold.result ≡ length c.in_ok-ready.ready.gone.items = search rules in
     let place : c.len-place.result ≡ length c.room_for_event.new.events.items = search rules in
     let S : Turn → Type 0 = λ t. Step c.args.self.now.config c.args.self.now.events.items (event_of c.args.by c.args.moment c.args.ask.now) (Ok t) (c.args.self.now.events.items ++ (event_of c.args.by c.args.moment c.args.ask.now) ∷ []) in
-    subst S (sym c.into_turn.ensures.turn) (turn-step c.args.self.now.config c.args.self.now.events.items (event_of c.args.by c.args.moment c.args.ask.now) c.args.self.now.leases c.settle.new.leases c.withdraw_told.new.leases c.room_in_table.new.exports (acted c.stood_for-stood.result c.is_effective-effective.result c.max-now.result c.args.ask.now c.room_in_table.new.exports) c.withdraw_told.new.exports
-    c.args.self.now.runs.items c.args.self.now.withdrawn.items c.args.self.now.told c.args.self.now.added c.args.self.now.units c.args.self.now.moment c.max-now.result c.is_effective-effective.result c.in_ok-ready.ready.gone.items c.withdraw_told.new.gone.items
+    subst S (sym c.into_turn.ensures.turn) (turn-step c.args.self.now.config c.args.self.now.events.items (event_of c.args.by c.args.moment c.args.ask.now) c.args.self.now.leases c.settle.new.leases c.withdraw_few.new.leases c.room_in_table.new.exports (acted c.stood_for-stood.result c.is_effective-effective.result c.max-now.result c.args.ask.now c.room_in_table.new.exports) c.withdraw_few.new.exports
+    c.args.self.now.runs.items c.args.self.now.withdrawn.items c.args.self.now.told c.args.self.now.added c.args.self.now.units c.args.self.now.moment c.max-now.result c.is_effective-effective.result c.in_ok-ready.ready.gone.items c.withdraw_few.new.gone.items
     (has-acted c.args.self.now.config c.args.self.now.events.items (event_of c.args.by c.args.moment c.args.ask.now) c.args.self.now.leases c.settle.new.leases c.args.self.now.exports c.room_in_table.new.exports c.args.self.now.runs.items c.args.self.now.runs.items c.args.self.now.withdrawn.items
     c.args.self.now.told c.args.self.now.added c.args.self.now.units c.args.self.now.moment c.max-now.result c.len-running.result c.count-exported.result c.stood_for-stood.result (option_and_then (object_of c.args.self.now.names) (name_in c.args.ask.now)) c.is_effective-effective.result c.room_refusal.result (length c.args.self.now.names)
     c.requires.whole.0 (c.stood_for-stood.ensures ∙ stood-is (places c.args.self.now.config c.args.self.now.events.items) c.args.self.now.names c.args.ask.now c.requires.whole.2) c.stood_for-stood.ensures (bindings-counted c.args.self.now.config c.args.self.now.events.items c.args.self.now.names c.requires.whole.2) c.requires.moment c.is_effective-effective.ensures refl c.room_in_table.ensures.rest c.room_refusal.ensures running c.count-exported.ensures.value (none-else c.room_refusal.result c.in_default.not-Some) time
     (ap (λ (t : ExportTable). await_refusal c.max-now.result t.rows t.waits c.stood_for-stood.result c.is_effective-effective.result c.args.ask.now) c.room_in_table.ensures.rest ∙ c.in_ok-ready.ensures.refusal)
     (c.in_ok-settle.ensures {u = tt}).refusal (c.in_ok-settle.ensures {u = tt}).ok)
-    time (has-withdrawn c.settle.new.leases c.withdraw_told.new.leases (acted c.stood_for-stood.result c.is_effective-effective.result c.max-now.result c.args.ask.now c.room_in_table.new.exports) c.act.new.exports c.withdraw_told.new.exports c.max-now.result c.in_ok-ready.ready.gone.items c.withdraw_told.new.gone.items
-    c.act.ensures c.withdraw_told.ensures.kept c.withdraw_told.ensures.gone c.withdraw_told.ensures.dropped)
-    c.len-place.result c.in_ok-ready.ready.reply c.withdraw_told.new.gone.items (c.args.self.now.events.items ++ (event_of c.args.by c.args.moment c.args.ask.now) ∷ [])
+    time (has-withdrawn c.settle.new.leases c.withdraw_few.new.leases (acted c.stood_for-stood.result c.is_effective-effective.result c.max-now.result c.args.ask.now c.room_in_table.new.exports) c.act.new.exports c.withdraw_few.new.exports c.max-now.result c.in_ok-ready.ready.gone.items c.withdraw_few.new.gone.items
+    c.act.ensures c.withdraw_few.ensures.kept c.withdraw_few.ensures.gone c.withdraw_few.ensures.dropped)
+    c.len-place.result c.in_ok-ready.ready.reply c.withdraw_few.new.gone.items (c.args.self.now.events.items ++ (event_of c.args.by c.args.moment c.args.ask.now) ∷ [])
     (place ∙ ap length c.room_for_event.ensures.events) refl
     (c.in_ok-ready.ensures.reply ∙ ap (λ (t : ExportTable). reply_at c.args.self.now.config c.args.self.now.added t.rows (names_in c.args.self.now.names) c.stood_for-stood.result c.is_effective-effective.result c.args.ask.now) (sym c.room_in_table.ensures.rest)
     ∙ ap (λ ns. reply_at c.args.self.now.config c.args.self.now.added c.room_in_table.new.exports.rows ns c.stood_for-stood.result c.is_effective-effective.result c.args.ask.now) c.requires.whole.2.names
     ∙ ap (λ o. reply_at c.args.self.now.config c.args.self.now.added c.room_in_table.new.exports.rows (names (places c.args.self.now.config c.args.self.now.events.items)) o c.is_effective-effective.result c.args.ask.now) (c.stood_for-stood.ensures ∙ stood-is (places c.args.self.now.config c.args.self.now.events.items) c.args.self.now.names c.args.ask.now c.requires.whole.2))
-    (c.in_ok-ready.ensures.gone ∙ ap (λ l. map (λ (w : Withdrawal). w.object) (drop c.args.self.now.told l)) c.deref.ensures.value) refl)
+    c.in_ok-ready.ensures.gone refl)
 
 pub returns-clause-with_event : goal.returns-clause-with_event
 returns-clause-with_event c =
@@ -175,49 +163,43 @@ returns-clause-with_event c =
     let time : c.max-now.result ≡ max c.args.moment c.args.self.now.moment = search rules in
     let untold : c.len-untold.result ≡ length c.in_ok-ready.ready.gone.items = search rules in
     let place : c.len-place.result ≡ length c.room_for_event.new.events.items = search rules in
-    let all : c.len-2.result ≡ length c.note_withdrawn.new.withdrawn.items = search rules in
-    let seen : c.deref-4.result.now ≡ c.withdraw_told.new.gone.items = c.deref-4.ensures.value in
+    let all : c.len-2.result ≡ length c.note.new.self.items = search rules in
+    let seen : c.deref-3.result.now ≡ c.withdraw_few.new.gone.items = c.deref-3.ensures.value in
     let ended : c.room_for_event.new.events.items ++ (event_of c.args.by c.args.moment c.args.ask.now) ∷ [] ≡ c.args.self.now.events.items ++ (event_of c.args.by c.args.moment c.args.ask.now) ∷ [] = ap (λ l. l ++ (event_of c.args.by c.args.moment c.args.ask.now) ∷ []) c.room_for_event.ensures.events in
     let acts = has-acted c.args.self.now.config c.args.self.now.events.items (event_of c.args.by c.args.moment c.args.ask.now) c.args.self.now.leases c.settle.new.leases c.args.self.now.exports c.room_in_table.new.exports c.args.self.now.runs.items c.args.self.now.runs.items c.args.self.now.withdrawn.items
     c.args.self.now.told c.args.self.now.added c.args.self.now.units c.args.self.now.moment c.max-now.result c.len-running.result c.count-exported.result c.stood_for-stood.result (option_and_then (object_of c.args.self.now.names) (name_in c.args.ask.now)) c.is_effective-effective.result c.room_refusal.result (length c.args.self.now.names)
     c.requires.whole.0 (c.stood_for-stood.ensures ∙ stood-is (places c.args.self.now.config c.args.self.now.events.items) c.args.self.now.names c.args.ask.now c.requires.whole.2) c.stood_for-stood.ensures (bindings-counted c.args.self.now.config c.args.self.now.events.items c.args.self.now.names c.requires.whole.2) c.requires.moment c.is_effective-effective.ensures refl c.room_in_table.ensures.rest c.room_refusal.ensures running c.count-exported.ensures.value (none-else c.room_refusal.result c.in_default.not-Some) time
     (ap (λ (t : ExportTable). await_refusal c.max-now.result t.rows t.waits c.stood_for-stood.result c.is_effective-effective.result c.args.ask.now) c.room_in_table.ensures.rest ∙ c.in_ok-ready.ensures.refusal)
     (c.in_ok-settle.ensures {u = tt}).refusal (c.in_ok-settle.ensures {u = tt}).ok in
-    let kept = turn-keeps c.args.self.now.config c.args.self.now.events.items (event_of c.args.by c.args.moment c.args.ask.now) c.args.self.now.leases c.settle.new.leases c.withdraw_told.new.leases c.room_in_table.new.exports (acted c.stood_for-stood.result c.is_effective-effective.result c.max-now.result c.args.ask.now c.room_in_table.new.exports) c.withdraw_told.new.exports
-    c.args.self.now.runs.items c.args.self.now.withdrawn.items c.args.self.now.told c.args.self.now.added c.args.self.now.units c.args.self.now.moment c.max-now.result c.is_effective-effective.result c.in_ok-ready.ready.gone.items c.withdraw_told.new.gone.items
+    let kept = turn-keeps c.args.self.now.config c.args.self.now.events.items (event_of c.args.by c.args.moment c.args.ask.now) c.args.self.now.leases c.settle.new.leases c.withdraw_few.new.leases c.room_in_table.new.exports (acted c.stood_for-stood.result c.is_effective-effective.result c.max-now.result c.args.ask.now c.room_in_table.new.exports) c.withdraw_few.new.exports
+    c.args.self.now.runs.items c.args.self.now.withdrawn.items c.args.self.now.told c.args.self.now.added c.args.self.now.units c.args.self.now.moment c.max-now.result c.is_effective-effective.result c.in_ok-ready.ready.gone.items c.withdraw_few.new.gone.items
     acts
-    time (has-withdrawn c.settle.new.leases c.withdraw_told.new.leases (acted c.stood_for-stood.result c.is_effective-effective.result c.max-now.result c.args.ask.now c.room_in_table.new.exports) c.act.new.exports c.withdraw_told.new.exports c.max-now.result c.in_ok-ready.ready.gone.items c.withdraw_told.new.gone.items
-    c.act.ensures c.withdraw_told.ensures.kept c.withdraw_told.ensures.gone c.withdraw_told.ensures.dropped)
-    c.len-place.result c.told_after-self.result _ _ (c.room_for_event.new.events.items ++ (event_of c.args.by c.args.moment c.args.ask.now) ∷ []) c.act_on_runs.new.runs.items c.note_withdrawn.new.withdrawn.items
+    time (has-withdrawn c.settle.new.leases c.withdraw_few.new.leases (acted c.stood_for-stood.result c.is_effective-effective.result c.max-now.result c.args.ask.now c.room_in_table.new.exports) c.act.new.exports c.withdraw_few.new.exports c.max-now.result c.in_ok-ready.ready.gone.items c.withdraw_few.new.gone.items
+    c.act.ensures c.withdraw_few.ensures.kept c.withdraw_few.ensures.gone c.withdraw_few.ensures.dropped)
+    c.len-place.result c.told_after-self.result _ _ (c.room_for_event.new.events.items ++ (event_of c.args.by c.args.moment c.args.ask.now) ∷ []) c.act_on_runs.new.runs.items c.note.new.self.items
     (place ∙ ap length c.room_for_event.ensures.events) ended
     (let S : List Run → Type 0 = λ rs. AreSame c.act_on_runs.new.runs.items (acted_runs c.is_effective-effective.result c.args.by c.args.ask.now rs) in subst S c.room_for_event.ensures.runs c.act_on_runs.ensures)
-    (c.note_withdrawn.ensures.items ∙ ap (λ l. l ++ map (withdrawal_at c.len-place.result) (drop c.len-untold.result c.deref-4.result.now)) c.room_for_gone.ensures.withdrawn
+    (c.note.ensures.items ∙ ap (λ l. l ++ map (withdrawal_at c.len-place.result) (drop c.len-untold.result c.deref-3.result.now)) c.room_for_gone.ensures.withdrawn
     ∙ ap (λ l. c.args.self.now.withdrawn.items ++ map (withdrawal_at c.len-place.result) (drop c.len-untold.result l)) seen
-    ∙ ap (λ n. c.args.self.now.withdrawn.items ++ map (withdrawal_at c.len-place.result) (drop n c.withdraw_told.new.gone.items)) untold)
+    ∙ ap (λ n. c.args.self.now.withdrawn.items ++ map (withdrawal_at c.len-place.result) (drop n c.withdraw_few.new.gone.items)) untold)
     (c.told_after-self.ensures ∙ ap (λ n. told_after c.args.self.now.told n c.args.ask.now) all)
     (ap (λ n. c.args.self.now.added + n) c.in_ok-ready.ensures.opened) (ap (λ n. c.args.self.now.units + n) c.units_of.ensures.value) in
     let objects = c.in_ok-ready.ensures.objects in
     let events_room = (c.in_ok-room_for_event.ensures {u = tt}).event in
-    let withdrawn_room = (c.in_ok-room_for_gone.ensures {u = tt}).withdrawals in let scratch_room = (c.in_ok-room_for_gone.ensures {u = tt}).objects in
-    let withdrawn_grow = c.note_withdrawn.ensures.capacity in let scratch_grow = c.withdraw_told.ensures.capacity in
-    let withdrawn_len : vec_len c.room_for_gone.new.withdrawn ≡ length c.room_for_gone.new.withdrawn.items = search rules in
+    let withdrawn_room = (c.in_ok-room_for_gone.ensures {u = tt}).withdrawals in let withdrawn_grow = c.note.ensures.room in
     let events_same = ap length c.room_for_event.ensures.events in let runs_same = ap length c.room_for_event.ensures.runs in let withdrawn_same = ap length c.room_for_gone.ensures.withdrawn in (
       kept,
-      room-turned c.args.self.now.config c.args.self.now.events.items (c.room_for_event.new.events.items ++ (event_of c.args.by c.args.moment c.args.ask.now) ∷ []) (event_of c.args.by c.args.moment c.args.ask.now) c.args.self.now.leases c.withdraw_told.new.leases c.args.self.now.exports c.withdraw_told.new.exports
-          c.args.self.now.runs.items c.act_on_runs.new.runs.items c.args.self.now.withdrawn.items c.note_withdrawn.new.withdrawn.items c.args.self.now.told c.args.self.now.added c.args.self.now.units c.args.self.now.moment
-          c.told_after-self.result _ _ c.max-now.result c.in_ok-ready.ready.objects c.withdraw_told.new.scratch.items c.room_for_event.new.events.capacity (vec_capacity c.note_withdrawn.new.withdrawn) (vec_capacity c.withdraw_told.new.scratch)
+      room-turned c.args.self.now.config c.args.self.now.events.items (c.room_for_event.new.events.items ++ (event_of c.args.by c.args.moment c.args.ask.now) ∷ []) (event_of c.args.by c.args.moment c.args.ask.now) c.args.self.now.leases c.withdraw_few.new.leases c.args.self.now.exports c.withdraw_few.new.exports
+          c.args.self.now.runs.items c.act_on_runs.new.runs.items c.args.self.now.withdrawn.items c.note.new.self.items c.args.self.now.told c.args.self.now.added c.args.self.now.units c.args.self.now.moment
+          c.told_after-self.result _ _ c.max-now.result c.in_ok-ready.ready.objects c.room_for_event.new.events.capacity c.note.new.self.room
           c.is_effective-effective.result (is-effective c.args.self.now.config c.args.self.now.events.items (event_of c.args.by c.args.moment c.args.ask.now) c.args.self.now.leases c.room_in_table.new.exports c.args.self.now.runs.items c.args.self.now.withdrawn.items
           c.args.self.now.told c.args.self.now.added c.args.self.now.units c.args.self.now.moment c.is_effective-effective.result acts.asked)
-          c.requires.whole.0 kept ended (omega (arith, objects)) (omega (arith, events_room, events_same, runs_same)) (omega (arith, withdrawn_room, withdrawn_grow, withdrawn_len, withdrawn_same))
-          (omega (arith, scratch_room, scratch_grow)) c.withdraw_told.ensures.scratch,
+          c.requires.whole.0 kept ended (omega (arith, objects)) (omega (arith, events_room, events_same, runs_same)) (omega (arith, withdrawn_room, withdrawn_grow, withdrawn_same)),
       bindings-same c.args.self.now.config (c.args.self.now.events.items ++ (event_of c.args.by c.args.moment c.args.ask.now) ∷ []) (c.room_for_event.new.events.items ++ (event_of c.args.by c.args.moment c.args.ask.now) ∷ []) c.settle.new.names c.settle.new.names
           (names-next c.args.self.now.config c.args.self.now.events.items (event_of c.args.by c.args.moment c.args.ask.now) c.is_effective-effective.result c.args.self.now.names c.settle.new.names c.requires.whole.2
           (is-effective c.args.self.now.config c.args.self.now.events.items (event_of c.args.by c.args.moment c.args.ask.now) c.args.self.now.leases c.room_in_table.new.exports c.args.self.now.runs.items c.args.self.now.withdrawn.items
           c.args.self.now.told c.args.self.now.added c.args.self.now.units c.args.self.now.moment c.is_effective-effective.result acts.asked)
           (c.in_ok-settle.ensures {u = tt}).names) ended refl,
-      due-turned c.args.self.now.config c.args.self.now.events.items (c.room_for_event.new.events.items ++ (event_of c.args.by c.args.moment c.args.ask.now) ∷ []) (event_of c.args.by c.args.moment c.args.ask.now) c.withdraw_told.new.leases c.withdraw_told.new.exports
-          c.act_on_runs.new.runs.items c.note_withdrawn.new.withdrawn.items c.told_after-self.result _ _ c.max-now.result c.args.self.now.due c.due_after-self.result
-          kept ended (time ∙ ap (max c.args.moment) c.requires.whole.0.stands.moment_is) c.requires.whole.3 c.due_after-self.ensures.looked c.due_after-self.ensures.before c.due_after-self.ensures.granted,
     )
 
 pub act-requires-clause-few : goal.act-requires-clause-few
@@ -234,8 +216,8 @@ act-requires-clause-runs c o t s =
     c.args.self.now.told c.args.self.now.added c.args.self.now.units c.args.self.now.moment c.stood_for-stood.result c.is_effective-effective.result c.requires.whole.0 (c.stood_for-stood.ensures ∙ stood-is (places c.args.self.now.config c.args.self.now.events.items) c.args.self.now.names c.args.ask.now c.requires.whole.2) c.is_effective-effective.ensures refl c.room_in_table.ensures.rest)
     o t s
 
-pub withdraw_told-requires-clause-log : goal.withdraw_told-requires-clause-log
-withdraw_told-requires-clause-log c =
+pub withdraw_few-requires-clause-log : goal.withdraw_few-requires-clause-log
+withdraw_few-requires-clause-log c =
     let running : c.len-running.result ≡ length c.args.self.now.runs.items = search rules in
     let time : c.max-now.result ≡ max c.args.moment c.args.self.now.moment = search rules in
     let acts = has-acted c.args.self.now.config c.args.self.now.events.items (event_of c.args.by c.args.moment c.args.ask.now) c.args.self.now.leases c.settle.new.leases c.args.self.now.exports c.room_in_table.new.exports c.args.self.now.runs.items c.args.self.now.runs.items c.args.self.now.withdrawn.items
@@ -246,70 +228,53 @@ withdraw_told-requires-clause-log c =
     has-log c.args.self.now.config c.args.self.now.events.items (event_of c.args.by c.args.moment c.args.ask.now) c.args.self.now.leases c.settle.new.leases c.room_in_table.new.exports (acted c.stood_for-stood.result c.is_effective-effective.result c.max-now.result c.args.ask.now c.room_in_table.new.exports)
     c.args.self.now.runs.items c.args.self.now.withdrawn.items c.args.self.now.told c.args.self.now.added c.args.self.now.units c.args.self.now.moment c.is_effective-effective.result acts
 
-pub withdraw_told-requires-clause-empty : goal.withdraw_told-requires-clause-empty
-withdraw_told-requires-clause-empty c = c.room_for_gone.ensures.scratch ∙ c.requires.whole.1.empty
-
-pub withdraw_told-requires-clause-objects : goal.withdraw_told-requires-clause-objects
-withdraw_told-requires-clause-objects c =
-    let few = acted-few c.stood_for-stood.result c.is_effective-effective.result c.max-now.result c.args.ask.now c.room_in_table.new.exports c.act.new.exports c.act.ensures in
-    let same = ap (λ (t : ExportTable). length t.rows) c.room_in_table.ensures.rest in
-    let objects = c.in_ok-ready.ensures.objects in let room = (c.in_ok-room_for_gone.ensures {u = tt}).objects in
-    omega (arith, few, same, objects, room)
-
-pub withdraw_told-requires-clause-room : goal.withdraw_told-requires-clause-room
-withdraw_told-requires-clause-room c =
-    let few = acted-few c.stood_for-stood.result c.is_effective-effective.result c.max-now.result c.args.ask.now c.room_in_table.new.exports c.act.new.exports c.act.ensures in
-    let same = ap (λ (t : ExportTable). length t.rows) c.room_in_table.ensures.rest in
-    let objects = c.in_ok-ready.ensures.objects in let room = c.in_ok-ready.ensures.room in
-    let most = most-more (nat_le c.args.self.now.due c.max-now.result) (length c.act.new.exports.rows) c.in_ok-ready.ready.objects (length c.deref-3.result.now) (length c.in_ok-ready.ready.doubtful.items) (omega (arith, few, same, objects)) (ap length c.deref-3.ensures.value) in
-    omega (arith, room, most)
+pub withdraw_few-requires-clause-room : goal.withdraw_few-requires-clause-room
+withdraw_few-requires-clause-room c =
+    let few = ap length c.deref-2.ensures.value in let room = c.in_ok-ready.ensures.room in
+    omega (arith, few, room)
 
 pub into_turn-requires : goal.into_turn-requires
 into_turn-requires c asked =
-    let rows = acted-few c.stood_for-stood.result c.is_effective-effective.result c.max-now.result c.args.ask.now c.room_in_table.new.exports c.act.new.exports c.act.ensures in
-    let same = ap (λ (t : ExportTable). length t.rows) c.room_in_table.ensures.rest in
-    let objects = c.in_ok-ready.ensures.objects in let room = c.in_ok-ready.ensures.spare asked in
     let untold : vec_len c.in_ok-ready.ready.gone ≡ length c.in_ok-ready.ready.gone.items = search rules in
-    let few = c.withdraw_told.ensures.few in
-    let most = most-more (nat_le c.args.self.now.due c.max-now.result) (length c.act.new.exports.rows) c.in_ok-ready.ready.objects (length c.deref-3.result.now) (length c.in_ok-ready.ready.doubtful.items) (omega (arith, rows, same, objects)) (ap length c.deref-3.ensures.value) in
-    omega (arith, room, untold, few, most)
+    let few = c.withdraw_few.ensures.few in let seen = ap length c.deref-2.ensures.value in let room = c.in_ok-ready.ensures.spare asked in
+    omega (arith, untold, few, seen, room)
 
-pub note_withdrawn-requires-clause-within : goal.note_withdrawn-requires-clause-within
-note_withdrawn-requires-clause-within c =
+pub note-requires-clause-within : goal.note-requires-clause-within
+note-requires-clause-within c =
     let running : c.len-running.result ≡ length c.args.self.now.runs.items = search rules in
     let time : c.max-now.result ≡ max c.args.moment c.args.self.now.moment = search rules in
     let untold : c.len-untold.result ≡ length c.in_ok-ready.ready.gone.items = search rules in
-    let after = goes-after c.args.self.now.config c.args.self.now.events.items (event_of c.args.by c.args.moment c.args.ask.now) c.args.self.now.leases c.settle.new.leases c.withdraw_told.new.leases c.room_in_table.new.exports (acted c.stood_for-stood.result c.is_effective-effective.result c.max-now.result c.args.ask.now c.room_in_table.new.exports) c.withdraw_told.new.exports
-    c.args.self.now.runs.items c.args.self.now.withdrawn.items c.args.self.now.told c.args.self.now.added c.args.self.now.units c.args.self.now.moment c.max-now.result c.is_effective-effective.result c.in_ok-ready.ready.gone.items c.withdraw_told.new.gone.items
+    let after = goes-after c.args.self.now.config c.args.self.now.events.items (event_of c.args.by c.args.moment c.args.ask.now) c.args.self.now.leases c.settle.new.leases c.withdraw_few.new.leases c.room_in_table.new.exports (acted c.stood_for-stood.result c.is_effective-effective.result c.max-now.result c.args.ask.now c.room_in_table.new.exports) c.withdraw_few.new.exports
+    c.args.self.now.runs.items c.args.self.now.withdrawn.items c.args.self.now.told c.args.self.now.added c.args.self.now.units c.args.self.now.moment c.max-now.result c.is_effective-effective.result c.in_ok-ready.ready.gone.items c.withdraw_few.new.gone.items
     (has-acted c.args.self.now.config c.args.self.now.events.items (event_of c.args.by c.args.moment c.args.ask.now) c.args.self.now.leases c.settle.new.leases c.args.self.now.exports c.room_in_table.new.exports c.args.self.now.runs.items c.args.self.now.runs.items c.args.self.now.withdrawn.items
     c.args.self.now.told c.args.self.now.added c.args.self.now.units c.args.self.now.moment c.max-now.result c.len-running.result c.count-exported.result c.stood_for-stood.result (option_and_then (object_of c.args.self.now.names) (name_in c.args.ask.now)) c.is_effective-effective.result c.room_refusal.result (length c.args.self.now.names)
     c.requires.whole.0 (c.stood_for-stood.ensures ∙ stood-is (places c.args.self.now.config c.args.self.now.events.items) c.args.self.now.names c.args.ask.now c.requires.whole.2) c.stood_for-stood.ensures (bindings-counted c.args.self.now.config c.args.self.now.events.items c.args.self.now.names c.requires.whole.2) c.requires.moment c.is_effective-effective.ensures refl c.room_in_table.ensures.rest c.room_refusal.ensures running c.count-exported.ensures.value (none-else c.room_refusal.result c.in_default.not-Some) time
     (ap (λ (t : ExportTable). await_refusal c.max-now.result t.rows t.waits c.stood_for-stood.result c.is_effective-effective.result c.args.ask.now) c.room_in_table.ensures.rest ∙ c.in_ok-ready.ensures.refusal)
     (c.in_ok-settle.ensures {u = tt}).refusal (c.in_ok-settle.ensures {u = tt}).ok)
-    time (has-withdrawn c.settle.new.leases c.withdraw_told.new.leases (acted c.stood_for-stood.result c.is_effective-effective.result c.max-now.result c.args.ask.now c.room_in_table.new.exports) c.act.new.exports c.withdraw_told.new.exports c.max-now.result c.in_ok-ready.ready.gone.items c.withdraw_told.new.gone.items
-    c.act.ensures c.withdraw_told.ensures.kept c.withdraw_told.ensures.gone c.withdraw_told.ensures.dropped) in
-    let seen = ap length c.deref-4.ensures.value in
+    time (has-withdrawn c.settle.new.leases c.withdraw_few.new.leases (acted c.stood_for-stood.result c.is_effective-effective.result c.max-now.result c.args.ask.now c.room_in_table.new.exports) c.act.new.exports c.withdraw_few.new.exports c.max-now.result c.in_ok-ready.ready.gone.items c.withdraw_few.new.gone.items
+    c.act.ensures c.withdraw_few.ensures.kept c.withdraw_few.ensures.gone c.withdraw_few.ensures.dropped) in
+    let seen = ap length c.deref-3.ensures.value in
     omega (arith, untold, after, seen)
 
-pub note_withdrawn-requires-clause-room : goal.note_withdrawn-requires-clause-room
-note_withdrawn-requires-clause-room c =
+pub note-requires-clause-room : goal.note-requires-clause-room
+note-requires-clause-room c =
     let running : c.len-running.result ≡ length c.args.self.now.runs.items = search rules in
     let time : c.max-now.result ≡ max c.args.moment c.args.self.now.moment = search rules in
     let untold : c.len-untold.result ≡ length c.in_ok-ready.ready.gone.items = search rules in
-    let few = goes-few c.args.self.now.config c.args.self.now.events.items (event_of c.args.by c.args.moment c.args.ask.now) c.args.self.now.leases c.settle.new.leases c.withdraw_told.new.leases c.room_in_table.new.exports (acted c.stood_for-stood.result c.is_effective-effective.result c.max-now.result c.args.ask.now c.room_in_table.new.exports) c.withdraw_told.new.exports
-    c.args.self.now.runs.items c.args.self.now.withdrawn.items c.args.self.now.told c.args.self.now.added c.args.self.now.units c.args.self.now.moment c.max-now.result c.is_effective-effective.result c.in_ok-ready.ready.gone.items c.withdraw_told.new.gone.items
+    let few = goes-few c.args.self.now.config c.args.self.now.events.items (event_of c.args.by c.args.moment c.args.ask.now) c.args.self.now.leases c.settle.new.leases c.withdraw_few.new.leases c.room_in_table.new.exports (acted c.stood_for-stood.result c.is_effective-effective.result c.max-now.result c.args.ask.now c.room_in_table.new.exports) c.withdraw_few.new.exports
+    c.args.self.now.runs.items c.args.self.now.withdrawn.items c.args.self.now.told c.args.self.now.added c.args.self.now.units c.args.self.now.moment c.max-now.result c.is_effective-effective.result c.in_ok-ready.ready.gone.items c.withdraw_few.new.gone.items
     (has-acted c.args.self.now.config c.args.self.now.events.items (event_of c.args.by c.args.moment c.args.ask.now) c.args.self.now.leases c.settle.new.leases c.args.self.now.exports c.room_in_table.new.exports c.args.self.now.runs.items c.args.self.now.runs.items c.args.self.now.withdrawn.items
     c.args.self.now.told c.args.self.now.added c.args.self.now.units c.args.self.now.moment c.max-now.result c.len-running.result c.count-exported.result c.stood_for-stood.result (option_and_then (object_of c.args.self.now.names) (name_in c.args.ask.now)) c.is_effective-effective.result c.room_refusal.result (length c.args.self.now.names)
     c.requires.whole.0 (c.stood_for-stood.ensures ∙ stood-is (places c.args.self.now.config c.args.self.now.events.items) c.args.self.now.names c.args.ask.now c.requires.whole.2) c.stood_for-stood.ensures (bindings-counted c.args.self.now.config c.args.self.now.events.items c.args.self.now.names c.requires.whole.2) c.requires.moment c.is_effective-effective.ensures refl c.room_in_table.ensures.rest c.room_refusal.ensures running c.count-exported.ensures.value (none-else c.room_refusal.result c.in_default.not-Some) time
     (ap (λ (t : ExportTable). await_refusal c.max-now.result t.rows t.waits c.stood_for-stood.result c.is_effective-effective.result c.args.ask.now) c.room_in_table.ensures.rest ∙ c.in_ok-ready.ensures.refusal)
     (c.in_ok-settle.ensures {u = tt}).refusal (c.in_ok-settle.ensures {u = tt}).ok)
-    time (has-withdrawn c.settle.new.leases c.withdraw_told.new.leases (acted c.stood_for-stood.result c.is_effective-effective.result c.max-now.result c.args.ask.now c.room_in_table.new.exports) c.act.new.exports c.withdraw_told.new.exports c.max-now.result c.in_ok-ready.ready.gone.items c.withdraw_told.new.gone.items
-    c.act.ensures c.withdraw_told.ensures.kept c.withdraw_told.ensures.gone c.withdraw_told.ensures.dropped) in
+    time (has-withdrawn c.settle.new.leases c.withdraw_few.new.leases (acted c.stood_for-stood.result c.is_effective-effective.result c.max-now.result c.args.ask.now c.room_in_table.new.exports) c.act.new.exports c.withdraw_few.new.exports c.max-now.result c.in_ok-ready.ready.gone.items c.withdraw_few.new.gone.items
+    c.act.ensures c.withdraw_few.ensures.kept c.withdraw_few.ensures.gone c.withdraw_few.ensures.dropped) in
     let same = ap (λ (t : ExportTable). length t.rows) c.act.ensures in
     let rows = acted-few c.stood_for-stood.result c.is_effective-effective.result c.max-now.result c.args.ask.now c.room_in_table.new.exports c.act.new.exports c.act.ensures in
     let before = ap (λ (t : ExportTable). length t.rows) c.room_in_table.ensures.rest in
-    let seen = ap (λ l. length (drop c.len-untold.result l)) c.deref-4.ensures.value in
-    let at = ap (λ n. length (drop n c.withdraw_told.new.gone.items)) untold in
+    let seen = ap (λ l. length (drop c.len-untold.result l)) c.deref-3.ensures.value in
+    let at = ap (λ n. length (drop n c.withdraw_few.new.gone.items)) untold in
     let objects = c.in_ok-ready.ensures.objects in
     let room = (c.in_ok-room_for_gone.ensures {u = tt}).withdrawals in
     omega (arith, few, same, rows, before, seen, at, objects, room)
@@ -338,8 +303,8 @@ act-requires-clause-awaiting c o made listed u t s =
     c.args.self.now.told c.args.self.now.added c.args.self.now.units c.args.self.now.moment c.max-now.result c.is_effective-effective.result
     (asked c.args.self.now.config c.args.self.now.events.items (event_of c.args.by c.args.moment c.args.ask.now) c.args.self.now.leases c.args.self.now.exports c.room_in_table.new.exports c.args.self.now.runs.items c.args.self.now.runs.items c.args.self.now.withdrawn.items
     c.args.self.now.told c.args.self.now.added c.args.self.now.units c.args.self.now.moment c.stood_for-stood.result c.is_effective-effective.result c.requires.whole.0 (c.stood_for-stood.ensures ∙ stood-is (places c.args.self.now.config c.args.self.now.events.items) c.args.self.now.names c.args.ask.now c.requires.whole.2) c.is_effective-effective.ensures refl c.room_in_table.ensures.rest)
-    time (ap (λ o. await_refusal c.max-now.result c.room_in_table.new.exports.rows c.room_in_table.new.exports.waits o c.is_effective-effective.result c.args.ask.now) (sym (c.stood_for-stood.ensures ∙ stood-is (places c.args.self.now.config c.args.self.now.events.items) c.args.self.now.names c.args.ask.now c.requires.whole.2)) ∙ ap (λ (t : ExportTable). await_refusal c.max-now.result t.rows t.waits c.stood_for-stood.result c.is_effective-effective.result c.args.ask.now) c.room_in_table.ensures.rest ∙ c.in_ok-ready.ensures.refusal) c.deref-2.result.now
-    (c.deref-2.ensures.value ∙ c.in_ok-ready.ensures.references
+    time (ap (λ o. await_refusal c.max-now.result c.room_in_table.new.exports.rows c.room_in_table.new.exports.waits o c.is_effective-effective.result c.args.ask.now) (sym (c.stood_for-stood.ensures ∙ stood-is (places c.args.self.now.config c.args.self.now.events.items) c.args.self.now.names c.args.ask.now c.requires.whole.2)) ∙ ap (λ (t : ExportTable). await_refusal c.max-now.result t.rows t.waits c.stood_for-stood.result c.is_effective-effective.result c.args.ask.now) c.room_in_table.ensures.rest ∙ c.in_ok-ready.ensures.refusal) c.deref.result.now
+    (c.deref.ensures.value ∙ c.in_ok-ready.ensures.references
     ∙ ap (λ y. returned_by y c.args.self.now.added c.args.self.now.exports.rows c.stood_for-stood.result c.is_effective-effective.result c.args.ask.now) (sym kept.space_is)
     ∙ ap (λ n. returned_by c.args.self.now.exports.space n c.args.self.now.exports.rows c.stood_for-stood.result c.is_effective-effective.result c.args.ask.now) (sym kept.added_is)
     ∙ ap (λ (x : ExportTable). returned_by x.space x.added x.rows c.stood_for-stood.result c.is_effective-effective.result c.args.ask.now) (sym c.room_in_table.ensures.rest)
@@ -353,8 +318,8 @@ act-requires-clause-looks c n u s =
     c.args.self.now.told c.args.self.now.added c.args.self.now.units c.args.self.now.moment c.max-now.result c.is_effective-effective.result
     (asked c.args.self.now.config c.args.self.now.events.items (event_of c.args.by c.args.moment c.args.ask.now) c.args.self.now.leases c.args.self.now.exports c.room_in_table.new.exports c.args.self.now.runs.items c.args.self.now.runs.items c.args.self.now.withdrawn.items
     c.args.self.now.told c.args.self.now.added c.args.self.now.units c.args.self.now.moment c.stood_for-stood.result c.is_effective-effective.result c.requires.whole.0 (c.stood_for-stood.ensures ∙ stood-is (places c.args.self.now.config c.args.self.now.events.items) c.args.self.now.names c.args.ask.now c.requires.whole.2) c.is_effective-effective.ensures refl c.room_in_table.ensures.rest)
-    (ap (λ o. await_refusal c.max-now.result c.room_in_table.new.exports.rows c.room_in_table.new.exports.waits o c.is_effective-effective.result c.args.ask.now) (sym (c.stood_for-stood.ensures ∙ stood-is (places c.args.self.now.config c.args.self.now.events.items) c.args.self.now.names c.args.ask.now c.requires.whole.2)) ∙ ap (λ (t : ExportTable). await_refusal c.max-now.result t.rows t.waits c.stood_for-stood.result c.is_effective-effective.result c.args.ask.now) c.room_in_table.ensures.rest ∙ c.in_ok-ready.ensures.refusal) c.deref-2.result.now
-    (c.deref-2.ensures.value ∙ c.in_ok-ready.ensures.references
+    (ap (λ o. await_refusal c.max-now.result c.room_in_table.new.exports.rows c.room_in_table.new.exports.waits o c.is_effective-effective.result c.args.ask.now) (sym (c.stood_for-stood.ensures ∙ stood-is (places c.args.self.now.config c.args.self.now.events.items) c.args.self.now.names c.args.ask.now c.requires.whole.2)) ∙ ap (λ (t : ExportTable). await_refusal c.max-now.result t.rows t.waits c.stood_for-stood.result c.is_effective-effective.result c.args.ask.now) c.room_in_table.ensures.rest ∙ c.in_ok-ready.ensures.refusal) c.deref.result.now
+    (c.deref.ensures.value ∙ c.in_ok-ready.ensures.references
     ∙ ap (λ y. returned_by y c.args.self.now.added c.args.self.now.exports.rows c.stood_for-stood.result c.is_effective-effective.result c.args.ask.now) (sym kept.space_is)
     ∙ ap (λ n. returned_by c.args.self.now.exports.space n c.args.self.now.exports.rows c.stood_for-stood.result c.is_effective-effective.result c.args.ask.now) (sym kept.added_is)
     ∙ ap (λ (x : ExportTable). returned_by x.space x.added x.rows c.stood_for-stood.result c.is_effective-effective.result c.args.ask.now) (sym c.room_in_table.ensures.rest)
@@ -390,8 +355,8 @@ act_on_runs-requires-clause-few c =
     let same = ap length c.room_for_event.ensures.runs in
     omega (arith, few, same)
 
-pub withdraw_told-requires-clause-among : goal.withdraw_told-requires-clause-among
-withdraw_told-requires-clause-among c late =
+pub withdraw_few-requires-clause-among : goal.withdraw_few-requires-clause-among
+withdraw_few-requires-clause-among c =
     let running : c.len-running.result ≡ length c.args.self.now.runs.items = search rules in
     let time : c.max-now.result ≡ max c.args.moment c.args.self.now.moment = search rules in
     let acts = has-acted c.args.self.now.config c.args.self.now.events.items (event_of c.args.by c.args.moment c.args.ask.now) c.args.self.now.leases c.settle.new.leases c.args.self.now.exports c.room_in_table.new.exports c.args.self.now.runs.items c.args.self.now.runs.items c.args.self.now.withdrawn.items
@@ -399,11 +364,11 @@ withdraw_told-requires-clause-among c late =
     c.requires.whole.0 (c.stood_for-stood.ensures ∙ stood-is (places c.args.self.now.config c.args.self.now.events.items) c.args.self.now.names c.args.ask.now c.requires.whole.2) c.stood_for-stood.ensures (bindings-counted c.args.self.now.config c.args.self.now.events.items c.args.self.now.names c.requires.whole.2) c.requires.moment c.is_effective-effective.ensures refl c.room_in_table.ensures.rest c.room_refusal.ensures running c.count-exported.ensures.value (none-else c.room_refusal.result c.in_default.not-Some) time
     (ap (λ (t : ExportTable). await_refusal c.max-now.result t.rows t.waits c.stood_for-stood.result c.is_effective-effective.result c.args.ask.now) c.room_in_table.ensures.rest ∙ c.in_ok-ready.ensures.refusal)
     (c.in_ok-settle.ensures {u = tt}).refusal (c.in_ok-settle.ensures {u = tt}).ok in
-    let stood = c.stood_for-stood.ensures ∙ stood-is (places c.args.self.now.config c.args.self.now.events.items) c.args.self.now.names c.args.ask.now c.requires.whole.2 in
-    settled-roomy c.settle.new.leases (acted c.stood_for-stood.result c.is_effective-effective.result c.max-now.result c.args.ask.now c.room_in_table.new.exports) c.act.new.exports c.max-now.result c.in_ok-ready.ready.doubtful.items c.deref-3.result.now c.act.ensures c.deref-3.ensures.value
+    let R : List ObjId → Type 0 = λ l. AreInDoubt c.args.self.now.leases c.max-now.result c.args.self.now.exports.waits (taken_by c.args.self.now.exports.waits (id_at c.args.self.now.config.uid c.args.self.now.added) c.stood_for-stood.result l c.args.ask.now) c.in_ok-ready.ready.doubtful.items in
+    let X : ExportTable → Type 0 = λ t. AreInDoubt c.args.self.now.leases c.max-now.result t.waits (taken_by t.waits (id_at c.args.self.now.config.uid c.args.self.now.added) c.stood_for-stood.result (returned_by c.args.self.now.config.uid c.args.self.now.added t.rows c.stood_for-stood.result c.is_effective-effective.result c.args.ask.now) c.args.ask.now) c.in_ok-ready.ready.doubtful.items in
+    let D : Option ObjId → Type 0 = λ o. AreInDoubt c.args.self.now.leases c.max-now.result c.room_in_table.new.exports.waits (taken_by c.room_in_table.new.exports.waits (id_at c.args.self.now.config.uid c.args.self.now.added) o (returned_by c.args.self.now.config.uid c.args.self.now.added c.room_in_table.new.exports.rows o c.is_effective-effective.result c.args.ask.now) c.args.ask.now) c.in_ok-ready.ready.doubtful.items in
+    settled-roomy c.settle.new.leases (acted c.stood_for-stood.result c.is_effective-effective.result c.max-now.result c.args.ask.now c.room_in_table.new.exports) c.act.new.exports c.max-now.result c.in_ok-ready.ready.doubtful.items c.deref-2.result.now c.act.ensures c.deref-2.ensures.value
     (settled-but c.args.self.now.config c.args.self.now.events.items (event_of c.args.by c.args.moment c.args.ask.now) c.args.self.now.leases c.settle.new.leases c.room_in_table.new.exports (acted c.stood_for-stood.result c.is_effective-effective.result c.max-now.result c.args.ask.now c.room_in_table.new.exports)
-    c.args.self.now.runs.items c.args.self.now.withdrawn.items c.args.self.now.told c.args.self.now.added c.args.self.now.units c.args.self.now.moment c.is_effective-effective.result acts c.max-now.result c.args.self.now.due c.in_ok-ready.ready.doubtful.items time c.requires.whole.3
-    (leb-false c.args.self.now.due c.max-now.result late)
-    (c.in_ok-ready.ensures.doubtful
-    ∙ ap (λ (t : ExportTable). in_doubt c.max-now.result t.waits (id_at c.args.self.now.config.uid c.args.self.now.added) c.stood_for-stood.result (returned_by c.args.self.now.config.uid c.args.self.now.added t.rows c.stood_for-stood.result c.is_effective-effective.result c.args.ask.now) c.args.ask.now) (sym c.room_in_table.ensures.rest)
-    ∙ ap (λ o. in_doubt c.max-now.result c.room_in_table.new.exports.waits (id_at c.args.self.now.config.uid c.args.self.now.added) o (returned_by c.args.self.now.config.uid c.args.self.now.added c.room_in_table.new.exports.rows o c.is_effective-effective.result c.args.ask.now) c.args.ask.now) stood))
+    c.args.self.now.runs.items c.args.self.now.withdrawn.items c.args.self.now.told c.args.self.now.added c.args.self.now.units c.args.self.now.moment c.is_effective-effective.result acts c.max-now.result c.in_ok-ready.ready.doubtful.items time
+    (subst D (c.stood_for-stood.ensures ∙ stood-is (places c.args.self.now.config c.args.self.now.events.items) c.args.self.now.names c.args.ask.now c.requires.whole.2)
+    (subst X (sym c.room_in_table.ensures.rest) (subst R c.in_ok-ready.ensures.references c.in_ok-ready.ensures.doubtful))))

@@ -1,8 +1,6 @@
 use Rattle.std.proofs.Common.{ap}
-use Rattle.std.specs.Prelude.{vec_capacity}
 use Rattle.export_table.specs.Table.{ExportTable}
 use Rattle.space.proofs.AheadLaws.{room-nothing}
-use Rattle.space.proofs.Settling.{due-nothing}
 use Rattle.space.proofs.Fresh.{keeps-nothing, no-bindings}
 use Rattle.space.proofs.turns.Space.fresh.Goals as goal
 
@@ -11,8 +9,7 @@ invariant_of-result c = (
   keeps-nothing c.args.config.now c.fresh.result c.fresh-2.result c.new-2.result.items c.new.result.items c.new-3.result.items
       (record { some_lease = c.requires.some_lease; short_lease = c.requires.short_lease; some_ack = c.requires.some_ack; short_ack = c.requires.short_ack })
       c.fresh.ensures c.fresh-2.ensures c.new.ensures.items c.new-2.ensures.items c.new-3.ensures.items,
-  room-nothing c.new-2.result.items c.new.result.items c.new-3.result.items c.fresh-2.result c.new-4.result.items c.new-2.result.capacity (vec_capacity c.new-3.result) (vec_capacity c.new-4.result)
-      c.new-2.ensures.items c.new.ensures.items c.new-3.ensures.items (ap (λ (t : ExportTable). t.rows) c.fresh-2.ensures) c.new-4.ensures.items,
+  room-nothing c.new-2.result.items c.new.result.items c.new-3.result.items c.fresh-2.result c.new-2.result.capacity c.new-3.result.room
+      c.new-2.ensures.items c.new.ensures.items c.new-3.ensures.items (ap (λ (t : ExportTable). t.rows) c.fresh-2.ensures),
   no-bindings c.args.config.now c.fresh-3.result c.new-2.result.items c.fresh-3.ensures c.new-2.ensures.items,
-  due-nothing c.args.config.now c.new-2.result.items _ c.new-2.ensures.items,
 )

@@ -1,4 +1,4 @@
-use Rattle.std.proofs.Common.{◌∷◌, ◌++◌, [], List, ap, sym, subst, ◌∙◌, arith, Ok, length-append, vec_capacity}
+use Rattle.std.proofs.Common.{◌∷◌, ◌++◌, [], List, ap, sym, subst, ◌∙◌, arith, Ok, length-append}
 use Rattle.history.specs.declared.asks.Event.{Event}
 use Rattle.history.specs.Steps.{Step}
 use Rattle.space.specs.Acts.{event_of}
@@ -19,7 +19,7 @@ invariant_of-self c = (c.in_err-turn.ensures {u = tt}).whole
 pub invariant_of-self-2 : goal.invariant_of-self-2
 invariant_of-self-2 c =
     appended c.turn.new.self.config (c.turn.new.self.events.items ++ event_of c.args.by c.args.moment c.args.ask ∷ []) c.put_event.new.events.items c.turn.new.self.leases c.turn.new.self.exports c.turn.new.self.runs.items c.turn.new.self.withdrawn.items
-    c.turn.new.self.told c.turn.new.self.added c.turn.new.self.units c.turn.new.self.moment c.turn.new.self.scratch.items c.turn.new.self.events.capacity c.put_event.new.events.capacity (vec_capacity c.turn.new.self.withdrawn) (vec_capacity c.turn.new.self.scratch) c.turn.new.self.names c.turn.new.self.due
+    c.turn.new.self.told c.turn.new.self.added c.turn.new.self.units c.turn.new.self.moment c.turn.new.self.events.capacity c.put_event.new.events.capacity c.turn.new.self.withdrawn.room c.turn.new.self.names
     (c.in_ok-turn.ensures {u = tt}).with_event c.put_event.ensures.items c.put_event.ensures.capacity
 
 pub returns-clause-step : goal.returns-clause-step

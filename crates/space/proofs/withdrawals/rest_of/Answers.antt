@@ -1,0 +1,12 @@
+use Rattle.std.proofs.Common.{◌≡◌, ◌-◌, ◌++◌, List, length, take, drop, ap, subst, ◌∙◌}
+use Rattle.std.specs.Prelude.{IfOk}
+use Rattle.object_ids.specs.declared.ids.ObjId.{ObjId}
+use Rattle.export_table.proofs.Dropped.{slice_from}
+use Rattle.space.proofs.withdrawals.rest_of.Goals as goal
+
+pub returns : goal.returns
+returns c =
+    let P : List ObjId → Type 0 = λ l. IfOk c.joined.result (λ rest. rest.items ≡ l) in
+    subst P
+    (ap (λ l. l ++ take (length c.args.objects.now - c.args.from) (drop c.args.from c.args.objects.now)) c.new.ensures.items ∙ slice_from c.args.from c.args.objects.now)
+    c.joined.ensures

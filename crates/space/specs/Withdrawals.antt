@@ -1,0 +1,15 @@
+-- What contracts see of the withdrawals.
+use Rattle.std.specs.Prelude.{ℕ, List, [], ◌∷◌}
+use Rattle.object_ids.specs.declared.ids.ObjId.{ObjId}
+use Rattle.history.specs.declared.places.Withdrawal.{Withdrawal}
+
+-- The withdrawals, in their order, and for how many in all there is room.
+pub record WithdrawalTable : Type 0 where
+  pub items : List Withdrawal
+  pub room : ℕ
+
+-- The withdrawals of these objects at these places.
+abbrev pub paired : List ObjId → List ℕ → List Withdrawal
+paired [] places = []
+paired (o ∷ objects) [] = []
+paired (o ∷ objects) (p ∷ places) = record { object = o; place = p } ∷ paired objects places

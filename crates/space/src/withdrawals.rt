@@ -1,0 +1,177 @@
+//! The withdrawals of a space.
+ghost use Rattle.std.specs.Prelude.{◌≡◌, ◌<◌, ◌≤◌, ◌+◌, ◌++◌, [], List, true, false, max, drop, filter, length, map, replicate, slice_get, IfOk, OnOk, vec_len, vec_capacity};
+ghost use Rattle.object_ids.specs.declared.ids.ObjId.{ObjId};
+ghost use Rattle.dgc_server.specs.Stands.{StandsFor, ForEachLog};
+ghost use Rattle.export_table.specs.Rows.{is_row_kept, is_settled_but, held_by, withdrawn, without_all};
+ghost use Rattle.export_table.specs.Waits.{waiting};
+ghost use Rattle.space.specs.Acts.{withdrawal_at};
+ghost use Rattle.space.specs.Doubts.{HasLog};
+
+use crate::doubts::{joined, withdraw_known};
+use dgc_server::Leases;
+use export_table::Exports;
+use history::Withdrawal;
+use object_ids::ObjId;
+use std::alloc::{AllocError, Global};
+use std::marker::Model;
+
+/// The withdrawals, in their order: their objects and their places apart, so that objects that go are put at once where they stay. Contracts see
+/// them as a `WithdrawalTable`.
+#[derive(Debug)]
+pub struct Withdrawals {
+    objects: Vec<ObjId>,
+    places: Vec<u64>,
+}
+
+impl Drop for Withdrawals {
+    fn drop(self) {
+        let Withdrawals { objects, places } = self;
+        drop(objects);
+        drop(places);
+    }
+}
+
+impl Model for Withdrawals {
+    ghost use Rattle.std.specs.Prelude.{◌≡◌, length, min, vec_capacity};
+    ghost use Rattle.space.specs.Withdrawals.{WithdrawalTable, paired};
+
+    ghost Value = { WithdrawalTable };
+
+    ghost view = { λ w. record { items = paired w.objects.items w.places.items; room = min (vec_capacity w.objects) (vec_capacity w.places) } };
+
+    ghost invariant = { λ w. length w.objects.items ≡ length w.places.items };
+}
+
+impl Withdrawals {
+    /// There is none.
+    pub fn new(alloc: Global) -> Withdrawals
+        ensures items { result.items ≡ [] }
+    {
+        Withdrawals {
+            objects: Vec::new(alloc),
+            places: Vec::new(alloc),
+        }
+    }
+
+    /// How many there are.
+    pub fn len(&self) -> usize
+        ensures { result ≡ length self.now.items }
+    {
+        self.objects.len()
+    }
+
+    /// The one at this place of the list.
+    pub fn get(&self, k: usize) -> Withdrawal
+        requires { k < length self.now.items }
+        ensures { slice_get self.now.items k ≡ Some result }
+    {
+        Withdrawal {
+            object: self.objects[k],
+            place: self.places[k],
+        }
+    }
+
+    /// Makes room for so many more.
+    pub fn reserve(&mut self, more: usize) -> Result<(), AllocError>
+        ensures room { OnOk result (length self.new.items + more ≤ self.new.room) }
+        ensures items { self.new.items ≡ self.old.items }
+        ensures grow { self.old.room ≤ self.new.room }
+    {
+        self.objects.reserve(more)?;
+        self.places.reserve(more)
+    }
+
+    /// The objects of those that are still to be told as gone, with room for so many more.
+    pub fn still_to_tell(
+        &self,
+        alloc: Global,
+        told: usize,
+        more: usize,
+    ) -> Result<Vec<ObjId>, AllocError>
+        requires { told ≤ length self.now.items }
+        ensures items { IfOk result (λ gone. gone.items ≡ map (λ w. w.object) (drop told self.now.items)) }
+        ensures room { IfOk result (λ gone. vec_len gone + more ≤ vec_capacity gone) }
+    {
+        let mut gone = rest_of(alloc, &self.objects, told)?;
+        gone.reserve(more)?;
+        Ok(gone)
+    }
+
+    /// Notes that objects, those of a list from a place of it on, were withdrawn at a place of the history. There is room for them.
+    pub fn note(&mut self, gone: &[ObjId], from: usize, place: u64)
+        requires within { from ≤ length gone.now }
+        requires room { length self.old.items + length (drop from gone.now) ≤ self.old.room }
+        ensures items { self.new.items ≡ self.old.items ++ map (withdrawal_at place) (drop from gone.now) }
+        ensures room { self.old.room ≤ self.new.room }
+    {
+        append(&mut self.objects, &gone[from..]);
+        fill(&mut self.places, gone.len() - from, place);
+    }
+
+    /// Withdraws each object that isn't kept at a moment, as `Exports::withdraw` does, and notes that it was withdrawn at a place of the history. Unless it
+    /// is to look at all, those that aren't kept are among `doubtful`, which are no more than are exported. It takes no memory.
+    pub(crate) fn withdraw(
+        &mut self,
+        exports: &mut Exports,
+        leases: &mut Leases,
+        now: u64,
+        all: bool,
+        doubtful: &[ObjId],
+        place: u64,
+    )
+        requires log { HasLog leases.old }
+        requires room { length self.old.items + length exports.old.rows ≤ self.old.room }
+        requires few { length doubtful.now ≤ length exports.old.rows }
+        requires among { all ≡ false → ForEachLog leases.old (λ lease moment calls.
+            let held = held_by lease (max now moment) calls in
+            is_settled_but doubtful.now now held exports.old.waits exports.old.rows ≡ true) }
+        ensures kept { ForEachLog leases.old (λ lease moment calls.
+            let held = held_by lease (max now moment) calls in
+            let rows = filter (is_row_kept now held exports.old.waits) exports.old.rows in
+            let waits = waiting now exports.old.waits in
+            exports.new ≡ record exports.old { rows = rows; waits = waits; room = exports.new.room }) }
+        ensures goes { (gone : List ObjId) × (self.new.items ≡ self.old.items ++ map (withdrawal_at place) gone) × ForEachLog leases.old (λ lease moment calls.
+            let held = held_by lease (max now moment) calls in
+            gone ≡ withdrawn now held exports.old.waits exports.old.rows) }
+        ensures dropped { ForEachLog leases.old (λ lease moment calls.
+            let held = held_by lease (max now moment) calls in
+            let dropped = withdrawn now held exports.old.waits exports.old.rows in
+            StandsFor lease leases.new moment (map (without_all dropped) calls)) }
+        ensures room { self.old.room ≤ self.new.room }
+    {
+        let before = self.objects.len();
+        withdraw_known(exports, leases, now, all, doubtful, &mut self.objects);
+        fill(&mut self.places, self.objects.len() - before, place);
+    }
+}
+
+/// The objects of a list from a place of it on.
+fn rest_of(alloc: Global, objects: &[ObjId], from: usize) -> Result<Vec<ObjId>, AllocError>
+    requires { from ≤ length objects.now }
+    ensures { IfOk result (λ rest. rest.items ≡ drop from objects.now) }
+{
+    joined(Vec::new(alloc), &objects[from..])
+}
+
+/// Appends objects to a list that has room for them.
+fn append(objects: &mut Vec<ObjId>, more: &[ObjId])
+    requires { vec_len objects.old + length more.now ≤ vec_capacity objects.old }
+    ensures items { objects.new.items ≡ objects.old.items ++ more.now }
+    ensures capacity { vec_capacity objects.old ≤ vec_capacity objects.new }
+{
+    match objects.extend_from_slice(more) {
+        Ok(()) => {}
+        Err(_refused) => {}
+    }
+}
+
+/// Appends a place so many times to a list that has room for it.
+fn fill(places: &mut Vec<u64>, count: usize, place: u64)
+    requires { vec_len places.old + count ≤ vec_capacity places.old }
+    ensures items { places.new.items ≡ places.old.items ++ replicate count place }
+    ensures capacity { vec_capacity places.old ≤ vec_capacity places.new }
+{
+    for _k in 0..count {
+        places.push_reserved(place);
+    }
+}
