@@ -369,7 +369,7 @@ fn a_reader_is_read_ahead(rt: HostRuntime) {
     let (given, faults) = read_ahead(rt.alloc(), &calls);
     must(&rt, given == 10_000, "given");
     must(&rt, faults == 1, "faults");
-    must(&rt, calls.get() == 5, "calls");
+    must(&rt, calls.get() == 7, "calls");
 }
 
 /// A writer that takes two bytes, then none, and then fails.

@@ -8,7 +8,7 @@ use std::alloc::{AllocError, Global};
 use std::io::Read;
 
 /// The most bytes that are read ahead.
-const LENGTH: usize = 4096;
+const LENGTH: usize = 2048;
 
 /// A reader, and bytes that were read of it and not yet given: those of `bytes` from `start` to `end`.
 #[derive(Drop)]
@@ -28,7 +28,7 @@ impl<R: Read> Ahead<R> {
     where
         R: Drop,
         ensures inner { IfOk result (λ ahead. ahead.inner ≡ inner) }
-        ensures length { IfOk result (λ ahead. vec_len ahead.bytes ≡ 4096) }
+        ensures length { IfOk result (λ ahead. vec_len ahead.bytes ≡ 2048) }
         ensures start { IfOk result (λ ahead. ahead.start ≡ 0) }
         ensures end { IfOk result (λ ahead. ahead.end ≡ 0) }
     {
@@ -64,6 +64,8 @@ impl<R: Read> Ahead<R> {
     }
 
     /// Reads where all that was read ahead is given: ahead, or into `buf` where that is no shorter.
+    #[cold]
+    #[inline(never)]
     fn read_more(&mut self, buf: &mut [u8]) -> Result<usize, Failed>
         requires { self.old.end ≤ self.old.start }
         ensures bound { ReadsAtMost result buf.new }
@@ -132,11 +134,23 @@ fn copy_front(from: &[u8], to: &mut [u8]) -> usize
     ensures count { result ≡ min (length from.now) (length to.old) }
     ensures copied { to.new ≡ take result from.now ++ drop result to.old }
 {
-    let count = from.len().min(to.len());
-    if count == 1 {
-        to[0] = from[0];
+    let count = to.len();
+    if count <= from.len() {
+        to.copy_from_slice(&from[..count]);
+        count
     } else {
-        to[..count].copy_from_slice(&from[..count]);
+        copy_all(from, to)
     }
-    count
+}
+
+/// Copies fewer bytes than `to` has to its front, and answers how many.
+#[cold]
+#[inline(never)]
+fn copy_all(from: &[u8], to: &mut [u8]) -> usize
+    requires { length from.now ≤ length to.old }
+    ensures count { result ≡ length from.now }
+    ensures copied { to.new ≡ from.now ++ drop (length from.now) to.old }
+{
+    to[..from.len()].copy_from_slice(from);
+    from.len()
 }

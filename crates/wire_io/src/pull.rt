@@ -40,7 +40,7 @@ pub struct Pull<'s, S> {
 }
 
 impl<'s, S: Source> Pull<'s, S> {
-    ghost use Rattle.wire_io.specs.Pulled.{place, with_bytes, GivesByte, GivesBytes, GivesFront, AppendsSome};
+    ghost use Rattle.wire_io.specs.Pulled.{place, with_bytes, GivesByte, GivesBytes, GivesFront, GoesOn, AppendsSome};
 
     /// At position 0, with no mark.
     pub fn new(source: &'s mut S) -> Pull<'s, S>
@@ -137,11 +137,31 @@ impl<'s, S: Source> Pull<'s, S> {
     ///
     /// It answers as so many calls of [`Pull::byte`] would, and takes no memory. After an answer other than `Ok` a front of the bytes was
     /// taken and is lost, and the position is behind it.
+    #[inline(always)]
     pub fn take_into(&mut self, buf: &mut [u8]) -> Result<(), PullEnd>
         ensures gives { GivesBytes (place S.left S.faults self.old) (place S.left S.faults self.new) (length buf.old) (with_bytes buf.new result) }
         ensures lent { self.new.source.ghost_name ≡ self.old.source.ghost_name }
     {
-        let mut done = 0;
+        let wanted = buf.len();
+        if wanted == 0 || wanted as u64 > self.stop - self.at {
+            return self.take_rest(buf, 0);
+        }
+        match self.fill(buf) {
+            Ok(count) if count == wanted => Ok(()),
+            Ok(count) => self.take_rest(buf, count),
+            Err(end) => Err(end),
+        }
+    }
+
+    /// Takes the next bytes into `buf` from the place `from` on.
+    #[cold]
+    #[inline(never)]
+    fn take_rest(&mut self, buf: &mut [u8], from: usize) -> Result<(), PullEnd>
+        requires within { from ≤ length buf.old }
+        ensures gives { GoesOn (place S.left S.faults self.old) (place S.left S.faults self.new) from buf.old buf.new result }
+        ensures lent { self.new.source.ghost_name ≡ self.old.source.ghost_name }
+    {
+        let mut done = from;
         while done < buf.len() {
             match self.fill_some(&mut buf[done..]) {
                 Ok(count) => done += count,

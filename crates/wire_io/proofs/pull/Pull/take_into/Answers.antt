@@ -1,13 +1,15 @@
-use Rattle.std.proofs.Common.{arith, ◌∙◌, ◌≤◌, ◌-◌, length}
-use Rattle.wire_io.proofs.Pulling.{front_more, part_length}
+use Rattle.std.proofs.Common.{arith, []}
+use Rattle.wire_io.specs.Pulled.{place}
+use Rattle.wire_io.proofs.Pulling.{takes_nothing, gone_on}
 use Rattle.wire_io.proofs.pull.Pull.take_into.Goals as goal
 
-pub loop-done-preserved : goal.loop-done-preserved
-loop-done-preserved g c =
-    let part = part_length c.loop-done.buf c.fill_some.new.buf c.loop-done.done (length c.loop-done.buf - c.loop-done.done) (omega arith) c.fill_some.auto.buf in
-    let given : c.in-Ok.count ≤ length c.fill_some.new.buf = c.in-Ok.ensures.gives.1 in (
-      omega (arith, part.0, part.1, given),
-      part.1 ∙ c.loop-done.invariant.1,
-      front_more _ _ _ c.loop-done.buf c.fill_some.new.buf _ c.loop-done.done c.in-Ok.count c.loop-done.invariant.0 given c.loop-done.invariant.2 c.in-Ok.ensures.gives.2,
-      c.in-Ok.ensures.lent ∙ c.loop-done.invariant.3,
-    )
+pub returns-then-wanted-eq0-clause-gives : goal.returns-then-wanted-eq0-clause-gives
+returns-then-wanted-eq0-clause-gives g c = c.take_rest.ensures.gives _ (takes_nothing _)
+
+pub returns-in-Ok-2-clause-gives : goal.returns-in-Ok-2-clause-gives
+returns-in-Ok-2-clause-gives g c = gone_on _ _ _ c.args.buf.now c.fill.new.buf _ c.in-Ok.count c.take_rest-in-Ok-2.result c.fill.auto.buf c.in-Ok.ensures.gives.2 c.take_rest-in-Ok-2.ensures.gives
+
+pub returns-in-Err-clause-gives : goal.returns-in-Err-clause-gives
+returns-in-Err-clause-gives g c =
+    let here = place g.S.Source.left g.S.Source.faults c.args.self.now in
+    ([], here, omega arith, λ other. omega (arith, c.if-wanted-eq0.false), takes_nothing here, c.in-Err.ensures.gives.1)
