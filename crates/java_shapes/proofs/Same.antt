@@ -5,9 +5,6 @@ use Rattle.std.proofs.lemmas.Bool.{eqb-true}
 use Rattle.std.proofs.lemmas.Bool.Decides.{nat_tests}
 use Rattle.java_shapes.specs.Objects.{same_text}
 
-not_eq : (x y : ℕ) → x ≢ y → nat_eq x y ≡ false
-not_eq x y d = grind (arith, nat_tests)
-
 is_eq : (x y : ℕ) → x ≡ y → nat_eq x y ≡ true
 is_eq x y e = grind (arith, nat_tests)
 
@@ -26,11 +23,10 @@ pub same_more : (xs ys : List ℕ) (i : ℕ) → i < length xs → i < length ys
 unfolding same_text
 same_more xs ys i h k = rw (add-one, drop-cons xs i 0, drop-cons ys i 0)
 
-pub same_less : (xs ys : List ℕ) (i : ℕ) → i < length xs → i < length ys → get_or xs i 0 ≢ get_or ys i 0 → same_text (drop i xs) (drop i ys) ≡ false
-same_less xs ys i h k d = same_more xs ys i h k ∙ rw (not_eq (get_or xs i 0) (get_or ys i 0) d) refl
-
-pub same_next : (xs ys : List ℕ) (i : ℕ) → i < length xs → i < length ys → get_or xs i 0 ≡ get_or ys i 0 → same_text (drop i xs) (drop i ys) ≡ same_text (drop (i + 1) xs) (drop (i + 1) ys)
-same_next xs ys i h k d = same_more xs ys i h k ∙ rw (is_eq (get_or xs i 0) (get_or ys i 0) d) refl
+-- one more unit is compared
+pub same_step : (b : Bool) (xs ys : List ℕ) (i : ℕ) → i < length xs → i < length ys → ((b && nat_eq (get_or xs i 0) (get_or ys i 0)) && same_text (drop (i + 1) xs) (drop (i + 1) ys)) ≡ (b && same_text (drop i xs) (drop i ys))
+same_step true xs ys i h k = sym (same_more xs ys i h k)
+same_step false xs ys i h k = refl
 
 gone : (xs : List ℕ) (i : ℕ) → length xs ≤ i → drop i xs ≡ []
 gone [] zero h = refl
@@ -41,6 +37,11 @@ gone (x ∷ xs) (suc i) h = gone xs i (omega arith)
 pub same_ends : (xs ys : List ℕ) (i : ℕ) → length xs ≤ i → length ys ≤ i → same_text (drop i xs) (drop i ys) ≡ true
 unfolding same_text
 same_ends xs ys i h k = rw (gone xs i h, gone ys i k) refl
+
+-- all units are compared
+pub same_ended : (b : Bool) (xs ys : List ℕ) (i : ℕ) → length xs ≤ i → length ys ≤ i → (b && same_text (drop i xs) (drop i ys)) ≡ b
+same_ended true xs ys i h k = same_ends xs ys i h k
+same_ended false xs ys i h k = refl
 
 pub same_refl : (xs : List ℕ) → same_text xs xs ≡ true
 unfolding same_text

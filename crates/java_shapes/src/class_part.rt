@@ -22,7 +22,7 @@ pub(crate) fn copy_text(alloc: Global, text: &Units) -> Result<Units, AllocError
     Units::from_slice(alloc, text.as_slice())
 }
 
-/// Whether a text is this one of ASCII characters.
+/// Whether a text is this one of ASCII characters. All units are compared, so that several of them are in one step.
 pub(crate) fn is_text(units: &Units, text: &str) -> bool
     ensures { result ≡ same_text units.now text.now }
 {
@@ -31,14 +31,13 @@ pub(crate) fn is_text(units: &Units, text: &str) -> bool
     if units.len() != bytes.len() {
         return false;
     }
+    let mut same = true;
     let mut at = 0;
     while at < units.len() && at < bytes.len() {
-        if units[at] != u16::from(bytes[at]) {
-            return false;
-        }
+        same = same & (units[at] == u16::from(bytes[at]));
         at += 1;
     }
-    true
+    same
 }
 
 /// Whether a field has this type and this name.
