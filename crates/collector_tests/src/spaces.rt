@@ -615,6 +615,9 @@ objects 0 clients 0 pairs 0 awaiting 0 names 0 withdrawn 0
 1 12 open 3 free
 1 1019 dirty aa@2/4/5 7 10 16:-1/-5/0,17
 0 1020 clean -@2/4/5 6 strong 16
+1 1020 dirty aa@2/4/5 9223372036854775807 -10 -
+0 1020 clean -@2/4/5 -9223372036854775808 weak -
+0 1020 clean -@2/4/5 8 strong -
 =
 #",
         "space 10 1000 -1 -5
@@ -627,14 +630,23 @@ objects 0 clients 0 pairs 0 awaiting 0 names 0 withdrawn 0
 > granted 10
 0 1020 clean -@2/4/5 6 strong 16
 > done
+1 1020 dirty aa@2/4/5 9223372036854775807 -10 -
+> granted 10
+0 1020 clean -@2/4/5 -9223372036854775808 weak -
+> done
+0 1020 clean -@2/4/5 8 strong -
+> done
 =
 space 10 1000 -1 -5
 1 12 open 2 pinned
 1 12 open 3 free
 1 1019 dirty aa@2/4/5 7 10 16,17
 0 1020 clean -@2/4/5 6 strong 16
+1 1020 dirty aa@2/4/5 9223372036854775807 -10 -
+0 1020 clean -@2/4/5 -9223372036854775808 weak -
+0 1020 clean -@2/4/5 8 strong -
 #
-events 4 units 7 now 1020
+events 7 units 10 now 1020
 objects 1 clients 1 pairs 2 awaiting 0 names 0 withdrawn 1
 ",
     ),

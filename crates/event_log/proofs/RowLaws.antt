@@ -3,7 +3,6 @@ use Rattle.std.proofs.Common.{◌≡◌, ◌<◌, ℕ, List, [], ◌∷◌, ◌+
 use Rattle.std.specs.Prelude.{map, Option, None, Some, IsSome, get_or, slice_get, unwrap_or}
 use Rattle.std.specs.List.{AllByRecursion}
 use Rattle.std.proofs.lemmas.List.{get_or_append_left, length-append}
-use Rattle.std.proofs.lemmas.List.Elements.{All-from_recursion}
 use Rattle.std.proofs.lemmas.Option.{unwrap_or-slice_get, slice_get-get_or, slice_get_within}
 use Rattle.history.proofs.ListLemmas.{every-append}
 use Rattle.object_ids.specs.declared.ids.Uid.{Uid}
@@ -13,12 +12,7 @@ use Rattle.history.specs.declared.asks.Ask.TheVariants.{Dirty, Clean}
 use Rattle.event_log.specs.Rows.{client_at, event_of, event_with, nobody, IsAmongClients, IsKnown}
 use Rattle.event_log.specs.declared.rows.Row.{Row}
 use Rattle.event_log.specs.declared.rows.What.{What}
-use Rattle.event_log.specs.declared.rows.What.TheVariants.{Opens, Begins, Finishes, Abandons, Acks, Dirties, Cleans, ListsNames, Ticks, Whole}
-
--- The last item of a list.
-pub last-there : {X : Type 0} (xs : List X) (x : X) → slice_get (xs ++ x ∷ []) (length xs) ≡ Some x
-last-there [] x = refl
-last-there (y ∷ xs) x = last-there xs x
+use Rattle.event_log.specs.declared.rows.What.TheVariants.{Opens, Begins, Finishes, Abandons, Acks, Dirties, Renews, Cleans, CleansNothing, ListsNames, Ticks, Whole}
 
 -- The client at a place, whichever word says it.
 pub client_there : (clients : List Client) (number : ℕ) (other : Client) → number < length clients → get_or clients number other ≡ client_at clients number
@@ -37,8 +31,12 @@ what-kept space clients more by moment (Abandons object) known = refl
 what-kept space clients more by moment (Acks uid) known = refl
 what-kept space clients more by moment (Dirties client number asked object) known =
     ap (λ (c : Client). record { by = by; moment = moment; ask = Dirty c number asked (record { number = object; space = space } ∷ []) }) (client-kept clients more client known)
+what-kept space clients more by moment (Renews client number asked) known =
+    ap (λ (c : Client). record { by = by; moment = moment; ask = Dirty c number asked [] }) (client-kept clients more client known)
 what-kept space clients more by moment (Cleans client strong number object) known =
     ap (λ (c : Client). record { by = by; moment = moment; ask = Clean c number (record { number = object; space = space } ∷ []) strong }) (client-kept clients more client known)
+what-kept space clients more by moment (CleansNothing client strong number) known =
+    ap (λ (c : Client). record { by = by; moment = moment; ask = Clean c number [] strong }) (client-kept clients more client known)
 what-kept space clients more by moment ListsNames known = refl
 what-kept space clients more by moment Ticks known = refl
 what-kept space clients more by moment (Whole event) known = refl
@@ -50,7 +48,9 @@ what-known clients more (Finishes number uid) known = tt
 what-known clients more (Abandons object) known = tt
 what-known clients more (Acks uid) known = tt
 what-known clients more (Dirties client number asked object) known = omega (arith, length-append clients more, known)
+what-known clients more (Renews client number asked) known = omega (arith, length-append clients more, known)
 what-known clients more (Cleans client strong number object) known = omega (arith, length-append clients more, known)
+what-known clients more (CleansNothing client strong number) known = omega (arith, length-append clients more, known)
 what-known clients more ListsNames known = tt
 what-known clients more Ticks known = tt
 what-known clients more (Whole event) known = tt
@@ -82,10 +82,6 @@ pub pushed-known : (before after : List Client) → (more : List Client) × (aft
     AllByRecursion (IsKnown (length before)) rows → IsKnown (length after) row → AllByRecursion (IsKnown (length after)) (rows ++ row ∷ [])
 pushed-known before after (more, grown) rows row known this =
     every-append (IsKnown (length after)) rows (row ∷ []) (subst (λ (l : List Client). AllByRecursion (IsKnown (length l)) rows) (sym grown) (rows-known before more rows known)) (this, tt)
-
--- The row at a place.
-pub known-at : (count : ℕ) (rows : List Row) (place : ℕ) (other : Row) → AllByRecursion (IsKnown count) rows → place < length rows → IsKnown count (get_or rows place other)
-known-at count rows place other known below = All-from_recursion (IsKnown count) rows known place other below
 
 -- A place at which something stands is within the list.
 pub within : {X : Type 0} (xs : List X) (i : ℕ) (found : Option X) → slice_get xs i ≡ found → IsSome found → i < length xs

@@ -1,4 +1,4 @@
--- The identifiers that rows have.
+-- The identifiers that the rows of a port have.
 use Rattle.object_ids.specs.declared.ids.Uid.{Uid}
 use Rattle.object_ids.specs.declared.ids.ObjId.{ObjId}
 use Rattle.event_log.specs.declared.ids.RowUid.{RowUid}

@@ -1,14 +1,14 @@
 -- The events of a log's rows.
 use Rattle.std.specs.Prelude.{◌≡◌, ◌<◌, ℕ, ℤ, pos, Option, Some, None, List, [], ◌∷◌, slice_get, unwrap_or}
 use Rattle.object_ids.specs.declared.ids.Uid.{Uid}
+use Rattle.object_ids.specs.declared.ids.ObjId.{ObjId}
 use Rattle.object_ids.specs.Client.{Client}
 use Rattle.history.specs.declared.asks.Event.{Event}
 use Rattle.history.specs.declared.asks.Ask.{Ask}
 use Rattle.history.specs.declared.asks.Ask.TheVariants.{Open, Begin, Finish, Abandon, Dirty, Clean, Ack, List as ListNames, Tick}
-use Rattle.event_log.specs.Ids.{id_of, uid_of}
 use Rattle.event_log.specs.declared.rows.Row.{Row}
 use Rattle.event_log.specs.declared.rows.What.{What}
-use Rattle.event_log.specs.declared.rows.What.TheVariants.{Opens, Begins, Finishes, Abandons, Acks, Dirties, Cleans, ListsNames, Ticks, Whole}
+use Rattle.event_log.specs.declared.rows.What.TheVariants.{Opens, Begins, Finishes, Abandons, Acks, Dirties, Renews, Cleans, CleansNothing, ListsNames, Ticks, Whole}
 
 -- An ask in a space that has neither lists nor names. A Finish is of an object of the space.
 abbrev pub IsPlain : Uid → Ask → Type 0
@@ -21,11 +21,16 @@ IsPlain space ListNames = Unit {0}
 IsPlain space Tick = Unit {0}
 IsPlain space _ = ⊥
 
--- A Dirty or a Clean of the one object of this number of the space.
-abbrev pub IsOfOne : Uid → ℤ → Ask → Type 0
-IsOfOne space object (Dirty client number asked objects) = objects ≡ record { number = object; space = space } ∷ []
-IsOfOne space object (Clean client number objects strong) = objects ≡ record { number = object; space = space } ∷ []
-IsOfOne space object _ = ⊥
+-- The space's own object of this number, or none, as a list.
+abbrev pub objects_of : Uid → Option ℤ → List ObjId
+objects_of space (Some object) = record { number = object; space = space } ∷ []
+objects_of space None = []
+
+-- A Dirty or a Clean of none or one of the space's own objects: of the one of this number, where there is a number.
+abbrev pub IsOfFew : Uid → Option ℤ → Ask → Type 0
+IsOfFew space object (Dirty client number asked objects) = objects ≡ objects_of space object
+IsOfFew space object (Clean client number objects strong) = objects ≡ objects_of space object
+IsOfFew space object _ = ⊥
 
 -- Whose call of the collector it is.
 abbrev pub client_of : Ask → Option Client
@@ -44,14 +49,16 @@ client_at clients number = unwrap_or (slice_get clients number) nobody
 -- The event of a connection at a moment that says this, where these are the clients by their numbers.
 abbrev pub event_with : Uid → List Client → ℕ → ℕ → What → Event
 event_with space clients by moment (Opens kind pinned) = record { by = by; moment = moment; ask = Open kind pinned }
-event_with space clients by moment (Begins object) = record { by = by; moment = moment; ask = Begin (id_of object) }
-event_with space clients by moment (Finishes number uid) = record { by = by; moment = moment; ask = Finish (record { number = number; space = space }) [] [] (uid_of uid) }
-event_with space clients by moment (Abandons object) = record { by = by; moment = moment; ask = Abandon (id_of object) }
-event_with space clients by moment (Acks uid) = record { by = by; moment = moment; ask = Ack (uid_of uid) }
+event_with space clients by moment (Begins object) = record { by = by; moment = moment; ask = Begin object }
+event_with space clients by moment (Finishes number uid) = record { by = by; moment = moment; ask = Finish (record { number = number; space = space }) [] [] uid }
+event_with space clients by moment (Abandons object) = record { by = by; moment = moment; ask = Abandon object }
+event_with space clients by moment (Acks uid) = record { by = by; moment = moment; ask = Ack uid }
 event_with space clients by moment (Dirties client number asked object) =
     record { by = by; moment = moment; ask = Dirty (client_at clients client) number asked (record { number = object; space = space } ∷ []) }
+event_with space clients by moment (Renews client number asked) = record { by = by; moment = moment; ask = Dirty (client_at clients client) number asked [] }
 event_with space clients by moment (Cleans client strong number object) =
     record { by = by; moment = moment; ask = Clean (client_at clients client) number (record { number = object; space = space } ∷ []) strong }
+event_with space clients by moment (CleansNothing client strong number) = record { by = by; moment = moment; ask = Clean (client_at clients client) number [] strong }
 event_with space clients by moment ListsNames = record { by = by; moment = moment; ask = ListNames }
 event_with space clients by moment Ticks = record { by = by; moment = moment; ask = Tick }
 event_with space clients by moment (Whole event) = event.value
@@ -63,7 +70,9 @@ event_of space clients row = event_with space clients row.by row.moment row.what
 -- The client that it says is one of so many.
 abbrev pub IsAmongClients : ℕ → What → Type 0
 IsAmongClients count (Dirties client number asked object) = client < count
+IsAmongClients count (Renews client number asked) = client < count
 IsAmongClients count (Cleans client strong number object) = client < count
+IsAmongClients count (CleansNothing client strong number) = client < count
 IsAmongClients count _ = Unit {0}
 
 abbrev pub IsKnown : ℕ → Row → Type 0

@@ -49,7 +49,8 @@ impl Clients {
         Ok(())
     }
 
-    /// A number of a client, if one is found.
+    /// A number of a client, if one is found in the client's slots. None says nothing: the list may have the client all the same, which then gets
+    /// a further number. That costs memory alone.
     pub fn find(&self, client: &Vmid) -> Option<u32>
         ensures { IfSome result (λ number. slice_get self.now.list.items number ≡ Some client.now) }
     {

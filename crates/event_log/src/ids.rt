@@ -1,4 +1,4 @@
-//! Identifiers as rows have them.
+//! Identifiers as the rows of a port have them.
 ghost use Rattle.std.specs.Prelude.{◌≡◌};
 ghost use Rattle.event_log.specs.Ids.{id_of, uid_of};
 

@@ -12,8 +12,8 @@ use std::alloc::{AllocError, Global};
 use std::marker::Model;
 
 /// The events of a space, oldest first. A plain event takes a row of 48 bytes: an Open, a Begin, an Abandon, an Ack, a List, a Tick, or a Finish
-/// of one of the space's own objects that makes and lists nothing. So does a Dirty or a Clean of one of its own objects; the client is kept
-/// beside, mostly once for all its calls. Each other event takes a box beside its row. Contracts see a log as an `EventRecord`: its space, the
+/// of one of the space's own objects that makes and lists nothing. So does a Dirty or a Clean of none or one of its own objects; the client is
+/// kept beside, mostly once for all its calls. Each other event takes a box beside its row. Contracts see a log as an `EventRecord`: its space, the
 /// list of its events, how many of them it has room for, and whether it has a box and room for a client to spare.
 #[derive(Debug, Drop)]
 pub struct EventLog {

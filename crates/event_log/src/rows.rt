@@ -1,12 +1,11 @@
 //! Events as a log keeps them.
-ghost use Rattle.std.specs.Prelude.{◌≡◌, ◌↔◌, ◌<◌, ◌+◌, ℕ, List, [], ◌∷◌, ◌++◌, length, slice_get, is_some, true, option_copied, IsTrue, IsSome, IfSome, IfOk, vec_capacity};
+ghost use Rattle.std.specs.Prelude.{◌≡◌, ◌↔◌, ◌<◌, ◌+◌, ℕ, List, [], ◌∷◌, ◌++◌, length, slice_get, Some, is_some, true, option_copied, IsTrue, IsSome, IfSome, IfOk, vec_capacity};
 ghost use Rattle.history.specs.declared.asks.Ask.TheVariants.{Finish as FinishAsk, Dirty as DirtyAsk, Clean as CleanAsk};
 ghost use Rattle.object_ids.specs.Client.{Client};
-ghost use Rattle.event_log.specs.Rows.{IsPlain, IsOfOne, IsAmongClients, IsKnown, client_at, client_of, event_of, event_with};
+ghost use Rattle.event_log.specs.Rows.{IsPlain, IsOfFew, IsAmongClients, IsKnown, client_at, client_of, event_of, event_with, objects_of};
 ghost use Rattle.event_log.specs.Views.{viewed};
 
 use crate::clients::Clients;
-use crate::ids::{RowId, RowUid};
 use crate::view::EventView;
 use history::{Ask, Event};
 use mod_utf::list::{Kinds, Same};
@@ -23,20 +22,20 @@ pub enum What {
     },
     /// A Begin.
     Begins {
-        object: RowId,
+        object: ObjId,
     },
     /// A Finish that makes and lists nothing, of the log's own object of this number.
     Finishes {
         number: i64,
-        uid: RowUid,
+        uid: Uid,
     },
     /// An Abandon.
     Abandons {
-        object: RowId,
+        object: ObjId,
     },
     /// An Ack.
     Acks {
-        uid: RowUid,
+        uid: Uid,
     },
     /// A Dirty of the log's own object of this number, by the client of that number.
     Dirties {
@@ -45,12 +44,24 @@ pub enum What {
         asked: i64,
         object: i64,
     },
+    /// A Dirty without objects, by the client of that number.
+    Renews {
+        client: u32,
+        number: i64,
+        asked: i64,
+    },
     /// A Clean of the log's own object of this number, by the client of that number.
     Cleans {
         client: u32,
         strong: bool,
         number: i64,
         object: i64,
+    },
+    /// A Clean without objects, by the client of that number.
+    CleansNothing {
+        client: u32,
+        strong: bool,
+        number: i64,
     },
     /// A List.
     ListsNames,
@@ -70,6 +81,9 @@ pub struct Row {
     /// What it says beside these.
     pub what: What,
 }
+
+// A row takes no more than 48 bytes.
+const _: () = prove!(size_of::<Row>() <= 48);
 
 /// Whether an ask in a space is kept in its row alone.
 pub(crate) fn is_plain(space: &Uid, ask: &Ask) -> bool
@@ -108,9 +122,7 @@ fn plain_what(space: &Uid, ask: &Ask) -> What
             kind: *kind,
             pinned: *pinned,
         },
-        Ask::Begin { object } => What::Begins {
-            object: RowId::of(object),
-        },
+        Ask::Begin { object } => What::Begins { object: *object },
         Ask::Finish {
             object,
             made: _,
@@ -118,14 +130,10 @@ fn plain_what(space: &Uid, ask: &Ask) -> What
             uid,
         } => What::Finishes {
             number: object.number,
-            uid: RowUid::of(uid),
+            uid: *uid,
         },
-        Ask::Abandon { object } => What::Abandons {
-            object: RowId::of(object),
-        },
-        Ask::Ack { uid } => What::Acks {
-            uid: RowUid::of(uid),
-        },
+        Ask::Abandon { object } => What::Abandons { object: *object },
+        Ask::Ack { uid } => What::Acks { uid: *uid },
         Ask::List => What::ListsNames,
         // a Tick: no other ask is plain
         _ => What::Ticks,
@@ -145,15 +153,28 @@ pub(crate) fn plain_row(space: &Uid, event: Event) -> Row
     }
 }
 
-/// The number of the one object of a Dirty or a Clean, where it is of the space; None for any other ask.
-fn only_object(space: &Uid, ask: &Ask) -> Option<i64>
-    ensures call { IfSome result (λ object. IsOfOne space.now object ask.now) }
+/// The number of the object of a Dirty or a Clean of none or one of the space's own objects, if it has one; None for any other ask.
+fn few_objects(space: &Uid, ask: &Ask) -> Option<Option<i64>>
+    ensures call { IfSome result (λ object. IsOfFew space.now object ask.now) }
     ensures caller { IfSome result (λ object. IsSome (client_of ask.now)) }
 {
     match ask {
-        Ask::Dirty { objects, .. } => own_object(space, objects),
-        Ask::Clean { objects, .. } => own_object(space, objects),
+        Ask::Dirty { objects, .. } => none_or_own(space, objects),
+        Ask::Clean { objects, .. } => none_or_own(space, objects),
         _ => None,
+    }
+}
+
+/// The number of a list's object, if it has one, where it has no more than one and that of the space; None for any other list.
+fn none_or_own(space: &Uid, objects: &ObjIds) -> Option<Option<i64>>
+    ensures { IfSome result (λ object. objects.now ≡ objects_of space.now object) }
+{
+    if objects.is_empty() {
+        return Some(None);
+    }
+    match own_object(space, objects) {
+        Some(object) => Some(Some(object)),
+        None => None,
     }
 }
 
@@ -200,34 +221,66 @@ fn number_of(clients: &Clients, ask: &Ask) -> Option<u32>
     }
 }
 
-/// What the row of a call of the collector of one object says, where its client has this number.
-fn call_what(space: &Uid, client: u32, object: i64, ask: &Ask) -> What
-    requires { IsOfOne space.now object ask.now }
+/// What the row of a Dirty of the space's object of this number, or of none, says, where its client has that number.
+fn dirty_what(client: u32, number: i64, asked: i64, object: Option<i64>) -> What
+    ensures row { (space : Uid) → (clients : List Client) → (by moment : ℕ) →
+        event_with space clients by moment result ≡ record { by = by; moment = moment; ask = DirtyAsk (client_at clients client) number asked (objects_of space object) } }
+    ensures known { (count : ℕ) → client < count → IsAmongClients count result }
+{
+    match object {
+        Some(object) => What::Dirties {
+            client,
+            number,
+            asked,
+            object,
+        },
+        None => What::Renews {
+            client,
+            number,
+            asked,
+        },
+    }
+}
+
+/// What the row of a Clean of the space's object of this number, or of none, says, where its client has that number.
+fn clean_what(client: u32, number: i64, strong: bool, object: Option<i64>) -> What
+    ensures row { (space : Uid) → (clients : List Client) → (by moment : ℕ) →
+        event_with space clients by moment result ≡ record { by = by; moment = moment; ask = CleanAsk (client_at clients client) number (objects_of space object) strong } }
+    ensures known { (count : ℕ) → client < count → IsAmongClients count result }
+{
+    match object {
+        Some(object) => What::Cleans {
+            client,
+            strong,
+            number,
+            object,
+        },
+        None => What::CleansNothing {
+            client,
+            strong,
+            number,
+        },
+    }
+}
+
+/// What the row of a call of the collector of the space's object of this number, or of none, says, where its client has that number.
+fn call_what(space: &Uid, client: u32, object: Option<i64>, ask: &Ask) -> What
+    requires { IsOfFew space.now object ask.now }
     ensures row { (clients : List Client) → (by moment : ℕ) → slice_get clients client ≡ client_of ask.now →
         event_with space.now clients by moment result ≡ record { by = by; moment = moment; ask = ask.now } }
     ensures known { (count : ℕ) → client < count → IsAmongClients count result }
 {
     match ask {
-        Ask::Dirty { number, asked, .. } => What::Dirties {
-            client,
-            number: *number,
-            asked: *asked,
-            object,
-        },
-        Ask::Clean { number, strong, .. } => What::Cleans {
-            client,
-            strong: *strong,
-            number: *number,
-            object,
-        },
+        Ask::Dirty { number, asked, .. } => dirty_what(client, *number, *asked, object),
+        Ask::Clean { number, strong, .. } => clean_what(client, *number, *strong, object),
         // no other ask is a call of the collector
         _ => What::Ticks,
     }
 }
 
-/// The row of a call of the collector of one object, where its client has this number.
-fn call_row(space: &Uid, client: u32, object: i64, event: &Event) -> Row
-    requires { IsOfOne space.now object event.now.ask }
+/// The row of a call of the collector of the space's object of this number, or of none, where its client has that number.
+fn call_row(space: &Uid, client: u32, object: Option<i64>, event: &Event) -> Row
+    requires { IsOfFew space.now object event.now.ask }
     ensures row { (clients : List Client) → slice_get clients client ≡ client_of event.now.ask → event_of space.now clients result ≡ event.now }
     ensures known { (count : ℕ) → client < count → IsKnown count result }
 {
@@ -274,7 +327,7 @@ pub(crate) fn row_of(
     ensures clients { (more : List Client) × (clients.new.list.items ≡ clients.old.list.items ++ more) }
     ensures room { is_some spare.new ≡ true → length clients.new.list.items < vec_capacity clients.new.list }
 {
-    match only_object(space, &event.ask) {
+    match few_objects(space, &event.ask) {
         Some(object) => match number_of(clients, &event.ask) {
             Some(client) => call_row(space, client, object, &event),
             None => fresh_row(clients, spare, space, object, event),
@@ -283,15 +336,15 @@ pub(crate) fn row_of(
     }
 }
 
-/// The row of a call of the collector of one object, whose client gets a number, where there is one.
+/// The row of a call of the collector of the space's object of this number, or of none, whose client gets a number, where there is one.
 fn fresh_row(
     clients: &mut Clients,
     spare: &mut Option<Box<Event>>,
     space: &Uid,
-    object: i64,
+    object: Option<i64>,
     event: Event,
 ) -> Row
-    requires call { IsOfOne space.now object event.ask }
+    requires call { IsOfFew space.now object event.ask }
     requires caller { IsSome (client_of event.ask) }
     requires spare { is_some spare.old ≡ true }
     requires room { length clients.old.list.items < vec_capacity clients.old.list }
@@ -345,19 +398,25 @@ fn client_numbered(clients: &[Vmid], number: u32) -> &Vmid
     &clients[number as usize]
 }
 
-/// A Dirty of one object.
+/// The list of the space's object of this number.
+fn list_of(alloc: Global, space: Uid, number: i64) -> Result<ObjIds, AllocError>
+    ensures { IfOk result (λ objects. objects ≡ objects_of space (Some number)) }
+{
+    ObjIds::from_slice(alloc, &[ObjId { number, space }])
+}
+
+/// A Dirty of these objects.
 fn dirty<'a>(
     alloc: Global,
     row: &Row,
     client: &Vmid,
     number: i64,
     asked: i64,
-    object: ObjId,
+    objects: ObjIds,
 ) -> Result<EventView<'a>, AllocError>
-    ensures { IfOk result (λ view. viewed view ≡ record { by = row.now.by; moment = row.now.moment; ask = DirtyAsk client.now number asked (object ∷ []) }) }
+    ensures { IfOk result (λ view. viewed view ≡ record { by = row.now.by; moment = row.now.moment; ask = DirtyAsk client.now number asked objects }) }
 {
     let client = client.copy(alloc)?;
-    let objects = ObjIds::from_slice(alloc, &[object])?;
     let ask = Ask::Dirty {
         client,
         number,
@@ -371,19 +430,18 @@ fn dirty<'a>(
     }))
 }
 
-/// A Clean of one object.
+/// A Clean of these objects.
 fn clean<'a>(
     alloc: Global,
     row: &Row,
     client: &Vmid,
     number: i64,
-    object: ObjId,
+    objects: ObjIds,
     strong: bool,
 ) -> Result<EventView<'a>, AllocError>
-    ensures { IfOk result (λ view. viewed view ≡ record { by = row.now.by; moment = row.now.moment; ask = CleanAsk client.now number (object ∷ []) strong }) }
+    ensures { IfOk result (λ view. viewed view ≡ record { by = row.now.by; moment = row.now.moment; ask = CleanAsk client.now number objects strong }) }
 {
     let client = client.copy(alloc)?;
-    let objects = ObjIds::from_slice(alloc, &[object])?;
     let ask = Ask::Clean {
         client,
         number,
@@ -416,11 +474,16 @@ pub(crate) fn view_of<'a>(
             object,
         } => {
             let client = client_numbered(clients, *client);
-            let object = ObjId {
-                number: *object,
-                space,
-            };
-            return dirty(alloc, row, client, *number, *asked, object);
+            let objects = list_of(alloc, space, *object)?;
+            return dirty(alloc, row, client, *number, *asked, objects);
+        }
+        What::Renews {
+            client,
+            number,
+            asked,
+        } => {
+            let client = client_numbered(clients, *client);
+            return dirty(alloc, row, client, *number, *asked, ObjIds::new(alloc));
         }
         What::Cleans {
             client,
@@ -429,20 +492,25 @@ pub(crate) fn view_of<'a>(
             object,
         } => {
             let client = client_numbered(clients, *client);
-            let object = ObjId {
-                number: *object,
-                space,
-            };
-            return clean(alloc, row, client, *number, object, *strong);
+            let objects = list_of(alloc, space, *object)?;
+            return clean(alloc, row, client, *number, objects, *strong);
+        }
+        What::CleansNothing {
+            client,
+            strong,
+            number,
+        } => {
+            let client = client_numbered(clients, *client);
+            return clean(alloc, row, client, *number, ObjIds::new(alloc), *strong);
         }
         What::Opens { kind, pinned } => Ask::Open {
             kind: *kind,
             pinned: *pinned,
         },
-        What::Begins { object: id } => Ask::Begin { object: id.id() },
-        What::Finishes { number, uid: u } => finish(alloc, space, *number, u.uid()),
-        What::Abandons { object: id } => Ask::Abandon { object: id.id() },
-        What::Acks { uid: u } => Ask::Ack { uid: u.uid() },
+        What::Begins { object } => Ask::Begin { object: *object },
+        What::Finishes { number, uid } => finish(alloc, space, *number, *uid),
+        What::Abandons { object } => Ask::Abandon { object: *object },
+        What::Acks { uid } => Ask::Ack { uid: *uid },
         What::ListsNames => Ask::List,
         What::Ticks => Ask::Tick,
     };
