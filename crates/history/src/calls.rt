@@ -17,7 +17,7 @@ pub enum CallKind {
 }
 
 /// A lease call, with the moment at which it was taken.
-#[derive(Debug, Drop)]
+#[derive(Debug)]
 pub struct Call {
     /// The greatest moment up to and with this call, in milliseconds.
     pub moment: u64,
@@ -29,6 +29,21 @@ pub struct Call {
     pub objects: ObjIds,
     /// What it asks for.
     pub kind: CallKind,
+}
+
+// Written out, so that whoever owns one has one call at each exit, and not the drop of each field.
+impl Drop for Call {
+    fn drop(self) {
+        let Call {
+            moment: _,
+            client,
+            number: _,
+            objects,
+            kind: _,
+        } = self;
+        drop(client);
+        drop(objects);
+    }
 }
 
 /// A list of lease calls.

@@ -42,7 +42,7 @@ impl Same for Exported {
 }
 
 /// A place of a history: its event, and what the events before it decide of it.
-#[derive(Debug, Drop)]
+#[derive(Debug)]
 pub struct Place {
     /// Its number, from 0.
     pub index: u64,
@@ -60,6 +60,26 @@ pub struct Place {
     pub exported_here: ExportedList,
     /// The objects that it returns, which await an acknowledgement.
     pub returned_here: ObjIds,
+}
+
+// Written out, so that whoever owns one has one call at each exit, and not the drop of each field.
+impl Drop for Place {
+    fn drop(self) {
+        let Place {
+            index: _,
+            moment: _,
+            event,
+            effective: _,
+            table_before,
+            name_stood_for: _,
+            exported_here,
+            returned_here,
+        } = self;
+        drop(event);
+        drop(table_before);
+        drop(exported_here);
+        drop(returned_here);
+    }
 }
 
 /// A list of places.

@@ -129,8 +129,9 @@ fn those_awaiting(
     match references {
         [] => Ok(Vec::new(alloc)),
         [r, rest @ ..] => {
+            let is_left = awaits(alloc, ack, at, places, r)?;
             let mut left = those_awaiting(alloc, ack, at, places, rest)?;
-            if awaits(alloc, ack, at, places, r)? {
+            if is_left {
                 left.insert(0, *r)?;
             }
             Ok(left)

@@ -198,6 +198,16 @@ pub fn is_remembered(
 
 // ---- the calls of all clients
 
+/// Calls with a copy of one more in front.
+fn with_call(alloc: Global, x: &Call, calls: Vec<Call>) -> Result<Vec<Call>, AllocError>
+    ensures { IfOk result (λ more. more.items ≡ x.now ∷ calls.items) }
+{
+    let copy = x.copy(alloc)?;
+    let mut more = calls;
+    more.insert(0, copy)?;
+    Ok(more)
+}
+
 /// The calls of a client.
 #[tactic(auto, unfolding(crate::specs::Leases::calls_of))]
 pub fn calls_of(alloc: Global, client: &Vmid, calls: &[Call]) -> Result<Vec<Call>, AllocError>
@@ -206,11 +216,12 @@ pub fn calls_of(alloc: Global, client: &Vmid, calls: &[Call]) -> Result<Vec<Call
     match calls {
         [] => Ok(Vec::new(alloc)),
         [x, before @ ..] => {
-            let mut own = calls_of(alloc, client, before)?;
+            let own = calls_of(alloc, client, before)?;
             if equal_clients(&x.client, client) {
-                own.insert(0, x.copy(alloc)?)?;
+                with_call(alloc, x, own)
+            } else {
+                Ok(own)
             }
-            Ok(own)
         }
     }
 }
@@ -286,8 +297,9 @@ fn with_time_left(
     match clients {
         [] => Ok(Vec::new(alloc)),
         [client, rest @ ..] => {
+            let has_time = client_has_time(alloc, lease, at, calls, client)?;
             let left = with_time_left(alloc, lease, at, calls, rest)?;
-            if client_has_time(alloc, lease, at, calls, client)? {
+            if has_time {
                 in_front(alloc, client, left)
             } else {
                 Ok(left)
@@ -390,6 +402,22 @@ fn remembered(
     }
 }
 
+/// The remembered pairs of a client with some objects.
+fn pairs_of_client(
+    alloc: Global,
+    lease: u64,
+    at: u64,
+    calls: &[Call],
+    objects: &[ObjId],
+    client: &Vmid,
+) -> Result<Vec<Pair>, AllocError>
+    ensures { IfOk result (λ pairs. pairs.items ≡ words.pairs_of client.now (filter (words.is_remembered lease at (words.calls_of client.now calls.now)) objects.now)) }
+{
+    let own = calls_of(alloc, client, calls)?;
+    let kept = remembered(alloc, lease, at, own.as_slice(), objects)?;
+    pairs_of(alloc, client, kept.as_slice())
+}
+
 /// The remembered pairs of some clients with some objects.
 fn pairs_among(
     alloc: Global,
@@ -404,9 +432,7 @@ fn pairs_among(
     match clients {
         [] => Ok(Vec::new(alloc)),
         [client, rest @ ..] => {
-            let own = calls_of(alloc, client, calls)?;
-            let kept = remembered(alloc, lease, at, own.as_slice(), objects)?;
-            let mut pairs = pairs_of(alloc, client, kept.as_slice())?;
+            let mut pairs = pairs_of_client(alloc, lease, at, calls, objects, client)?;
             let mut others = pairs_among(alloc, lease, at, calls, objects, rest)?;
             pairs.append(&mut others)?;
             Ok(pairs)

@@ -393,6 +393,20 @@ fn pairs_remembered(
     Ok(pairs)
 }
 
+/// The pairs that an event brings after these calls.
+fn pairs_of_event(
+    alloc: Global,
+    config: &SpaceConfig,
+    places: &[Place],
+    event: &Event,
+    calls: &[Call],
+) -> Result<Vec<Pair>, AllocError>
+    ensures { IfOk result (λ pairs. pairs.items ≡ flat_map (lease_words.new_pairs config.now.lease_ms calls.now) (words.lease_call config.now places.now event.now)) }
+{
+    let call = lease_call(alloc, config, places, event)?;
+    pairs_brought(alloc, config.lease_ms, calls, call)
+}
+
 /// How many pairs are remembered with those that an event brings.
 #[tactic(auto, unfolding(crate::specs::Limits::pairs_with_event))]
 fn pairs_with_event(
@@ -406,8 +420,7 @@ fn pairs_with_event(
     let calls = lease_calls(alloc, places)?;
     let moment = event.moment.max(now(places));
     let mut all = pairs_remembered(alloc, config, places, moment, calls.as_slice())?;
-    let call = lease_call(alloc, config, places, event)?;
-    let mut new = pairs_brought(alloc, config.lease_ms, calls.as_slice(), call)?;
+    let mut new = pairs_of_event(alloc, config, places, event, calls.as_slice())?;
     all.append(&mut new)?;
     Ok(distinct_pairs(all.as_slice()))
 }

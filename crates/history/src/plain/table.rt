@@ -73,6 +73,14 @@ fn in_front(call: Option<Call>, calls: Vec<Call>) -> Result<Vec<Call>, AllocErro
     Ok(more)
 }
 
+/// The lease call of a place, if its ask is one.
+fn call_at(alloc: Global, p: &Place, before: &[Place]) -> Result<Option<Call>, AllocError>
+    ensures { IfOk result (λ call. option_to_list call ≡ call_words.call_with (place_words.has (place_words.added before.now)) p.now.moment p.now.event.ask) }
+{
+    let exported = added(alloc, before)?;
+    call_with(alloc, exported.as_slice(), p.moment, &p.event.ask)
+}
+
 /// The lease calls of a history.
 #[tactic(auto, unfolding(crate::specs::LeaseCalls::lease_calls))]
 pub fn lease_calls(alloc: Global, places: &[Place]) -> Result<Vec<Call>, AllocError>
@@ -81,9 +89,8 @@ pub fn lease_calls(alloc: Global, places: &[Place]) -> Result<Vec<Call>, AllocEr
     match places {
         [] => Ok(Vec::new(alloc)),
         [p, before @ ..] => {
-            let exported = added(alloc, before)?;
-            let call = call_with(alloc, exported.as_slice(), p.moment, &p.event.ask)?;
             let calls = lease_calls(alloc, before)?;
+            let call = call_at(alloc, p, before)?;
             in_front(call, calls)
         }
     }
@@ -111,9 +118,9 @@ pub fn is_kept(
     ensures { IfOk result (λ kept. kept ≡ words.is_kept config.now places.now x.now) }
 {
     let at = now(places);
-    let calls = lease_calls(alloc, places)?;
     let pinned = is_pinned(alloc, places, x)?;
     let waits = is_awaited(alloc, config.ack_ms, at, places, x.id)?;
+    let calls = lease_calls(alloc, places)?;
     let held = is_held(alloc, config.lease_ms, at, calls.as_slice(), x.id)?;
     Ok(pinned || waits || held)
 }
@@ -129,8 +136,9 @@ fn kept_of(
     match objects {
         [] => Ok(Vec::new(alloc)),
         [x, rest @ ..] => {
+            let stays = is_kept(alloc, config, places, x)?;
             let mut kept = kept_of(alloc, config, places, rest)?;
-            if is_kept(alloc, config, places, x)? {
+            if stays {
                 kept.insert(0, *x)?;
             }
             Ok(kept)
