@@ -321,8 +321,7 @@ impl Leases {
             objects: named,
             at,
         };
-        let before = table::own_sums(&self.entries, client, self.moment);
-        table::note(
+        let noted = table::note(
             self.alloc,
             &mut self.entries,
             &mut self.counts,
@@ -331,9 +330,8 @@ impl Leases {
             self.lease,
             self.moment,
         )?;
-        let after = table::own_sums(&self.entries, client, self.moment);
-        let with = table::sums_with(self.sums, before, after);
-        let bound = table::bound_with(&self.entries, client, self.next, at);
+        let with = table::sums_with(self.sums, noted.before, noted.after);
+        let bound = table::bound_with(self.next, noted.until, at);
         self.next = pass(&mut self.entries, &mut self.counts, bound, self.moment, at);
         self.sums = table::sums_after(with, &self.entries, at, at < bound);
         self.moment = at;

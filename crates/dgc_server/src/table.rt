@@ -6,7 +6,7 @@ ghost use Rattle.object_ids.specs.declared.ids.ObjId.{ObjId};
 ghost use Rattle.object_ids.specs.Client.{Client};
 ghost use Rattle.dgc_server.specs.Entry.{Entry, each_has_number, is_in, lapsed, entry_without, is_entry_kept, has_time_left, entry_holds, remembered_of, row_of};
 ghost use Rattle.dgc_server.specs.Stands.{each_once, is_in_order, entry_after};
-ghost use Rattle.dgc_server.specs.Index.{Way, counted_at, has_count, is_counted, entry_names, ends_later, sums_at, entry_sums};
+ghost use Rattle.dgc_server.specs.Index.{Way, counted_at, has_count, is_counted, one_if, entry_names, ends_later, sums_at, entry_sums};
 ghost use Rattle.dgc_server.specs.Table.{remembered as remembered_at};
 ghost use Rattle.dgc_server.specs.Table.{entry_of, no_entry, IsPlaceOf, with_entry, after_lapse, remembered, clients_after, fresh_pairs, pairs_after};
 
@@ -25,8 +25,16 @@ pub struct Sums {
     pub pairs: u128,
 }
 
+/// What a noted call changed: what the client's entry added to the sums before and adds since, and when its lease ends since.
+#[derive(Clone, Copy, Debug)]
+pub struct Noted {
+    pub before: Sums,
+    pub after: Sums,
+    pub until: u64,
+}
+
 /// The entry of a client, if it has one.
-pub fn find<'a>(entries: &'a [ClientEntry], client: &Vmid) -> Option<&'a ClientEntry>
+fn find<'a>(entries: &'a [ClientEntry], client: &Vmid) -> Option<&'a ClientEntry>
     requires { IsTrue (is_in_order entries.now) }
     ensures { let other = no_entry client.now in
         entry_of entries.now client.now ≡ unwrap_or (option_copied result) other }
@@ -58,8 +66,8 @@ fn place_of(entries: &[ClientEntry], client: &Vmid) -> Result<usize, usize>
     Err(low)
 }
 
-/// Notes a call of a client, by which a lease of this duration begins if it is a dirty. The counts are those of the moment `from`. It is
-/// refused only for want of memory, and then all is as it was.
+/// Notes a call of a client, by which a lease of this duration begins if it is a dirty, and answers what it changed. The counts and sums are
+/// those of the moment `from`. It is refused only for want of memory, and then all is as it was.
 pub fn note(
     alloc: Global,
     entries: &mut Vec<ClientEntry>,
@@ -68,11 +76,12 @@ pub fn note(
     call: &LeaseCall<'_>,
     lease: u64,
     from: u64,
-) -> Result<(), AllocError>
+) -> Result<Noted, AllocError>
     requires later { from ≤ call.now.at }
     requires early { call.now.at < 2 ^ 62 }
     requires some { 1 ≤ lease }
     requires short { lease ≤ 2 ^ 40 }
+    requires numbered { IsTrue (list_all (λ e. each_has_number e.objects) entries.old.items) }
     requires ordered { IsTrue (is_in_order entries.old.items) }
     requires once { IsTrue (list_all (λ e. each_once e.objects) entries.old.items) }
     requires few { (w : Way) (o : ObjId) → length (filter (is_counted w from o) entries.old.items) ≤ 262144 }
@@ -81,19 +90,62 @@ pub fn note(
     ensures ok { OnOk result (entries.new.items ≡ with_entry
         (entry_after lease call.now.kind call.now.number.now call.now.objects.now call.now.at (entry_of entries.old.items client.now)) entries.old.items) }
     ensures counted { OnOk result ((w : Way) (o : ObjId) → counted_at w counts.new o ≡ length (filter (is_counted w from o) entries.new.items)) }
+    ensures before { IfOk result (λ noted. noted.before ≡ entry_sums from (entry_of entries.old.items client.now)) }
+    ensures after { IfOk result (λ noted. let own = entry_of entries.old.items client.now in
+        noted.after ≡ entry_sums from (entry_after lease call.now.kind call.now.number.now call.now.objects.now call.now.at own)) }
+    ensures until { IfOk result (λ noted. let own = entry_of entries.old.items client.now in
+        noted.until ≡ (entry_after lease call.now.kind call.now.number.now call.now.objects.now call.now.at own).until) }
+    ensures small { IfOk result (λ noted. (noted.after.leased ≤ 1) × (noted.after.pairs < 2 ^ 64)) }
     ensures err { OnErr result (entries.new.items ≡ entries.old.items) }
     ensures same { OnErr result (counts.new ≡ counts.old) }
 {
     match place_of(entries, client) {
-        Ok(place) => entries[place].note(counts, call, lease, from, hint(place)),
+        Ok(place) => note_entry(&mut entries[place], counts, call, lease, from, hint(place)),
         Err(place) => {
             entries.reserve(1)?;
             let mut entry = ClientEntry::fresh(alloc, client)?;
-            entry.note(counts, call, lease, from, hint(place))?;
+            let noted = note_entry(&mut entry, counts, call, lease, from, hint(place))?;
             insert_within(entries, place, entry);
-            Ok(())
+            Ok(noted)
         }
     }
+}
+
+/// Notes a call in a client's entry, and answers what it changed. It is refused only for want of memory, and then all is as it was.
+fn note_entry(
+    entry: &mut ClientEntry,
+    counts: &mut Counts,
+    call: &LeaseCall<'_>,
+    lease: u64,
+    from: u64,
+    place: u32,
+) -> Result<Noted, AllocError>
+    requires later { from ≤ call.now.at }
+    requires early { call.now.at < 2 ^ 62 }
+    requires some { 1 ≤ lease }
+    requires short { lease ≤ 2 ^ 40 }
+    requires numbered { IsTrue (each_has_number entry.old.objects) }
+    requires once { IsTrue (each_once entry.old.objects) }
+    requires has { (o : ObjId) → is_in o call.now.objects.now ≡ true → has_count counts.old o ≡ true }
+    requires enough { (w : Way) (o : ObjId) → one_if (is_counted w from o entry.old) ≤ counted_at w counts.old o }
+    requires few { (w : Way) (o : ObjId) → counted_at w counts.old o + 1 < 2 ^ 31 }
+    ensures ok { OnOk result (entry.new ≡ entry_after lease call.now.kind call.now.number.now call.now.objects.now call.now.at entry.old) }
+    ensures counts { OnOk result ((w : Way) (o : ObjId) → counted_at w counts.new o + one_if (is_counted w from o entry.old)
+        ≡ counted_at w counts.old o + one_if (is_counted w from o entry.new)) }
+    ensures before { IfOk result (λ noted. noted.before ≡ entry_sums from entry.old) }
+    ensures after { IfOk result (λ noted. noted.after ≡ entry_sums from entry.new) }
+    ensures until { IfOk result (λ noted. noted.until ≡ entry.new.until) }
+    ensures small { IfOk result (λ noted. (noted.after.leased ≤ 1) × (noted.after.pairs < 2 ^ 64)) }
+    ensures err { OnErr result (entry.new ≡ entry.old) }
+    ensures same { OnErr result (counts.new ≡ counts.old) }
+{
+    let before = sums_of(entry, from);
+    entry.note(counts, call, lease, from, place)?;
+    Ok(Noted {
+        before,
+        after: sums_of(entry, from),
+        until: entry.until(),
+    })
 }
 
 /// A place as a count notes it: the first, if it is too great a number.
@@ -117,16 +169,11 @@ fn insert_within(entries: &mut Vec<ClientEntry>, place: usize, entry: ClientEntr
     }
 }
 
-/// A moment before which no lease ends, where none ended before another one and this client's entry was noted since; 0 where nothing
-/// can be said.
-pub fn bound_with(entries: &[ClientEntry], client: &Vmid, bound: u64, at: u64) -> u64
-    requires { IsTrue (is_in_order entries.now) }
-    ensures { let entry = entry_of entries.now client.now in result ≡ (if has_time_left at entry then min bound entry.until else 0) }
+/// A moment before which no lease ends, where none ended before another one and one was noted since that ends then; 0 where nothing can be said.
+pub fn bound_with(bound: u64, until: u64, at: u64) -> u64
+    ensures { result ≡ (if nat_lt at until then min bound until else 0) }
 {
-    match find(entries, client) {
-        Some(entry) if entry.has_time_left(at) => bound.min(entry.until()),
-        _ => 0,
-    }
+    if at < until { bound.min(until) } else { 0 }
 }
 
 /// A moment before which no lease ends that has time left at this one.
@@ -308,22 +355,6 @@ fn sums_of(entry: &ClientEntry, at: u64) -> Sums
     Sums {
         leased,
         pairs: entry.remembered(at) as u128,
-    }
-}
-
-/// What a client's own entry adds to the sums.
-pub fn own_sums(entries: &[ClientEntry], client: &Vmid, at: u64) -> Sums
-    requires ordered { IsTrue (is_in_order entries.now) }
-    requires noted { IsTrue (list_all (λ e. each_has_number e.objects) entries.now) }
-    ensures value { result ≡ entry_sums at (entry_of entries.now client.now) }
-    ensures small { (result.leased ≤ 1) × (result.pairs < 2 ^ 64) }
-{
-    match find(entries, client) {
-        Some(entry) => sums_of(entry, at),
-        None => Sums {
-            leased: 0,
-            pairs: 0,
-        },
     }
 }
 
