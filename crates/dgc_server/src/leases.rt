@@ -219,12 +219,17 @@ impl Leases {
     }
 
     /// How many clients hold an object at this moment. A moment before the greatest one is read as the
-    /// greatest.
+    /// greatest. Where no lease ends by then it looks at no client.
     pub fn holders(&self, object: ObjId, now: u64) -> u32
         ensures { ForEachLog self.now (λ lease moment calls.
             result ≡ length (holders lease (max now moment) calls object)) }
     {
-        table::holders(&self.entries, &object, self.at(now)) as u32
+        let at = self.at(now);
+        if at < self.next {
+            count_of(&self.counts, &object).holders
+        } else {
+            table::holders(&self.entries, &object, at) as u32
+        }
     }
 
     /// Forgets that calls named this object: it is as if no call so far had. An object counts from its last
