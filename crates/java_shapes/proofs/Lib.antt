@@ -17,5 +17,6 @@ pub mod NoteLaws
 pub mod Stays
 pub mod StaysMore
 pub mod LeaseGraph
+pub mod Nameless
 pub mod RefGraph
 pub mod TextsGraph

@@ -1,4 +1,4 @@
-use Rattle.std.proofs.Common.{◌≡◌, ◌∙◌, sym, arith, true, false}
+use Rattle.std.proofs.Common.{◌≡◌, ◌∙◌, sym, arith}
 use Rattle.java_shapes.specs.Objects.{same_text}
 use Rattle.java_shapes.proofs.Same.{same_apart, same_step, same_ended}
 use Rattle.java_shapes.proofs.class_part.is_text.Goals as goal
