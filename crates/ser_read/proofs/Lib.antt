@@ -15,6 +15,7 @@ pub mod Does
 pub mod Wants
 pub mod Heads
 pub mod Runs
+pub mod IntoBuffers
 pub mod Empties
 pub mod Served
 pub mod Flat

@@ -1,12 +1,12 @@
 //! Block data in the outermost place.
-ghost use Rattle.std.specs.Prelude.{◌≡◌, ℕ};
+ghost use Rattle.std.specs.Prelude.{◌≡◌, ℕ, length};
 ghost use Rattle.ser_read.specs.Here.{ReadsTaken, StopsTaken};
 ghost use Rattle.ser_read.specs.Heads.{one_head, any_head, is_empty, head_at};
 ghost use Rattle.ser_read.specs.Wants.{StopsWant, WantTaken, fault_at, no_block, opened_at, run_at};
 
 use crate::fault::{StreamFault, StreamKind};
 use crate::pieces::bad;
-use crate::pulled::{add_piece, byte, count, take};
+use crate::pulled::{add_piece, byte, count, fill, take};
 use mod_utf::list::ByteList;
 use std::alloc::Global;
 use wire_io::pull::Pull;
@@ -129,4 +129,25 @@ pub(crate) fn run<S: Source>(
         left -= more;
     }
     Ok(bytes)
+}
+
+/// The next bytes of block data, across blocks, into the whole of `buf`, where so many of the present block are left.
+pub(crate) fn run_into<S: Source>(
+    pull: &mut Pull<'_, S>,
+    block: &mut u32,
+    buf: &mut [u8],
+) -> Result<(), StreamFault>
+    ensures lent { pull.new.source.ghost_name ≡ pull.old.source.ghost_name }
+    ensures reads { WantTaken S.left S.faults pull.old pull.new result (λ end. run_at end (length buf.old) block.old) (λ x rest. (buf.new, block.new, rest)) }
+    ensures stops { StopsWant S.left S.faults pull.old pull.new result (λ end. run_at end (length buf.old) block.old) }
+{
+    let mut done = 0;
+    while done < buf.len() {
+        let present = opened(pull, *block)?;
+        let more = (buf.len() - done).min(present as usize);
+        fill(pull, &mut buf[done..done + more])?;
+        *block = present - more as u32;
+        done += more;
+    }
+    Ok(())
 }

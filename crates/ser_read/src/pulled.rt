@@ -39,6 +39,7 @@ fn see(bytes: &[u8])
 }
 
 /// Takes the next bytes into the whole of `buf`.
+#[inline(always)]
 pub(crate) fn fill<S: Source>(pull: &mut Pull<'_, S>, buf: &mut [u8]) -> Result<(), StreamFault>
     ensures lent { pull.new.source.ghost_name ≡ pull.old.source.ghost_name }
     ensures reads { ReadsTaken S.left S.faults pull.old pull.new result (λ end. take_at (length buf.old)) (λ x rest. (buf.new, rest)) }
@@ -49,19 +50,20 @@ pub(crate) fn fill<S: Source>(pull: &mut Pull<'_, S>, buf: &mut [u8]) -> Result<
     Ok(())
 }
 
-/// The next two bytes as a number, the highest first. They are taken one by one, which costs less than to take so few at once.
+/// The next two bytes as a number, the highest first.
 #[inline(always)]
 pub(crate) fn two<S: Source>(pull: &mut Pull<'_, S>) -> Result<u16, StreamFault>
     ensures lent { pull.new.source.ghost_name ≡ pull.old.source.ghost_name }
     ensures reads { ReadsTaken S.left S.faults pull.old pull.new result (λ end. number_at w16) (λ x rest. (x, rest)) }
     ensures stops { StopsTaken S.left S.faults pull.old pull.new result (λ end. number_at w16) }
 {
-    let high = byte(pull)?;
-    let low = byte(pull)?;
-    Ok(u16::from_be_bytes([high, low]))
+    let mut bytes = [0; 2];
+    fill(pull, &mut bytes)?;
+    Ok(u16::from_be_bytes(bytes))
 }
 
 /// The next four bytes as a number, the highest first.
+#[inline(always)]
 pub(crate) fn four<S: Source>(pull: &mut Pull<'_, S>) -> Result<u32, StreamFault>
     ensures lent { pull.new.source.ghost_name ≡ pull.old.source.ghost_name }
     ensures reads { ReadsTaken S.left S.faults pull.old pull.new result (λ end. number_at w32) (λ x rest. (x, rest)) }
@@ -73,6 +75,7 @@ pub(crate) fn four<S: Source>(pull: &mut Pull<'_, S>) -> Result<u32, StreamFault
 }
 
 /// The next eight bytes as a number, the highest first.
+#[inline(always)]
 pub(crate) fn eight<S: Source>(pull: &mut Pull<'_, S>) -> Result<u64, StreamFault>
     ensures lent { pull.new.source.ghost_name ≡ pull.old.source.ghost_name }
     ensures reads { ReadsTaken S.left S.faults pull.old pull.new result (λ end. number_at w64) (λ x rest. (x, rest)) }

@@ -1,5 +1,5 @@
 //! Reading a stream want by want.
-ghost use Rattle.std.specs.Prelude.{◌≡◌, ◌≢◌, [], ◌∷◌, OnOk, IfOk, IfErr, Some, None, Err};
+ghost use Rattle.std.specs.Prelude.{◌≡◌, ◌≢◌, [], ◌∷◌, length, OnOk, IfOk, IfErr, Some, None, Err};
 ghost use Rattle.ser_values.specs.Reading.{magic_at};
 ghost use Rattle.ser_read.specs.declared.fault.StreamFault.{StreamFault};
 ghost use Rattle.ser_read.specs.declared.fault.StreamFault.TheVariants.{Bad};
@@ -9,7 +9,7 @@ ghost use Rattle.ser_read.specs.Wants.{GivesWant, WantGives, StopsWant, WantTake
 ghost use Rattle.ser_read.specs.Tables.{now_of};
 ghost use Rattle.ser_read.specs.Stands.{stand_of};
 
-use crate::block::{Head, next_head, run};
+use crate::block::{Head, next_head, run, run_into};
 use crate::fault::{StreamFault, StreamKind};
 use crate::header::magic;
 use crate::pieces::{add, bad};
@@ -53,6 +53,25 @@ fn bytes_in<S: Source>(
     let copy = bytes.copy(alloc)?;
     add(&mut stand.items, Item::Bytes(copy))?;
     Ok(bytes)
+}
+
+/// The next bytes of block data, across blocks, into the whole of `buf`.
+#[tactic(auto, unfolding(crate::specs::Wants::bytes_at))]
+fn bytes_put<S: Source>(
+    alloc: Global,
+    pull: &mut Pull<'_, S>,
+    stand: &mut Stand,
+    buf: &mut [u8],
+) -> Result<(), StreamFault>
+    ensures lent { pull.new.source.ghost_name ≡ pull.old.source.ghost_name }
+    ensures table { stand.new.table ≡ stand.old.table }
+    ensures reads { WantTaken S.left S.faults pull.old pull.new result (λ end. bytes_at end (length buf.old) (stand_of stand.old)) (λ x rest. (buf.new, stand_of stand.new, rest)) }
+    ensures stops { StopsWant S.left S.faults pull.old pull.new result (λ end. bytes_at end (length buf.old) (stand_of stand.old)) }
+{
+    run_into(pull, &mut stand.block, buf)?;
+    let copy = ByteList::from_slice(alloc, buf)?;
+    add(&mut stand.items, Item::Bytes(copy))?;
+    Ok(())
 }
 
 /// The next reference, once no block data is left.
@@ -171,6 +190,37 @@ impl Reader {
         }
         match bytes_in(alloc, pull, &mut self.stand, n) {
             Ok(bytes) => Ok(bytes),
+            Err(fault) => {
+                self.refused = Some(fault);
+                Err(fault)
+            }
+        }
+    }
+
+    /// The next bytes of block data, across blocks, into the whole of `buf`. None are taken, and no block is begun, where it is empty.
+    ///
+    /// Each fault comes as at [`Reader::bytes`]. What stands in `buf` after a fault is left open.
+    pub fn bytes_into<S: Source>(
+        &mut self,
+        alloc: Global,
+        pull: &mut Pull<'_, S>,
+        buf: &mut [u8],
+    ) -> Result<(), StreamFault>
+        ensures again { (fault : StreamFault) → self.old.refused ≡ Some fault → (result ≡ Err fault) × (self.new.refused ≡ Some fault) × (pull.new.source.now ≡ pull.old.source.now) × (pull.new.at ≡ pull.old.at) × (pull.new.stop ≡ pull.old.stop) }
+        ensures kept { OnOk result (self.new.refused ≡ None) }
+        ensures refused { IfErr result (λ fault. self.new.refused ≡ Some fault) }
+        ensures cause { self.old.refused ≡ None → Caused (S.faults pull.old.source.now) (S.faults pull.new.source.now) result }
+        ensures lent { pull.new.source.ghost_name ≡ pull.old.source.ghost_name }
+        ensures env { OnOk result (env S.left pull.new ≡ env S.left pull.old) }
+        ensures gives { self.old.refused ≡ None → GivesWant S.left pull.old pull.new result (λ end. bytes_at end (length buf.old) self.old.stand) (λ x rest. (buf.new, self.new.stand, rest)) }
+        ensures reads { WantTaken S.left S.faults pull.old pull.new result (λ end. bytes_at end (length buf.old) self.old.stand) (λ x rest. (buf.new, self.new.stand, rest)) }
+        ensures stops { self.old.refused ≡ None → StopsWant S.left S.faults pull.old pull.new result (λ end. bytes_at end (length buf.old) self.old.stand) }
+    {
+        if let Some(earlier) = self.refused {
+            return Err(earlier);
+        }
+        match bytes_put(alloc, pull, &mut self.stand, buf) {
+            Ok(()) => Ok(()),
             Err(fault) => {
                 self.refused = Some(fault);
                 Err(fault)

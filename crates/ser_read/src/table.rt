@@ -94,6 +94,7 @@ impl Table {
     }
 
     /// Gives a node the next handle. The answer is its number.
+    #[inline(always)]
     pub(crate) fn begin(&mut self, node: Node) -> Result<u32, AllocError>
         requires { length self.old.nodes.items < NODES }
         ensures number { IfOk result (λ number. number ≡ length self.old.nodes.items) }
