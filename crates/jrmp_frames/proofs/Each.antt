@@ -2,7 +2,6 @@
 use Rattle.std.proofs.Common.{◌≡◌, ℕ, ◌+◌, ◌<◌, ◌≤◌, List, [], ◌∷◌, ◌++◌, length, drop, get_or, drop-cons, length-drop, Ok, Err, refl, sym, ap, ◌∙◌, append_assoc, append-nil, arith, add-one}
 use Rattle.std.proofs.lemmas.List.{nil_from_length}
 use Rattle.wire_io.specs.Pulled.{Place}
-use Rattle.wire_io.proofs.Pulling.{takes_nothing}
 use Rattle.class_desc.specs.declared.field.TypeCode.{TypeCode}
 use Rattle.class_desc.specs.declared.field.TypeCode.TheVariants as codes
 use Rattle.class_desc.specs.declared.slot.Slot.{Slot}
@@ -15,7 +14,7 @@ use Rattle.ser_read.specs.Here.{Reads}
 use Rattle.ser_read.specs.Wants.{WantFault, inside, Stand, bytes_at, slot_next, want_at, serve, WantBreaks}
 use Rattle.ser_read.proofs.Asked.{serve_fits}
 use Rattle.ser_read.proofs.Wants.{want_bytes, want_slot}
-use Rattle.ser_read.proofs.Steps.{Leads, no_next, leads_start, leads_more, leads_done, said, done, reads_two}
+use Rattle.ser_read.proofs.Steps.{Leads, leads_start, leads_more, leads_done, said, done, reads_two}
 use Rattle.ser_read.proofs.InOrder.{given_before, serve_start, serve_next, serve_err, serve_end}
 use Rattle.ser_read.proofs.Breaking.{want_loop_stops, want_took}
 use Rattle.ser_read.specs.declared.fault.StreamFault.TheVariants.{OutOfMemory}
@@ -38,6 +37,19 @@ width_is codes.S n h = cc
 width_is codes.Z n h = cc
 width_is codes.Array n h = absurd cc
 width_is codes.Object n h = absurd cc
+
+-- No number has more than eight bytes.
+pub few_bytes : (code : TypeCode) → width_of code ≤ 8
+few_bytes codes.B = omega arith
+few_bytes codes.C = omega arith
+few_bytes codes.D = omega arith
+few_bytes codes.F = omega arith
+few_bytes codes.I = omega arith
+few_bytes codes.J = omega arith
+few_bytes codes.S = omega arith
+few_bytes codes.Z = omega arith
+few_bytes codes.Array = omega arith
+few_bytes codes.Object = omega arith
 
 bytes_are : (end n : ℕ) (s later : Stand) (bs b rest : List ℕ) → bytes_at end n s bs ≡ Ok (b, later, rest) → length b ≡ n
 unfolding serve want_at
@@ -126,7 +138,3 @@ comes_short params i d stand now args lt c h = want_loop_stops c.leads (λ end b
 pub comes_unkept : {p q r : Place} (params : List TypeCode) (i : ℕ) (d : TypeCode) (stand now later : Stand) (args : List Arg) (arg : Arg) → i < length params → Comes p q params i stand now args → ReadsArgument q r now later (get_or params i d) arg
     → WantBreaks p r OutOfMemory (λ end. serve end (wants_of params) stand)
 comes_unkept params i d stand now later args arg lt c a = comes_short params i d stand now args lt c (want_took a.reads)
-
--- There was no memory for any.
-pub comes_none : (p : Place) (params : List TypeCode) (stand : Stand) → WantBreaks p p OutOfMemory (λ end. serve end (wants_of params) stand)
-comes_none p params stand = record { is = record { taken = []; takes = takes_nothing p; least = λ front one others e. absurd (no_next front one others e) } }

@@ -19,6 +19,9 @@ use std::alloc::Global;
 use wire_io::pull::Pull;
 use wire_io::source::Source;
 
+/// How many bytes the widest values of a primitive type take.
+const WIDEST: usize = 8;
+
 /// One argument of a call.
 #[derive(Clone, Copy, Debug, PartialEq, Eq)]
 pub enum Arg {
@@ -95,6 +98,27 @@ fn value_of(code: TypeCode, bytes: &[u8]) -> Value
     }
 }
 
+/// The argument that comes next, for a parameter of a type whose values take so many bytes.
+fn read_prim<S: Source>(
+    alloc: Global,
+    pull: &mut Pull<'_, S>,
+    reader: &mut Reader,
+    code: TypeCode,
+    n: u32,
+) -> Result<Arg, StreamFault>
+    requires wanted { want_of code ≡ wanted.Bytes n }
+    requires kept { reader.old.refused ≡ None }
+    ensures kept { OnOk result (reader.new.refused ≡ None) }
+    ensures lent { pull.new.source.ghost_name ≡ pull.old.source.ghost_name }
+    ensures reads { IfOk result (ReadsArgument (place S.left S.faults pull.old) (place S.left S.faults pull.new) reader.old.stand reader.new.stand code) }
+    ensures stops { StopsWant S.left S.faults pull.old pull.new result (λ end. want_at end (want_of code) reader.old.stand) }
+{
+    let mut all = [0; WIDEST];
+    let bytes = &mut all[..n as usize];
+    reader.bytes_into(alloc, pull, bytes)?;
+    Ok(Arg::Prim(value_of(code, bytes)))
+}
+
 /// The argument that comes next, for a parameter of this type.
 fn read_arg<S: Source>(
     alloc: Global,
@@ -109,10 +133,7 @@ fn read_arg<S: Source>(
     ensures stops { StopsWant S.left S.faults pull.old pull.new result (λ end. want_at end (want_of code) reader.old.stand) }
 {
     match want_of(code) {
-        Want::Bytes(n) => {
-            let bytes = reader.bytes(alloc, pull, n)?;
-            Ok(Arg::Prim(value_of(code, bytes.as_slice())))
-        }
+        Want::Bytes(n) => read_prim(alloc, pull, reader, code, n),
         Want::Slot => {
             let slot = reader.slot(alloc, pull)?;
             Ok(Arg::Ref(slot))

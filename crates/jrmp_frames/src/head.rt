@@ -8,7 +8,6 @@ ghost use Rattle.jrmp_frames.specs.Messages.{head_bytes};
 ghost use Rattle.jrmp_frames.specs.Calls.{head_at, ReadsHead, HasHead, BreaksIn, CausedIn, GivesIn};
 
 use crate::fault::FrameFault;
-use mod_utf::list::ByteList;
 use object_ids::{ObjId, objid_bytes, objid_of};
 use ser_read::{Reader, StreamFault};
 use std::alloc::Global;
@@ -75,25 +74,27 @@ fn i64_of(bytes: &[u8]) -> i64
     ])
 }
 
-/// Reads the stream's magic number and version, and then the bytes of a head.
+/// Reads the stream's magic number and version, and then the bytes of a head into `bytes`.
 #[tactic(auto, unfolding(crate::specs::Calls::head_at))]
 fn read_start<S: Source>(
     alloc: Global,
     pull: &mut Pull<'_, S>,
-) -> Result<(ByteList, Reader), StreamFault>
+    bytes: &mut [u8],
+) -> Result<Reader, StreamFault>
+    requires { length bytes.old ≡ 34 }
     ensures lent { pull.new.source.ghost_name ≡ pull.old.source.ghost_name }
-    ensures kept { IfOk result (λ x. x.1.refused ≡ None) }
-    ensures reads { WantTaken S.left S.faults pull.old pull.new result head_at (λ x rest. (x.0, x.1.stand, rest)) }
+    ensures kept { IfOk result (λ reader. reader.refused ≡ None) }
+    ensures reads { WantTaken S.left S.faults pull.old pull.new result head_at (λ reader rest. (bytes.new, reader.stand, rest)) }
     ensures stops { StopsWant S.left S.faults pull.old pull.new result head_at }
 {
     let mut reader = Reader::start(alloc, pull)?;
-    let bytes = reader.bytes(alloc, pull, HEAD_BYTES as u32)?;
-    Ok((bytes, reader))
+    reader.bytes_into(alloc, pull, bytes)?;
+    Ok(reader)
 }
 
 /// Reads the head of a call, which follows the code `50`, and answers with it the reader that stands behind it.
 ///
-/// Each fault comes as at [`Reader::start`] and [`Reader::bytes`].
+/// Each fault comes as at [`Reader::start`] and [`Reader::bytes_into`].
 pub fn read_head<S: Source>(
     alloc: Global,
     pull: &mut Pull<'_, S>,
@@ -105,8 +106,9 @@ pub fn read_head<S: Source>(
     ensures cause { CausedIn (S.faults pull.old.source.now) (S.faults pull.new.source.now) result }
     ensures lent { pull.new.source.ghost_name ≡ pull.old.source.ghost_name }
 {
-    match read_start(alloc, pull) {
-        Ok((bytes, reader)) => Ok((CallHead::from_bytes(bytes.as_slice()), reader)),
+    let mut bytes = [0; HEAD_BYTES];
+    match read_start(alloc, pull, &mut bytes) {
+        Ok(reader) => Ok((CallHead::from_bytes(&bytes), reader)),
         Err(fault) => Err(FrameFault::Stream(fault)),
     }
 }
