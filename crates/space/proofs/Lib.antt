@@ -3,6 +3,7 @@ pub mod Acting
 pub mod AheadLaws
 pub mod AnswerLaws
 pub mod AskLaws
+pub mod AskedRowLaws
 pub mod AwaitLaws
 pub mod BalanceLaws
 pub mod Bindings

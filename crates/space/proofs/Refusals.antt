@@ -1,6 +1,7 @@
 -- Why a lease call is refused.
-use Rattle.std.proofs.Common.{◌≡◌, ℕ, ◌<◌, ◌≤◌, ◌⊎◌, inl, inr, List, [], refl, ap, ◌∙◌, Option, Some, None, Ok, Err, Result}
-use Rattle.std.specs.Prelude.{ℤ, Bool, true, false, ◌&&◌, ◌↔◌, nat_lt, if◌then◌else◌, ◌≢◌}
+use Rattle.std.proofs.Common.{◌≡◌, ℕ, ◌<◌, ◌≤◌, ◌⊎◌, inl, inr, List, [], ◌∷◌, refl, ap, sym, ◌∙◌, Option, Some, None, Ok, Err, Result, true≢false}
+use Rattle.std.specs.Prelude.{ℤ, Bool, true, false, ◌&&◌, ◌↔◌, nat_lt, if◌then◌else◌, ◌≢◌, filter}
+use Rattle.std.specs.List.{list_all}
 use Rattle.std.proofs.str.Laws.{order}
 use Rattle.std.proofs.lemmas.Bool.{lt-ltb, le-ltb}
 use Rattle.object_ids.specs.declared.ids.ObjId.{ObjId}
@@ -84,3 +85,11 @@ pub no_call : (names : ObjId → Bool) (moment : ℕ) (a : Ask) →
 no_call names moment (Dirty a b c d) nd nc = absurd (nd a b c d refl)
 no_call names moment (Clean a b c d) nd nc = absurd (nc a b c d refl)
 no_call names moment _ nd nc = refl
+
+-- Where all of some objects are exported, those of them that are exported are all of them.
+pub filter_all : (test : ObjId → Bool) (objects : List ObjId) → list_all test objects ≡ true → filter test objects ≡ objects
+filter_all test [] all = refl
+filter_all test (object ∷ objects) all = elim (test object) as (λ b. test object ≡ b → (b && list_all test objects) ≡ true → (if b then object ∷ filter test objects else filter test objects) ≡ object ∷ objects) [
+  | true ↦ λ is rest. ap (λ os. object ∷ os) (filter_all test objects rest)
+  | false ↦ λ is never. absurd (true≢false (sym never))
+] refl all

@@ -1,9 +1,10 @@
 -- The entries of a log's rows.
-use Rattle.std.specs.Prelude.{◌≡◌, ℕ, []}
+use Rattle.std.specs.Prelude.{◌≡◌, ◌<◌, ℕ, List, [], slice_get, unwrap_or}
 use Rattle.history.specs.declared.asks.Ask.{Ask}
-use Rattle.history.specs.declared.asks.Ask.TheVariants.{Begin, Finish, Abandon, Ack}
+use Rattle.history.specs.declared.asks.Ask.TheVariants.{Begin, Finish, Abandon, Ack, Tick}
 use Rattle.history.specs.declared.replies.Reply.{Reply}
 use Rattle.history.specs.declared.replies.Reply.TheVariants.{Started, Finished, Done}
+use Rattle.history.specs.declared.replies.Refused.TheVariants.{OutOfMemory}
 use Rattle.history.specs.declared.replies.Turn.{Turn}
 use Rattle.event_log.specs.Ids.{id_of, uid_of}
 use Rattle.space.specs.declared.asked.Asked.{Asked}
@@ -42,14 +43,30 @@ IsPlainEnd ask (Denied refused) = ⊥
 abbrev pub plain_turn : ℕ → Reply → Turn
 plain_turn place reply = record { place = place; reply = reply; gone = [] }
 
--- The entry of a moment that says this.
-abbrev pub entry_with : ℕ → AskedWhat → Asked
-entry_with moment (Began place object kind) = record { moment = moment; ask = Begin (id_of object); end = Turned (plain_turn place (Started kind)) }
-entry_with moment (Returned place object uid) = record { moment = moment; ask = Finish (id_of object) [] [] (uid_of uid); end = Turned (plain_turn place (Finished [])) }
-entry_with moment (GivenUp place object) = record { moment = moment; ask = Abandon (id_of object); end = Abandoned place }
-entry_with moment (Acked place uid) = record { moment = moment; ask = Ack (uid_of uid); end = Turned (plain_turn place Done) }
-entry_with moment (Whole entry) = entry.value
+-- The entry of a number that no entry has.
+abbrev pub no_entry : Asked
+no_entry = record { moment = 0; ask = Tick; end = Denied OutOfMemory }
+
+-- The entry that is kept whole under this number.
+abbrev pub whole_at : List Asked → ℕ → Asked
+whole_at wholes number = unwrap_or (slice_get wholes number) no_entry
+
+-- The entry of a moment that says this, where these are the entries that are kept whole, by their numbers.
+abbrev pub entry_with : List Asked → ℕ → AskedWhat → Asked
+entry_with wholes moment (Began place object kind) = record { moment = moment; ask = Begin (id_of object); end = Turned (plain_turn place (Started kind)) }
+entry_with wholes moment (Returned place object uid) = record { moment = moment; ask = Finish (id_of object) [] [] (uid_of uid); end = Turned (plain_turn place (Finished [])) }
+entry_with wholes moment (GivenUp place object) = record { moment = moment; ask = Abandon (id_of object); end = Abandoned place }
+entry_with wholes moment (Acked place uid) = record { moment = moment; ask = Ack (uid_of uid); end = Turned (plain_turn place Done) }
+entry_with wholes moment (Whole number) = whole_at wholes number
 
 -- The entry of a row.
-abbrev pub entry_of_row : AskedRow → Asked
-entry_of_row row = entry_with row.moment row.what
+abbrev pub entry_of_row : List Asked → AskedRow → Asked
+entry_of_row wholes row = entry_with wholes row.moment row.what
+
+-- The number that it says is one of so many.
+abbrev pub IsAmongWhole : ℕ → AskedWhat → Type 0
+IsAmongWhole count (Whole number) = number < count
+IsAmongWhole count _ = Unit {0}
+
+abbrev pub IsKnownRow : ℕ → AskedRow → Type 0
+IsKnownRow count row = IsAmongWhole count row.what

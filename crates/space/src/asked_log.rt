@@ -1,25 +1,28 @@
 //! The entries of a port in few bytes.
 ghost use Rattle.std.specs.Prelude.{◌≡◌, ◌⊎◌, ◌≤◌, ◌<◌, ◌+◌, ◌^◌, ◌++◌, ◌∷◌, [], ◌↔◌, true, length, map, slice_get, option_map, Some, IsTrue, IfOk, OnOk};
-ghost use Rattle.space.specs.AskedRows.{IsPlainEnd, entry_of_row};
+ghost use Rattle.std.specs.List.{AllByRecursion};
+ghost use Rattle.space.specs.AskedRows.{IsKnownRow, IsPlainEnd, entry_of_row};
 ghost use Rattle.space.specs.AskedViews.{viewed};
 
-use crate::asked::{Asked, AskedEnd, AskedList};
+use crate::asked::{Asked, AskedList};
 use crate::asked_rows::{AskedRow, is_plain, plain_row, view_of, whole_row};
 use crate::asked_view::AskedView;
-use history::{Ask, Refused};
 use mod_utf::list::TryCopy;
 use std::alloc::{AllocError, Global};
 use std::marker::Model;
 
 /// The entries of a port, oldest first. One that is plain (a Begin that started a call, a Finish that makes and lists nothing and ended
-/// one, an Ack, each with nothing told as gone, and a call that was ended without an answer) takes 64 bytes, and each other one a box
-/// beside. Contracts see it as an `AskedRecord`: the list of its entries, how many of them it has room for, and whether it has a box to
-/// spare.
+/// one, an Ack, each with nothing told as gone, and a call that was ended without an answer) takes 64 bytes, and each other one a place
+/// in a list beside. Contracts see it as an `AskedRecord`: the list of its entries, how many of them it has room for, and whether it has a
+/// place in the list beside to spare.
 #[derive(Debug)]
 pub struct AskedLog {
     alloc: Global,
     rows: Vec<AskedRow>,
-    spare: Option<Box<Asked>>,
+    /// The entries that are kept whole, each at the place that is its number.
+    wholes: Vec<Asked>,
+    /// Whether there is surely room for one more of them.
+    spare: bool,
 }
 
 // Written out, so that whoever owns one has one call at each exit, and not the drop of each field.
@@ -28,50 +31,48 @@ impl Drop for AskedLog {
         let AskedLog {
             alloc: _,
             rows,
-            spare,
+            wholes,
+            spare: _,
         } = self;
         drop(rows);
-        drop(spare);
+        drop(wholes);
     }
 }
 
 impl Model for AskedLog {
-    ghost use Rattle.std.specs.Prelude.{map, vec_capacity, is_some};
+    ghost use Rattle.std.specs.Prelude.{◌≡◌, ◌<◌, true, length, map, vec_capacity};
+    ghost use Rattle.std.specs.List.{AllByRecursion};
     ghost use Rattle.space.specs.AskedLog.{AskedRecord};
-    ghost use Rattle.space.specs.AskedRows.{entry_of_row};
+    ghost use Rattle.space.specs.AskedRows.{IsKnownRow, entry_of_row};
 
     ghost Value = { AskedRecord };
 
     ghost view = { λ l. record {
-      items = map entry_of_row l.rows.items;
+      items = map (entry_of_row l.wholes.items) l.rows.items;
       capacity = vec_capacity l.rows;
-      spare = is_some l.spare;
+      spare = l.spare;
     } };
+
+    ghost invariant = { λ l. AllByRecursion (IsKnownRow (length l.wholes.items)) l.rows.items
+        × (l.spare ≡ true → length l.wholes.items < vec_capacity l.wholes) };
 }
 
-/// A box with room for an entry.
-fn room(alloc: Global) -> Result<Box<Asked>, AllocError> {
-    let entry = Asked {
-        moment: 0,
-        ask: Ask::Tick,
-        end: AskedEnd::Refused(Refused::OutOfMemory),
-    };
-    Ok(Box::new(alloc, entry)?)
-}
-
-fn copy_of(alloc: Global, row: &AskedRow) -> Result<Asked, AllocError>
-    ensures { IfOk result (λ copy. copy ≡ entry_of_row row.now) }
+/// A copy of the entry of a row, where these are kept whole.
+fn copy_of(alloc: Global, wholes: &[Asked], row: &AskedRow) -> Result<Asked, AllocError>
+    requires { IsKnownRow (length wholes.now) row.now }
+    ensures { IfOk result (λ copy. copy ≡ entry_of_row wholes.now row.now) }
 {
-    view_of(alloc, row).entry().try_copy(alloc)
+    view_of(alloc, wholes, row).entry().try_copy(alloc)
 }
 
-/// Copies of the entries of rows.
-fn copies_of(alloc: Global, rows: &[AskedRow]) -> Result<AskedList, AllocError>
-    ensures { IfOk result (λ list. list ≡ map entry_of_row rows.now) }
+/// Copies of the entries of rows, where these are kept whole.
+fn copies_of(alloc: Global, wholes: &[Asked], rows: &[AskedRow]) -> Result<AskedList, AllocError>
+    requires { AllByRecursion (IsKnownRow (length wholes.now)) rows.now }
+    ensures { IfOk result (λ list. list ≡ map (entry_of_row wholes.now) rows.now) }
 {
     let mut list = AskedList::new(alloc);
     for row in rows {
-        list.push(copy_of(alloc, row)?)?;
+        list.push(copy_of(alloc, wholes, row)?)?;
     }
     Ok(list)
 }
@@ -81,7 +82,7 @@ impl AskedLog {
     pub fn copies(&self, alloc: Global) -> Result<AskedList, AllocError>
         ensures { IfOk result (λ list. list ≡ self.now.items) }
     {
-        copies_of(alloc, self.rows.as_slice())
+        copies_of(alloc, self.wholes.as_slice(), self.rows.as_slice())
     }
 
     /// The empty list. It takes no memory.
@@ -91,7 +92,8 @@ impl AskedLog {
         AskedLog {
             alloc,
             rows: Vec::new(alloc),
-            spare: None,
+            wholes: Vec::new(alloc),
+            spare: false,
         }
     }
 
@@ -108,7 +110,7 @@ impl AskedLog {
         ensures { option_map viewed result ≡ slice_get self.now.items place }
     {
         match self.rows.get(place) {
-            Some(row) => Some(view_of(self.alloc, row)),
+            Some(row) => Some(view_of(self.alloc, self.wholes.as_slice(), row)),
             None => None,
         }
     }
@@ -122,13 +124,14 @@ impl AskedLog {
         ensures kept { self.old.spare ≡ true → self.new.spare ≡ true }
     {
         self.rows.reserve(more)?;
-        if self.spare.is_none() {
-            self.spare = Some(room(self.alloc)?);
+        if !self.spare {
+            self.wholes.reserve(1)?;
+            self.spare = true;
         }
         Ok(())
     }
 
-    /// Appends an entry, for which there is room. It takes no memory; an entry that is plain leaves the box that is to spare.
+    /// Appends an entry, for which there is room. It takes no memory; an entry that is plain leaves the place that is to spare.
     pub fn push_reserved(&mut self, entry: Asked)
         requires room { length self.old.items < self.old.capacity }
         requires spare { IsPlainEnd entry.ask entry.end ⊎ (self.old.spare ≡ true) }
@@ -140,9 +143,21 @@ impl AskedLog {
             let row = plain_row(&entry);
             self.rows.push_reserved(row);
         } else {
-            let row = whole_row(self.spare.take(), entry);
-            self.rows.push_reserved(row);
+            self.keep_whole(entry);
         }
+    }
+
+    /// Appends an entry that is kept whole, for which there is room.
+    fn keep_whole(&mut self, entry: Asked)
+        requires room { length self.old.items < self.old.capacity }
+        requires spare { self.old.spare ≡ true }
+        ensures items { self.new.items ≡ self.old.items ++ entry ∷ [] }
+        ensures capacity { self.old.capacity ≤ self.new.capacity }
+    {
+        let row = whole_row(entry.moment, self.wholes.len());
+        self.wholes.push_reserved(entry);
+        self.spare = false;
+        self.rows.push_reserved(row);
     }
 }
 

@@ -1,11 +1,12 @@
 //! Entries of turns as a port keeps them.
-ghost use Rattle.std.specs.Prelude.{◌≡◌, ◌↔◌, ℕ, [], IsTrue, IsSome};
+ghost use Rattle.std.specs.Prelude.{◌≡◌, ◌↔◌, ◌<◌, ℕ, List, [], length, IsTrue};
 ghost use Rattle.history.specs.declared.asks.Ask.TheVariants.{Finish as FinishAsk};
 ghost use Rattle.event_log.specs.Ids.{id_of, uid_of};
 ghost use Rattle.history.specs.declared.replies.Reply.TheVariants.{Started, Finished, Done};
 ghost use Rattle.history.specs.declared.replies.Turn.{Turn};
+ghost use Rattle.space.specs.declared.asked.Asked.{Asked as Entry};
 ghost use Rattle.space.specs.declared.asked.AskedEnd.TheVariants.{Turned, Abandoned};
-ghost use Rattle.space.specs.AskedRows.{IsStarted, IsPlainReply, IsPlainEnd, IsAbandon, entry_of_row, entry_with, plain_turn};
+ghost use Rattle.space.specs.AskedRows.{IsStarted, IsPlainReply, IsPlainEnd, IsAbandon, IsAmongWhole, IsKnownRow, entry_of_row, entry_with, plain_turn, whole_at};
 ghost use Rattle.space.specs.AskedViews.{viewed};
 
 use crate::asked::{Asked, AskedEnd};
@@ -41,8 +42,8 @@ pub enum AskedWhat {
         place: u64,
         uid: RowUid,
     },
-    /// Any other entry, whole. What it says of its moment is what counts.
-    Whole(Box<Asked>),
+    /// Any other entry: the one of this number among those that are kept whole. What that one says of its moment is what counts.
+    Whole(usize),
 }
 
 /// An entry as a port keeps it.
@@ -130,7 +131,8 @@ fn kind_of(reply: &Reply) -> u32
 /// What the row of a plain reply says.
 fn turned(place: u64, ask: &Ask, reply: &Reply) -> AskedWhat
     requires { IsPlainReply ask.now reply.now }
-    ensures { (moment : ℕ) → entry_with moment result ≡ record { moment = moment; ask = ask.now; end = Turned (plain_turn place reply.now) } }
+    ensures row { (wholes : List Entry) → (moment : ℕ) → entry_with wholes moment result ≡ record { moment = moment; ask = ask.now; end = Turned (plain_turn place reply.now) } }
+    ensures known { (count : ℕ) → IsAmongWhole count result }
 {
     match ask {
         Ask::Begin { object } => AskedWhat::Began {
@@ -162,7 +164,8 @@ fn turned(place: u64, ask: &Ask, reply: &Reply) -> AskedWhat
 /// What the row of a call says that was ended without an answer.
 fn given_up(place: u64, ask: &Ask) -> AskedWhat
     requires { IsAbandon ask.now }
-    ensures { (moment : ℕ) → entry_with moment result ≡ record { moment = moment; ask = ask.now; end = Abandoned place } }
+    ensures row { (wholes : List Entry) → (moment : ℕ) → entry_with wholes moment result ≡ record { moment = moment; ask = ask.now; end = Abandoned place } }
+    ensures known { (count : ℕ) → IsAmongWhole count result }
 {
     let mut row = RowId {
         number: 0,
@@ -180,7 +183,8 @@ fn given_up(place: u64, ask: &Ask) -> AskedWhat
 
 fn plain_what(ask: &Ask, end: &AskedEnd) -> AskedWhat
     requires { IsPlainEnd ask.now end.now }
-    ensures { (moment : ℕ) → entry_with moment result ≡ record { moment = moment; ask = ask.now; end = end.now } }
+    ensures row { (wholes : List Entry) → (moment : ℕ) → entry_with wholes moment result ≡ record { moment = moment; ask = ask.now; end = end.now } }
+    ensures known { (count : ℕ) → IsAmongWhole count result }
 {
     match end {
         AskedEnd::Turned(turn) => turned(turn.place, ask, &turn.reply),
@@ -192,7 +196,8 @@ fn plain_what(ask: &Ask, end: &AskedEnd) -> AskedWhat
 /// The row of an entry that is kept in it alone.
 pub(crate) fn plain_row(entry: &Asked) -> AskedRow
     requires { IsPlainEnd entry.now.ask entry.now.end }
-    ensures { entry_of_row result ≡ entry.now }
+    ensures row { (wholes : List Entry) → entry_of_row wholes result ≡ entry.now }
+    ensures known { (count : ℕ) → IsKnownRow count result }
 {
     AskedRow {
         moment: entry.moment,
@@ -200,28 +205,13 @@ pub(crate) fn plain_row(entry: &Asked) -> AskedRow
     }
 }
 
-/// The row of an entry that is kept whole, in a box that is there.
-pub(crate) fn whole_row(room: Option<Box<Asked>>, entry: Asked) -> AskedRow
-    requires { IsSome room }
-    ensures { entry_of_row result ≡ entry }
+/// The row of the entry of a moment that is kept whole under this number.
+pub(crate) fn whole_row(moment: u64, number: usize) -> AskedRow
+    ensures row { (wholes : List Entry) → entry_of_row wholes result ≡ whole_at wholes number }
+    ensures known { (count : ℕ) → number < count → IsKnownRow count result }
 {
-    let moment = entry.moment;
-    match room {
-        Some(mut room) => {
-            *room = entry;
-            let what = AskedWhat::Whole(room);
-            AskedRow { moment, what }
-        }
-        None => {
-            let uid = RowUid {
-                time: 0,
-                unique: 0,
-                count: 0,
-            };
-            let what = AskedWhat::Acked { place: 0, uid };
-            AskedRow { moment, what }
-        }
-    }
+    let what = AskedWhat::Whole(number);
+    AskedRow { moment, what }
 }
 
 // ---- reading
@@ -248,12 +238,22 @@ fn finish(alloc: Global, object: &RowId, uid: &RowUid) -> Ask
     }
 }
 
-/// The entry of a row.
-pub(crate) fn view_of(alloc: Global, row: &AskedRow) -> AskedView<'_>
-    ensures { viewed result ≡ entry_of_row row.now }
+/// The entry that is kept whole under this number.
+#[tactic(auto, using(crate::proofs::AskedRowLaws::whole_there))]
+fn whole_numbered(wholes: &[Asked], number: usize) -> &Asked
+    requires { number < length wholes.now }
+    ensures { result.now ≡ whole_at wholes.now number }
+{
+    &wholes[number]
+}
+
+/// The entry of a row, where these are kept whole.
+pub(crate) fn view_of<'a>(alloc: Global, wholes: &'a [Asked], row: &AskedRow) -> AskedView<'a>
+    requires { IsKnownRow (length wholes.now) row.now }
+    ensures { viewed result ≡ entry_of_row wholes.now row.now }
 {
     let (ask, end) = match &row.what {
-        AskedWhat::Whole(entry) => return AskedView::Kept(entry),
+        AskedWhat::Whole(number) => return AskedView::Kept(whole_numbered(wholes, *number)),
         AskedWhat::Began {
             place,
             object,

@@ -1,5 +1,6 @@
 //! What the lease table is told of an ask.
-ghost use Rattle.std.specs.Prelude.{◌≡◌, ◌<◌, ◌^◌, ◌++◌, ◌∷◌, filter, IfOk, OnOk, OnErr};
+ghost use Rattle.std.specs.Prelude.{◌≡◌, ◌<◌, ◌^◌, ◌++◌, ◌∷◌, filter, true, IfOk, OnOk, OnErr};
+ghost use Rattle.std.specs.List.{list_all};
 ghost use Rattle.history.specs.LeaseCalls.{call_with};
 ghost use Rattle.export_table.specs.Rows.{is_exported};
 ghost use Rattle.dgc_server.specs.Counts.{dirty_call, clean_call};
@@ -11,7 +12,7 @@ use crate::asks::is_exported;
 use dgc_server::{LeaseFault, Leases};
 use export_table::Exports;
 use history::{Ask, Refused};
-use object_ids::{FullKind, ObjIds, Vmid};
+use object_ids::{FullKind, ObjId, ObjIds, Vmid};
 use std::alloc::{AllocError, Global};
 
 /// Tells the lease table of an ask at a moment. After a refusal it is as it was.
@@ -65,8 +66,29 @@ fn tell_dirty(
         Agrees (call_refusal lease now calls (dirty_call now client.now number.now (filter (is_exported exports.now.rows) named.now))) result) }
     ensures err { OnErr result (leases.new ≡ leases.old) }
 {
+    if are_exported(exports, named) {
+        return take_dirty(leases, now, client, number, named);
+    }
     let live = live_among(alloc, exports, named)?;
-    match leases.dirty(client, *number, &live, now) {
+    take_dirty(leases, now, client, number, &live)
+}
+
+/// Tells the lease table of a dirty of these objects.
+fn take_dirty(
+    leases: &mut Leases,
+    now: u64,
+    client: &Vmid,
+    number: &i64,
+    live: &ObjIds,
+) -> Result<(), Refused>
+    requires { now < 2 ^ 62 }
+    ensures ok { OnOk result (ForEachLogBy now leases.old (λ lease calls.
+        StandsFor lease leases.new now (dirty_call now client.now number.now live.now ∷ calls))) }
+    ensures refusal { ForEachLogBy now leases.old (λ lease calls.
+        Agrees (call_refusal lease now calls (dirty_call now client.now number.now live.now)) result) }
+    ensures err { OnErr result (leases.new ≡ leases.old) }
+{
+    match leases.dirty(client, *number, live, now) {
         Ok(_granted) => Ok(()),
         Err(fault) => Err(refused_for(fault)),
     }
@@ -89,11 +111,48 @@ fn tell_clean(
         Agrees (call_refusal lease now calls (clean_call now client.now number.now (filter (is_exported exports.now.rows) named.now) strong)) result) }
     ensures err { OnErr result (leases.new ≡ leases.old) }
 {
+    if are_exported(exports, named) {
+        return take_clean(leases, now, client, number, named, strong);
+    }
     let live = live_among(alloc, exports, named)?;
-    match leases.clean(client, *number, &live, strong, now) {
+    take_clean(leases, now, client, number, &live, strong)
+}
+
+/// Tells the lease table of a clean of these objects.
+fn take_clean(
+    leases: &mut Leases,
+    now: u64,
+    client: &Vmid,
+    number: &i64,
+    live: &ObjIds,
+    strong: bool,
+) -> Result<(), Refused>
+    requires { now < 2 ^ 62 }
+    ensures ok { OnOk result (ForEachLogBy now leases.old (λ lease calls.
+        StandsFor lease leases.new now (clean_call now client.now number.now live.now strong ∷ calls))) }
+    ensures refusal { ForEachLogBy now leases.old (λ lease calls.
+        Agrees (call_refusal lease now calls (clean_call now client.now number.now live.now strong)) result) }
+    ensures err { OnErr result (leases.new ≡ leases.old) }
+{
+    match leases.clean(client, *number, live, strong, now) {
         Ok(()) => Ok(()),
         Err(fault) => Err(refused_for(fault)),
     }
+}
+
+/// Whether some objects are all exported.
+fn are_all_exported(exports: &Exports, named: &[ObjId]) -> bool
+    ensures { result ≡ list_all (is_exported exports.now.rows) named.now }
+{
+    named.iter().all(|object| is_exported(exports, object))
+}
+
+/// Whether some objects are all exported, so that those of them that are exported are all of them.
+#[tactic(auto, using(crate::proofs::Refusals::filter_all))]
+fn are_exported(exports: &Exports, named: &ObjIds) -> bool
+    ensures { result ≡ true → filter (is_exported exports.now.rows) named.now ≡ named.now }
+{
+    are_all_exported(exports, named.as_slice())
 }
 
 /// Those of some objects that are exported.

@@ -1,46 +1,27 @@
-use Rattle.std.proofs.Common.{◌≡◌, ℕ, ◌∷◌, ◌⊎◌, List, arith, max, sym, subst, rules, w64, FitsSigned, Option, Some, None}
-use Rattle.std.specs.Prelude.{ℤ, filter}
-use Rattle.std.proofs.lemmas.Int.{to_z-of_z}
+use Rattle.std.proofs.Common.{◌∷◌, List, sym, subst}
+use Rattle.std.specs.Prelude.{OnOk}
 use Rattle.object_ids.specs.declared.ids.ObjId.{ObjId}
-use Rattle.history.specs.declared.replies.Refused.{Refused}
-use Rattle.history.specs.declared.replies.Refused.TheVariants.{OutOfMemory}
-use Rattle.export_table.specs.Rows.{is_exported}
 use Rattle.dgc_server.specs.Counts.{dirty_call}
 use Rattle.dgc_server.specs.Stands.{StandsFor}
-use Rattle.space.specs.Acts.{call_refusal}
-use Rattle.space.specs.Faults.{refused_for}
-use Rattle.space.proofs.Refusals.{dirty-taken, dirty-refused}
+use Rattle.space.specs.Acts.{Agrees, ForEachLogBy, call_refusal}
 use Rattle.space.proofs.calls.tell_dirty.Goals as goal
 
-pub returns-in-Ok-clause-ok : goal.returns-in-Ok-clause-ok
-returns-in-Ok-clause-ok c lease moment calls s le =
-    let fits : FitsSigned w64 c.args.number.now = search rules in
-    let time : max c.args.now moment ≡ c.args.now = omega arith in
-    let T : ℕ → ℤ → List ObjId → Type 0 = λ t n os. StandsFor lease c.dirty.new.self t (dirty_call t c.args.client.now n os ∷ calls) in
-    let P : ℤ → Type 0 = λ n. T (max c.args.now moment) n c.in_ok-live.live in
-    let Q : List ObjId → Type 0 = λ os. T (max c.args.now moment) c.args.number.now os in
-    let M : ℕ → Type 0 = λ t. T t c.args.number.now (filter (is_exported c.args.exports.now.rows) c.args.named.now) in
-    subst M time (subst Q c.in_ok-live.ensures (subst P (to_z-of_z w64 c.args.number.now fits) (c.in-Ok.ensures.ok lease moment calls s)))
+pub returns-then-are_exported-clause-ok : goal.returns-then-are_exported-clause-ok
+returns-then-are_exported-clause-ok c =
+    subst (λ (os : List ObjId). OnOk c.take_dirty.result (ForEachLogBy c.args.now c.args.leases.now (λ lease calls.
+    StandsFor lease c.take_dirty.new.leases c.args.now (dirty_call c.args.now c.args.client.now c.args.number.now os ∷ calls)))) (sym (c.are_exported.ensures c.if-are_exported.true)) c.take_dirty.ensures.ok
 
-pub returns-in-Ok-clause-refusal : goal.returns-in-Ok-clause-refusal
-returns-in-Ok-clause-refusal c lease moment calls s le =
-    let fits : FitsSigned w64 c.args.number.now = search rules in
-    let time : max c.args.now moment ≡ c.args.now = omega arith in
-    let told : ℕ → ℤ → List ObjId → Option Refused = λ t n os. call_refusal lease t calls (dirty_call t c.args.client.now n os) in
-    let P : ℤ → Type 0 = λ n. told (max c.args.now moment) n c.in_ok-live.live ≡ None in
-    let Q : List ObjId → Type 0 = λ os. told (max c.args.now moment) c.args.number.now os ≡ None in
-    let M : ℕ → Type 0 = λ t. told t c.args.number.now (filter (is_exported c.args.exports.now.rows) c.args.named.now) ≡ None in
-    subst M time (subst Q c.in_ok-live.ensures (subst P (to_z-of_z w64 c.args.number.now fits) (dirty-taken _ _ _ (c.in-Ok.ensures.clients lease moment calls s) (c.in-Ok.ensures.pairs lease moment calls s))))
+pub returns-then-are_exported-clause-refusal : goal.returns-then-are_exported-clause-refusal
+returns-then-are_exported-clause-refusal c lease moment calls s le =
+    subst (λ (os : List ObjId). Agrees (call_refusal lease c.args.now calls (dirty_call c.args.now c.args.client.now c.args.number.now os)) c.take_dirty.result) (sym (c.are_exported.ensures c.if-are_exported.true))
+    (c.take_dirty.ensures.refusal lease moment calls s le)
+
+pub returns-clause-ok : goal.returns-clause-ok
+returns-clause-ok c =
+    subst (λ (os : List ObjId). OnOk c.take_dirty-2.result (ForEachLogBy c.args.now c.args.leases.now (λ lease calls.
+    StandsFor lease c.take_dirty-2.new.leases c.args.now (dirty_call c.args.now c.args.client.now c.args.number.now os ∷ calls)))) c.in_ok-live.ensures c.take_dirty-2.ensures.ok
 
 pub returns-clause-refusal : goal.returns-clause-refusal
 returns-clause-refusal c lease moment calls s le =
-    let fits : FitsSigned w64 c.args.number.now = search rules in
-    let time : max c.args.now moment ≡ c.args.now = omega arith in
-    let told : ℕ → ℤ → List ObjId → Option Refused = λ t n os. call_refusal lease t calls (dirty_call t c.args.client.now n os) in
-    let A : ℕ → ℤ → List ObjId → Refused → Type 0 = λ t n os r. (told t n os ≡ Some r) ⊎ (r ≡ OutOfMemory) in
-    let P : ℤ → Type 0 = λ n. A (max c.args.now moment) n c.in_ok-live.live (refused_for c.in-Err.fault) in
-    let Q : List ObjId → Type 0 = λ os. A (max c.args.now moment) c.args.number.now os (refused_for c.in-Err.fault) in
-    let M : ℕ → Type 0 = λ t. A t c.args.number.now (filter (is_exported c.args.exports.now.rows) c.args.named.now) (refused_for c.in-Err.fault) in
-    let R : Refused → Type 0 = λ r. A c.args.now c.args.number.now (filter (is_exported c.args.exports.now.rows) c.args.named.now) r in
-    subst R (sym c.refused_for.ensures) (subst M time (subst Q c.in_ok-live.ensures (subst P (to_z-of_z w64 c.args.number.now fits)
-    (dirty-refused _ _ c.in-Err.fault (c.in-Err.ensures.clients lease moment calls s) (c.in-Err.ensures.pairs lease moment calls s)))))
+    subst (λ (os : List ObjId). Agrees (call_refusal lease c.args.now calls (dirty_call c.args.now c.args.client.now c.args.number.now os)) c.take_dirty-2.result) c.in_ok-live.ensures
+    (c.take_dirty-2.ensures.refusal lease moment calls s le)
