@@ -41,11 +41,11 @@ fn withdrawn(
 }
 
 /// Lists an object in a return, if it is exported.
-fn list(exports: &mut Exports, id: ObjId, now: u64) -> Result<(), ExportFault>
+fn list(exports: &mut Exports, id: ObjId, uid: Uid, now: u64) -> Result<(), ExportFault>
     requires { now < 2 ^ 62 }
 {
     match exports.find(id) {
-        Some(_kind) => exports.wait_for(id, RETURN, now),
+        Some(_kind) => exports.wait_for(id, uid, now),
         None => Ok(()),
     }
 }
@@ -99,7 +99,7 @@ fn an_object_is_withdrawn_once_nothing_keeps_it(rt: HostRuntime) {
     let mut exports = exported(&rt, alloc).expect(&rt, "objects");
     let mut leases = leased(&rt, alloc);
     for (number, now) in [(18, 10), (19, 10), (19, 20)] {
-        let listed = list(&mut exports, numbered(number), now);
+        let listed = list(&mut exports, numbered(number), RETURN, now);
         must(&rt, listed == Ok(()), "listed");
     }
     for row in MOMENTS {
@@ -128,11 +128,163 @@ fn calls_and_pins_keep_an_object(rt: HostRuntime) {
     let mut exports = begun(&rt, rt.alloc());
     let gone = withdrawn(rt.alloc(), &mut exports, &mut leases, 1).expect(&rt, MEMORY);
     must(&rt, gone == 0, "kept");
-    must(&rt, list(&mut exports, numbered(16), 1) == Ok(()), "listed");
+    must(
+        &rt,
+        list(&mut exports, numbered(16), RETURN, 1) == Ok(()),
+        "listed",
+    );
     exports.ack(RETURN);
     must(
         &rt,
         !exports.is_waiting(numbered(16), RETURN, 1),
         "acknowledged",
     );
+}
+
+/// The identifier of a return.
+fn returned(time: u32) -> Uid {
+    Uid {
+        unique: 7,
+        time: i64::from(time),
+        count: 1,
+    }
+}
+
+/// Waits of 100 milliseconds, line by line: `list OBJECT RETURN MOMENT`, `ack RETURN`, and `forget MOMENT`, at which those that ended are forgotten.
+/// A line `at MOMENT WAITING ENDED..` says how many await at a moment, and of which objects waits have ended. An empty line begins a new table.
+const WAITS: &str = "\
+list 16 1 10
+list 17 2 20
+list 18 3 30
+list 19 4 40
+at 109 4
+at 110 3 16
+at 119 3 16
+at 120 2 16 17
+forget 110
+at 110 3
+forget 120
+at 120 2
+ack 3
+at 129 1
+at 130 1
+at 139 1
+at 140 0 19
+list 16 5 130
+forget 140
+at 140 1
+at 229 1
+at 230 0 16
+forget 230
+at 230 0
+
+list 16 1 50
+list 17 2 10
+list 18 3 30
+at 109 3
+at 110 2 17
+at 130 1 17 18
+at 150 0 16 17 18
+forget 110
+at 110 2
+at 130 1 18
+forget 130
+at 130 1
+list 16 1 20
+at 149 1
+at 150 0 16
+forget 150
+at 150 0
+
+list 16 1 10
+list 17 1 10
+list 16 1 20
+at 110 1 17
+ack 1
+at 110 0";
+
+/// The numbers that words spell.
+fn spelled(rt: &impl Abort, alloc: Global, words: &str) -> Vec<u32> {
+    let mut numbers = Vec::new(alloc);
+    for word in words.split(' ') {
+        let number = word.parse::<u32>().expect(rt, "a number");
+        numbers.push(number).expect(rt, MEMORY);
+    }
+    numbers
+}
+
+/// Whether at a moment so many references await, and the waits of these objects have ended.
+fn waits_so(
+    rt: &impl Abort,
+    alloc: Global,
+    exports: &Exports,
+    moment: u64,
+    waiting: u32,
+    numbers: &[u32],
+) -> bool {
+    let ended = exports.ended(alloc, moment).expect(rt, MEMORY);
+    let all = ended
+        .iter()
+        .zip(numbers.iter())
+        .all(|(id, number)| id.number == i64::from(*number));
+    let known = exports.has_ended(moment) != numbers.is_empty();
+    exports.waiting(moment) == waiting && known && all && ended.len() == numbers.len()
+}
+
+/// Does what a line says to a table.
+fn take_line(
+    rt: &impl Abort,
+    alloc: Global,
+    exports: &mut Exports,
+    leases: &mut Leases,
+    line: &str,
+) {
+    if let Some(words) = line.strip_prefix("list ") {
+        match *spelled(rt, alloc, words) {
+            [number, uid, now] => {
+                let id = numbered(i64::from(number));
+                let listed = list(exports, id, returned(uid), u64::from(now));
+                must(rt, listed == Ok(()), line);
+            }
+            _ => must(rt, false, line),
+        }
+    } else if let Some(words) = line.strip_prefix("ack ") {
+        exports.ack(returned(words.parse::<u32>().expect(rt, "a return")));
+    } else if let Some(words) = line.strip_prefix("forget ") {
+        let now = words.parse::<u64>().expect(rt, "a moment");
+        let _taken = withdrawn(alloc, exports, leases, now).expect(rt, MEMORY);
+    } else if let Some(words) = line.strip_prefix("at ") {
+        match *spelled(rt, alloc, words) {
+            [moment, waiting, ref numbers @ ..] => must(
+                rt,
+                waits_so(rt, alloc, exports, u64::from(moment), waiting, numbers),
+                line,
+            ),
+            _ => must(rt, false, line),
+        }
+    }
+}
+
+/// A table of pinned objects with the numbers from 16 to 19.
+fn pinned(alloc: Global) -> Result<Exports, ExportFault> {
+    let mut exports = Exports::fresh(alloc, SPACE, 100);
+    exports.add(5, true)?;
+    exports.add(5, true)?;
+    exports.add(5, true)?;
+    exports.add(5, true)?;
+    Ok(exports)
+}
+
+#[test]
+fn waits_end_one_after_the_other(rt: HostRuntime) {
+    let alloc = rt.alloc();
+    let mut leases = Leases::fresh(alloc, 100);
+    let mut exports = pinned(alloc).expect(&rt, "objects");
+    for line in WAITS.split('\n') {
+        if line.is_empty() {
+            exports = pinned(alloc).expect(&rt, "objects");
+        } else {
+            take_line(&rt, alloc, &mut exports, &mut leases, line);
+        }
+    }
 }

@@ -1,5 +1,6 @@
 //! Transcripts of lease tables: a journal's lines of lease calls, and of ticks, which let time pass. A line `? MOMENT` asks for the remembered
-//! pairs, for the holders of objects 16 and 17, and for the clients with time left; `! NUMBER` drops an object.
+//! pairs, for the holders of objects 16 and 17, and for the clients with time left; `! NUMBER` drops an object. A line `# MOMENT` asks whether a
+//! lease may end as time passes to that moment, and for the objects that some client holds and none holds then.
 ghost use Rattle.std.specs.Prelude.{◌<◌, ◌^◌};
 
 use crate::scripts::{MEMORY, must_be, put_script_line};
@@ -41,6 +42,9 @@ fn put_line_of(
     if let Some(moment) = line.strip_prefix("? ") {
         let moment = moment.parse::<u64>().expect(rt, "a moment");
         put_table(alloc, leases, moment, text).expect(rt, MEMORY);
+    } else if let Some(moment) = line.strip_prefix("# ") {
+        let moment = moment.parse::<u64>().expect(rt, "a moment");
+        put_ended(alloc, leases, moment, text).expect(rt, MEMORY);
     } else if let Some(number) = line.strip_prefix("! ") {
         let number = number.parse::<i64>().expect(rt, "a number");
         leases.drop_object(numbered(number));
@@ -143,6 +147,41 @@ fn put_holders(
     )
 }
 
+/// Appends whether a lease may end as time passes to a moment, and the objects that are freed then.
+fn put_ended(
+    alloc: Global,
+    leases: &Leases,
+    moment: u64,
+    text: &mut ByteList,
+) -> Result<(), AllocError> {
+    let due: &[u8] = if leases.is_due(moment) {
+        b"due"
+    } else {
+        b"none due"
+    };
+    put_line(text, &[Word::Text(b">"), Word::Text(due)])?;
+    let freed = freed_numbers(alloc, leases, moment)?;
+    for number in freed.as_slice() {
+        put_line(text, &[Word::Text(b"> freed"), Word::Signed(*number)])?;
+    }
+    Ok(())
+}
+
+/// The numbers of the objects that none holds any more once time has passed to a moment, in order, each once. A table may tell of more that
+/// lose a holder: those that another client holds then are left out.
+fn freed_numbers(alloc: Global, leases: &Leases, moment: u64) -> Result<Vec<i64>, AllocError> {
+    let told = leases.freed(alloc, moment)?;
+    let mut numbers = Vec::new(alloc);
+    for object in told.as_slice() {
+        if !leases.is_held(*object, moment) {
+            numbers.push(object.number)?;
+        }
+    }
+    numbers.sort_unstable();
+    numbers.dedup();
+    Ok(numbers)
+}
+
 const LEASE_OF_100: &str = "1 70 dirty 00@3/4/5 1 1 16
 > granted 100
 ? 0
@@ -213,6 +252,127 @@ const LATE_DIRTY: &str = "1 0 dirty 01@3/4/5 1 1 16,17
 > lease 01@3/4/5 until 102
 ";
 
+// Leases that end at 169, 170 and 171.
+const ENDS: &str = "# 4611686018427387903
+> none due
+1 69 dirty 01@3/4/5 1 1 18
+> granted 100
+1 70 dirty 02@3/4/5 1 1 17
+> granted 100
+1 71 dirty 03@3/4/5 1 1 16
+> granted 100
+# 0
+> none due
+# 168
+> none due
+# 169
+> due
+> freed 18
+# 170
+> due
+> freed 17
+> freed 18
+# 171
+> due
+> freed 16
+> freed 17
+> freed 18
+1 170 tick
+# 170
+> none due
+# 171
+> due
+> freed 16
+";
+
+const TWO_HOLDERS: &str = "1 10 dirty 01@3/4/5 1 1 16
+> granted 100
+1 20 dirty 02@3/4/5 1 1 17,16
+> granted 100
+# 109
+> none due
+# 110
+> due
+# 119
+> due
+# 120
+> due
+> freed 16
+> freed 17
+1 110 tick
+# 119
+> none due
+# 120
+> due
+> freed 16
+> freed 17
+";
+
+const HELD_AGAIN: &str = "1 0 dirty 01@3/4/5 1 1 16,17
+> granted 100
+# 99
+> none due
+# 100
+> due
+> freed 16
+> freed 17
+1 100 dirty 01@3/4/5 2 1 16
+> granted 100
+? 100
+> pairs 1
+> 16 held by 1
+> 17 free of 0
+> lease 01@3/4/5 until 200
+# 199
+> none due
+# 200
+> due
+> freed 16
+1 150 clean 01@3/4/5 3 weak 16
+> done
+# 200
+> due
+1 160 dirty 01@3/4/5 4 1 16,17
+> granted 100
+# 199
+> none due
+# 260
+> due
+> freed 16
+> freed 17
+";
+
+const STRONG_CLEAN_LEFT: &str = "1 9 dirty aa@3/4/5 6 1 16,17
+> granted 100
+1 10 clean aa@3/4/5 7 strong 16
+> done
+# 108
+> none due
+# 109
+> due
+> freed 17
+1 109 tick
+? 109
+> pairs 1
+> 16 free of 0
+> 17 free of 0
+# 4611686018427387903
+> none due
+1 200 dirty aa@3/4/5 7 1 16,17
+> granted 100
+# 299
+> none due
+# 300
+> due
+> freed 17
+1 201 dirty aa@3/4/5 8 1 16
+> granted 100
+# 301
+> due
+> freed 16
+> freed 17
+";
+
 /// What the lines of a script make of a table with this longest duration.
 fn told(rt: &impl Abort, alloc: Global, lease: u64, script: &str) -> ByteList {
     assert!(rt; 1 <= lease && lease <= 100, "a duration");
@@ -228,6 +388,14 @@ fn told(rt: &impl Abort, alloc: Global, lease: u64, script: &str) -> ByteList {
 fn lease_tables_are_told(rt: HostRuntime) {
     for (lease, script) in [(100, LEASE_OF_100), (1, STRONG_CLEAN), (100, LATE_DIRTY)] {
         let text = told(&rt, rt.alloc(), lease, script);
+        must_be(&rt, &text, script);
+    }
+}
+
+#[test]
+fn freed_objects_are_told(rt: HostRuntime) {
+    for script in [ENDS, TWO_HOLDERS, HELD_AGAIN, STRONG_CLEAN_LEFT] {
+        let text = told(&rt, rt.alloc(), 100, script);
         must_be(&rt, &text, script);
     }
 }
