@@ -1,15 +1,14 @@
 //! The objects that clients hold whose leases end as time passes.
-ghost use Rattle.std.specs.Prelude.{◌≡◌, ◌++◌, ◌∷◌, [], ◌<◌, ◌≤◌, flat_map, OnOk, IfOk, if◌then◌else◌};
+ghost use Rattle.std.specs.Prelude.{◌≡◌, ◌++◌, ◌∷◌, [], flat_map, OnOk, if◌then◌else◌};
 ghost use Rattle.dgc_server.specs.Numbers.{is_dirty_highest};
 ghost use Rattle.dgc_server.specs.Entry.{object_entries, dirty_objects};
-ghost use Rattle.std.specs.List.{AllByRecursion};
-ghost use Rattle.dgc_server.specs.Index.{freed_of, IsSettled};
+ghost use Rattle.dgc_server.specs.Index.{freed_of};
 
 use crate::entry::ClientEntry;
 use crate::marks::Marks;
 use crate::packed::Packed;
 use object_ids::ObjId;
-use std::alloc::{AllocError, Global};
+use std::alloc::AllocError;
 
 /// Appends an object, if by these numbers a client holds it.
 fn append_one(freed: &mut Vec<ObjId>, object: &ObjId, numbers: &Packed) -> Result<(), AllocError>
@@ -47,7 +46,7 @@ fn append_of(
 }
 
 /// Appends the objects that clients hold whose leases end as time passes from one moment to another.
-fn append_all(
+pub fn append_all(
     freed: &mut Vec<ObjId>,
     entries: &[ClientEntry],
     from: u64,
@@ -59,25 +58,4 @@ fn append_all(
         append_of(freed, entry, from, to)?;
     }
     Ok(())
-}
-
-/// The objects that clients hold whose leases end as time passes from one moment to another. Where nothing is due it looks at no client
-/// and takes no memory.
-pub fn freed(
-    alloc: Global,
-    entries: &[ClientEntry],
-    next: u64,
-    from: u64,
-    to: u64,
-) -> Result<Vec<ObjId>, AllocError>
-    requires later { from ≤ to }
-    requires settled { from < next → AllByRecursion (IsSettled from next) entries.now }
-    ensures { IfOk result (λ os. os.items ≡ flat_map (freed_of from to) entries.now) }
-{
-    let mut freed = Vec::new(alloc);
-    if to < next {
-        return Ok(freed);
-    }
-    append_all(&mut freed, entries, from, to)?;
-    Ok(freed)
 }

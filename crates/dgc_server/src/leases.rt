@@ -11,9 +11,12 @@ ghost use Rattle.dgc_server.specs.Stands.{IsSound, IsTrimmed, StandsFor, ForEach
 ghost use Rattle.dgc_server.specs.Index.{sums_at};
 ghost use Rattle.dgc_server.specs.Table.{clients_after, pairs_after};
 
-use crate::ended;
-use crate::entry::{ClientEntry, LeaseCall};
-use crate::holders::{Counts, count_of, forget, pass, touch_all};
+use crate::chunks::{self, Chunk};
+use crate::entry::LeaseCall;
+use crate::forgetting::drop_object;
+use crate::holders::{Counts, count_of, forget, touch_all};
+use crate::passing::{pass, sums_by};
+use crate::scans;
 use crate::table::{self, Sums};
 use history::limits::{MAX_CLIENTS, MAX_PAIRS};
 use history::{CallKind, LeaseList};
@@ -49,7 +52,7 @@ pub struct Leases {
     alloc: Global,
     lease: u64,
     moment: u64,
-    entries: Vec<ClientEntry>,
+    chunks: Vec<Chunk>,
     /// No lease that has time left at the moment ends before this one, which is later.
     next: u64,
     /// How many clients hold each object at the moment, and how many name it.
@@ -65,27 +68,30 @@ impl Drop for Leases {
             alloc: _,
             lease: _,
             moment: _,
-            entries,
+            chunks,
             next: _,
             counts,
             sums: _,
         } = self;
-        drop(entries);
+        drop(chunks);
         drop(counts);
     }
 }
 
 impl Model for Leases {
     ghost use Rattle.dgc_server.specs.Stands.{LeaseTable, IsSound};
-    ghost use Rattle.std.specs.Prelude.{◌≡◌, ◌<◌};
+    ghost use Rattle.std.specs.Prelude.{◌≡◌, ◌<◌, IsTrue};
     ghost use Rattle.dgc_server.specs.Index.{IsIndexed, sums_at};
+    ghost use Rattle.std.specs.List.{list_all, AllByRecursion};
+    ghost use Rattle.dgc_server.specs.Chunks.{all_of, is_filled, IsWatched};
 
     ghost Value = { LeaseTable };
 
-    ghost view = { λ a. record { lease = a.lease; moment = a.moment; entries = a.entries.items } };
+    ghost view = { λ a. record { lease = a.lease; moment = a.moment; entries = all_of a.chunks.items } };
 
-    ghost invariant = { λ a. IsSound a.lease a.moment a.entries.items × IsIndexed a.moment a.next a.counts a.entries.items
-        × (a.sums ≡ sums_at a.moment a.entries.items) × (a.moment < a.next) };
+    ghost invariant = { λ a. IsSound a.lease a.moment (all_of a.chunks.items) × IsIndexed a.moment a.next a.counts (all_of a.chunks.items)
+        × (a.sums ≡ sums_at a.moment (all_of a.chunks.items)) × (a.moment < a.next)
+        × AllByRecursion (IsWatched a.moment) a.chunks.items × IsTrue (list_all is_filled a.chunks.items) };
 }
 
 impl Leases {
@@ -99,7 +105,7 @@ impl Leases {
             alloc,
             lease: lease_ms,
             moment: 0,
-            entries: Vec::new(alloc),
+            chunks: Vec::new(alloc),
             next: u64::MAX,
             counts: Counts::new(alloc),
             sums: Sums {
@@ -118,8 +124,8 @@ impl Leases {
     {
         let at = now.max(self.moment);
         let bound = self.next;
-        self.next = pass(&mut self.entries, &mut self.counts, bound, self.moment, at);
-        self.sums = table::sums_after(self.sums, &self.entries, at, at < bound);
+        self.sums = sums_by(self.sums, &self.chunks, bound, self.moment, at);
+        self.next = pass(&mut self.chunks, &mut self.counts, bound, self.moment, at);
         self.moment = at;
     }
 
@@ -150,7 +156,7 @@ impl Leases {
     {
         let at = self.at(now);
         let sums = self.sums_by(at);
-        if table::clients_after(&self.entries, client, at, sums.leased) as u64 > MAX_CLIENTS {
+        if table::clients_after(&self.chunks, client, at, sums.leased) as u64 > MAX_CLIENTS {
             return Err(LeaseFault::Clients);
         }
         self.note(client, &number, objects, CallKind::Dirty, at)?;
@@ -190,7 +196,7 @@ impl Leases {
         if at < self.next {
             count_of(&self.counts, &object).holders > 0
         } else {
-            table::is_held(&self.entries, &object, at)
+            scans::is_held(&self.chunks, &object, at)
         }
     }
 
@@ -202,7 +208,7 @@ impl Leases {
         ensures held { IfOk result (λ os. ForEachLog self.now (λ lease moment calls. (o : ObjId) → list_any (same_id o) os.items ≡ true
             → is_held lease moment calls o ≡ true)) }
     {
-        ended::freed(alloc, &self.entries, self.next, self.moment, self.at(now))
+        scans::freed(alloc, &self.chunks, self.next, self.moment, self.at(now))
     }
 
     /// Whether a lease may end as time passes to `now`. Where none may, each object that a client holds at the greatest moment so far is held then, too.
@@ -219,17 +225,12 @@ impl Leases {
     }
 
     /// How many clients hold an object at this moment. A moment before the greatest one is read as the
-    /// greatest. Where no lease ends by then it looks at no client.
+    /// greatest.
     pub fn holders(&self, object: ObjId, now: u64) -> u32
         ensures { ForEachLog self.now (λ lease moment calls.
             result ≡ length (holders lease (max now moment) calls object)) }
     {
-        let at = self.at(now);
-        if at < self.next {
-            count_of(&self.counts, &object).holders
-        } else {
-            table::holders(&self.entries, &object, at) as u32
-        }
+        scans::holders(&self.chunks, &object, self.at(now)) as u32
     }
 
     /// Forgets that calls named this object: it is as if no call so far had. An object counts from its last
@@ -240,8 +241,8 @@ impl Leases {
             StandsFor lease self.new moment (map (without object) calls)) }
     {
         let count = count_of(&self.counts, &object);
-        table::drop_object(
-            &mut self.entries,
+        drop_object(
+            &mut self.chunks,
             &object,
             count.clients,
             count.place,
@@ -257,7 +258,7 @@ impl Leases {
         ensures { ForEachLog self.now (λ lease moment calls.
             result ≡ length (pairs lease (max now moment) calls)) }
     {
-        table::remembered_pairs(&self.entries, self.at(now)) as u32
+        self.sums_by(self.at(now)).pairs as u32
     }
 
     /// The clients that have time left at this moment, in the order of clients, with the ends of their
@@ -266,7 +267,7 @@ impl Leases {
         ensures { IfOk result (λ rows. ForEachLog self.now (λ lease moment calls.
             rows ≡ lease_rows lease (max now moment) calls)) }
     {
-        table::rows(alloc, &self.entries, self.at(now))
+        scans::rows(alloc, &self.chunks, self.at(now))
     }
 
     /// The greater of a moment and the greatest one so far.
@@ -285,11 +286,7 @@ impl Leases {
         ensures value { result ≡ sums_at at self.now.entries }
         ensures few { (result.leased ≤ 65536) × (result.pairs ≤ 262144) }
     {
-        if at < self.next {
-            self.sums
-        } else {
-            table::sums_at(&self.entries, at)
-        }
+        sums_by(self.sums, &self.chunks, self.next, self.moment, at)
     }
 
     /// Notes a call at a moment, if the pairs that it brings can be remembered.
@@ -314,7 +311,7 @@ impl Leases {
     {
         let named = objects.as_slice();
         let pairs = self.sums_by(at).pairs;
-        if table::pairs_after(self.alloc, &self.entries, client, kind, named, at, pairs)
+        if table::pairs_after(self.alloc, &self.chunks, client, kind, named, at, pairs)
             > MAX_PAIRS as u128
         {
             return Err(LeaseFault::Pairs);
@@ -326,19 +323,21 @@ impl Leases {
             objects: named,
             at,
         };
-        let noted = table::note(
+        let before = table::own_sums(&self.chunks, client, self.moment);
+        chunks::note(
             self.alloc,
-            &mut self.entries,
+            &mut self.chunks,
             &mut self.counts,
             client,
             &call,
             self.lease,
             self.moment,
         )?;
-        let with = table::sums_with(self.sums, noted.before, noted.after);
-        let bound = table::bound_with(self.next, noted.until, at);
-        self.next = pass(&mut self.entries, &mut self.counts, bound, self.moment, at);
-        self.sums = table::sums_after(with, &self.entries, at, at < bound);
+        let after = table::own_sums(&self.chunks, client, self.moment);
+        let with = table::sums_with(self.sums, before, after);
+        let bound = table::bound_with(&self.chunks, client, self.next, at);
+        self.sums = sums_by(with, &self.chunks, bound, self.moment, at);
+        self.next = pass(&mut self.chunks, &mut self.counts, bound, self.moment, at);
         self.moment = at;
         Ok(())
     }

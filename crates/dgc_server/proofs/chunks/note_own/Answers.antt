@@ -1,0 +1,86 @@
+use Rattle.std.proofs.Common.{◌≡◌, ◌+◌, ◌≤◌, ◌<◌, List, length, get_or, ap, sym, subst, ◌∙◌, arith, true}
+use Rattle.std.specs.Prelude.{slice_set, Result, OnOk, OnErr}
+use Rattle.std.specs.List.{list_all, AllByRecursion}
+use Rattle.std.proofs.lemmas.List.{get_or_default}
+use Rattle.object_ids.specs.declared.ids.ObjId.{ObjId}
+use Rattle.dgc_server.specs.declared.chunks.Chunk.{Chunk}
+use Rattle.dgc_server.specs.Entry.{Entry}
+use Rattle.dgc_server.specs.Table.{entry_of, with_entry}
+use Rattle.dgc_server.specs.Stands.{entry_after, is_in_order, each_once}
+use Rattle.dgc_server.specs.Index.{Way, counted_at, is_counted, one_if}
+use Rattle.dgc_server.specs.Chunks.{all_of, is_filled, IsWatched, IsChunkOf}
+use Rattle.dgc_server.proofs.MarkLaws.{all-at}
+use Rattle.dgc_server.proofs.Ordered.{client-of}
+use Rattle.dgc_server.proofs.Told.{on_ok}
+use Rattle.dgc_server.proofs.Chunked.{all-part, each-at, order-chunk, set-each, set-none, set-test, on_err}
+use Rattle.dgc_server.proofs.chunks.note_own.Goals as goal
+
+pub note_in-requires-clause-ordered : goal.note_in-requires-clause-ordered
+note_in-requires-clause-ordered c =
+    ap (λ (x : Chunk). is_in_order x.entries.items) c.index_mut.ensures.value ∙ order-chunk c.args.chunks.now.items c.chunk_of-place.result c.index_mut.result.now (let bound = c.chunk_of-place.ensures.bound in let e = ap (λ (l : List Chunk). length l) c.deref.ensures.value in omega arith) c.requires.ordered
+
+pub note_in-requires-clause-once : goal.note_in-requires-clause-once
+note_in-requires-clause-once c =
+    ap (λ (x : Chunk). list_all (λ e. each_once e.objects) x.entries.items) c.index_mut.ensures.value
+    ∙ all-part (λ e. each_once e.objects) c.args.chunks.now.items c.chunk_of-place.result c.index_mut.result.now (let bound = c.chunk_of-place.ensures.bound in let e = ap (λ (l : List Chunk). length l) c.deref.ensures.value in omega arith) c.requires.once
+
+pub note_in-requires-clause-enough : goal.note_in-requires-clause-enough
+note_in-requires-clause-enough c = λ w o.
+    let own : entry_of (all_of c.args.chunks.now.items) c.args.client.now ≡ entry_of c.index_mut.result.now.entries.items c.args.client.now =
+    ap (λ l. entry_of (all_of l) c.args.client.now) (sym c.deref.ensures.value) ∙ c.chunk_of-place.ensures.entry c.index_mut.result.now
+    ∙ ap (λ l. entry_of (get_or l c.chunk_of-place.result c.index_mut.result.now).entries.items c.args.client.now) c.deref.ensures.value
+    ∙ ap (λ (x : Chunk). entry_of x.entries.items c.args.client.now) (sym c.index_mut.ensures.value) in
+    subst (λ e. one_if (is_counted w c.args.from o e) ≤ counted_at w c.args.counts.now o) own (c.requires.enough w o)
+
+pub note_in-requires-clause-watched : goal.note_in-requires-clause-watched
+note_in-requires-clause-watched c =
+    subst (IsWatched c.args.from) (sym c.index_mut.ensures.value)
+    (each-at (IsWatched c.args.from) c.args.chunks.now.items c.chunk_of-place.result c.index_mut.result.now (let bound = c.chunk_of-place.ensures.bound in let e = ap (λ (l : List Chunk). length l) c.deref.ensures.value in omega arith) c.requires.watched)
+
+pub returns-clause-ok : goal.returns-clause-ok
+returns-clause-ok c = on_ok c.note_in.result c.note_in.ensures.ok (λ e.
+    let cs = c.args.chunks.now.items in
+    let i = c.chunk_of-place.result in
+    let x = c.index_mut.result.now in
+    let y = c.note_in.new.chunk in
+    let client = c.args.client.now in
+    let call = c.args.call.now in
+    let bound : i < length cs = (let bound = c.chunk_of-place.ensures.bound in let e = ap (λ (l : List Chunk). length l) c.deref.ensures.value in omega arith) in
+    let own : entry_of (all_of cs) client ≡ entry_of x.entries.items client =
+    ap (λ l. entry_of (all_of l) client) (sym c.deref.ensures.value) ∙ c.chunk_of-place.ensures.entry x ∙ ap (λ l. entry_of (get_or l i x).entries.items client) c.deref.ensures.value
+    ∙ ap (λ (z : Chunk). entry_of z.entries.items client) (sym c.index_mut.ensures.value) in
+    let next : Entry = entry_after c.args.lease call.kind call.number.now call.objects.now call.at (entry_of (all_of cs) client) in
+    let here : x ≡ get_or cs i y = c.index_mut.ensures.value ∙ get_or_default cs i x y bound in
+    let put : y.entries.items ≡ with_entry next (get_or cs i y).entries.items =
+    e ∙ ap (λ (d : Entry). with_entry (entry_after c.args.lease call.kind call.number.now call.objects.now call.at d) x.entries.items) (sym own) ∙ ap (λ (z : Chunk). with_entry next z.entries.items) here in
+    let P : List Chunk → Type 0 = λ l. IsChunkOf l client i in
+    sym (subst P c.deref.ensures.value c.chunk_of-place.ensures.place next y (client-of (all_of cs) client) put))
+
+pub returns-clause-counts : goal.returns-clause-counts
+returns-clause-counts c = on_ok c.note_in.result c.note_in.ensures.counts (λ counts.
+    let cs = c.args.chunks.now.items in
+    let i = c.chunk_of-place.result in
+    let x = c.index_mut.result.now in
+    let client = c.args.client.now in
+    let call = c.args.call.now in
+    let own : entry_of (all_of cs) client ≡ entry_of x.entries.items client =
+    ap (λ l. entry_of (all_of l) client) (sym c.deref.ensures.value) ∙ c.chunk_of-place.ensures.entry x ∙ ap (λ l. entry_of (get_or l i x).entries.items client) c.deref.ensures.value
+    ∙ ap (λ (z : Chunk). entry_of z.entries.items client) (sym c.index_mut.ensures.value) in
+    let P : Entry → Type 0 = λ e. (w : Way) (o : ObjId) → counted_at w c.note_in.new.counts o + one_if (is_counted w c.args.from o e)
+    ≡ counted_at w c.args.counts.now o + one_if (is_counted w c.args.from o (entry_after c.args.lease call.kind call.number.now call.objects.now call.at e)) in
+    subst P (sym own) counts)
+
+pub returns-clause-watched : goal.returns-clause-watched
+returns-clause-watched c =
+    set-each (IsWatched c.args.from) c.args.chunks.now.items c.chunk_of-place.result c.note_in.new.chunk (let bound = c.chunk_of-place.ensures.bound in let e = ap (λ (l : List Chunk). length l) c.deref.ensures.value in omega arith) c.requires.watched c.note_in.ensures.watched
+
+pub returns-clause-err : goal.returns-clause-err
+returns-clause-err c = on_err c.note_in.result c.note_in.ensures.err (λ e.
+    set-none c.args.chunks.now.items c.chunk_of-place.result c.note_in.new.chunk c.index_mut.result.now (let bound = c.chunk_of-place.ensures.bound in let e = ap (λ (l : List Chunk). length l) c.deref.ensures.value in omega arith)
+    (e ∙ ap (λ (z : Chunk). z.entries.items) c.index_mut.ensures.value))
+
+pub returns-clause-filled : goal.returns-clause-filled
+returns-clause-filled c =
+    let bound = c.chunk_of-place.ensures.bound in let e = ap (λ (l : List Chunk). length l) c.deref.ensures.value in
+    set-test is_filled c.args.chunks.now.items c.chunk_of-place.result c.note_in.new.chunk (omega arith) c.requires.filled
+    (c.note_in.ensures.filled (ap is_filled c.index_mut.ensures.value ∙ all-at is_filled c.args.chunks.now.items c.chunk_of-place.result c.index_mut.result.now (omega arith) c.requires.filled))
