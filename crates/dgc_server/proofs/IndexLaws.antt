@@ -253,7 +253,7 @@ bounds-last m es least n long inv = inv least (omega arith) (ap (list_all (ends_
 
 -- ---- an entry in place of another, where the lease has time left
 
-pub all-lower : (m n k : ℕ) (es : List Entry) → k ≤ n → AllByRecursion (IsSettled m n) es → AllByRecursion (IsSettled m k) es
+all-lower : (m n k : ℕ) (es : List Entry) → k ≤ n → AllByRecursion (IsSettled m n) es → AllByRecursion (IsSettled m k) es
 all-lower m n k [] le a = a
 all-lower m n k (e ∷ es) le a = (record { forgotten = a.0.forgotten; kept = a.0.kept; later = λ h. (let l = a.0.later h in omega arith) }, all-lower m n k es le a.1)
 

@@ -25,5 +25,3 @@ pub mod Freeing
 pub mod Dropping
 pub mod Shares
 pub mod Walking
-pub mod Chunked
-pub mod Moving

@@ -73,15 +73,6 @@ module _ (o : ObjId) (m : ℕ) where
       let two = and_parts (is_entry_kept m e) (list_all (is_entry_kept m) es) all in
       ap (list_all (is_entry_kept m)) (changed-later i d e es) ∙ and_from (is_entry_kept m e) (list_all (is_entry_kept m) (changed i d es)) two.0 (changed-kept i d es (omega arith) two.1)
 
-  pub changed-settled : (n : ℕ) (i : ℕ) (d : Entry) (es : List Entry) → i < length es → AllByRecursion (IsSettled m n) es → AllByRecursion (IsSettled m n) (changed i d es)
-  changed-settled n i d [] h all = absurd (omega arith)
-  changed-settled n zero d (e ∷ es) h all = go (is_entry_kept m (entry_without o e)) refl
-    where
-      go : (b : Bool) → is_entry_kept m (entry_without o e) ≡ b → AllByRecursion (IsSettled m n) (if b then entry_without o e ∷ es else es)
-      go true k = (record { forgotten = lapsed-without m n o e all.0; kept = k; later = all.0.later }, all.1)
-      go false k = all.1
-  changed-settled n (suc i) d (e ∷ es) h all = rw (changed-later i d e es) (all.0, changed-settled n i d es (omega arith) all.1)
-
   pub changed-names : (i : ℕ) (d : Entry) (es : List Entry) → i < length es →
       length (filter (entry_names o) (changed i d es)) + one_if (entry_names o (get_or es i d)) ≡ length (filter (entry_names o) es)
   changed-names i d [] h = absurd (omega arith)

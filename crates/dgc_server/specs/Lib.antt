@@ -1,4 +1,3 @@
-pub mod Chunks
 pub mod Counts
 pub mod Entry
 pub mod Index

@@ -1,14 +1,15 @@
 //! The objects that clients hold whose leases end as time passes.
-ghost use Rattle.std.specs.Prelude.{◌≡◌, ◌++◌, ◌∷◌, [], flat_map, OnOk, if◌then◌else◌};
+ghost use Rattle.std.specs.Prelude.{◌≡◌, ◌++◌, ◌∷◌, [], ◌<◌, ◌≤◌, flat_map, OnOk, IfOk, if◌then◌else◌};
 ghost use Rattle.dgc_server.specs.Numbers.{is_dirty_highest};
 ghost use Rattle.dgc_server.specs.Entry.{object_entries, dirty_objects};
-ghost use Rattle.dgc_server.specs.Index.{freed_of};
+ghost use Rattle.std.specs.List.{AllByRecursion};
+ghost use Rattle.dgc_server.specs.Index.{freed_of, IsSettled};
 
 use crate::entry::ClientEntry;
 use crate::marks::Marks;
 use crate::packed::Packed;
 use object_ids::ObjId;
-use std::alloc::AllocError;
+use std::alloc::{AllocError, Global};
 
 /// Appends an object, if by these numbers a client holds it.
 fn append_one(freed: &mut Vec<ObjId>, object: &ObjId, numbers: &Packed) -> Result<(), AllocError>
@@ -46,7 +47,7 @@ fn append_of(
 }
 
 /// Appends the objects that clients hold whose leases end as time passes from one moment to another.
-pub fn append_all(
+fn append_all(
     freed: &mut Vec<ObjId>,
     entries: &[ClientEntry],
     from: u64,
@@ -58,4 +59,25 @@ pub fn append_all(
         append_of(freed, entry, from, to)?;
     }
     Ok(())
+}
+
+/// The objects that clients hold whose leases end as time passes from one moment to another. Where nothing is due it looks at no client
+/// and takes no memory.
+pub fn freed(
+    alloc: Global,
+    entries: &[ClientEntry],
+    next: u64,
+    from: u64,
+    to: u64,
+) -> Result<Vec<ObjId>, AllocError>
+    requires later { from ≤ to }
+    requires settled { from < next → AllByRecursion (IsSettled from next) entries.now }
+    ensures { IfOk result (λ os. os.items ≡ flat_map (freed_of from to) entries.now) }
+{
+    let mut freed = Vec::new(alloc);
+    if to < next {
+        return Ok(freed);
+    }
+    append_all(&mut freed, entries, from, to)?;
+    Ok(freed)
 }

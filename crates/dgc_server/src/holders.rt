@@ -4,12 +4,14 @@ ghost use Rattle.std.specs.List.{list_all};
 ghost use Rattle.object_ids.specs.declared.ids.ObjId.{ObjId};
 ghost use Rattle.object_ids.specs.Same.{same_id};
 ghost use Rattle.dgc_server.specs.Entry.{object_entries, is_in, lapsed};
+ghost use Rattle.dgc_server.specs.Table.{after_lapse};
 ghost use Rattle.dgc_server.specs.Stands.{each_once};
-ghost use Rattle.dgc_server.specs.Index.{Way, no_count, count_by, count_at, counted_at, has_count, one_if, share_by, lost_share, loses, has_with, is_counted};
+ghost use Rattle.dgc_server.specs.Index.{Way, no_count, count_by, count_at, counted_at, has_count, one_if, share_by, lost_share, loses, has_with, is_counted, IsIndexed};
 
 use crate::entry::ClientEntry;
 use crate::marks::Marks;
 use crate::packed::Packed;
+use crate::table;
 use indexmap::IndexMap;
 use object_ids::ObjId;
 use std::alloc::AllocError;
@@ -218,14 +220,38 @@ fn release_over(counts: &mut Counts, entry: &ClientEntry, from: u64, to: u64)
 pub fn release_due(counts: &mut Counts, entries: &[ClientEntry], from: u64, to: u64)
     requires later { from ≤ to }
     requires once { IsTrue (list_all (λ e. each_once e.objects) entries.now) }
-    requires enough { (w : Way) (o : ObjId) → length (filter (is_counted w from o) entries.now) ≤ counted_at w counts.old o }
-    ensures counts { (w : Way) (o : ObjId) → counted_at w counts.new o + length (filter (is_counted w from o) entries.now)
-        ≡ counted_at w counts.old o + length (filter (is_counted w to o) (map (lapsed to) entries.now)) }
+    requires counted { (w : Way) (o : ObjId) → counted_at w counts.old o ≡ length (filter (is_counted w from o) entries.now) }
+    ensures counted { (w : Way) (o : ObjId) → counted_at w counts.new o ≡ length (filter (is_counted w to o) (map (lapsed to) entries.now)) }
     ensures kept { (o : ObjId) → has_count counts.old o ≡ true → has_count counts.new o ≡ true }
 {
     for entry in entries {
         release_over(counts, entry, from, to);
     }
+}
+
+/// As time passes from one moment to another, forgets what ended, and answers a moment before which no more does. Where nothing is due it
+/// looks at no client. It takes no memory.
+pub fn pass(
+    entries: &mut Vec<ClientEntry>,
+    counts: &mut Counts,
+    next: u64,
+    from: u64,
+    to: u64,
+) -> u64
+    requires later { from ≤ to }
+    requires early { to < 2 ^ 62 }
+    requires once { IsTrue (list_all (λ e. each_once e.objects) entries.old.items) }
+    requires indexed { IsIndexed from next counts.old entries.old.items }
+    ensures entries { entries.new.items ≡ after_lapse to entries.old.items }
+    ensures indexed { IsIndexed to result counts.new entries.new.items }
+    ensures later { to < result }
+{
+    if to < next {
+        return next;
+    }
+    release_due(counts, entries, from, to);
+    table::lapse(entries, to);
+    table::least_end(entries, to)
 }
 
 /// Nobody holds or names an object any more. It takes no memory.

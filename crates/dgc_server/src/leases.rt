@@ -11,12 +11,9 @@ ghost use Rattle.dgc_server.specs.Stands.{IsSound, IsTrimmed, StandsFor, ForEach
 ghost use Rattle.dgc_server.specs.Index.{sums_at};
 ghost use Rattle.dgc_server.specs.Table.{clients_after, pairs_after};
 
-use crate::chunks::{self, Chunk};
-use crate::entry::LeaseCall;
-use crate::forgetting::drop_object;
-use crate::holders::{Counts, count_of, forget, touch_all};
-use crate::passing::{pass, sums_by};
-use crate::scans;
+use crate::ended;
+use crate::entry::{ClientEntry, LeaseCall};
+use crate::holders::{Counts, count_of, forget, pass, touch_all};
 use crate::table::{self, Sums};
 use history::limits::{MAX_CLIENTS, MAX_PAIRS};
 use history::{CallKind, LeaseList};
@@ -52,7 +49,7 @@ pub struct Leases {
     alloc: Global,
     lease: u64,
     moment: u64,
-    chunks: Vec<Chunk>,
+    entries: Vec<ClientEntry>,
     /// No lease that has time left at the moment ends before this one, which is later.
     next: u64,
     /// How many clients hold each object at the moment, and how many name it.
@@ -68,30 +65,27 @@ impl Drop for Leases {
             alloc: _,
             lease: _,
             moment: _,
-            chunks,
+            entries,
             next: _,
             counts,
             sums: _,
         } = self;
-        drop(chunks);
+        drop(entries);
         drop(counts);
     }
 }
 
 impl Model for Leases {
     ghost use Rattle.dgc_server.specs.Stands.{LeaseTable, IsSound};
-    ghost use Rattle.std.specs.Prelude.{◌≡◌, ◌<◌, IsTrue};
+    ghost use Rattle.std.specs.Prelude.{◌≡◌, ◌<◌};
     ghost use Rattle.dgc_server.specs.Index.{IsIndexed, sums_at};
-    ghost use Rattle.std.specs.List.{list_all, AllByRecursion};
-    ghost use Rattle.dgc_server.specs.Chunks.{all_of, is_filled, IsWatched};
 
     ghost Value = { LeaseTable };
 
-    ghost view = { λ a. record { lease = a.lease; moment = a.moment; entries = all_of a.chunks.items } };
+    ghost view = { λ a. record { lease = a.lease; moment = a.moment; entries = a.entries.items } };
 
-    ghost invariant = { λ a. IsSound a.lease a.moment (all_of a.chunks.items) × IsIndexed a.moment a.next a.counts (all_of a.chunks.items)
-        × (a.sums ≡ sums_at a.moment (all_of a.chunks.items)) × (a.moment < a.next)
-        × AllByRecursion (IsWatched a.moment) a.chunks.items × IsTrue (list_all is_filled a.chunks.items) };
+    ghost invariant = { λ a. IsSound a.lease a.moment a.entries.items × IsIndexed a.moment a.next a.counts a.entries.items
+        × (a.sums ≡ sums_at a.moment a.entries.items) × (a.moment < a.next) };
 }
 
 impl Leases {
@@ -105,7 +99,7 @@ impl Leases {
             alloc,
             lease: lease_ms,
             moment: 0,
-            chunks: Vec::new(alloc),
+            entries: Vec::new(alloc),
             next: u64::MAX,
             counts: Counts::new(alloc),
             sums: Sums {
@@ -124,8 +118,8 @@ impl Leases {
     {
         let at = now.max(self.moment);
         let bound = self.next;
-        self.sums = sums_by(self.sums, &self.chunks, bound, self.moment, at);
-        self.next = pass(&mut self.chunks, &mut self.counts, bound, self.moment, at);
+        self.next = pass(&mut self.entries, &mut self.counts, bound, self.moment, at);
+        self.sums = table::sums_after(self.sums, &self.entries, at, at < bound);
         self.moment = at;
     }
 
@@ -156,7 +150,7 @@ impl Leases {
     {
         let at = self.at(now);
         let sums = self.sums_by(at);
-        if table::clients_after(&self.chunks, client, at, sums.leased) as u64 > MAX_CLIENTS {
+        if table::clients_after(&self.entries, client, at, sums.leased) as u64 > MAX_CLIENTS {
             return Err(LeaseFault::Clients);
         }
         self.note(client, &number, objects, CallKind::Dirty, at)?;
@@ -196,7 +190,7 @@ impl Leases {
         if at < self.next {
             count_of(&self.counts, &object).holders > 0
         } else {
-            scans::is_held(&self.chunks, &object, at)
+            table::is_held(&self.entries, &object, at)
         }
     }
 
@@ -208,7 +202,7 @@ impl Leases {
         ensures held { IfOk result (λ os. ForEachLog self.now (λ lease moment calls. (o : ObjId) → list_any (same_id o) os.items ≡ true
             → is_held lease moment calls o ≡ true)) }
     {
-        scans::freed(alloc, &self.chunks, self.next, self.moment, self.at(now))
+        ended::freed(alloc, &self.entries, self.next, self.moment, self.at(now))
     }
 
     /// Whether a lease may end as time passes to `now`. Where none may, each object that a client holds at the greatest moment so far is held then, too.
@@ -225,12 +219,17 @@ impl Leases {
     }
 
     /// How many clients hold an object at this moment. A moment before the greatest one is read as the
-    /// greatest.
+    /// greatest. Where no lease ends by then it looks at no client.
     pub fn holders(&self, object: ObjId, now: u64) -> u32
         ensures { ForEachLog self.now (λ lease moment calls.
             result ≡ length (holders lease (max now moment) calls object)) }
     {
-        scans::holders(&self.chunks, &object, self.at(now)) as u32
+        let at = self.at(now);
+        if at < self.next {
+            count_of(&self.counts, &object).holders
+        } else {
+            table::holders(&self.entries, &object, at) as u32
+        }
     }
 
     /// Forgets that calls named this object: it is as if no call so far had. An object counts from its last
@@ -241,8 +240,8 @@ impl Leases {
             StandsFor lease self.new moment (map (without object) calls)) }
     {
         let count = count_of(&self.counts, &object);
-        drop_object(
-            &mut self.chunks,
+        table::drop_object(
+            &mut self.entries,
             &object,
             count.clients,
             count.place,
@@ -258,7 +257,7 @@ impl Leases {
         ensures { ForEachLog self.now (λ lease moment calls.
             result ≡ length (pairs lease (max now moment) calls)) }
     {
-        self.sums_by(self.at(now)).pairs as u32
+        table::remembered_pairs(&self.entries, self.at(now)) as u32
     }
 
     /// The clients that have time left at this moment, in the order of clients, with the ends of their
@@ -267,7 +266,7 @@ impl Leases {
         ensures { IfOk result (λ rows. ForEachLog self.now (λ lease moment calls.
             rows ≡ lease_rows lease (max now moment) calls)) }
     {
-        scans::rows(alloc, &self.chunks, self.at(now))
+        table::rows(alloc, &self.entries, self.at(now))
     }
 
     /// The greater of a moment and the greatest one so far.
@@ -286,7 +285,11 @@ impl Leases {
         ensures value { result ≡ sums_at at self.now.entries }
         ensures few { (result.leased ≤ 65536) × (result.pairs ≤ 262144) }
     {
-        sums_by(self.sums, &self.chunks, self.next, self.moment, at)
+        if at < self.next {
+            self.sums
+        } else {
+            table::sums_at(&self.entries, at)
+        }
     }
 
     /// Notes a call at a moment, if the pairs that it brings can be remembered.
@@ -311,7 +314,7 @@ impl Leases {
     {
         let named = objects.as_slice();
         let pairs = self.sums_by(at).pairs;
-        if table::pairs_after(self.alloc, &self.chunks, client, kind, named, at, pairs)
+        if table::pairs_after(self.alloc, &self.entries, client, kind, named, at, pairs)
             > MAX_PAIRS as u128
         {
             return Err(LeaseFault::Pairs);
@@ -323,21 +326,19 @@ impl Leases {
             objects: named,
             at,
         };
-        let before = table::own_sums(&self.chunks, client, self.moment);
-        chunks::note(
+        let noted = table::note(
             self.alloc,
-            &mut self.chunks,
+            &mut self.entries,
             &mut self.counts,
             client,
             &call,
             self.lease,
             self.moment,
         )?;
-        let after = table::own_sums(&self.chunks, client, self.moment);
-        let with = table::sums_with(self.sums, before, after);
-        let bound = table::bound_with(&self.chunks, client, self.next, at);
-        self.sums = sums_by(with, &self.chunks, bound, self.moment, at);
-        self.next = pass(&mut self.chunks, &mut self.counts, bound, self.moment, at);
+        let with = table::sums_with(self.sums, noted.before, noted.after);
+        let bound = table::bound_with(self.next, noted.until, at);
+        self.next = pass(&mut self.entries, &mut self.counts, bound, self.moment, at);
+        self.sums = table::sums_after(with, &self.entries, at, at < bound);
         self.moment = at;
         Ok(())
     }

@@ -2,17 +2,13 @@
 //! which object, and until when.
 #![tactic(auto)]
 
-mod chunks;
 mod ended;
 mod entry;
-mod forgetting;
 mod holders;
 mod leases;
 mod marks;
 mod numbers;
 mod packed;
-mod passing;
-mod scans;
 mod table;
 
 pub use history::{LeaseList, LeaseRow};

@@ -1,17 +1,15 @@
 //! Lists of clients, in the order of clients.
-ghost use Rattle.std.specs.Prelude.{◌≡◌, true, ℕ, ◌+◌, ◌++◌, ◌<◌, ◌≤◌, ◌^◌, length, filter, map, sum_by, nat_lt, min, insert, remove, slice_set, OnOk, OnErr, IfOk, IsTrue, unwrap_or, MatchResult, vec_len, vec_capacity, slice_index_or, if◌then◌else◌};
-ghost use Rattle.std.specs.List.{list_any, list_all, AllByRecursion};
+ghost use Rattle.std.specs.Prelude.{◌≡◌, true, ◌+◌, ◌<◌, ◌≤◌, ◌^◌, length, filter, map, sum_by, nat_lt, min, insert, remove, slice_set, OnOk, OnErr, IfOk, IsTrue, unwrap_or, MatchResult, vec_len, vec_capacity, slice_index_or, if◌then◌else◌};
+ghost use Rattle.std.specs.List.{list_any, list_all};
 ghost use Rattle.std.specs.Option.{option_copied};
 ghost use Rattle.object_ids.specs.declared.ids.ObjId.{ObjId};
 ghost use Rattle.object_ids.specs.Client.{Client};
 ghost use Rattle.dgc_server.specs.Entry.{Entry, each_has_number, is_in, lapsed, entry_without, is_entry_kept, has_time_left, entry_holds, remembered_of, row_of};
 ghost use Rattle.dgc_server.specs.Stands.{each_once, is_in_order, entry_after};
-ghost use Rattle.dgc_server.specs.Index.{Way, counted_at, has_count, is_counted, one_if, entry_names, ends_later, sums_at, entry_sums, IsSettled};
-ghost use Rattle.dgc_server.specs.Chunks.{all_of, is_filled};
+ghost use Rattle.dgc_server.specs.Index.{Way, counted_at, has_count, is_counted, one_if, entry_names, ends_later, sums_at, entry_sums};
 ghost use Rattle.dgc_server.specs.Table.{remembered as remembered_at};
 ghost use Rattle.dgc_server.specs.Table.{entry_of, no_entry, IsPlaceOf, with_entry, after_lapse, remembered, clients_after, fresh_pairs, pairs_after};
 
-use crate::chunks::{self, Chunk};
 use crate::entry::{ClientEntry, LeaseCall};
 use crate::holders::Counts;
 use crate::marks::{Marks, counts_for, fresh_count};
@@ -27,8 +25,16 @@ pub struct Sums {
     pub pairs: u128,
 }
 
+/// What a noted call changed: what the client's entry added to the sums before and adds since, and when its lease ends since.
+#[derive(Clone, Copy, Debug)]
+pub struct Noted {
+    pub before: Sums,
+    pub after: Sums,
+    pub until: u64,
+}
+
 /// The entry of a client, if it has one.
-pub fn find<'a>(entries: &'a [ClientEntry], client: &Vmid) -> Option<&'a ClientEntry>
+fn find<'a>(entries: &'a [ClientEntry], client: &Vmid) -> Option<&'a ClientEntry>
     requires { IsTrue (is_in_order entries.now) }
     ensures { let other = no_entry client.now in
         entry_of entries.now client.now ≡ unwrap_or (option_copied result) other }
@@ -60,8 +66,8 @@ fn place_of(entries: &[ClientEntry], client: &Vmid) -> Result<usize, usize>
     Err(low)
 }
 
-/// Notes a call of a client in a chunk of this number, by which a lease of this duration begins if it is a dirty, and answers when the lease
-/// ends. The counts are those of the moment `from`. It is refused only for want of memory, and then all is as it was.
+/// Notes a call of a client, by which a lease of this duration begins if it is a dirty, and answers what it changed. The counts and sums are
+/// those of the moment `from`. It is refused only for want of memory, and then all is as it was.
 pub fn note(
     alloc: Global,
     entries: &mut Vec<ClientEntry>,
@@ -70,99 +76,85 @@ pub fn note(
     call: &LeaseCall<'_>,
     lease: u64,
     from: u64,
-    number: usize,
-) -> Result<u64, AllocError>
+) -> Result<Noted, AllocError>
     requires later { from ≤ call.now.at }
     requires early { call.now.at < 2 ^ 62 }
     requires some { 1 ≤ lease }
     requires short { lease ≤ 2 ^ 40 }
+    requires numbered { IsTrue (list_all (λ e. each_has_number e.objects) entries.old.items) }
     requires ordered { IsTrue (is_in_order entries.old.items) }
     requires once { IsTrue (list_all (λ e. each_once e.objects) entries.old.items) }
+    requires few { (w : Way) (o : ObjId) → length (filter (is_counted w from o) entries.old.items) ≤ 262144 }
     requires has { (o : ObjId) → is_in o call.now.objects.now ≡ true → has_count counts.old o ≡ true }
-    requires enough { (w : Way) (o : ObjId) → one_if (is_counted w from o (entry_of entries.old.items client.now)) ≤ counted_at w counts.old o }
-    requires few { (w : Way) (o : ObjId) → counted_at w counts.old o + 1 < 2 ^ 31 }
+    requires counted { (w : Way) (o : ObjId) → counted_at w counts.old o ≡ length (filter (is_counted w from o) entries.old.items) }
     ensures ok { OnOk result (entries.new.items ≡ with_entry
         (entry_after lease call.now.kind call.now.number.now call.now.objects.now call.now.at (entry_of entries.old.items client.now)) entries.old.items) }
-    ensures until { IfOk result (λ until. until
-        ≡ (entry_after lease call.now.kind call.now.number.now call.now.objects.now call.now.at (entry_of entries.old.items client.now)).until) }
-    ensures counts { OnOk result ((w : Way) (o : ObjId) → let own = entry_of entries.old.items client.now in
-        counted_at w counts.new o + one_if (is_counted w from o own)
-        ≡ counted_at w counts.old o
-        + one_if (is_counted w from o (entry_after lease call.now.kind call.now.number.now call.now.objects.now call.now.at own))) }
+    ensures counted { OnOk result ((w : Way) (o : ObjId) → counted_at w counts.new o ≡ length (filter (is_counted w from o) entries.new.items)) }
+    ensures before { IfOk result (λ noted. noted.before ≡ entry_sums from (entry_of entries.old.items client.now)) }
+    ensures after { IfOk result (λ noted. let own = entry_of entries.old.items client.now in
+        noted.after ≡ entry_sums from (entry_after lease call.now.kind call.now.number.now call.now.objects.now call.now.at own)) }
+    ensures until { IfOk result (λ noted. let own = entry_of entries.old.items client.now in
+        noted.until ≡ (entry_after lease call.now.kind call.now.number.now call.now.objects.now call.now.at own).until) }
+    ensures small { IfOk result (λ noted. (noted.after.leased ≤ 1) × (noted.after.pairs < 2 ^ 64)) }
     ensures err { OnErr result (entries.new.items ≡ entries.old.items) }
     ensures same { OnErr result (counts.new ≡ counts.old) }
 {
     match place_of(entries, client) {
-        Ok(place) => note_at(
-            entries,
-            counts,
-            call,
-            lease,
-            from,
-            place,
-            hint(number, place),
-        ),
+        Ok(place) => note_entry(&mut entries[place], counts, call, lease, from, hint(place)),
         Err(place) => {
             entries.reserve(1)?;
             let mut entry = ClientEntry::fresh(alloc, client)?;
-            entry.note(counts, call, lease, from, hint(number, place))?;
-            let until = entry.until();
+            let noted = note_entry(&mut entry, counts, call, lease, from, hint(place))?;
             insert_within(entries, place, entry);
-            Ok(until)
+            Ok(noted)
         }
     }
 }
 
-/// Notes a call of the client that stands at this place, and answers when its lease ends. It is refused only for want of memory, and then all is
-/// as it was.
-fn note_at(
-    entries: &mut Vec<ClientEntry>,
+/// Notes a call in a client's entry, and answers what it changed. It is refused only for want of memory, and then all is as it was.
+fn note_entry(
+    entry: &mut ClientEntry,
     counts: &mut Counts,
     call: &LeaseCall<'_>,
     lease: u64,
     from: u64,
-    place: usize,
-    hint: u32,
-) -> Result<u64, AllocError>
-    requires within { place < length entries.old.items }
+    place: u32,
+) -> Result<Noted, AllocError>
     requires later { from ≤ call.now.at }
     requires early { call.now.at < 2 ^ 62 }
     requires some { 1 ≤ lease }
     requires short { lease ≤ 2 ^ 40 }
-    requires once { IsTrue (list_all (λ e. each_once e.objects) entries.old.items) }
+    requires numbered { IsTrue (each_has_number entry.old.objects) }
+    requires once { IsTrue (each_once entry.old.objects) }
     requires has { (o : ObjId) → is_in o call.now.objects.now ≡ true → has_count counts.old o ≡ true }
-    requires enough { (d : Entry) (w : Way) (o : ObjId) → one_if (is_counted w from o (slice_index_or entries.old.items place d)) ≤ counted_at w counts.old o }
+    requires enough { (w : Way) (o : ObjId) → one_if (is_counted w from o entry.old) ≤ counted_at w counts.old o }
     requires few { (w : Way) (o : ObjId) → counted_at w counts.old o + 1 < 2 ^ 31 }
-    ensures ok { OnOk result ((d : Entry) → entries.new.items ≡ slice_set entries.old.items place
-        (entry_after lease call.now.kind call.now.number.now call.now.objects.now call.now.at (slice_index_or entries.old.items place d))) }
-    ensures until { IfOk result (λ until. (d : Entry) → until
-        ≡ (entry_after lease call.now.kind call.now.number.now call.now.objects.now call.now.at (slice_index_or entries.old.items place d)).until) }
-    ensures counts { OnOk result ((d : Entry) (w : Way) (o : ObjId) → let own = slice_index_or entries.old.items place d in
-        counted_at w counts.new o + one_if (is_counted w from o own)
-        ≡ counted_at w counts.old o
-        + one_if (is_counted w from o (entry_after lease call.now.kind call.now.number.now call.now.objects.now call.now.at own))) }
-    ensures err { OnErr result (entries.new.items ≡ entries.old.items) }
+    ensures ok { OnOk result (entry.new ≡ entry_after lease call.now.kind call.now.number.now call.now.objects.now call.now.at entry.old) }
+    ensures counts { OnOk result ((w : Way) (o : ObjId) → counted_at w counts.new o + one_if (is_counted w from o entry.old)
+        ≡ counted_at w counts.old o + one_if (is_counted w from o entry.new)) }
+    ensures before { IfOk result (λ noted. noted.before ≡ entry_sums from entry.old) }
+    ensures after { IfOk result (λ noted. noted.after ≡ entry_sums from entry.new) }
+    ensures until { IfOk result (λ noted. noted.until ≡ entry.new.until) }
+    ensures small { IfOk result (λ noted. (noted.after.leased ≤ 1) × (noted.after.pairs < 2 ^ 64)) }
+    ensures err { OnErr result (entry.new ≡ entry.old) }
     ensures same { OnErr result (counts.new ≡ counts.old) }
 {
-    let entry = &mut entries[place];
-    entry.note(counts, call, lease, from, hint)?;
-    Ok(entry.until())
+    let before = sums_of(entry, from);
+    entry.note(counts, call, lease, from, place)?;
+    Ok(Noted {
+        before,
+        after: sums_of(entry, from),
+        until: entry.until(),
+    })
 }
 
-/// A place in a chunk of this number, as a count notes it: the first of all, if the numbers are too great.
-fn hint(number: usize, place: usize) -> u32 {
-    if number < 0x10_0000 && place < 0x100 {
-        (number * 0x100 + place) as u32
+/// A place as a count notes it: the first, if it is too great a number.
+fn hint(place: usize) -> u32 {
+    if place <= u32::MAX as usize {
+        place as u32
     } else {
         0
     }
-}
-
-/// A moment before which no lease ends, where none ended before another one and one was noted since that ends then; 0 where nothing can be said.
-pub fn least_until(bound: u64, until: u64, at: u64) -> u64
-    ensures { result ≡ (if nat_lt at until then min bound until else 0) }
-{
-    if at < until { bound.min(until) } else { 0 }
 }
 
 /// Inserts an entry, for which there is room.
@@ -177,17 +169,11 @@ fn insert_within(entries: &mut Vec<ClientEntry>, place: usize, entry: ClientEntr
     }
 }
 
-/// A moment before which no lease ends, where none ended before another one and this client's entry was noted since; 0 where nothing
-/// can be said.
-pub fn bound_with(chunks: &[Chunk], client: &Vmid, bound: u64, at: u64) -> u64
-    requires ordered { IsTrue (is_in_order (all_of chunks.now)) }
-    requires filled { IsTrue (list_all is_filled chunks.now) }
-    ensures { let entry = entry_of (all_of chunks.now) client.now in result ≡ (if has_time_left at entry then min bound entry.until else 0) }
+/// A moment before which no lease ends, where none ended before another one and one was noted since that ends then; 0 where nothing can be said.
+pub fn bound_with(bound: u64, until: u64, at: u64) -> u64
+    ensures { result ≡ (if nat_lt at until then min bound until else 0) }
 {
-    match chunks::find(chunks, client) {
-        Some(entry) => least_until(bound, entry.until(), at),
-        None => 0,
-    }
+    if at < until { bound.min(until) } else { 0 }
 }
 
 /// A moment before which no lease ends that has time left at this one.
@@ -233,23 +219,32 @@ fn lapse_each(entries: &mut [ClientEntry], now: u64)
     }
 }
 
-/// From a place on forgets what is kept of an object that at most so many clients name, and answers for how many that number is left.
-pub fn walk(
+/// Forgets what is kept of an object that so many clients name, and a client of which nothing is left then. It begins to look at this place,
+/// and stops as soon as all that name the object were met. It takes no memory.
+pub fn drop_object(
     entries: &mut Vec<ClientEntry>,
     object: &ObjId,
     clients: u32,
-    from: usize,
+    place: u32,
     at: u64,
-) -> u32
+)
     requires kept { IsTrue (list_all (is_entry_kept at) entries.old.items) }
-    requires enough { length (filter (entry_names object.now) entries.old.items) ≤ clients }
+    requires counted { clients ≡ length (filter (entry_names object.now) entries.old.items) }
+    ensures { entries.new.items ≡ filter (is_entry_kept at) (map (entry_without object.now) entries.old.items) }
+{
+    let left = walk(entries, object, clients, place as usize, at);
+    walk(entries, object, left, 0, at);
+}
+
+/// From a place on forgets what is kept of an object that so many clients name, and answers how many are left that name it.
+fn walk(entries: &mut Vec<ClientEntry>, object: &ObjId, clients: u32, from: usize, at: u64) -> u32
+    requires kept { IsTrue (list_all (is_entry_kept at) entries.old.items) }
+    requires counted { clients ≡ length (filter (entry_names object.now) entries.old.items) }
     ensures same { filter (is_entry_kept at) (map (entry_without object.now) entries.new.items)
         ≡ filter (is_entry_kept at) (map (entry_without object.now) entries.old.items) }
     ensures kept { IsTrue (list_all (is_entry_kept at) entries.new.items) }
-    ensures counted { result + length (filter (entry_names object.now) entries.old.items)
-        ≡ clients + length (filter (entry_names object.now) entries.new.items) }
-    ensures settled { (n : ℕ) → AllByRecursion (IsSettled at n) entries.old.items → AllByRecursion (IsSettled at n) entries.new.items }
-    ensures all { from ≡ 0 → length (filter (entry_names object.now) entries.new.items) ≡ 0 }
+    ensures counted { result ≡ length (filter (entry_names object.now) entries.new.items) }
+    ensures all { from ≡ 0 → result ≡ 0 }
 {
     let mut left = clients;
     let mut i = from;
@@ -315,26 +310,24 @@ fn clients_with_time_left(entries: &[ClientEntry], at: u64) -> usize
 }
 
 /// Whether a client has time left.
-pub fn is_leased(chunks: &[Chunk], client: &Vmid, at: u64) -> bool
-    requires ordered { IsTrue (is_in_order (all_of chunks.now)) }
-    requires filled { IsTrue (list_all is_filled chunks.now) }
-    ensures { result ≡ has_time_left at (entry_of (all_of chunks.now) client.now) }
+pub fn is_leased(entries: &[ClientEntry], client: &Vmid, at: u64) -> bool
+    requires { IsTrue (is_in_order entries.now) }
+    ensures { result ≡ has_time_left at (entry_of entries.now client.now) }
 {
-    match chunks::find(chunks, client) {
+    match find(entries, client) {
         Some(entry) => entry.has_time_left(at),
         None => false,
     }
 }
 
 /// How many clients have time left after a dirty of this one, where so many have now.
-pub fn clients_after(chunks: &[Chunk], client: &Vmid, at: u64, leased: usize) -> usize
-    requires ordered { IsTrue (is_in_order (all_of chunks.now)) }
-    requires filled { IsTrue (list_all is_filled chunks.now) }
-    requires counted { leased ≡ length (filter (has_time_left at) (all_of chunks.now)) }
+pub fn clients_after(entries: &[ClientEntry], client: &Vmid, at: u64, leased: usize) -> usize
+    requires ordered { IsTrue (is_in_order entries.now) }
+    requires counted { leased ≡ length (filter (has_time_left at) entries.now) }
     requires few { leased ≤ 65536 }
-    ensures { result ≡ clients_after (all_of chunks.now) client.now at }
+    ensures { result ≡ clients_after entries.now client.now at }
 {
-    if is_leased(chunks, client, at) {
+    if is_leased(entries, client, at) {
         leased
     } else {
         leased + 1
@@ -365,23 +358,6 @@ fn sums_of(entry: &ClientEntry, at: u64) -> Sums
     }
 }
 
-/// What a client's own entry adds to the sums.
-pub fn own_sums(chunks: &[Chunk], client: &Vmid, at: u64) -> Sums
-    requires ordered { IsTrue (is_in_order (all_of chunks.now)) }
-    requires filled { IsTrue (list_all is_filled chunks.now) }
-    requires noted { IsTrue (list_all (λ e. each_has_number e.objects) (all_of chunks.now)) }
-    ensures value { result ≡ entry_sums at (entry_of (all_of chunks.now) client.now) }
-    ensures small { (result.leased ≤ 1) × (result.pairs < 2 ^ 64) }
-{
-    match chunks::find(chunks, client) {
-        Some(entry) => sums_of(entry, at),
-        None => Sums {
-            leased: 0,
-            pairs: 0,
-        },
-    }
-}
-
 /// The sums once a client's entry adds something else.
 pub fn sums_with(sums: Sums, before: Sums, after: Sums) -> Sums
     requires leased { before.leased ≤ sums.leased }
@@ -397,21 +373,17 @@ pub fn sums_with(sums: Sums, before: Sums, after: Sums) -> Sums
     }
 }
 
-/// The sums once some clients add something else that is no more.
-pub fn sums_lowered(sums: Sums, before: Sums, after: Sums) -> Sums
-    requires leased { (after.leased ≤ before.leased) × (before.leased ≤ sums.leased) }
-    requires pairs { (after.pairs ≤ before.pairs) × (before.pairs ≤ sums.pairs) }
-    ensures leased { result.leased + before.leased ≡ sums.leased + after.leased }
-    ensures pairs { result.pairs + before.pairs ≡ sums.pairs + after.pairs }
+/// The sums after time has passed, which are the same where nothing was due.
+pub fn sums_after(sums: Sums, entries: &[ClientEntry], at: u64, is_quiet: bool) -> Sums
+    requires quiet { is_quiet ≡ true → sums ≡ sums_at at entries.now }
+    requires noted { IsTrue (list_all (λ e. each_has_number e.objects) entries.now) }
+    ensures { result ≡ sums_at at entries.now }
 {
-    Sums {
-        leased: sums.leased - (before.leased - after.leased),
-        pairs: sums.pairs - (before.pairs - after.pairs),
-    }
+    if is_quiet { sums } else { sums_at(entries, at) }
 }
 
 /// How many pairs of a client and an object are remembered.
-fn remembered_pairs(entries: &[ClientEntry], at: u64) -> u128
+pub fn remembered_pairs(entries: &[ClientEntry], at: u64) -> u128
     requires { IsTrue (list_all (λ e. each_has_number e.objects) entries.now) }
     ensures value { result ≡ remembered at entries.now }
     ensures small { result < 2 ^ 127 }
@@ -426,17 +398,16 @@ fn remembered_pairs(entries: &[ClientEntry], at: u64) -> u128
 /// How many pairs a call of this kind brings that were not remembered.
 fn fresh_pairs(
     alloc: Global,
-    chunks: &[Chunk],
+    entries: &[ClientEntry],
     client: &Vmid,
     kind: CallKind,
     named: &[ObjId],
     at: u64,
 ) -> usize
-    requires ordered { IsTrue (is_in_order (all_of chunks.now)) }
-    requires filled { IsTrue (list_all is_filled chunks.now) }
-    ensures { result ≡ fresh_pairs at (all_of chunks.now) client.now kind named.now }
+    requires { IsTrue (is_in_order entries.now) }
+    ensures { result ≡ fresh_pairs at entries.now client.now kind named.now }
 {
-    match chunks::find(chunks, client) {
+    match find(entries, client) {
         Some(entry) if counts_for(kind, entry.has_time_left(at)) => {
             entry.fresh_among(alloc, named, at)
         }
@@ -461,31 +432,26 @@ pub fn sums_without(sums: Sums, clients: u32) -> Sums
 /// How many pairs are remembered after a call of this kind, where so many are now.
 pub fn pairs_after(
     alloc: Global,
-    chunks: &[Chunk],
+    entries: &[ClientEntry],
     client: &Vmid,
     kind: CallKind,
     named: &[ObjId],
     at: u64,
     remembered: u128,
 ) -> u128
-    requires ordered { IsTrue (is_in_order (all_of chunks.now)) }
-    requires filled { IsTrue (list_all is_filled chunks.now) }
-    requires counted { remembered ≡ remembered_at at (all_of chunks.now) }
+    requires ordered { IsTrue (is_in_order entries.now) }
+    requires counted { remembered ≡ remembered_at at entries.now }
     requires few { remembered ≤ 262144 }
-    ensures { result ≡ pairs_after at (all_of chunks.now) client.now kind named.now }
+    ensures { result ≡ pairs_after at entries.now client.now kind named.now }
 {
-    remembered + fresh_pairs(alloc, chunks, client, kind, named, at) as u128
+    remembered + fresh_pairs(alloc, entries, client, kind, named, at) as u128
 }
 
-/// Appends the clients with time left, in order, with the ends of their leases.
-pub fn append_rows(
-    alloc: Global,
-    rows: &mut LeaseList,
-    entries: &[ClientEntry],
-    at: u64,
-) -> Result<(), AllocError>
-    ensures { OnOk result (rows.new ≡ rows.old ++ map row_of (filter (has_time_left at) entries.now)) }
+/// The clients with time left, in order, with the ends of their leases.
+pub fn rows(alloc: Global, entries: &[ClientEntry], at: u64) -> Result<LeaseList, AllocError>
+    ensures { IfOk result (λ rows. rows ≡ map row_of (filter (has_time_left at) entries.now)) }
 {
+    let mut rows = LeaseList::new(alloc);
     for entry in entries {
         if entry.has_time_left(at) {
             rows.push(LeaseRow {
@@ -494,5 +460,5 @@ pub fn append_rows(
             })?;
         }
     }
-    Ok(())
+    Ok(rows)
 }

@@ -252,13 +252,6 @@ next-index s ws i d m n r t f g within once step index =
 pub so-far-first : (s : Wait → Bool) (ws : List Wait) (i : ℕ) → filter s (take i ws) ≡ take i ws → kept_so_far s ws i ≡ ws
 so-far-first s ws i h = ap (λ l. l ++ drop i ws) h ∙ take-append-drop i ws
 
--- Where all from the last place on stay, these and those that stay of the others are what stays of all.
-pub so-far-last : (s : Wait → Bool) (ws : List Wait) (i : ℕ) → filter s (drop i ws) ≡ drop i ws → kept_so_far s ws i ≡ filter s ws
-so-far-last s ws i h =
-    ap (λ l. filter s (take i ws) ++ l) (sym h)
-    ∙ sym (filter-append s (take i ws) (drop i ws))
-    ∙ ap (filter s) (take-append-drop i ws)
-
 -- ---- where a reference is not listed
 
 pub until-none : (o : ObjId) (u : Uid) (ws : List Wait) → list_any (is_wait_of o u) ws ≡ false → until_of o u ws ≡ 0

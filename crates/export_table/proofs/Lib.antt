@@ -1,14 +1,12 @@
 pub mod Among
 pub mod Counting
 pub mod Dropped
-pub mod Ends
 pub mod Indexing
 pub mod KeptLaws
 pub mod Returning
 pub mod RowLaws
 pub mod Parts
 pub mod Places
-pub mod Queued
 pub mod Searching
 pub mod Held
 pub mod Slotted

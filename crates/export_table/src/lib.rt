@@ -11,7 +11,6 @@ mod row_table;
 mod rows;
 mod slots;
 mod wait_list;
-mod wait_queue;
 mod waits;
 
 pub use exports::{ExportFault, Exports};

@@ -8,7 +8,6 @@ ghost use Rattle.export_table.specs.Index.{stays};
 use crate::counts::{Counts, References, count_of, has};
 use crate::index;
 use crate::returns::{self, Returns};
-use crate::wait_queue::WaitQueue;
 use crate::waits::{self, Stays, Wait};
 use history::limits::MAX_AWAITING;
 use object_ids::{ObjId, Uid};
@@ -18,7 +17,9 @@ use std::marker::Model;
 /// The references that await their acknowledgement, the last listed last. Contracts see it as a `WaitTable`.
 #[derive(Debug)]
 pub struct WaitList {
-    queue: WaitQueue,
+    waits: Vec<Wait>,
+    /// None of them ends before this moment.
+    next: u64,
     /// How many there are of each object.
     counts: Counts,
     /// Which there are.
@@ -33,13 +34,14 @@ pub struct WaitList {
 impl Drop for WaitList {
     fn drop(self) {
         let WaitList {
-            queue,
+            waits,
+            next: _,
             counts,
             references,
             returns,
             room: _,
         } = self;
-        drop(queue);
+        drop(waits);
         drop(counts);
         drop(references);
         drop(returns);
@@ -47,13 +49,14 @@ impl Drop for WaitList {
 }
 
 impl Model for WaitList {
+    ghost use Rattle.std.specs.Prelude.{vec_len, vec_capacity};
     ghost use Rattle.export_table.specs.WaitTable.{WaitTable, IsIndexed};
 
     ghost Value = { WaitTable };
 
-    ghost view = { λ l. record { waits = l.queue.waits; room = l.room } };
+    ghost view = { λ l. record { waits = l.waits.items; room = l.room } };
 
-    ghost invariant = { λ l. IsIndexed l.queue l.counts l.references l.returns l.room };
+    ghost invariant = { λ l. IsIndexed l.waits.items (vec_len l.waits) (vec_capacity l.waits) l.next l.counts l.references l.returns l.room };
 }
 
 impl WaitList {
@@ -62,7 +65,8 @@ impl WaitList {
         ensures { result ≡ record { waits = []; room = 0 } }
     {
         WaitList {
-            queue: WaitQueue::new(alloc),
+            waits: Vec::new(alloc),
+            next: u64::MAX,
             counts: Counts::new(alloc),
             references: References::new(alloc),
             returns: Returns::new(alloc),
@@ -79,7 +83,7 @@ impl WaitList {
         ensures err { OnErr result (self.new ≡ self.old) }
     {
         if more > self.room {
-            self.queue.reserve(more)?;
+            self.waits.reserve(more)?;
             self.counts.reserve(more)?;
             self.references.reserve(more)?;
             self.returns.reserve(more)?;
@@ -93,7 +97,11 @@ impl WaitList {
         ensures value { result ≡ length (waiting at self.now.waits) }
         ensures within { result ≤ length self.now.waits }
     {
-        self.queue.waits().len() - waits::count_over(self.queue.due(at), at)
+        if at < self.next {
+            self.waits.len()
+        } else {
+            waits::count(&self.waits, at)
+        }
     }
 
     /// How many references to an object await at a moment.
@@ -101,22 +109,33 @@ impl WaitList {
         ensures value { result ≡ length (awaiting_of at object.now self.now.waits) }
         ensures within { result ≤ length self.now.waits }
     {
-        let over = waits::count_over_of(self.queue.due(at), object, at);
-        count_of(&self.counts, object) as usize - over
+        if at < self.next {
+            count_of(&self.counts, object) as usize
+        } else {
+            waits::count_of(&self.waits, object, at)
+        }
     }
 
     /// Whether some reference to an object awaits at a moment.
     pub fn is_awaited(&self, object: &ObjId, at: u64) -> bool
         ensures { result ≡ is_awaited at object.now self.now.waits }
     {
-        self.count_of(object, at) > 0
+        if at < self.next {
+            count_of(&self.counts, object) > 0
+        } else {
+            waits::is_awaited(&self.waits, object, at)
+        }
     }
 
     /// Whether this reference awaits at a moment.
     pub fn is_waiting(&self, object: &ObjId, uid: &Uid, at: u64) -> bool
         ensures { result ≡ is_waiting at object.now uid.now self.now.waits }
     {
-        has(&self.references, object, uid) && !waits::is_over(self.queue.due(at), object, uid, at)
+        if at < self.next {
+            has(&self.references, object, uid)
+        } else {
+            waits::is_waiting(&self.waits, object, uid, at)
+        }
     }
 
     /// Whether as many references await at a moment as can be, and this one isn't among them.
@@ -132,7 +151,7 @@ impl WaitList {
     {
         if has(&self.references, object, uid) {
             let first = self.first_of(uid);
-            waits::until_of(&self.queue.waits()[first..], object, uid)
+            waits::until_of(&self.waits[first..], object, uid)
         } else {
             0
         }
@@ -158,36 +177,38 @@ impl WaitList {
         self.put(wait);
     }
 
-    /// Forgets the waits that ended. Where none has, it looks at no wait; where the ends rise, at those that ended and at one more.
+    /// Forgets the waits that ended. Where none has, it looks at no wait.
     pub fn forget(&mut self, now: u64)
         ensures waits { self.new.waits ≡ waiting now self.old.waits }
         ensures room { self.new.room ≡ self.old.room }
     {
-        let upto = self.queue.due(now).len();
-        index::keep(
-            &mut self.counts,
-            &mut self.references,
-            &mut self.returns,
-            self.queue.waits(),
-            0,
-            upto,
-            &Stays::After(now),
-        );
-        self.queue.forget(now);
+        if now < self.next {
+            return;
+        }
+        self.keep(0, Stays::After(now));
+        self.next = waits::least_end(&self.waits);
     }
 
     /// Whether some wait has ended at a moment.
     pub fn has_ended(&self, at: u64) -> bool
         ensures { result ≡ list_any (λ w. not (goes_on at w)) self.now.waits }
     {
-        waits::has_ended(self.queue.due(at), at)
+        if at < self.next {
+            false
+        } else {
+            waits::has_ended(&self.waits, at)
+        }
     }
 
-    /// The objects of the waits that have ended at a moment. Where none has, it looks at no wait; where the ends rise, at those and at one more.
+    /// The objects of the waits that have ended at a moment. Where none has, it looks at no wait.
     pub fn ended(&self, alloc: Global, at: u64) -> Result<Vec<ObjId>, AllocError>
         ensures { IfOk result (λ os. os.items ≡ objects (over at self.now.waits)) }
     {
-        waits::objects_that_go(alloc, self.queue.due(at), &Stays::After(at))
+        if at < self.next {
+            Ok(Vec::new(alloc))
+        } else {
+            waits::objects_that_go(alloc, &self.waits, &Stays::After(at))
+        }
     }
 
     /// The objects of the waits of a return. It looks at those that were listed since the first of them.
@@ -195,11 +216,7 @@ impl WaitList {
         ensures { IfOk result (λ os. os.items ≡ objects (of_return uid.now self.now.waits)) }
     {
         let first = self.first_of(uid);
-        waits::objects_that_go(
-            alloc,
-            &self.queue.waits()[first..],
-            &Stays::OtherReturns(*uid),
-        )
+        waits::objects_that_go(alloc, &self.waits[first..], &Stays::OtherReturns(*uid))
     }
 
     /// The place of the first wait of a return, or behind the last wait where there is none.
@@ -207,11 +224,7 @@ impl WaitList {
         ensures within { result ≤ length self.now.waits }
         ensures before { of_return uid.now (take result self.now.waits) ≡ [] }
     {
-        waits::first_of(
-            self.queue.waits(),
-            uid,
-            returns::count_of(&self.returns, uid),
-        )
+        waits::first_of(&self.waits, uid, returns::count_of(&self.returns, uid))
     }
 
     /// Forgets the wait of this object and return, if it is listed.
@@ -241,17 +254,15 @@ impl WaitList {
         ensures waits { self.new.waits ≡ filter (stays which) self.old.waits }
         ensures room { self.new.room ≡ self.old.room }
     {
-        let upto = self.queue.waits().len();
         index::keep(
             &mut self.counts,
             &mut self.references,
             &mut self.returns,
-            self.queue.waits(),
+            &self.waits,
             first,
-            upto,
             &which,
         );
-        self.queue.keep(first, &which);
+        waits::keep(&mut self.waits, first, &which);
     }
 
     /// Appends a wait of a reference that is not listed. There is room for it.
@@ -268,7 +279,8 @@ impl WaitList {
             &mut self.returns,
             &wait,
         );
-        self.queue.put(wait);
+        waits::put(&mut self.waits, wait);
+        self.next = self.next.min(wait.until);
         self.room -= 1;
     }
 }

@@ -1,9 +1,9 @@
 //! References that were returned and await their acknowledgement.
-ghost use Rattle.std.specs.Prelude.{◌≡◌, ◌++◌, ◌∷◌, [], ◌+◌, ◌<◌, ◌≤◌, ◌&&◌, true, length, filter, take, drop, map, not, IfOk, vec_len, vec_capacity};
+ghost use Rattle.std.specs.Prelude.{◌≡◌, ◌++◌, ◌∷◌, [], ◌+◌, ◌<◌, ◌≤◌, length, filter, take, map, not, IfOk, vec_len, vec_capacity};
 ghost use Rattle.std.specs.List.{list_any};
 ghost use Rattle.object_ids.specs.Same.{same_id, same_uid};
-ghost use Rattle.export_table.specs.Waits.{is_wait_of, goes_on, waiting, over, until_of, of_return};
-ghost use Rattle.export_table.specs.Index.{stays, EndsNoEarlier, EndsRise};
+ghost use Rattle.export_table.specs.Waits.{is_wait_of, goes_on, waiting, is_waiting, is_awaited, awaiting_of, until_of, of_return};
+ghost use Rattle.export_table.specs.Index.{stays, EndsNoEarlier};
 
 use mod_utf::list::Same;
 use object_ids::{ObjId, Uid};
@@ -51,30 +51,41 @@ impl Wait {
     }
 }
 
-/// How many waits have ended at a moment.
-pub fn count_over(waits: &[Wait], at: u64) -> usize
-    ensures { result ≡ length (over at waits.now) }
+/// How many references await at a moment.
+pub fn count(waits: &[Wait], at: u64) -> usize
+    ensures value { result ≡ length (waiting at waits.now) }
+    ensures within { result ≤ length waits.now }
 {
-    waits.iter().filter(|wait| !wait.goes_on(at)).count()
+    waits.iter().filter(|wait| wait.goes_on(at)).count()
 }
 
-/// How many waits of an object have ended at a moment.
-pub fn count_over_of(waits: &[Wait], object: &ObjId, at: u64) -> usize
-    ensures { result ≡ length (filter (λ w. not (goes_on at w) && same_id w.object object.now) waits.now) }
+/// How many references to an object await at a moment.
+pub fn count_of(waits: &[Wait], object: &ObjId, at: u64) -> usize
+    ensures value { result ≡ length (awaiting_of at object.now waits.now) }
+    ensures within { result ≤ length waits.now }
 {
     waits
         .iter()
-        .filter(|wait| !wait.goes_on(at) && wait.is_of_object(object))
+        .filter(|wait| wait.goes_on(at) && wait.is_of_object(object))
         .count()
 }
 
-/// Whether the wait of this reference has ended at a moment.
-pub fn is_over(waits: &[Wait], object: &ObjId, uid: &Uid, at: u64) -> bool
-    ensures { result ≡ list_any (λ w. not (goes_on at w) && is_wait_of object.now uid.now w) waits.now }
+/// Whether some reference to an object awaits at a moment.
+pub fn is_awaited(waits: &[Wait], object: &ObjId, at: u64) -> bool
+    ensures { result ≡ is_awaited at object.now waits.now }
 {
     waits
         .iter()
-        .any(|wait| !wait.goes_on(at) && wait.is_of(object, uid))
+        .any(|wait| wait.goes_on(at) && wait.is_of_object(object))
+}
+
+/// Whether this reference awaits at a moment.
+pub fn is_waiting(waits: &[Wait], object: &ObjId, uid: &Uid, at: u64) -> bool
+    ensures { result ≡ is_waiting at object.now uid.now waits.now }
+{
+    waits
+        .iter()
+        .any(|wait| wait.goes_on(at) && wait.is_of(object, uid))
 }
 
 /// The moment at which this reference ceases to wait, 0 where it is not listed.
@@ -94,7 +105,7 @@ pub fn put(waits: &mut Vec<Wait>, wait: Wait)
     requires { vec_len waits.old < vec_capacity waits.old }
     ensures items { waits.new.items ≡ waits.old.items ++ wait ∷ [] }
     ensures len { vec_len waits.new ≡ vec_len waits.old + 1 }
-    ensures capacity { vec_capacity waits.new ≡ vec_capacity waits.old }
+    ensures capacity { vec_capacity waits.old ≤ vec_capacity waits.new }
 {
     waits.push_reserved(wait);
 }
@@ -163,13 +174,13 @@ pub fn first_of(waits: &[Wait], uid: &Uid, count: u32) -> usize
     first
 }
 
-/// Moves the waits that stay to the front, in their order, as all before the place `first` stand there, and says how many stay. It looks at none of these.
-pub fn keep(waits: &mut [Wait], first: usize, which: &Stays) -> usize
-    requires within { first ≤ length waits.old }
-    requires before { filter (stays which.now) (take first waits.old) ≡ take first waits.old }
-    ensures kept { take result waits.new ≡ filter (stays which.now) waits.old }
-    ensures within { result ≤ length waits.new }
-    ensures len { length waits.new ≡ length waits.old }
+/// Keeps the waits that stay, as all before the place `first` do. It looks at none of these.
+pub fn keep(waits: &mut Vec<Wait>, first: usize, which: &Stays)
+    requires within { first ≤ vec_len waits.old }
+    requires before { filter (stays which.now) (take first waits.old.items) ≡ take first waits.old.items }
+    ensures items { waits.new.items ≡ filter (stays which.now) waits.old.items }
+    ensures len { vec_len waits.new ≤ vec_len waits.old }
+    ensures capacity { vec_capacity waits.new ≡ vec_capacity waits.old }
 {
     let mut kept = first;
     for i in first..waits.len() {
@@ -179,55 +190,7 @@ pub fn keep(waits: &mut [Wait], first: usize, which: &Stays) -> usize
             kept += 1;
         }
     }
-    kept
-}
-
-/// Takes out so many waits at the front.
-pub fn drop_front(waits: &mut Vec<Wait>, count: usize)
-    requires { count ≤ vec_len waits.old }
-    ensures items { waits.new.items ≡ drop count waits.old.items }
-    ensures len { vec_len waits.new ≤ vec_len waits.old }
-    ensures capacity { vec_capacity waits.new ≡ vec_capacity waits.old }
-{
-    let left = waits.len() - count;
-    waits.copy_within(count.., 0);
-    waits.truncate(left);
-}
-
-/// How many waits have ended at a moment, where their ends rise. It looks at these, and at one more.
-pub fn due_front(waits: &[Wait], at: u64) -> usize
-    requires { EndsRise waits.now }
-    ensures within { result ≤ length waits.now }
-    ensures rest { waiting at waits.now ≡ drop result waits.now }
-{
-    for i in 0..waits.len() {
-        if waits[i].goes_on(at) {
-            return i;
-        }
-    }
-    waits.len()
-}
-
-/// Whether the ends rise with one wait more, where it is told whether they rise without it.
-pub fn rises_with(waits: &[Wait], rising: bool, wait: &Wait) -> bool
-    requires { rising ≡ true → EndsRise waits.now }
-    ensures { result ≡ true → EndsRise (waits.now ++ wait.now ∷ []) }
-{
-    if waits.is_empty() {
-        return true;
-    }
-    rising && waits[waits.len() - 1].until <= wait.until
-}
-
-/// The moment at which the first of these ceases to wait, where their ends rise; the greatest number where there is none.
-pub fn first_end(waits: &[Wait]) -> u64
-    requires { EndsRise waits.now }
-    ensures { EndsNoEarlier result waits.now }
-{
-    if waits.is_empty() {
-        return u64::MAX;
-    }
-    waits[0].until
+    waits.truncate(kept);
 }
 
 /// The moment at which the first of these ceases to wait; the greatest number where there is none.

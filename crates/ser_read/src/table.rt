@@ -3,10 +3,10 @@ ghost use Rattle.std.specs.Prelude.{◌≡◌, ◌+◌, ◌<◌, ◌≤◌, ◌+
 ghost use Rattle.ser_values.specs.declared.limits.TheConstants.{NODES, PARTS};
 ghost use Rattle.ser_values.specs.Loose.{elements_in, elements_at};
 ghost use Rattle.ser_values.specs.Node.{has, is_desc, is_text};
-ghost use Rattle.ser_values.specs.declared.node.Node.TheVariants.{Desc, Object};
+ghost use Rattle.ser_values.specs.declared.node.Node.TheVariants.{Object};
 
 use crate::fault::StreamKind;
-use class_desc::{ClassDesc, ENUM, Slot, TypeCode, element_code, is_primitive};
+use class_desc::{ENUM, Slot, TypeCode, is_primitive};
 use ser_values::limits::{NODES, PARTS};
 use ser_values::{Node, NodeList, PartList, Place, elements_in, fits_node, is_desc, is_text};
 use std::alloc::{AllocError, Global};
@@ -66,16 +66,6 @@ fn write_object(place: &mut Node, class: u32, parts: PartList)
     }
 }
 
-/// Writes a description. Where one stands already, as one that was begun does, it is written over in its place.
-fn write_desc(place: &mut Node, desc: ClassDesc)
-    ensures { place.new ≡ Desc desc }
-{
-    match place {
-        Node::Desc(old) => *old = desc,
-        other => *other = Node::Desc(desc),
-    }
-}
-
 impl Table {
     ghost use Rattle.ser_values.specs.Shape.{is_enum, fits_type};
     ghost use Rattle.ser_values.specs.Reading.{push, fill, type_in, handle_fault, bad_desc, wrong_handle_kind};
@@ -132,18 +122,6 @@ impl Table {
         let place = number as usize;
         self.elements[place] = elements_in(&node);
         self.nodes[place] = node;
-    }
-
-    /// Writes a description, which was read, in the place that it has.
-    pub(crate) fn fill_desc(&mut self, number: u32, desc: ClassDesc)
-        requires { number < length self.old.nodes.items }
-        ensures now { now_of self.new ≡ fill (now_of self.old) number (Desc desc) }
-        ensures unread { self.new.unread.items ≡ self.old.unread.items }
-        ensures grows { length self.new.nodes.items ≡ length self.old.nodes.items }
-    {
-        let place = number as usize;
-        self.elements[place] = element_code(&desc.name);
-        write_desc(&mut self.nodes[place], desc);
     }
 
     /// Writes an object, whose parts were read, in the place that it has.

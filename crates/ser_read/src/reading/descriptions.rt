@@ -42,7 +42,7 @@ pub(super) fn desc<S: Source>(
     table.open(number)?;
     let desc = desc_behind(alloc, pull, table, at, name, front, left)?;
     table.close();
-    table.fill_desc(number, desc);
+    table.fill(number, Node::Desc(desc));
     Ok(Slot::Node(number))
 }
 

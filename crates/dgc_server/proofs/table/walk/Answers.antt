@@ -1,7 +1,7 @@
 use Rattle.std.proofs.Common.{◌≡◌, ◌<◌, rules, ap, sym, ◌∙◌, arith, length, filter, get_or, true}
 use Rattle.std.specs.Prelude.{vec_len}
 use Rattle.dgc_server.specs.Index.{entry_names, one_if}
-use Rattle.dgc_server.proofs.Walking.{changed, changed-same, changed-settled, changed-kept, changed-names, changed-front}
+use Rattle.dgc_server.proofs.Walking.{changed, changed-same, changed-kept, changed-names, changed-front}
 use Rattle.dgc_server.proofs.table.walk.Goals as goal
 
 pub loop-i-preserved-then-names : goal.loop-i-preserved-then-names
@@ -20,8 +20,6 @@ loop-i-preserved-then-names c =
     rw new record {
       same = changed-same o m i d es within ∙ inv.same;
       kept = changed-kept o m i d es within inv.kept;
-      counted = (let fewer = changed-names o m i d es within in let one = ap one_if named in let left = inv.counted in let enough = inv.enough in omega arith);
-      enough = (let fewer = changed-names o m i d es within in let one = ap one_if named in let enough = inv.enough in omega arith);
-      settled = λ n a. changed-settled o m n i d es within (inv.settled n a);
+      counted = (let fewer = changed-names o m i d es within in let one = ap one_if named in let left = inv.counted in omega arith);
       front = λ z. ap (λ l. length (filter (entry_names o) l)) (changed-front o m i d es within) ∙ inv.front z;
     }

@@ -1,8 +1,6 @@
-use Rattle.std.proofs.Common.{◌≡◌, ℕ, List, drop, subst, ap, sym, ◌∙◌, arith}
-use Rattle.std.specs.Prelude.{filter}
-use Rattle.export_table.specs.declared.waits.Wait.{Wait}
-use Rattle.export_table.specs.Index.{stays, IsIndexOf}
-use Rattle.export_table.proofs.Indexing.{next-counted, next-returned, next-once, next-index, so-far-last}
+use Rattle.std.proofs.Common.{arith}
+use Rattle.export_table.specs.Index.{stays}
+use Rattle.export_table.proofs.Indexing.{next-counted, next-returned, next-once, next-index}
 use Rattle.export_table.proofs.index.keep.Goals as goal
 
 pub remove_unless-requires-clause-counted : goal.remove_unless-requires-clause-counted
@@ -26,10 +24,3 @@ loop-i-preserved c =
       references_room = (let a = inv.references_room in omega arith);
       returns_room = (let a = inv.returns_room in omega arith);
     }
-
-pub returns-clause-index : goal.returns-clause-index
-returns-clause-index c =
-    let upto : c.loop-i.i ≡ c.args.upto = (let end = c.loop-i.auto.i-end in let over = c.loop-i-test.false in let order = c.requires.order in omega arith) in
-    let P : List Wait → Type 0 = λ l. IsIndexOf c.loop-i.counts c.loop-i.references c.loop-i.returns l in
-    let Q : ℕ → Type 0 = λ n. filter (stays c.args.which.now) (drop n c.args.waits.now) ≡ drop n c.args.waits.now in
-    subst P (so-far-last (stays c.args.which.now) c.args.waits.now c.loop-i.i (subst Q (sym upto) c.requires.after)) c.loop-i.invariant.index

@@ -86,7 +86,7 @@ descriptions::desc-returns g t c = record {
   grows = first_of (search rules, grind (arith, common_steps));
   unread = first_of (search rules, grind (arith, common_steps));
   some = first_of (search rules, grind (arith, common_steps));
-  reads = said (λ end bs here. desc_is end c.args.at (slot_at end c.args.left) c.args.table.now.unread.items (now_of c.args.table.now) bs) (then _ c.in_ok-name.ensures.reads (then _ c.in_ok-front.ensures.reads (then _ (rw (c.in_ok-open.ensures.unread, c.begin.ensures.unread, c.open.ensures.now, c.in_ok-number.ensures.now, c.blank.ensures, c.in_ok-number.ensures.number) at c.in_ok-desc.ensures.reads) (done (λ end bs. made _ _ _ _ _ bs _ refl c.in_ok-number.ensures.number (c.fill_desc.ensures.now ∙ ap (λ (n : Progress). fill n c.in_ok-number.number (nodes.Desc c.in_ok-desc.desc)) c.close.ensures.now))))));
+  reads = said (λ end bs here. desc_is end c.args.at (slot_at end c.args.left) c.args.table.now.unread.items (now_of c.args.table.now) bs) (then _ c.in_ok-name.ensures.reads (then _ c.in_ok-front.ensures.reads (then _ (rw (c.in_ok-open.ensures.unread, c.begin.ensures.unread, c.open.ensures.now, c.in_ok-number.ensures.now, c.blank.ensures, c.in_ok-number.ensures.number) at c.in_ok-desc.ensures.reads) (done (λ end bs. made _ _ _ _ _ bs _ refl c.in_ok-number.ensures.number (c.fill.ensures.now ∙ ap (λ (n : Progress). fill n c.in_ok-number.number (nodes.Desc c.in_ok-desc.desc)) c.close.ensures.now))))));
   stops = tt;
 }
 

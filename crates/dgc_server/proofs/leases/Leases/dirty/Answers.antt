@@ -7,7 +7,6 @@ use Rattle.dgc_server.specs.declared.leases.LeaseFault.TheVariants.{Clients, Pai
 use Rattle.dgc_server.specs.Counts.{dirty_call, clients_with_call, pairs_with_call}
 use Rattle.dgc_server.specs.Stands.{LeaseTable, table_after}
 use Rattle.dgc_server.specs.Table.{clients_after, pairs_after}
-use Rattle.dgc_server.specs.Chunks.{all_of}
 use Rattle.dgc_server.proofs.Trimmed.{trimmed-noted}
 use Rattle.dgc_server.proofs.Told.{call-told, pairs-told, clients-told, error-is, error-same}
 use Rattle.dgc_server.proofs.leases.Leases.dirty.Goals as goal
@@ -15,7 +14,7 @@ use Rattle.dgc_server.proofs.leases.Leases.dirty.Goals as goal
 pub returns-then-clients_after-gt-MAX_CLIENTS-clause-clients : goal.returns-then-clients_after-gt-MAX_CLIENTS-clause-clients
 returns-then-clients_after-gt-MAX_CLIENTS-clause-clients c lease moment calls s =
     let counted : c.clients_after.result ≡ clients_with_call lease (max c.args.now moment) calls c.args.client.now =
-    c.clients_after.ensures ∙ ap (λ es. clients_after es c.args.client.now c.at-at.result) (ap all_of c.deref.ensures.value ∙ ap (λ (t : LeaseTable). t.entries) c.self.view_is)
+    c.clients_after.ensures ∙ ap (λ es. clients_after es c.args.client.now c.at-at.result) (c.deref.ensures.value ∙ ap (λ (t : LeaseTable). t.entries) c.self.view_is)
     ∙ sym (clients-told lease moment c.args.now c.at-at.result c.args.client.now c.args.self.now calls c.at-at.ensures.sound.ordered c.at-at.ensures.value s) in
     let P : ℕ → Type 0 = λ n. MAX_CLIENTS < n in
     (λ h. subst P counted c.if-clients_after-gt-MAX_CLIENTS.true, λ h. refl)
@@ -23,7 +22,7 @@ returns-then-clients_after-gt-MAX_CLIENTS-clause-clients c lease moment calls s 
 pub returns-then-clients_after-gt-MAX_CLIENTS-clause-pairs : goal.returns-then-clients_after-gt-MAX_CLIENTS-clause-pairs
 returns-then-clients_after-gt-MAX_CLIENTS-clause-pairs c lease moment calls s =
     let counted : c.clients_after.result ≡ clients_with_call lease (max c.args.now moment) calls c.args.client.now =
-    c.clients_after.ensures ∙ ap (λ es. clients_after es c.args.client.now c.at-at.result) (ap all_of c.deref.ensures.value ∙ ap (λ (t : LeaseTable). t.entries) c.self.view_is)
+    c.clients_after.ensures ∙ ap (λ es. clients_after es c.args.client.now c.at-at.result) (c.deref.ensures.value ∙ ap (λ (t : LeaseTable). t.entries) c.self.view_is)
     ∙ sym (clients-told lease moment c.args.now c.at-at.result c.args.client.now c.args.self.now calls c.at-at.ensures.sound.ordered c.at-at.ensures.value s) in
     let many = c.if-clients_after-gt-MAX_CLIENTS.true in
     (λ h. absurd (cc), λ h. (let few = h.0 in absurd (omega arith)))
@@ -31,7 +30,7 @@ returns-then-clients_after-gt-MAX_CLIENTS-clause-pairs c lease moment calls s =
 pub returns-in_err-note-clause-clients : goal.returns-in_err-note-clause-clients
 returns-in_err-note-clause-clients c lease moment calls s =
     let counted : c.clients_after.result ≡ clients_with_call lease (max c.args.now moment) calls c.args.client.now =
-    c.clients_after.ensures ∙ ap (λ es. clients_after es c.args.client.now c.at-at.result) (ap all_of c.deref.ensures.value ∙ ap (λ (t : LeaseTable). t.entries) c.self.view_is)
+    c.clients_after.ensures ∙ ap (λ es. clients_after es c.args.client.now c.at-at.result) (c.deref.ensures.value ∙ ap (λ (t : LeaseTable). t.entries) c.self.view_is)
     ∙ sym (clients-told lease moment c.args.now c.at-at.result c.args.client.now c.args.self.now calls c.at-at.ensures.sound.ordered c.at-at.ensures.value s) in
     let few = c.if-clients_after-gt-MAX_CLIENTS.false in
     let error : c.from_residual.result ≡ Err c.in_err-note.field-0.0 = error-is c.from_residual.result c.in_err-note.field-0.0 c.from_residual.ensures.1 in
@@ -40,7 +39,7 @@ returns-in_err-note-clause-clients c lease moment calls s =
 pub returns-in_err-note-clause-pairs : goal.returns-in_err-note-clause-pairs
 returns-in_err-note-clause-pairs c lease moment calls s =
     let counted : c.clients_after.result ≡ clients_with_call lease (max c.args.now moment) calls c.args.client.now =
-    c.clients_after.ensures ∙ ap (λ es. clients_after es c.args.client.now c.at-at.result) (ap all_of c.deref.ensures.value ∙ ap (λ (t : LeaseTable). t.entries) c.self.view_is)
+    c.clients_after.ensures ∙ ap (λ es. clients_after es c.args.client.now c.at-at.result) (c.deref.ensures.value ∙ ap (λ (t : LeaseTable). t.entries) c.self.view_is)
     ∙ sym (clients-told lease moment c.args.now c.at-at.result c.args.client.now c.args.self.now calls c.at-at.ensures.sound.ordered c.at-at.ensures.value s) in
     let pairs : pairs_with_call lease calls (dirty_call (max c.args.now moment) c.args.client.now c.args.number c.args.objects.now) ≡ pairs_after c.at-at.result c.args.self.now.entries c.args.client.now Dirty c.args.objects.now =
     pairs-told lease moment c.args.now c.at-at.result Dirty c.args.client.now c.args.number c.args.objects.now c.args.self.now calls c.at-at.ensures.sound.ordered c.at-at.ensures.value s in
@@ -59,7 +58,7 @@ returns-clause-ok c lease moment calls s =
 pub returns-clause-clients : goal.returns-clause-clients
 returns-clause-clients c lease moment calls s =
     let counted : c.clients_after.result ≡ clients_with_call lease (max c.args.now moment) calls c.args.client.now =
-    c.clients_after.ensures ∙ ap (λ es. clients_after es c.args.client.now c.at-at.result) (ap all_of c.deref.ensures.value ∙ ap (λ (t : LeaseTable). t.entries) c.self.view_is)
+    c.clients_after.ensures ∙ ap (λ es. clients_after es c.args.client.now c.at-at.result) (c.deref.ensures.value ∙ ap (λ (t : LeaseTable). t.entries) c.self.view_is)
     ∙ sym (clients-told lease moment c.args.now c.at-at.result c.args.client.now c.args.self.now calls c.at-at.ensures.sound.ordered c.at-at.ensures.value s) in
     let few = c.if-clients_after-gt-MAX_CLIENTS.false in
     (λ h. absurd (cc), λ h. absurd (omega arith))

@@ -6,7 +6,6 @@ use Rattle.dgc_server.specs.Entry.{Entry, entry_without, is_entry_kept, has_time
 use Rattle.dgc_server.specs.Table.{after_lapse, remembered}
 use Rattle.dgc_server.specs.Stands.{LeaseTable, IsSound, is_in_order}
 use Rattle.dgc_server.specs.Index.{Naming, counted_at, is_counted, entry_names, sums_at}
-use Rattle.dgc_server.specs.Chunks.{all_of}
 use Rattle.dgc_server.proofs.SumLaws.{sums-are}
 use Rattle.dgc_server.proofs.Walking.{rest_of, all-kept, leased-dropped, pairs-dropped}
 use Rattle.dgc_server.proofs.IndexLaws.{forgotten, kept-counted}
@@ -20,10 +19,10 @@ pub invariant_of-self : goal.invariant_of-self
 invariant_of-self c =
     let m = c.self.inside.moment in
     let o = c.args.object in
-    let es = (all_of c.self.inside.chunks.items) in
+    let es = c.self.inside.entries.items in
     let rest = map (entry_without o) es in
     let settled = c.self.invariant.1.settled c.self.invariant.3 in
-    let left : all_of c.drop_object.new.chunks.items ≡ after_lapse m rest = c.drop_object.ensures.entries ∙ dropped-lapses m c.self.inside.next o es settled in
+    let left : c.drop_object.new.entries.items ≡ after_lapse m rest = c.drop_object.ensures ∙ dropped-lapses m c.self.inside.next o es settled in
     let named : c.count_of-count.result.clients ≡ length (filter (entry_names o) es) = ap (λ (n : Count). n.clients) c.count_of-count.ensures ∙ c.self.invariant.1.counted Naming o in
     let pairs : c.sums_without-self-inside.result.pairs ≡ remembered m (rest_of o m es) =
     (let all = pairs-dropped o m c.self.inside.next es settled c.self.invariant.0.noted c.self.invariant.0.once in
@@ -41,16 +40,14 @@ invariant_of-self c =
         small = (let small = c.self.invariant.0.small in let fewer = remembered-without m o es in let kept = remembered-lapse m m rest (omega arith) in omega arith);
       },
       record {
-        settled = λ h. rw c.drop_object.ensures.entries (settled-dropped m c.self.inside.next o es settled);
+        settled = λ h. rw c.drop_object.ensures (settled-dropped m c.self.inside.next o es settled);
         counted = λ w p. forgotten m o w es (counted_at w c.self.inside.counts) (counted_at w c.forget.new.counts) (c.self.invariant.1.counted w) (c.forget.ensures w) p
-            ∙ sym (kept-counted m p w rest) ∙ ap (λ l. length (filter (is_counted w m p) l)) (sym c.drop_object.ensures.entries);
+            ∙ sym (kept-counted m p w rest) ∙ ap (λ l. length (filter (is_counted w m p) l)) (sym c.drop_object.ensures);
       },
       sums-are c.sums_without-self-inside.result (length (filter (has_time_left m) (rest_of o m es))) (remembered m (rest_of o m es))
           (c.sums_without-self-inside.ensures.leased ∙ ap (λ (s : Sums). s.leased) c.self.invariant.2 ∙ sym (leased-dropped o m es)) pairs
-          ∙ ap (sums_at m) (sym c.drop_object.ensures.entries),
+          ∙ ap (sums_at m) (sym c.drop_object.ensures),
       c.self.invariant.3,
-      c.drop_object.ensures.watched,
-      c.drop_object.ensures.filled,
     )
 
 pub returns-clause-stands : goal.returns-clause-stands
@@ -59,17 +56,17 @@ returns-clause-stands c lease moment calls s =
     let m : c.self.inside.moment ≡ moment = ap (λ (t : LeaseTable). t.moment) c.self.view_is ∙ s.is_moment in
     table-dropped c.args.object lease moment c.args.self.now _ calls s (subst P c.self.view_is c.self.invariant.0.ordered)
     (ap (λ (t : LeaseTable). t.lease) c.self.view_is) (ap (λ (t : LeaseTable). t.moment) c.self.view_is)
-    (c.drop_object.ensures.entries ∙ dropped-lapses c.self.inside.moment c.self.inside.next c.args.object (all_of c.self.inside.chunks.items) (c.self.invariant.1.settled c.self.invariant.3)
-    ∙ ap (λ k. after_lapse k (map (entry_without c.args.object) (all_of c.self.inside.chunks.items))) m
+    (c.drop_object.ensures ∙ dropped-lapses c.self.inside.moment c.self.inside.next c.args.object c.self.inside.entries.items (c.self.invariant.1.settled c.self.invariant.3)
+    ∙ ap (λ k. after_lapse k (map (entry_without c.args.object) c.self.inside.entries.items)) m
     ∙ ap (λ (t : LeaseTable). after_lapse moment (map (entry_without c.args.object) t.entries)) c.self.view_is)
 
 pub returns-clause-fewer : goal.returns-clause-fewer
 returns-clause-fewer c =
-    let same = c.drop_object.ensures.entries ∙ ap (λ (t : LeaseTable). filter (is_entry_kept c.self.inside.moment) (map (entry_without c.args.object) t.entries)) c.self.view_is in
+    let same = c.drop_object.ensures ∙ ap (λ (t : LeaseTable). filter (is_entry_kept c.self.inside.moment) (map (entry_without c.args.object) t.entries)) c.self.view_is in
     let long = ap length same in let fewer = fewer-dropped c.self.inside.moment c.args.object c.args.self.now.entries in omega arith
 
 pub drop_object-requires-clause-kept : goal.drop_object-requires-clause-kept
-drop_object-requires-clause-kept c = all-kept c.self.inside.moment c.self.inside.next (all_of c.self.inside.chunks.items) (c.self.invariant.1.settled c.self.invariant.3)
+drop_object-requires-clause-kept c = all-kept c.self.inside.moment c.self.inside.next c.self.inside.entries.items (c.self.invariant.1.settled c.self.invariant.3)
 
 pub drop_object-requires-clause-counted : goal.drop_object-requires-clause-counted
 drop_object-requires-clause-counted c = ap (λ (n : Count). n.clients) c.count_of-count.ensures ∙ c.self.invariant.1.counted Naming c.args.object
@@ -77,7 +74,7 @@ drop_object-requires-clause-counted c = ap (λ (n : Count). n.clients) c.count_o
 pub sums_without-self-inside-requires : goal.sums_without-self-inside-requires
 sums_without-self-inside-requires c =
     let m = c.self.inside.moment in
-    let es = (all_of c.self.inside.chunks.items) in
+    let es = c.self.inside.entries.items in
     let named : c.count_of-count.result.clients ≡ length (filter (entry_names c.args.object) es) = ap (λ (n : Count). n.clients) c.count_of-count.ensures ∙ c.self.invariant.1.counted Naming c.args.object in
     let all = pairs-dropped c.args.object m c.self.inside.next es (c.self.invariant.1.settled c.self.invariant.3) c.self.invariant.0.noted c.self.invariant.0.once in
     let pairs : c.self.inside.sums.pairs ≡ remembered m es = ap (λ (s : Sums). s.pairs) c.self.invariant.2 in omega arith

@@ -1,21 +1,22 @@
-use Rattle.std.proofs.Common.{◌≡◌, refl, ℕ, ◌+◌, ◌≤◌, ◌<◌, List, length, ap, sym, subst, ◌∙◌, arith}
-use Rattle.std.specs.Prelude.{IsTrue, filter, min, if◌then◌else◌}
+use Rattle.std.proofs.Common.{◌≡◌, ℕ, ◌+◌, ◌≤◌, ◌<◌, List, length, ap, sym, subst, ◌∙◌, arith}
+use Rattle.std.specs.Prelude.{IsTrue, filter, min, nat_lt, if◌then◌else◌}
+use Rattle.std.specs.List.{AllByRecursion}
+use Rattle.std.proofs.lemmas.Bool.{ltb-true}
 use Rattle.object_ids.specs.Client.{Client}
 use Rattle.history.specs.declared.limits.TheConstants.{MAX_CLIENTS}
 use Rattle.history.specs.Leases.{is_dirty_kind}
 use Rattle.dgc_server.specs.declared.table.Sums.{Sums}
 use Rattle.dgc_server.specs.Entry.{Entry, has_time_left, remembered_of}
 use Rattle.dgc_server.specs.Table.{entry_of, with_entry, after_lapse, remembered, clients_after, pairs_after}
-use Rattle.dgc_server.specs.Stands.{LeaseTable, IsSound, is_in_order, entry_after}
-use Rattle.dgc_server.specs.Index.{Naming, is_counted, one_if, sums_at, entry_sums}
-use Rattle.dgc_server.specs.Chunks.{all_of}
-use Rattle.dgc_server.proofs.SumLaws.{own-leased, own-remembered, sums-with, sums-lapsed}
+use Rattle.dgc_server.specs.Stands.{LeaseTable, IsSound, entry_after}
+use Rattle.dgc_server.specs.Index.{Naming, is_counted, IsSettled, one_if, sums_at, entry_sums}
+use Rattle.dgc_server.proofs.SumLaws.{own-leased, own-remembered, sums-with, quiet-sums}
 use Rattle.object_ids.specs.declared.ids.ObjId.{ObjId}
 use Rattle.dgc_server.proofs.Few.{few-holders, few-noted}
 use Rattle.dgc_server.proofs.HolderLaws.{each-way}
 use Rattle.dgc_server.proofs.Walking.{rest_of, pairs-dropped}
-use Rattle.dgc_server.proofs.IndexLaws.{own-with, settled-with}
-use Rattle.dgc_server.proofs.Kept.{is_once, is_numbered, all_numbered, each-entry, numbered-after, all_objects_once, numbered-noted, each-with, once-entry, once-noted, remembered-noted}
+use Rattle.dgc_server.proofs.IndexLaws.{settled-with}
+use Rattle.dgc_server.proofs.Kept.{is_once, all_numbered, all_objects_once, numbered-noted, each-with, once-entry, once-noted, remembered-noted}
 use Rattle.dgc_server.proofs.Objects.{once-after}
 use Rattle.dgc_server.proofs.Ordered.{client-of, order-with}
 use Rattle.dgc_server.proofs.Tables.{order-lapse}
@@ -23,7 +24,7 @@ use Rattle.dgc_server.proofs.leases.Leases.note.Goals as goal
 
 pub note-requires-clause-few : goal.note-requires-clause-few
 note-requires-clause-few c =
-    let es = (all_of c.self.inside.chunks.items) in
+    let es = c.self.inside.entries.items in
     let m = c.self.inside.moment in
     each-way (λ w. (o : ObjId) → length (filter (is_counted w m o) es) ≤ 262144)
     (λ o. (let few : length (filter (has_time_left m) es) ≤ 65536 = c.self.invariant.0.few in few-holders m m o es 262144 (omega arith) (omega (arith, few))))
@@ -31,94 +32,84 @@ note-requires-clause-few c =
     pairs-dropped o m c.self.inside.next es (c.self.invariant.1.settled c.self.invariant.3) c.self.invariant.0.noted c.self.invariant.0.once in
     let small : remembered m es ≤ 262144 = c.self.invariant.0.small in omega (arith, all, small)))
 
-pub own_sums-after-requires-clause-ordered : goal.own_sums-after-requires-clause-ordered
-own_sums-after-requires-clause-ordered c =
-    let es = (all_of c.self.inside.chunks.items) in
-    let client = c.args.client.now in
-    let next : Entry = entry_after c.self.inside.lease c.args.kind c.args.number.now c.as_slice-named.result.now c.args.at (entry_of es client) in
-    let entries : all_of c.note.new.chunks.items ≡ with_entry next es = c.in_ok-note.ensures.ok in
-    ap is_in_order (ap all_of c.deref-3.ensures.value ∙ entries) ∙ order-with next es c.self.invariant.0.ordered
-
 pub sums_with-with-requires-clause-leased : goal.sums_with-with-requires-clause-leased
 sums_with-with-requires-clause-leased c =
-    let es = (all_of c.self.inside.chunks.items) in
+    let es = c.self.inside.entries.items in
     let client = c.args.client.now in
-    let before : c.own_sums-before.result ≡ entry_sums c.self.inside.moment (entry_of es client) =
-    c.own_sums-before.ensures.value ∙ ap (λ l. entry_sums c.self.inside.moment (entry_of l client)) (ap all_of c.deref-2.ensures.value) in
-    let own : c.own_sums-before.result.leased ≡ one_if (has_time_left c.self.inside.moment (entry_of es client)) = ap (λ (s : Sums). s.leased) before in
+    let before : c.in_ok-noted.noted.before ≡ entry_sums c.self.inside.moment (entry_of es client) =
+    c.in_ok-noted.ensures.before in
+    let own : c.in_ok-noted.noted.before.leased ≡ one_if (has_time_left c.self.inside.moment (entry_of es client)) = ap (λ (s : Sums). s.leased) before in
     let all : c.self.inside.sums.leased ≡ length (filter (has_time_left c.self.inside.moment) es) = ap (λ (s : Sums). s.leased) c.self.invariant.2 in
     let least = own-leased c.self.inside.moment es client in omega arith
 
 pub sums_with-with-requires-clause-pairs : goal.sums_with-with-requires-clause-pairs
 sums_with-with-requires-clause-pairs c =
-    let es = (all_of c.self.inside.chunks.items) in
+    let es = c.self.inside.entries.items in
     let client = c.args.client.now in
-    let before : c.own_sums-before.result ≡ entry_sums c.self.inside.moment (entry_of es client) =
-    c.own_sums-before.ensures.value ∙ ap (λ l. entry_sums c.self.inside.moment (entry_of l client)) (ap all_of c.deref-2.ensures.value) in
-    let own : c.own_sums-before.result.pairs ≡ remembered_of c.self.inside.moment (entry_of es client) = ap (λ (s : Sums). s.pairs) before in
+    let before : c.in_ok-noted.noted.before ≡ entry_sums c.self.inside.moment (entry_of es client) =
+    c.in_ok-noted.ensures.before in
+    let own : c.in_ok-noted.noted.before.pairs ≡ remembered_of c.self.inside.moment (entry_of es client) = ap (λ (s : Sums). s.pairs) before in
     let all : c.self.inside.sums.pairs ≡ remembered c.self.inside.moment es = ap (λ (s : Sums). s.pairs) c.self.invariant.2 in
     let least = own-remembered c.self.inside.moment es client in omega arith
 
-pub bound_with-bound-requires : goal.bound_with-bound-requires
-bound_with-bound-requires c =
-    let es = (all_of c.self.inside.chunks.items) in
-    let client = c.args.client.now in
-    let next : Entry = entry_after c.self.inside.lease c.args.kind c.args.number.now c.as_slice-named.result.now c.args.at (entry_of es client) in
-    let entries : all_of c.note.new.chunks.items ≡ with_entry next es = c.in_ok-note.ensures.ok in
-    ap is_in_order (ap all_of c.deref-4.ensures.value ∙ entries) ∙ order-with next es c.self.invariant.0.ordered
-
 pub pass-self-inside-requires-clause-once : goal.pass-self-inside-requires-clause-once
 pass-self-inside-requires-clause-once c =
-    let es = (all_of c.self.inside.chunks.items) in
+    let es = c.self.inside.entries.items in
     let client = c.args.client.now in
     let next : Entry = entry_after c.self.inside.lease c.args.kind c.args.number.now c.as_slice-named.result.now c.args.at (entry_of es client) in
-    let entries : all_of c.note.new.chunks.items ≡ with_entry next es = c.in_ok-note.ensures.ok in
+    let entries : c.note.new.entries.items ≡ with_entry next es = c.in_ok-noted.ensures.ok in
     ap all_objects_once entries
     ∙ each-with is_once next es (once-after (has_time_left c.args.at (entry_of es client)) c.args.kind c.args.number.now c.as_slice-named.result.now (entry_of es client).objects (once-entry es client c.self.invariant.0.once)) c.self.invariant.0.once
 
 pub pass-self-inside-requires-clause-indexed : goal.pass-self-inside-requires-clause-indexed
 pass-self-inside-requires-clause-indexed c =
-    let es = (all_of c.self.inside.chunks.items) in
+    let es = c.self.inside.entries.items in
     let client = c.args.client.now in
     let next : Entry = entry_after c.self.inside.lease c.args.kind c.args.number.now c.as_slice-named.result.now c.args.at (entry_of es client) in
-    let entries : all_of c.note.new.chunks.items ≡ with_entry next es = c.in_ok-note.ensures.ok in
+    let entries : c.note.new.entries.items ≡ with_entry next es = c.in_ok-noted.ensures.ok in
     let late : c.self.inside.moment ≤ c.args.at = (let P : LeaseTable → Type 0 = λ t. t.moment ≤ c.args.at in subst P (sym c.self.view_is) c.requires.late) in
-    let bound : Entry → ℕ = λ (e : Entry). if has_time_left c.args.at e then min c.self.inside.next e.until else 0 in
     let bound_is : c.bound_with-bound.result ≡ (if has_time_left c.args.at next then min c.self.inside.next next.until else 0) =
-    c.bound_with-bound.ensures ∙ ap (λ l. bound (entry_of l client)) (ap all_of c.deref-4.ensures.value ∙ entries) ∙ ap bound (own-with next es client (client-of es client)) in
+    c.bound_with-bound.ensures ∙ ap (λ u. if nat_lt c.args.at u then min c.self.inside.next u else 0) c.in_ok-noted.ensures.until in
     rw (entries, bound_is) record {
       settled = settled-with c.self.inside.moment c.self.inside.next c.args.at next es late c.self.invariant.1.settled;
-      counted = λ w o. c.in_ok-note.ensures.counted w o ∙ ap (λ l. length (filter (is_counted w c.self.inside.moment o) l)) entries;
+      counted = λ w o. c.in_ok-noted.ensures.counted w o ∙ ap (λ l. length (filter (is_counted w c.self.inside.moment o) l)) entries;
     }
 
-pub sums_by-self-inside-requires-clause-sums : goal.sums_by-self-inside-requires-clause-sums
-sums_by-self-inside-requires-clause-sums c =
-    let es = (all_of c.self.inside.chunks.items) in
+pub sums_after-self-inside-requires-clause-quiet : goal.sums_after-self-inside-requires-clause-quiet
+sums_after-self-inside-requires-clause-quiet c = λ is_quiet.
+    let es = c.self.inside.entries.items in
     let client = c.args.client.now in
     let next : Entry = entry_after c.self.inside.lease c.args.kind c.args.number.now c.as_slice-named.result.now c.args.at (entry_of es client) in
-    let entries : all_of c.note.new.chunks.items ≡ with_entry next es = c.in_ok-note.ensures.ok in
+    let entries : c.note.new.entries.items ≡ with_entry next es = c.in_ok-noted.ensures.ok in
+    let late : c.self.inside.moment ≤ c.args.at = (let P : LeaseTable → Type 0 = λ t. t.moment ≤ c.args.at in subst P (sym c.self.view_is) c.requires.late) in
+    let bound_is : c.bound_with-bound.result ≡ (if has_time_left c.args.at next then min c.self.inside.next next.until else 0) =
+    c.bound_with-bound.ensures ∙ ap (λ u. if nat_lt c.args.at u then min c.self.inside.next u else 0) c.in_ok-noted.ensures.until in
     let m = c.self.inside.moment in
-    let before : c.own_sums-before.result ≡ entry_sums m (entry_of es client) = c.own_sums-before.ensures.value ∙ ap (λ l. entry_sums m (entry_of l client)) (ap all_of c.deref-2.ensures.value) in
-    let after : c.own_sums-after.result ≡ entry_sums m next =
-    c.own_sums-after.ensures.value ∙ ap (λ l. entry_sums m (entry_of l client)) (ap all_of c.deref-3.ensures.value ∙ entries) ∙ ap (entry_sums m) (own-with next es client (client-of es client)) in
+    let quiet : c.args.at < c.bound_with-bound.result = ltb-true c.args.at c.bound_with-bound.result is_quiet in
+    let settled : m < c.bound_with-bound.result → AllByRecursion (IsSettled m c.bound_with-bound.result) (with_entry next es) =
+    rw bound_is (settled-with m c.self.inside.next c.args.at next es late c.self.invariant.1.settled) in
+    let before : c.in_ok-noted.noted.before ≡ entry_sums m (entry_of es client) = c.in_ok-noted.ensures.before in
+    let after : c.in_ok-noted.noted.after ≡ entry_sums m next =
+    c.in_ok-noted.ensures.after in
     let all = c.self.invariant.2 in
-    let leased : c.sums_with-with.result.leased + c.own_sums-before.result.leased ≡ length (filter (has_time_left m) es) + one_if (has_time_left m next) =
-    c.sums_with-with.ensures.leased ∙ ap (λ (s : Sums). s.leased + c.own_sums-after.result.leased) all ∙ ap (λ (s : Sums). length (filter (has_time_left m) es) + s.leased) after in
-    let pairs : c.sums_with-with.result.pairs + c.own_sums-before.result.pairs ≡ remembered m es + remembered_of m next =
-    c.sums_with-with.ensures.pairs ∙ ap (λ (s : Sums). s.pairs + c.own_sums-after.result.pairs) all ∙ ap (λ (s : Sums). remembered m es + s.pairs) after in
-    sums-with m next es c.own_sums-before.result c.sums_with-with.result c.self.invariant.0.ordered (before ∙ ap (λ (d : Client). entry_sums m (entry_of es d)) (sym (client-of es client))) leased pairs
-    ∙ ap (sums_at m) (sym (ap all_of c.deref-5.ensures.value ∙ entries))
+    let leased : c.sums_with-with.result.leased + c.in_ok-noted.noted.before.leased ≡ length (filter (has_time_left m) es) + one_if (has_time_left m next) =
+    c.sums_with-with.ensures.leased ∙ ap (λ (s : Sums). s.leased + c.in_ok-noted.noted.after.leased) all ∙ ap (λ (s : Sums). length (filter (has_time_left m) es) + s.leased) after in
+    let pairs : c.sums_with-with.result.pairs + c.in_ok-noted.noted.before.pairs ≡ remembered m es + remembered_of m next =
+    c.sums_with-with.ensures.pairs ∙ ap (λ (s : Sums). s.pairs + c.in_ok-noted.noted.after.pairs) all ∙ ap (λ (s : Sums). remembered m es + s.pairs) after in
+    sums-with m next es c.in_ok-noted.noted.before c.sums_with-with.result c.self.invariant.0.ordered (before ∙ ap (λ (d : Client). entry_sums m (entry_of es d)) (sym (client-of es client))) leased pairs
+    ∙ sym (quiet-sums m c.bound_with-bound.result c.args.at (with_entry next es) late quiet (settled (omega arith)))
+    ∙ ap (sums_at c.args.at) (sym (c.deref-2.ensures.value ∙ c.pass-self-inside.ensures.entries ∙ ap (after_lapse c.args.at) entries))
 
 pub invariant_of-self-2 : goal.invariant_of-self-2
 invariant_of-self-2 c =
-    let es = (all_of c.self.inside.chunks.items) in
+    let es = c.self.inside.entries.items in
     let client = c.args.client.now in
     let next : Entry = entry_after c.self.inside.lease c.args.kind c.args.number.now c.as_slice-named.result.now c.args.at (entry_of es client) in
-    let noted_entries : all_of c.note.new.chunks.items ≡ with_entry next es = c.in_ok-note.ensures.ok in
+    let noted_entries : c.note.new.entries.items ≡ with_entry next es = c.in_ok-noted.ensures.ok in
     let late : c.self.inside.moment ≤ c.args.at = (let P : LeaseTable → Type 0 = λ t. t.moment ≤ c.args.at in subst P (sym c.self.view_is) c.requires.late) in
     let room : IsTrue (is_dirty_kind c.args.kind) → clients_after es c.args.client.now c.args.at ≤ MAX_CLIENTS =
     (let P : LeaseTable → Type 0 = λ t. IsTrue (is_dirty_kind c.args.kind) → clients_after t.entries c.args.client.now c.args.at ≤ MAX_CLIENTS in subst P (sym c.self.view_is) c.requires.room) in
-    let entries : all_of c.pass-self-inside.new.chunks.items ≡ after_lapse c.args.at (with_entry next es) = c.pass-self-inside.ensures.entries ∙ ap (after_lapse c.args.at) noted_entries in
+    let entries : c.pass-self-inside.new.entries.items ≡ after_lapse c.args.at (with_entry next es) = c.pass-self-inside.ensures.entries ∙ ap (after_lapse c.args.at) noted_entries in
     let P : List Entry → Type 0 = λ l. IsSound c.self.inside.lease c.args.at l in (
       subst P (sym entries) record {
         some = c.self.invariant.0.some;
@@ -130,45 +121,18 @@ invariant_of-self-2 c =
         noted = numbered-noted c.args.at c.self.inside.lease c.args.kind c.args.client.now c.args.number.now c.as_slice-named.result.now es c.self.invariant.0.noted;
         small = (let fewer = remembered-noted c.args.at c.self.inside.lease c.args.kind c.args.client.now c.args.number.now c.as_slice-named.result.now es c.self.invariant.0.ordered c.self.invariant.0.once in
             let few = c.if-pairs_after.false in
-            let counted : c.pairs_after.result ≡ pairs_after c.args.at es c.args.client.now c.args.kind c.as_slice-named.result.now = c.pairs_after.ensures ∙ ap (λ l. pairs_after c.args.at l c.args.client.now c.args.kind c.as_slice-named.result.now) (ap all_of c.deref.ensures.value) in omega arith);
+            let counted : c.pairs_after.result ≡ pairs_after c.args.at es c.args.client.now c.args.kind c.as_slice-named.result.now = c.pairs_after.ensures ∙ ap (λ l. pairs_after c.args.at l c.args.client.now c.args.kind c.as_slice-named.result.now) c.deref.ensures.value in omega arith);
       },
       c.pass-self-inside.ensures.indexed,
-      c.sums_by-self-inside.ensures ∙ ap (sums_at c.args.at) (ap all_of c.deref-5.ensures.value ∙ noted_entries) ∙ sym (sums-lapsed c.args.at (with_entry next es)) ∙ ap (sums_at c.args.at) (sym entries),
+      c.sums_after-self-inside.ensures ∙ ap (sums_at c.args.at) c.deref-2.ensures.value,
       c.pass-self-inside.ensures.later,
-      c.pass-self-inside.ensures.watched,
-      c.pass-self-inside.ensures.filled,
     )
 
-pub own_sums-after-requires-clause-noted : goal.own_sums-after-requires-clause-noted
-own_sums-after-requires-clause-noted c =
-    let es = (all_of c.self.inside.chunks.items) in
+pub sums_after-self-inside-requires-clause-noted : goal.sums_after-self-inside-requires-clause-noted
+sums_after-self-inside-requires-clause-noted c =
+    let es = c.self.inside.entries.items in
     let client = c.args.client.now in
     let next : Entry = entry_after c.self.inside.lease c.args.kind c.args.number.now c.as_slice-named.result.now c.args.at (entry_of es client) in
-    let entries : all_of c.note.new.chunks.items ≡ with_entry next es = c.in_ok-note.ensures.ok in
-    ap all_numbered (ap all_of c.deref-3.ensures.value ∙ entries)
-    ∙ each-with is_numbered next es
-    (numbered-after (has_time_left c.args.at (entry_of es client)) c.args.kind c.args.number.now c.as_slice-named.result.now (entry_of es client).objects (each-entry is_numbered es client refl c.self.invariant.0.noted))
-    c.self.invariant.0.noted
-
-pub sums_by-self-inside-requires-clause-noted : goal.sums_by-self-inside-requires-clause-noted
-sums_by-self-inside-requires-clause-noted c =
-    let es = (all_of c.self.inside.chunks.items) in
-    let client = c.args.client.now in
-    let next : Entry = entry_after c.self.inside.lease c.args.kind c.args.number.now c.as_slice-named.result.now c.args.at (entry_of es client) in
-    let entries : all_of c.note.new.chunks.items ≡ with_entry next es = c.in_ok-note.ensures.ok in
-    ap all_numbered (ap all_of c.deref-5.ensures.value ∙ entries)
-    ∙ each-with is_numbered next es
-    (numbered-after (has_time_left c.args.at (entry_of es client)) c.args.kind c.args.number.now c.as_slice-named.result.now (entry_of es client).objects (each-entry is_numbered es client refl c.self.invariant.0.noted))
-    c.self.invariant.0.noted
-
-pub sums_by-self-inside-requires-clause-settled : goal.sums_by-self-inside-requires-clause-settled
-sums_by-self-inside-requires-clause-settled c =
-    let es = (all_of c.self.inside.chunks.items) in
-    let client = c.args.client.now in
-    let next : Entry = entry_after c.self.inside.lease c.args.kind c.args.number.now c.as_slice-named.result.now c.args.at (entry_of es client) in
-    let entries : all_of c.note.new.chunks.items ≡ with_entry next es = c.in_ok-note.ensures.ok in
-    let late : c.self.inside.moment ≤ c.args.at = (let P : LeaseTable → Type 0 = λ t. t.moment ≤ c.args.at in subst P (sym c.self.view_is) c.requires.late) in
-    let bound : Entry → ℕ = λ (e : Entry). if has_time_left c.args.at e then min c.self.inside.next e.until else 0 in
-    let bound_is : c.bound_with-bound.result ≡ (if has_time_left c.args.at next then min c.self.inside.next next.until else 0) =
-    c.bound_with-bound.ensures ∙ ap (λ l. bound (entry_of l client)) (ap all_of c.deref-4.ensures.value ∙ entries) ∙ ap bound (own-with next es client (client-of es client)) in
-    rw (c.deref-5.ensures.value, entries, bound_is) (settled-with c.self.inside.moment c.self.inside.next c.args.at next es late c.self.invariant.1.settled)
+    let entries : c.note.new.entries.items ≡ with_entry next es = c.in_ok-noted.ensures.ok in
+    ap all_numbered (c.deref-2.ensures.value ∙ c.pass-self-inside.ensures.entries ∙ ap (after_lapse c.args.at) entries)
+    ∙ numbered-noted c.args.at c.self.inside.lease c.args.kind client c.args.number.now c.as_slice-named.result.now es c.self.invariant.0.noted
