@@ -1,11 +1,11 @@
 /* A client that keeps 16 calls in flight on one connection, whatever the server is: a program over pipes, or a port of this machine.
 
-   usage: calls get|echo|list|lookup|names|dirty|dirties COUNT OBJECT (PROGRAM [WORD..] | PORT)
+   usage: calls get|echo|list|lookup|names|dirty|dirties COUNT NUMBER (PROGRAM [WORD..] | PORT)
 
-   OBJECT is the object's identifier, 44 hexadecimal digits. A call of get()J has no argument, one of echo the same array of 100,000 bytes each
+   NUMBER is the object's, in 16 hexadecimal digits: its space is that of the reference that a lookup answers first. A call of get()J has no argument, one of echo the same array of 100,000 bytes each
    time, and one of list, which echoes too, an array of references to 10,000 objects that are made first: four such Returns,
    beside the first, are as many as may await their acknowledgement. lookup looks the name `counter` up and acknowledges each Return, and so does names,
-   among as many names as the registry takes, which are bound first; dirty takes hold of OBJECT, dirties of 10,000 objects of its space, from the number 17 on.
+   among as many names as the registry takes, which are bound first; dirty takes hold of the object, dirties of 10,000 objects of its space, from the number 17 on.
    All Returns of a kind have the same length, and differ in their identifiers alone: each is compared with what was sent or with the first, but for that.
    It prints the seconds from the first call to the last Return, and the greatest memory of the program in kB, 0 for a port. */
 #include "jrmp.h"
@@ -63,6 +63,17 @@ static void bind_names(const struct exchange *it, int to, int from) {
         read_all(from, answer, sizeof answer);
         if (answer[0] != 0x51 || answer[7] != 1) fail("a name isn't bound");
     }
+}
+
+/* The identifier, in hexadecimal digits, of the object that has this number in the server's space. The space stands near the end of a reference, before a flag and a mark. */
+static void find_object(char object[45], const char *number, int to, int from) {
+    static struct exchange looked;
+    make_lookup(&looked, "counter");
+    learn(&looked, to, from);
+    const unsigned char *space = looked.wanted + looked.wanted_length - 2 - IDENTIFIER_LENGTH;
+    int length = snprintf(object, 17, "%s", number);
+    if (length != 16) fail("an object's number has 16 digits");
+    for (int i = 0; i < IDENTIFIER_LENGTH; i++) length += snprintf(object + length, 3, "%02x", space[i]);
 }
 
 /* Makes objects one after another, by a call of the sample's maker in this object's space. */
@@ -167,11 +178,11 @@ static void make_calls(int to, int from, unsigned long count) {
 }
 
 int main(int count_words, char **words) {
-    if (count_words < 5) fail("usage: calls get|echo|list|lookup|names|dirty|dirties COUNT OBJECT (PROGRAM [WORD..] | PORT)");
+    if (count_words < 5) fail("usage: calls get|echo|list|lookup|names|dirty|dirties COUNT NUMBER (PROGRAM [WORD..] | PORT)");
     int to, from;
     pid_t child = 0;
     int is_list = !strcmp(words[1], "list");
-    if (!is_list) make_exchange(&exchange, words[1], words[3]);
+    char object[45];
     signal(SIGPIPE, SIG_IGN);
     if (isdigit((unsigned char)words[4][0])) {
         to = from = try_reach(atoi(words[4]));
@@ -180,8 +191,10 @@ int main(int count_words, char **words) {
         child = start(words + 4, &to, &from);
     }
     greet(to, from);
-    if (is_list) make_list(&exchange, words[3], to, from);
-    else if (exchange.is_learned) learn(&exchange, to, from);
+    find_object(object, words[3], to, from);
+    if (is_list) make_list(&exchange, object, to, from);
+    else make_exchange(&exchange, words[1], object);
+    if (!is_list && exchange.is_learned) learn(&exchange, to, from);
     if (!strcmp(words[1], "names")) bind_names(&exchange, to, from);
     fcntl(to, F_SETFL, O_NONBLOCK);
     fcntl(from, F_SETFL, O_NONBLOCK);
