@@ -51,7 +51,7 @@ same-map q f k (e ∷ es) = go (q (f e)) (q e) (k e) (same-map q f k es)
     go true false x h = absurd (cc)
     go false true x h = absurd (cc)
 
-lapsed-time : (now : ℕ) (e : Entry) → has_time_left now (lapsed now e) ≡ has_time_left now e
+pub lapsed-time : (now : ℕ) (e : Entry) → has_time_left now (lapsed now e) ≡ has_time_left now e
 lapsed-time now e = go (nat_lt now e.until)
   where
     go : (b : Bool) → nat_lt now (if b then e else record e { objects = tenure_forgotten e.objects }).until ≡ nat_lt now e.until

@@ -152,7 +152,7 @@ numbered-after left kind n os es h = counted (call_counts kind left) (if left th
     counted true ds x = numbered-objects kind n os ds x
     counted false ds x = x
 
-numbered-lapsed : (k : ℕ) (e : Entry) → each_has_number e.objects ≡ true → each_has_number (lapsed k e).objects ≡ true
+pub numbered-lapsed : (k : ℕ) (e : Entry) → each_has_number e.objects ≡ true → each_has_number (lapsed k e).objects ≡ true
 numbered-lapsed k e h = go (nat_lt k e.until)
   where
     go : (b : Bool) → each_has_number (if b then e else record e { objects = tenure_forgotten e.objects }).objects ≡ true
@@ -165,11 +165,15 @@ numbered-lapse k es h = each-filtered is_numbered (is_entry_kept k) (map (lapsed
 pub numbered-without : (o : ObjId) (es : List Entry) → all_numbered es ≡ true → all_numbered (map (entry_without o) es) ≡ true
 numbered-without o es h = each-map is_numbered (entry_without o) (λ e x. each-filtered has_number (λ y. not (same_id y.object o)) e.objects x) es h
 
+pub numbered-with-noted : (at lease : ℕ) (kind : CallKind) (c : Client) (n : ℤ) (os : List ObjId) (es : List Entry) → all_numbered es ≡ true →
+    all_numbered (with_entry (entry_after lease kind n os at (entry_of es c)) es) ≡ true
+numbered-with-noted at lease kind c n os es h =
+    each-with is_numbered (entry_after lease kind n os at (entry_of es c)) es (numbered-after (has_time_left at (entry_of es c)) kind n os (entry_of es c).objects (each-entry is_numbered es c refl h)) h
+
 pub numbered-noted : (at lease : ℕ) (kind : CallKind) (c : Client) (n : ℤ) (os : List ObjId) (es : List Entry) → all_numbered es ≡ true →
     all_numbered (after_lapse at (with_entry (entry_after lease kind n os at (entry_of es c)) es)) ≡ true
 numbered-noted at lease kind c n os es h =
-    numbered-lapse at (with_entry (entry_after lease kind n os at (entry_of es c)) es)
-    (each-with is_numbered (entry_after lease kind n os at (entry_of es c)) es (numbered-after (has_time_left at (entry_of es c)) kind n os (entry_of es c).objects (each-entry is_numbered es c refl h)) h)
+    numbered-lapse at (with_entry (entry_after lease kind n os at (entry_of es c)) es) (numbered-with-noted at lease kind c n os es h)
 
 -- ---- fewer pairs
 
@@ -215,7 +219,7 @@ fewer-forgotten left (e ∷ es) = go (has_strong e) (is_remembered left e.number
     go false true x y h = omega arith
     go false false x y h = h
 
-fewer-lapsed : (m k : ℕ) (e : Entry) → m ≤ k → remembered_of k (lapsed k e) ≤ remembered_of m e
+pub fewer-lapsed : (m k : ℕ) (e : Entry) → m ≤ k → remembered_of k (lapsed k e) ≤ remembered_of m e
 fewer-lapsed m k e le = go (nat_lt k e.until) refl
   where
     go : (b : Bool) → nat_lt k e.until ≡ b → remembered_of k (if b then e else record e { objects = tenure_forgotten e.objects }) ≤ remembered_of m e

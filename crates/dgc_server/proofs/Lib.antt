@@ -20,8 +20,13 @@ pub mod Search
 pub mod HolderLaws
 pub mod IndexLaws
 pub mod SumLaws
+pub mod Passing
 pub mod MarkLaws
 pub mod Freeing
 pub mod Dropping
 pub mod Shares
 pub mod Walking
+pub mod Purging
+pub mod Forgetting
+pub mod OneByOne
+pub mod Together

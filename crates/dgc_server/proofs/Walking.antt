@@ -18,6 +18,14 @@ use Rattle.dgc_server.proofs.MarkLaws.{others-all, all-remembered}
 use Rattle.dgc_server.proofs.IndexLaws.{names-without}
 use Rattle.dgc_server.proofs.Dropping.{lapsed-without}
 
+-- Of a settled client each object makes a remembered pair.
+pub whole : (m : ℕ) (e : Entry) → lapsed m e ≡ e → each_has_number e.objects ≡ true → remembered_of m e ≡ length e.objects
+whole m e settled numbered = go (nat_lt m e.until) settled
+  where
+    go : (b : Bool) → (if b then e else record e { objects = tenure_forgotten e.objects }) ≡ e → length (filter (λ (x : ObjectEntry). is_remembered b x.numbers) e.objects) ≡ length e.objects
+    go true s = all-remembered e.objects numbered
+    go false s = sym (length-map (filter has_strong e.objects) strong_only) ∙ ap (λ (x : Entry). length x.objects) s
+
 -- ---- one step
 
 module _ (o : ObjId) (m : ℕ) where
@@ -136,13 +144,6 @@ module _ (o : ObjId) (m : ℕ) where
       go false true x h = rw x h
       go false false x h = h
 
-  whole : (e : Entry) → lapsed m e ≡ e → each_has_number e.objects ≡ true → remembered_of m e ≡ length e.objects
-  whole e settled numbered = go (nat_lt m e.until) settled
-    where
-      go : (b : Bool) → (if b then e else record e { objects = tenure_forgotten e.objects }) ≡ e → length (filter (λ (x : ObjectEntry). is_remembered b x.numbers) e.objects) ≡ length e.objects
-      go true s = all-remembered e.objects numbered
-      go false s = sym (length-map (filter has_strong e.objects) strong_only) ∙ ap (λ (x : Entry). length x.objects) s
-
   short : (os : List ObjectEntry) → each_once os ≡ true → length (filter (λ x. not (same_id x.object o)) os) + one_if (has_object os o) ≡ length os
   short [] once = refl
   short (x ∷ os) once = go (same_id x.object o) refl (short os two.1)
@@ -172,8 +173,8 @@ module _ (o : ObjId) (m : ℕ) where
   pairs-dropped n (e ∷ es) a numbered once =
       let number = and_parts (each_has_number e.objects) (list_all (λ e. each_has_number e.objects) es) numbered in
       let one = and_parts (each_once e.objects) (list_all (λ e. each_once e.objects) es) once in
-      let all = whole e a.0.forgotten number.0 in
-      let left = whole (entry_without o e) (lapsed-without m n o e a.0) (numbered-filter e.objects number.0) in
+      let all = whole m e a.0.forgotten number.0 in
+      let left = whole m (entry_without o e) (lapsed-without m n o e a.0) (numbered-filter e.objects number.0) in
       let parted = short e.objects one.0 in
       let sums = sum_by-cons (remembered_of m) e es in
       first (is_entry_kept m (entry_without o e)) (entry_names o e) refl refl all left parted sums (pairs-dropped n es a.1 number.1 one.1)

@@ -1,8 +1,8 @@
 -- The index of a lease table: for each object how many clients hold it and how many name it, and before which moment nothing is due.
-use Rattle.std.specs.Prelude.{◌≡◌, ℕ, ◌≤◌, ◌<◌, Bool, true, not, ◌&&◌, ◌||◌, List, [], length, filter, nat_lt, nat_le, is_some, unwrap_or, if◌then◌else◌}
+use Rattle.std.specs.Prelude.{◌≡◌, ℕ, ◌+◌, ◌≤◌, ◌<◌, Bool, true, not, ◌&&◌, ◌||◌, List, [], ◌∷◌, length, filter, sum_by, nat_lt, nat_le, is_some, unwrap_or, if◌then◌else◌}
 use Rattle.std.specs.List.{AllByRecursion}
 use Rattle.object_ids.specs.declared.ids.ObjId.{ObjId}
-use Rattle.object_ids.specs.Same.{same_key}
+use Rattle.object_ids.specs.Same.{same_id, same_key}
 use Rattle.indexmap.specs.IndexMap.{IndexMap, get}
 use Rattle.dgc_server.specs.declared.holders.Count.{Count}
 use Rattle.dgc_server.specs.declared.holders.Share.{Share}
@@ -51,6 +51,26 @@ is_counted w t o e = counts_in w (has_time_left t e) e.objects o
 -- Whether numbers of an object are kept of a client.
 abbrev pub entry_names : ObjId → Entry → Bool
 entry_names o e = has_object e.objects o
+
+-- Some client names the object, as the counts say.
+abbrev pub is_named : {S : Type 0} → IndexMap ObjId Count S → ObjId → Bool
+is_named counts o = nat_lt 0 (counted_at Naming counts o)
+
+-- An entry with those of its objects alone that pass a test.
+abbrev pub with_only : (ObjId → Bool) → Entry → Entry
+with_only q e = record e { objects = filter (λ x. q x.object) e.objects }
+
+abbrev pub object_count : Entry → ℕ
+object_count e = length e.objects
+
+-- How many objects the clients name, each counted for each client.
+abbrev pub objects_in : List Entry → ℕ
+objects_in es = sum_by object_count es
+
+-- The sum of what is counted of these objects, of each once.
+abbrev pub total_of : (ObjId → ℕ) → List ObjId → ℕ
+total_of f [] = 0
+total_of f (o ∷ os) = f o + total_of (λ p. if same_id o p then 0 else f p) os
 
 -- What a client's share in the count of an object loses as its tenure is forgotten.
 abbrev pub lost_share : Bool → Numbers → Share

@@ -1,12 +1,12 @@
 //! What a lease table keeps of one client.
-ghost use Rattle.std.specs.Prelude.{◌≡◌, ℕ, ◌+◌, ◌<◌, ◌≤◌, ◌^◌, not, ◌&&◌, IsTrue, IfOk, OnOk, OnErr, true, if◌then◌else◌};
+ghost use Rattle.std.specs.Prelude.{◌≡◌, ℕ, ◌+◌, ◌<◌, ◌≤◌, ◌^◌, length, not, ◌&&◌, IsTrue, IfOk, OnOk, OnErr, true, if◌then◌else◌};
 ghost use Rattle.object_ids.specs.declared.ids.ObjId.{ObjId};
 ghost use Rattle.history.specs.Leases.{is_dirty_kind};
 ghost use Rattle.dgc_server.specs.Numbers.{is_dirty_highest};
 ghost use Rattle.dgc_server.specs.Entry.{has_time_left, each_has_number, entry_holds, remembered_of, fresh_of, numbers_of, has_object, is_in, lapsed, entry_without, is_entry_kept, object_entries};
 ghost use Rattle.dgc_server.specs.Stands.{each_once, entry_after};
 ghost use Rattle.dgc_server.specs.Table.{no_entry};
-ghost use Rattle.dgc_server.specs.Index.{Way, counted_at, has_count, one_if, is_counted};
+ghost use Rattle.dgc_server.specs.Index.{Way, counted_at, has_count, one_if, is_counted, is_named, with_only};
 
 use crate::holders::Counts;
 use crate::marks::{self, Marks};
@@ -17,7 +17,7 @@ use std::alloc::{AllocError, Global};
 use std::marker::Model;
 
 /// A lease call at a moment, as a client's entry notes it.
-#[derive(Clone, Copy, Debug)]
+#[derive(Clone, Copy)]
 pub struct LeaseCall<'a> {
     pub kind: CallKind,
     pub number: &'a i64,
@@ -27,14 +27,12 @@ pub struct LeaseCall<'a> {
 
 /// A client with the end of its lease and the objects that it named. Contracts see it as an `Entry`. It is small, so that a list of many
 /// is quickly searched for the leases that end and quickly makes room for one more.
-#[derive(Debug)]
 pub struct ClientEntry {
     until: u64,
     kept: Box<Kept>,
 }
 
 /// What is kept of a client but for the end of its lease.
-#[derive(Debug)]
 struct Kept {
     client: Vmid,
     objects: Marks,
@@ -206,6 +204,14 @@ impl ClientEntry {
         ensures { self.new ≡ entry_without object.now self.old }
     {
         marks::forget_object(&mut self.kept.objects, object);
+    }
+
+    /// Keeps the objects that some client names, as the counts say, and answers how many went.
+    pub fn keep_named(&mut self, counts: &Counts) -> usize
+        ensures entry { self.new ≡ with_only (is_named counts.now) self.old }
+        ensures gone { result + length self.new.objects ≡ length self.old.objects }
+    {
+        marks::keep_named(&mut self.kept.objects, counts)
     }
 
     /// Whether there is something to keep at this moment: time left, or an object.

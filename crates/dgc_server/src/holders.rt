@@ -3,22 +3,22 @@ ghost use Rattle.std.specs.Prelude.{◌≡◌, ◌+◌, ◌<◌, ◌≤◌, ◌^
 ghost use Rattle.std.specs.List.{list_all};
 ghost use Rattle.object_ids.specs.declared.ids.ObjId.{ObjId};
 ghost use Rattle.object_ids.specs.Same.{same_id};
-ghost use Rattle.dgc_server.specs.Entry.{object_entries, is_in, lapsed};
+ghost use Rattle.dgc_server.specs.Entry.{object_entries, each_has_number, is_in, has_time_left, remembered_of, lapsed};
 ghost use Rattle.dgc_server.specs.Table.{after_lapse};
 ghost use Rattle.dgc_server.specs.Stands.{each_once};
-ghost use Rattle.dgc_server.specs.Index.{Way, no_count, count_by, count_at, counted_at, has_count, one_if, share_by, lost_share, loses, has_with, is_counted, IsIndexed};
+ghost use Rattle.dgc_server.specs.Index.{Way, Naming, no_count, count_by, count_at, counted_at, has_count, one_if, share_by, lost_share, loses, has_with, is_counted, is_named, total_of, ends_later, IsIndexed, sums_at};
 
 use crate::entry::ClientEntry;
 use crate::marks::Marks;
 use crate::packed::Packed;
-use crate::table;
+use crate::table::{self, Sums};
 use indexmap::IndexMap;
 use object_ids::ObjId;
 use std::alloc::AllocError;
 
 /// What is counted of an object: how many clients hold it, how many name it (some number of it is kept of them), and at which place in the
 /// list of clients one that names it stood when a call of it was noted last. The place is a hint: where to look first.
-#[derive(Clone, Copy, Debug)]
+#[derive(Clone, Copy)]
 pub struct Count {
     pub holders: u32,
     pub clients: u32,
@@ -26,10 +26,17 @@ pub struct Count {
 }
 
 /// What a client counts for: whether it holds an object, and whether it names it.
-#[derive(Clone, Copy, Debug)]
+#[derive(Clone, Copy)]
 pub struct Share {
     pub holds: bool,
     pub names: bool,
+}
+
+/// What time leaves as it passes: a moment before which no lease ends, and the sums since.
+#[derive(Clone, Copy)]
+pub struct Passed {
+    pub next: u64,
+    pub sums: Sums,
 }
 
 /// What is counted of each object.
@@ -216,42 +223,135 @@ fn release_over(counts: &mut Counts, entry: &ClientEntry, from: u64, to: u64)
     release(counts, entry.objects(), held);
 }
 
-/// As time passes from one moment to another, the tenures of clients whose leases are over are forgotten. It takes no memory.
-pub fn release_due(counts: &mut Counts, entries: &[ClientEntry], from: u64, to: u64)
+/// As time passes from one moment to another, forgets the tenure of a client whose lease is over, and answers the sums since. It takes no
+/// memory.
+fn end_tenure(entry: &mut ClientEntry, counts: &mut Counts, sums: Sums, from: u64, to: u64) -> Sums
     requires later { from ≤ to }
-    requires once { IsTrue (list_all (λ e. each_once e.objects) entries.now) }
-    requires counted { (w : Way) (o : ObjId) → counted_at w counts.old o ≡ length (filter (is_counted w from o) entries.now) }
-    ensures counted { (w : Way) (o : ObjId) → counted_at w counts.new o ≡ length (filter (is_counted w to o) (map (lapsed to) entries.now)) }
-    ensures kept { (o : ObjId) → has_count counts.old o ≡ true → has_count counts.new o ≡ true }
+    requires once { IsTrue (each_once entry.old.objects) }
+    requires numbered { IsTrue (each_has_number entry.old.objects) }
+    requires enough { (w : Way) (o : ObjId) → one_if (is_counted w from o entry.old) ≤ counted_at w counts.old o }
+    requires leased { one_if (has_time_left from entry.old) ≤ sums.leased }
+    requires pairs { remembered_of from entry.old ≤ sums.pairs }
+    requires few { (sums.leased ≤ 2 ^ 17) × (sums.pairs ≤ 2 ^ 65) }
+    ensures entry { entry.new ≡ lapsed to entry.old }
+    ensures counts { (w : Way) (o : ObjId) → counted_at w counts.new o + one_if (is_counted w from o entry.old)
+        ≡ counted_at w counts.old o + one_if (is_counted w to o (lapsed to entry.old)) }
+    ensures leased { result.leased + one_if (has_time_left from entry.old) ≡ sums.leased + one_if (has_time_left to (lapsed to entry.old)) }
+    ensures pairs { result.pairs + remembered_of from entry.old ≡ sums.pairs + remembered_of to (lapsed to entry.old) }
 {
-    for entry in entries {
-        release_over(counts, entry, from, to);
-    }
+    let before = table::sums_of(entry, from);
+    release_over(counts, entry, from, to);
+    entry.lapse(to);
+    table::sums_with(sums, before, table::sums_of(entry, to))
 }
 
-/// As time passes from one moment to another, forgets what ended, and answers a moment before which no more does. Where nothing is due it
-/// looks at no client. It takes no memory.
+/// As time passes from one moment to another, forgets the tenures whose leases are over. A client whose lease goes on costs a look at its end; one
+/// whose lease is over, some at each of its objects. It takes no memory.
+fn pass_each(
+    entries: &mut [ClientEntry],
+    counts: &mut Counts,
+    sums: Sums,
+    from: u64,
+    to: u64,
+) -> Passed
+    requires later { from ≤ to }
+    requires early { to < 2 ^ 62 }
+    requires once { IsTrue (list_all (λ e. each_once e.objects) entries.old) }
+    requires numbered { IsTrue (list_all (λ e. each_has_number e.objects) entries.old) }
+    requires counted { (w : Way) (o : ObjId) → counted_at w counts.old o ≡ length (filter (is_counted w from o) entries.old) }
+    requires sums { sums ≡ sums_at from entries.old }
+    requires few { (sums.leased ≤ 2 ^ 17) × (sums.pairs ≤ 2 ^ 65) }
+    ensures entries { entries.new ≡ map (lapsed to) entries.old }
+    ensures counted { (w : Way) (o : ObjId) → counted_at w counts.new o ≡ length (filter (is_counted w to o) (map (lapsed to) entries.old)) }
+    ensures ends { IsTrue (list_all (ends_later to result.next) entries.old) }
+    ensures later { to < result.next }
+    ensures sums { result.sums ≡ sums_at to (map (lapsed to) entries.old) }
+{
+    let mut next = u64::MAX;
+    let mut left = sums;
+    for entry in entries.iter_mut() {
+        if entry.has_time_left(to) {
+            next = next.min(entry.until());
+            continue;
+        }
+        left = end_tenure(entry, counts, left, from, to);
+    }
+    Passed { next, sums: left }
+}
+
+/// As time passes from one moment to another, forgets what ended, and answers a moment before which no more does, and the sums since. Where
+/// nothing is due it looks at no client. It takes no memory.
 pub fn pass(
     entries: &mut Vec<ClientEntry>,
     counts: &mut Counts,
+    sums: Sums,
     next: u64,
     from: u64,
     to: u64,
-) -> u64
+) -> Passed
     requires later { from ≤ to }
     requires early { to < 2 ^ 62 }
     requires once { IsTrue (list_all (λ e. each_once e.objects) entries.old.items) }
+    requires numbered { IsTrue (list_all (λ e. each_has_number e.objects) entries.old.items) }
     requires indexed { IsIndexed from next counts.old entries.old.items }
+    requires sums { sums ≡ sums_at from entries.old.items }
+    requires few { (sums.leased ≤ 2 ^ 17) × (sums.pairs ≤ 2 ^ 65) }
     ensures entries { entries.new.items ≡ after_lapse to entries.old.items }
-    ensures indexed { IsIndexed to result counts.new entries.new.items }
-    ensures later { to < result }
+    ensures indexed { IsIndexed to result.next counts.new entries.new.items }
+    ensures later { to < result.next }
+    ensures sums { result.sums ≡ sums_at to entries.new.items }
 {
     if to < next {
-        return next;
+        return Passed { next, sums };
     }
-    release_due(counts, entries, from, to);
-    table::lapse(entries, to);
-    table::least_end(entries, to)
+    let passed = pass_each(entries, counts, sums, from, to);
+    table::keep(entries, to);
+    passed
+}
+
+/// What went as objects were forgotten: so many pairs of a client and an object, and, where there were some, at which place in the list of clients
+/// one that names such an object stood, as its count noted. The place is a hint.
+#[derive(Clone, Copy)]
+pub struct Gone {
+    pub pairs: u128,
+    pub place: u32,
+}
+
+/// Nobody holds or names these objects any more. Answers how many pairs went. It takes no memory.
+pub fn forget_all(counts: &mut Counts, objects: &[ObjId]) -> Gone
+    ensures counts { (w : Way) (o : ObjId) → counted_at w counts.new o ≡ (if is_in o objects.now then 0 else counted_at w counts.old o) }
+    ensures pairs { result.pairs ≡ total_of (counted_at Naming counts.old) objects.now }
+{
+    let mut pairs: u128 = 0;
+    let mut place = 0;
+    for object in objects {
+        let count = take_out(counts, object);
+        place = first_place(pairs, place, &count);
+        pairs += count.clients as u128;
+    }
+    Gone { pairs, place }
+}
+
+/// The place that a count notes, where no pairs were met before, and the one that was noted then, where some were.
+fn first_place(pairs: u128, place: u32, count: &Count) -> u32 {
+    if pairs == 0 { count.place } else { place }
+}
+
+/// Nobody holds or names an object any more. Answers what was counted of it.
+fn take_out(counts: &mut Counts, object: &ObjId) -> Count
+    ensures counts { (w : Way) (o : ObjId) → counted_at w counts.new o ≡ (if same_id object.now o then 0 else counted_at w counts.old o) }
+    ensures value { result ≡ count_at counts.old object.now }
+{
+    let count = count_of(counts, object);
+    forget(counts, object);
+    count
+}
+
+/// Whether some client names an object.
+pub fn is_named(counts: &Counts, object: &ObjId) -> bool
+    ensures { result ≡ is_named counts.now object.now }
+{
+    count_of(counts, object).clients > 0
 }
 
 /// Nobody holds or names an object any more. It takes no memory.

@@ -6,20 +6,24 @@ ghost use Rattle.object_ids.specs.Same.{same_id};
 ghost use Rattle.history.specs.declared.calls.Call.{Call};
 ghost use Rattle.history.specs.declared.limits.TheConstants.{MAX_CLIENTS, MAX_PAIRS};
 ghost use Rattle.history.specs.Leases.{is_dirty_kind, is_held, holders, pairs, lease_rows};
-ghost use Rattle.dgc_server.specs.Counts.{dirty_call, clean_call, clean_kind, without, clients_with_call, pairs_with_call};
+ghost use Rattle.dgc_server.specs.Counts.{dirty_call, clean_call, clean_kind, without, without_all, clients_with_call, pairs_with_call};
 ghost use Rattle.dgc_server.specs.Stands.{IsSound, IsTrimmed, StandsFor, ForEachLog, table_after};
 ghost use Rattle.dgc_server.specs.Index.{sums_at};
 ghost use Rattle.dgc_server.specs.Table.{clients_after, pairs_after};
 
 use crate::ended;
 use crate::entry::{ClientEntry, LeaseCall};
-use crate::holders::{Counts, count_of, forget, pass, touch_all};
+use crate::holders::{Counts, count_of, forget, forget_all, pass, touch_all};
 use crate::table::{self, Sums};
 use history::limits::{MAX_CLIENTS, MAX_PAIRS};
 use history::{CallKind, LeaseList};
 use object_ids::{ObjId, ObjIds, Vmid};
 use std::alloc::{AllocError, Global};
+use std::fmt;
 use std::marker::Model;
+
+/// So many objects are dropped one by one.
+const FEW: usize = 4;
 
 /// Why a lease call is refused.
 #[derive(Clone, Copy, Debug, PartialEq, Eq)]
@@ -44,7 +48,6 @@ impl From<AllocError> for LeaseFault {
 
 /// The leases of clients, and which objects they hold. A contract speaks of every list of lease calls
 /// that the table stands for, the newest first, and of the greatest moment that it was told.
-#[derive(Debug)]
 pub struct Leases {
     alloc: Global,
     lease: u64,
@@ -72,6 +75,14 @@ impl Drop for Leases {
         } = self;
         drop(entries);
         drop(counts);
+    }
+}
+
+impl fmt::Debug for Leases {
+    fn fmt<W: fmt::Write>(&self, f: &mut fmt::Formatter<W>) -> fmt::Result {
+        f.debug_struct("Leases")
+            .field("clients", &self.entries.len())
+            .finish_non_exhaustive()
     }
 }
 
@@ -117,9 +128,16 @@ impl Leases {
         ensures stands { ForEachLog self.old (λ lease moment calls. StandsFor lease self.new (max now moment) calls) }
     {
         let at = now.max(self.moment);
-        let bound = self.next;
-        self.next = pass(&mut self.entries, &mut self.counts, bound, self.moment, at);
-        self.sums = table::sums_after(self.sums, &self.entries, at, at < bound);
+        let passed = pass(
+            &mut self.entries,
+            &mut self.counts,
+            self.sums,
+            self.next,
+            self.moment,
+            at,
+        );
+        self.next = passed.next;
+        self.sums = passed.sums;
         self.moment = at;
     }
 
@@ -248,7 +266,21 @@ impl Leases {
             self.moment,
         );
         forget(&mut self.counts, &object);
-        self.sums = table::sums_without(self.sums, count.clients);
+        self.sums = table::sums_without(self.sums, count.clients as u128);
+    }
+
+    /// Forgets that calls named these objects, as `drop_object` does of each: it is as if no call so far had. Of more than a few, those that clients
+    /// name cost one look at each object of the clients from the first that named one to the last, and one at each client. It takes no memory.
+    pub fn drop_objects(&mut self, objects: &[ObjId])
+        ensures fewer { length self.new.entries ≤ length self.old.entries }
+        ensures stands { ForEachLog self.old (λ lease moment calls.
+            StandsFor lease self.new moment (map (without_all objects.now) calls)) }
+    {
+        if objects.len() <= FEW {
+            self.drop_each(objects);
+        } else {
+            self.drop_together(objects);
+        }
     }
 
     /// How many pairs of a client and an object are remembered at this moment: those of clients with time
@@ -267,6 +299,34 @@ impl Leases {
             rows ≡ lease_rows lease (max now moment) calls)) }
     {
         table::rows(alloc, &self.entries, self.at(now))
+    }
+
+    /// Forgets that calls named these objects, one after another.
+    fn drop_each(&mut self, objects: &[ObjId])
+        ensures fewer { length self.new.entries ≤ length self.old.entries }
+        ensures stands { ForEachLog self.old (λ lease moment calls.
+            StandsFor lease self.new moment (map (without_all objects.now) calls)) }
+    {
+        for object in objects {
+            self.drop_object(*object);
+        }
+    }
+
+    /// Forgets that calls named these objects, all at once.
+    fn drop_together(&mut self, objects: &[ObjId])
+        ensures fewer { length self.new.entries ≤ length self.old.entries }
+        ensures stands { ForEachLog self.old (λ lease moment calls.
+            StandsFor lease self.new moment (map (without_all objects.now) calls)) }
+    {
+        let gone = forget_all(&mut self.counts, objects);
+        table::drop_objects(
+            &mut self.entries,
+            &self.counts,
+            gone.pairs,
+            gone.place,
+            self.moment,
+        );
+        self.sums = table::sums_without(self.sums, gone.pairs);
     }
 
     /// The greater of a moment and the greatest one so far.
@@ -337,8 +397,16 @@ impl Leases {
         )?;
         let with = table::sums_with(self.sums, noted.before, noted.after);
         let bound = table::bound_with(self.next, noted.until, at);
-        self.next = pass(&mut self.entries, &mut self.counts, bound, self.moment, at);
-        self.sums = table::sums_after(with, &self.entries, at, at < bound);
+        let passed = pass(
+            &mut self.entries,
+            &mut self.counts,
+            with,
+            bound,
+            self.moment,
+            at,
+        );
+        self.next = passed.next;
+        self.sums = passed.sums;
         self.moment = at;
         Ok(())
     }

@@ -8,7 +8,7 @@ ghost use Rattle.object_ids.specs.Same.{same_id, same_key};
 ghost use Rattle.dgc_server.specs.Numbers.{no_numbers, strong_part, is_dirty_highest, is_remembered};
 ghost use Rattle.dgc_server.specs.Entry.{object_entries, each_has_number, numbers_of, has_object, is_in, fresh_in, with_numbers, object_noted, objects_noted, objects_after, tenure_forgotten, call_counts};
 ghost use Rattle.dgc_server.specs.Stands.{each_once};
-ghost use Rattle.dgc_server.specs.Index.{Way, counted_at, has_count, one_if, counts_in};
+ghost use Rattle.dgc_server.specs.Index.{Way, counted_at, has_count, one_if, counts_in, is_named};
 
 use crate::holders::{self, Counts, Share};
 use crate::numbers::Numbers;
@@ -205,6 +205,27 @@ fn keep_others(objects: &mut Marks, object: &ObjId)
         |other: &ObjId, numbers: &mut Packed| -> bool
             ensures { (result ≡ not (same_id other.now object.entry.now)) × (numbers.new ≡ numbers.old) }
         { !equal(other, object) },
+    );
+}
+
+/// Keeps the objects that some client names, as the counts say, and answers how many went. It takes no memory.
+pub fn keep_named(objects: &mut Marks, counts: &Counts) -> usize
+    ensures objects { object_entries objects.new.entries ≡ filter (λ x. is_named counts.now x.object) (object_entries objects.old.entries) }
+    ensures gone { result + length (object_entries objects.new.entries) ≡ length (object_entries objects.old.entries) }
+{
+    let before = objects.len();
+    retain_named(objects, counts);
+    before - objects.len()
+}
+
+/// Keeps the objects that some client names.
+fn retain_named(objects: &mut Marks, counts: &Counts)
+    ensures { objects.new.entries ≡ filter (λ e. is_named counts.now e.0) objects.old.entries }
+{
+    objects.retain(
+        |object: &ObjId, numbers: &mut Packed| -> bool
+            ensures { (result ≡ is_named counts.entry.now object.now) × (numbers.new ≡ numbers.old) }
+        { holders::is_named(counts, object) },
     );
 }
 

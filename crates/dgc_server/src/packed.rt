@@ -6,7 +6,7 @@ use crate::numbers::Numbers;
 use std::marker::Model;
 
 /// The numbers of an object as a client's map keeps them: in 32 bytes, where three options take 48. Contracts see them as `Numbers`.
-#[derive(Debug, Drop)]
+#[derive(Drop)]
 pub struct Packed {
     dirty: i64,
     clean: i64,

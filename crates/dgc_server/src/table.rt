@@ -4,11 +4,11 @@ ghost use Rattle.std.specs.List.{list_any, list_all};
 ghost use Rattle.std.specs.Option.{option_copied};
 ghost use Rattle.object_ids.specs.declared.ids.ObjId.{ObjId};
 ghost use Rattle.object_ids.specs.Client.{Client};
-ghost use Rattle.dgc_server.specs.Entry.{Entry, each_has_number, is_in, lapsed, entry_without, is_entry_kept, has_time_left, entry_holds, remembered_of, row_of};
+ghost use Rattle.dgc_server.specs.Entry.{Entry, each_has_number, is_in, entry_without, is_entry_kept, has_time_left, entry_holds, remembered_of, row_of};
 ghost use Rattle.dgc_server.specs.Stands.{each_once, is_in_order, entry_after};
-ghost use Rattle.dgc_server.specs.Index.{Way, counted_at, has_count, is_counted, one_if, entry_names, ends_later, sums_at, entry_sums};
+ghost use Rattle.dgc_server.specs.Index.{Way, counted_at, has_count, is_counted, is_named, with_only, object_count, objects_in, one_if, entry_names, sums_at, entry_sums};
 ghost use Rattle.dgc_server.specs.Table.{remembered as remembered_at};
-ghost use Rattle.dgc_server.specs.Table.{entry_of, no_entry, IsPlaceOf, with_entry, after_lapse, remembered, clients_after, fresh_pairs, pairs_after};
+ghost use Rattle.dgc_server.specs.Table.{entry_of, no_entry, IsPlaceOf, with_entry, remembered, clients_after, fresh_pairs, pairs_after};
 
 use crate::entry::{ClientEntry, LeaseCall};
 use crate::holders::Counts;
@@ -19,14 +19,14 @@ use std::alloc::{AllocError, Global};
 use std::cmp::Ordering;
 
 /// How many clients have time left, and how many pairs are remembered.
-#[derive(Clone, Copy, Debug)]
+#[derive(Clone, Copy)]
 pub struct Sums {
     pub leased: usize,
     pub pairs: u128,
 }
 
 /// What a noted call changed: what the client's entry added to the sums before and adds since, and when its lease ends since.
-#[derive(Clone, Copy, Debug)]
+#[derive(Clone, Copy)]
 pub struct Noted {
     pub before: Sums,
     pub after: Sums,
@@ -176,49 +176,6 @@ pub fn bound_with(bound: u64, until: u64, at: u64) -> u64
     if at < until { bound.min(until) } else { 0 }
 }
 
-/// A moment before which no lease ends that has time left at this one.
-pub fn least_end(entries: &[ClientEntry], at: u64) -> u64
-    requires { at < 2 ^ 62 }
-    ensures ends { IsTrue (list_all (ends_later at result) entries.now) }
-    ensures later { at < result }
-{
-    let mut least = u64::MAX;
-    for entry in entries {
-        least = least_with(least, entry, at);
-    }
-    least
-}
-
-/// The lesser of a moment and the end of a lease, if it has time left.
-fn least_with(least: u64, entry: &ClientEntry, at: u64) -> u64
-    ensures least { result ≤ least }
-    ensures ends { IsTrue (ends_later at result entry.now) }
-    ensures later { at < least → at < result }
-{
-    if entry.has_time_left(at) {
-        least.min(entry.until())
-    } else {
-        least
-    }
-}
-
-/// Forgets the tenures whose leases are over, and the clients of which nothing is left.
-pub fn lapse(entries: &mut Vec<ClientEntry>, now: u64)
-    ensures { entries.new.items ≡ after_lapse now entries.old.items }
-{
-    lapse_each(entries, now);
-    keep(entries, now);
-}
-
-/// Forgets the tenures whose leases are over.
-fn lapse_each(entries: &mut [ClientEntry], now: u64)
-    ensures { entries.new ≡ map (lapsed now) entries.old }
-{
-    for entry in entries.iter_mut() {
-        entry.lapse(now);
-    }
-}
-
 /// Forgets what is kept of an object that so many clients name, and a client of which nothing is left then. It begins to look at this place,
 /// and stops as soon as all that name the object were met. It takes no memory.
 pub fn drop_object(
@@ -262,6 +219,56 @@ fn walk(entries: &mut Vec<ClientEntry>, object: &ObjId, clients: u32, from: usiz
     left
 }
 
+/// Forgets what is kept of the objects that have no count any more, and the clients of which nothing is left then. So many pairs go. It looks at
+/// all objects of the clients from this place on, and then from the first on, until as many went, and then once at each client's end. Where no pair
+/// goes it looks at no client. It takes no memory.
+pub fn drop_objects(
+    entries: &mut Vec<ClientEntry>,
+    counts: &Counts,
+    pairs: u128,
+    place: u32,
+    at: u64,
+)
+    requires kept { IsTrue (list_all (is_entry_kept at) entries.old.items) }
+    requires pairs { pairs + objects_in (map (with_only (is_named counts.now)) entries.old.items) ≡ objects_in entries.old.items }
+    ensures { entries.new.items ≡ filter (is_entry_kept at) (map (with_only (is_named counts.now)) entries.old.items) }
+{
+    if pairs == 0 {
+        return;
+    }
+    let left = keep_named(entries, counts, pairs, place as usize);
+    keep_named(entries, counts, left, 0);
+    keep(entries, at);
+}
+
+/// From a place on keeps of each client the objects that are named, where so many pairs are to go, and answers how many are left to go.
+fn keep_named(entries: &mut [ClientEntry], counts: &Counts, pairs: u128, from: usize) -> u128
+    requires { pairs + objects_in (map (with_only (is_named counts.now)) entries.old) ≡ objects_in entries.old }
+    ensures same { map (with_only (is_named counts.now)) entries.new ≡ map (with_only (is_named counts.now)) entries.old }
+    ensures left { result + objects_in (map (with_only (is_named counts.now)) entries.new) ≡ objects_in entries.new }
+    ensures all { from ≡ 0 → entries.new ≡ map (with_only (is_named counts.now)) entries.old }
+{
+    let mut left = pairs;
+    let mut i = from;
+    while i < entries.len() {
+        if left == 0 {
+            return 0;
+        }
+        left -= keep_at(entries, counts, i);
+        i += 1;
+    }
+    left
+}
+
+/// Keeps of one client the objects that are named, and answers how many went.
+fn keep_at(entries: &mut [ClientEntry], counts: &Counts, i: usize) -> u128
+    requires { i < length entries.old }
+    ensures entries { (d : Entry) → entries.new ≡ slice_set entries.old i (with_only (is_named counts.now) (slice_index_or entries.old i d)) }
+    ensures gone { (d : Entry) → result + object_count (with_only (is_named counts.now) (slice_index_or entries.old i d)) ≡ object_count (slice_index_or entries.old i d) }
+{
+    entries[i].keep_named(counts) as u128
+}
+
 /// Forgets what is kept of an object at one client, and the client, if nothing is left of it.
 fn drop_at(entries: &mut Vec<ClientEntry>, object: &ObjId, i: usize, at: u64)
     requires { i < vec_len entries.old }
@@ -275,7 +282,7 @@ fn drop_at(entries: &mut Vec<ClientEntry>, object: &ObjId, i: usize, at: u64)
 }
 
 /// Keeps the clients of which something is left.
-fn keep(entries: &mut Vec<ClientEntry>, now: u64)
+pub fn keep(entries: &mut Vec<ClientEntry>, now: u64)
     ensures { entries.new.items ≡ filter (is_entry_kept now) entries.old.items }
 {
     entries.retain(|entry| entry.is_entry_kept(now));
@@ -346,7 +353,7 @@ pub fn sums_at(entries: &[ClientEntry], at: u64) -> Sums
 }
 
 /// What a client's entry adds to the sums.
-fn sums_of(entry: &ClientEntry, at: u64) -> Sums
+pub fn sums_of(entry: &ClientEntry, at: u64) -> Sums
     requires { IsTrue (each_has_number entry.now.objects) }
     ensures value { result ≡ entry_sums at entry.now }
     ensures small { (result.leased ≤ 1) × (result.pairs < 2 ^ 64) }
@@ -362,7 +369,7 @@ fn sums_of(entry: &ClientEntry, at: u64) -> Sums
 pub fn sums_with(sums: Sums, before: Sums, after: Sums) -> Sums
     requires leased { before.leased ≤ sums.leased }
     requires pairs { before.pairs ≤ sums.pairs }
-    requires few { (sums.leased ≤ 65536) × (sums.pairs ≤ 262144) }
+    requires few { (sums.leased ≤ 2 ^ 17) × (sums.pairs ≤ 2 ^ 65) }
     requires small { (after.leased ≤ 1) × (after.pairs < 2 ^ 64) }
     ensures leased { result.leased + before.leased ≡ sums.leased + after.leased }
     ensures pairs { result.pairs + before.pairs ≡ sums.pairs + after.pairs }
@@ -371,15 +378,6 @@ pub fn sums_with(sums: Sums, before: Sums, after: Sums) -> Sums
         leased: sums.leased - before.leased + after.leased,
         pairs: sums.pairs - before.pairs + after.pairs,
     }
-}
-
-/// The sums after time has passed, which are the same where nothing was due.
-pub fn sums_after(sums: Sums, entries: &[ClientEntry], at: u64, is_quiet: bool) -> Sums
-    requires quiet { is_quiet ≡ true → sums ≡ sums_at at entries.now }
-    requires noted { IsTrue (list_all (λ e. each_has_number e.objects) entries.now) }
-    ensures { result ≡ sums_at at entries.now }
-{
-    if is_quiet { sums } else { sums_at(entries, at) }
 }
 
 /// How many pairs of a client and an object are remembered.
@@ -417,15 +415,15 @@ fn fresh_pairs(
     }
 }
 
-/// The sums without an object that so many clients name.
-pub fn sums_without(sums: Sums, clients: u32) -> Sums
-    requires { clients ≤ sums.pairs }
+/// The sums without so many pairs.
+pub fn sums_without(sums: Sums, pairs: u128) -> Sums
+    requires { pairs ≤ sums.pairs }
     ensures leased { result.leased ≡ sums.leased }
-    ensures pairs { result.pairs + clients ≡ sums.pairs }
+    ensures pairs { result.pairs + pairs ≡ sums.pairs }
 {
     Sums {
         leased: sums.leased,
-        pairs: sums.pairs - clients as u128,
+        pairs: sums.pairs - pairs,
     }
 }
 

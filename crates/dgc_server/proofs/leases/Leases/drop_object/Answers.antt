@@ -1,18 +1,16 @@
-use Rattle.std.proofs.Common.{◌≡◌, List, length, map, ap, sym, subst, ◌∙◌, arith, true}
+use Rattle.std.proofs.Common.{◌≡◌, length, map, ap, sym, subst, ◌∙◌, arith, true}
 use Rattle.std.specs.Prelude.{filter}
 use Rattle.dgc_server.specs.declared.holders.Count.{Count}
 use Rattle.dgc_server.specs.declared.table.Sums.{Sums}
-use Rattle.dgc_server.specs.Entry.{Entry, entry_without, is_entry_kept, has_time_left}
+use Rattle.dgc_server.specs.Entry.{entry_without, is_entry_kept, has_time_left}
 use Rattle.dgc_server.specs.Table.{after_lapse, remembered}
-use Rattle.dgc_server.specs.Stands.{LeaseTable, IsSound, is_in_order}
+use Rattle.dgc_server.specs.Stands.{LeaseTable, is_in_order}
 use Rattle.dgc_server.specs.Index.{Naming, counted_at, is_counted, entry_names, sums_at}
 use Rattle.dgc_server.proofs.SumLaws.{sums-are}
 use Rattle.dgc_server.proofs.Walking.{rest_of, all-kept, leased-dropped, pairs-dropped}
 use Rattle.dgc_server.proofs.IndexLaws.{forgotten, kept-counted}
 use Rattle.dgc_server.proofs.Dropping.{dropped-lapses, settled-dropped, fewer-dropped, table-dropped}
-use Rattle.dgc_server.proofs.Few.{few-lapse, few-without}
-use Rattle.dgc_server.proofs.Kept.{numbered-lapse, numbered-without, once-lapse, once-without, remembered-lapse, remembered-without}
-use Rattle.dgc_server.proofs.Tables.{order-lapse, order-without}
+use Rattle.dgc_server.proofs.Together.{sound-dropped}
 use Rattle.dgc_server.proofs.leases.Leases.drop_object.Goals as goal
 
 pub invariant_of-self : goal.invariant_of-self
@@ -22,23 +20,12 @@ invariant_of-self c =
     let es = c.self.inside.entries.items in
     let rest = map (entry_without o) es in
     let settled = c.self.invariant.1.settled c.self.invariant.3 in
-    let left : c.drop_object.new.entries.items ≡ after_lapse m rest = c.drop_object.ensures ∙ dropped-lapses m c.self.inside.next o es settled in
     let named : c.count_of-count.result.clients ≡ length (filter (entry_names o) es) = ap (λ (n : Count). n.clients) c.count_of-count.ensures ∙ c.self.invariant.1.counted Naming o in
     let pairs : c.sums_without-self-inside.result.pairs ≡ remembered m (rest_of o m es) =
     (let all = pairs-dropped o m c.self.inside.next es settled c.self.invariant.0.noted c.self.invariant.0.once in
     let before : c.self.inside.sums.pairs ≡ remembered m es = ap (λ (s : Sums). s.pairs) c.self.invariant.2 in
-    let after = c.sums_without-self-inside.ensures.pairs in omega arith) in
-    let P : List Entry → Type 0 = λ l. IsSound c.self.inside.lease m l in (
-      subst P (sym left) record {
-        some = c.self.invariant.0.some;
-        short = c.self.invariant.0.short;
-        early = c.self.invariant.0.early;
-        ordered = order-lapse m rest (order-without o es c.self.invariant.0.ordered);
-        few = few-lapse m m rest _ (omega arith) (few-without m o es _ c.self.invariant.0.few);
-        once = once-lapse m rest (once-without o es c.self.invariant.0.once);
-        noted = numbered-lapse m rest (numbered-without o es c.self.invariant.0.noted);
-        small = (let small = c.self.invariant.0.small in let fewer = remembered-without m o es in let kept = remembered-lapse m m rest (omega arith) in omega arith);
-      },
+    let after = c.sums_without-self-inside.ensures.pairs in omega arith) in (
+      rw c.drop_object.ensures (sound-dropped m c.self.inside.next c.self.inside.lease o es settled c.self.invariant.0),
       record {
         settled = λ h. rw c.drop_object.ensures (settled-dropped m c.self.inside.next o es settled);
         counted = λ w p. forgotten m o w es (counted_at w c.self.inside.counts) (counted_at w c.forget.new.counts) (c.self.invariant.1.counted w) (c.forget.ensures w) p

@@ -1,12 +1,11 @@
-use Rattle.std.proofs.Common.{◌≡◌, ◌≤◌, ◌<◌, sym, ap, subst, ◌∙◌, arith, true}
-use Rattle.std.specs.Prelude.{max}
-use Rattle.dgc_server.specs.Table.{after_lapse}
+use Rattle.std.proofs.Common.{◌≡◌, ◌≤◌, ap, subst, ◌∙◌, arith, true, length}
+use Rattle.std.specs.Prelude.{max, filter}
+use Rattle.dgc_server.specs.declared.table.Sums.{Sums}
+use Rattle.dgc_server.specs.Entry.{has_time_left}
+use Rattle.dgc_server.specs.Table.{after_lapse, remembered}
 use Rattle.dgc_server.specs.Stands.{LeaseTable, is_in_order}
-use Rattle.std.proofs.lemmas.Bool.{ltb-true}
-use Rattle.dgc_server.specs.Index.{sums_at}
-use Rattle.dgc_server.proofs.SumLaws.{quiet-sums}
 use Rattle.dgc_server.proofs.Few.{few-lapse}
-use Rattle.dgc_server.proofs.Kept.{all_numbered, numbered-lapse, once-lapse, remembered-lapse}
+use Rattle.dgc_server.proofs.Kept.{numbered-lapse, once-lapse, remembered-lapse}
 use Rattle.dgc_server.proofs.Tables.{order-lapse, table-lapsed}
 use Rattle.dgc_server.proofs.Trimmed.{trimmed-lapse}
 use Rattle.dgc_server.proofs.leases.Leases.lapse.Goals as goal
@@ -15,7 +14,7 @@ pub invariant_of-self : goal.invariant_of-self
 invariant_of-self c =
     let at = c.max-at.ensures in
     let early = c.self.invariant.0.early in (
-      rw c.pass-self-inside.ensures.entries record {
+      rw c.pass-passed.ensures.entries record {
         some = c.self.invariant.0.some;
         short = c.self.invariant.0.short;
         early = omega arith;
@@ -25,18 +24,18 @@ invariant_of-self c =
         noted = numbered-lapse c.max-at.result c.self.inside.entries.items c.self.invariant.0.noted;
         small = (let fewer = remembered-lapse c.self.inside.moment c.max-at.result c.self.inside.entries.items (omega arith) in let small = c.self.invariant.0.small in omega arith);
       },
-      c.pass-self-inside.ensures.indexed,
-      c.sums_after-self-inside.ensures ∙ ap (sums_at c.max-at.result) c.deref.ensures.value,
-      c.pass-self-inside.ensures.later,
+      c.pass-passed.ensures.indexed,
+      c.pass-passed.ensures.sums,
+      c.pass-passed.ensures.later,
     )
 
-pub sums_after-self-inside-requires-clause-quiet : goal.sums_after-self-inside-requires-clause-quiet
-sums_after-self-inside-requires-clause-quiet c = λ is_quiet.
-    let late : c.self.inside.moment ≤ c.max-at.result = (let e = c.max-at.ensures in omega arith) in
-    let quiet : c.max-at.result < c.self.inside.next = ltb-true c.max-at.result c.self.inside.next is_quiet in
-    c.self.invariant.2
-    ∙ sym (quiet-sums c.self.inside.moment c.self.inside.next c.max-at.result c.self.inside.entries.items late quiet (c.self.invariant.1.settled (omega arith)))
-    ∙ ap (sums_at c.max-at.result) (sym (c.deref.ensures.value ∙ c.pass-self-inside.ensures.entries))
+pub pass-passed-requires-clause-few : goal.pass-passed-requires-clause-few
+pass-passed-requires-clause-few c =
+    let es = c.self.inside.entries.items in
+    let leased : c.self.inside.sums.leased ≡ length (filter (has_time_left c.self.inside.moment) es) = ap (λ (s : Sums). s.leased) c.self.invariant.2 in
+    let pairs : c.self.inside.sums.pairs ≡ remembered c.self.inside.moment es = ap (λ (s : Sums). s.pairs) c.self.invariant.2 in
+    let few : length (filter (has_time_left c.self.inside.moment) es) ≤ 65536 = c.self.invariant.0.few in
+    let small : remembered c.self.inside.moment es ≤ 262144 = c.self.invariant.0.small in (omega arith, omega arith)
 
 pub returns-clause-stands : goal.returns-clause-stands
 returns-clause-stands c lease moment calls s =
@@ -45,11 +44,7 @@ returns-clause-stands c lease moment calls s =
     let at : c.max-at.result ≡ max c.args.now moment = c.max-at.ensures ∙ ap (max c.args.now) m in
     table-lapsed lease moment (max c.args.now moment) c.args.self.now _ calls s (subst P c.self.view_is c.self.invariant.0.ordered) (omega arith)
     (ap (λ (t : LeaseTable). t.lease) c.self.view_is) at
-    (c.pass-self-inside.ensures.entries ∙ ap (λ k. after_lapse k c.self.inside.entries.items) at ∙ ap (λ (t : LeaseTable). after_lapse (max c.args.now moment) t.entries) c.self.view_is)
+    (c.pass-passed.ensures.entries ∙ ap (λ k. after_lapse k c.self.inside.entries.items) at ∙ ap (λ (t : LeaseTable). after_lapse (max c.args.now moment) t.entries) c.self.view_is)
 
 pub returns-clause-freed : goal.returns-clause-freed
-returns-clause-freed c = rw c.pass-self-inside.ensures.entries (trimmed-lapse c.max-at.result c.self.inside.entries.items)
-
-pub sums_after-self-inside-requires-clause-noted : goal.sums_after-self-inside-requires-clause-noted
-sums_after-self-inside-requires-clause-noted c =
-    ap all_numbered (c.deref.ensures.value ∙ c.pass-self-inside.ensures.entries) ∙ numbered-lapse c.max-at.result c.self.inside.entries.items c.self.invariant.0.noted
+returns-clause-freed c = rw c.pass-passed.ensures.entries (trimmed-lapse c.max-at.result c.self.inside.entries.items)

@@ -1,7 +1,5 @@
-use Rattle.std.proofs.Common.{◌≡◌, ℕ, ◌+◌, ◌≤◌, ◌<◌, List, length, ap, sym, subst, ◌∙◌, arith}
+use Rattle.std.proofs.Common.{◌≡◌, ◌+◌, ◌≤◌, List, length, ap, sym, subst, ◌∙◌, arith}
 use Rattle.std.specs.Prelude.{IsTrue, filter, min, nat_lt, if◌then◌else◌}
-use Rattle.std.specs.List.{AllByRecursion}
-use Rattle.std.proofs.lemmas.Bool.{ltb-true}
 use Rattle.object_ids.specs.Client.{Client}
 use Rattle.history.specs.declared.limits.TheConstants.{MAX_CLIENTS}
 use Rattle.history.specs.Leases.{is_dirty_kind}
@@ -9,14 +7,14 @@ use Rattle.dgc_server.specs.declared.table.Sums.{Sums}
 use Rattle.dgc_server.specs.Entry.{Entry, has_time_left, remembered_of}
 use Rattle.dgc_server.specs.Table.{entry_of, with_entry, after_lapse, remembered, clients_after, pairs_after}
 use Rattle.dgc_server.specs.Stands.{LeaseTable, IsSound, entry_after}
-use Rattle.dgc_server.specs.Index.{Naming, is_counted, IsSettled, one_if, sums_at, entry_sums}
-use Rattle.dgc_server.proofs.SumLaws.{own-leased, own-remembered, sums-with, quiet-sums}
+use Rattle.dgc_server.specs.Index.{Naming, is_counted, one_if, sums_at, entry_sums}
+use Rattle.dgc_server.proofs.SumLaws.{own-leased, own-remembered, sums-with}
 use Rattle.object_ids.specs.declared.ids.ObjId.{ObjId}
 use Rattle.dgc_server.proofs.Few.{few-holders, few-noted}
 use Rattle.dgc_server.proofs.HolderLaws.{each-way}
 use Rattle.dgc_server.proofs.Walking.{rest_of, pairs-dropped}
 use Rattle.dgc_server.proofs.IndexLaws.{settled-with}
-use Rattle.dgc_server.proofs.Kept.{is_once, all_numbered, all_objects_once, numbered-noted, each-with, once-entry, once-noted, remembered-noted}
+use Rattle.dgc_server.proofs.Kept.{is_once, all_numbered, all_objects_once, numbered-with-noted, numbered-noted, each-with, once-entry, once-noted, remembered-noted}
 use Rattle.dgc_server.proofs.Objects.{once-after}
 use Rattle.dgc_server.proofs.Ordered.{client-of, order-with}
 use Rattle.dgc_server.proofs.Tables.{order-lapse}
@@ -52,8 +50,8 @@ sums_with-with-requires-clause-pairs c =
     let all : c.self.inside.sums.pairs ≡ remembered c.self.inside.moment es = ap (λ (s : Sums). s.pairs) c.self.invariant.2 in
     let least = own-remembered c.self.inside.moment es client in omega arith
 
-pub pass-self-inside-requires-clause-once : goal.pass-self-inside-requires-clause-once
-pass-self-inside-requires-clause-once c =
+pub pass-passed-requires-clause-once : goal.pass-passed-requires-clause-once
+pass-passed-requires-clause-once c =
     let es = c.self.inside.entries.items in
     let client = c.args.client.now in
     let next : Entry = entry_after c.self.inside.lease c.args.kind c.args.number.now c.as_slice-named.result.now c.args.at (entry_of es client) in
@@ -61,8 +59,8 @@ pass-self-inside-requires-clause-once c =
     ap all_objects_once entries
     ∙ each-with is_once next es (once-after (has_time_left c.args.at (entry_of es client)) c.args.kind c.args.number.now c.as_slice-named.result.now (entry_of es client).objects (once-entry es client c.self.invariant.0.once)) c.self.invariant.0.once
 
-pub pass-self-inside-requires-clause-indexed : goal.pass-self-inside-requires-clause-indexed
-pass-self-inside-requires-clause-indexed c =
+pub pass-passed-requires-clause-indexed : goal.pass-passed-requires-clause-indexed
+pass-passed-requires-clause-indexed c =
     let es = c.self.inside.entries.items in
     let client = c.args.client.now in
     let next : Entry = entry_after c.self.inside.lease c.args.kind c.args.number.now c.as_slice-named.result.now c.args.at (entry_of es client) in
@@ -75,19 +73,33 @@ pass-self-inside-requires-clause-indexed c =
       counted = λ w o. c.in_ok-noted.ensures.counted w o ∙ ap (λ l. length (filter (is_counted w c.self.inside.moment o) l)) entries;
     }
 
-pub sums_after-self-inside-requires-clause-quiet : goal.sums_after-self-inside-requires-clause-quiet
-sums_after-self-inside-requires-clause-quiet c = λ is_quiet.
+pub pass-passed-requires-clause-numbered : goal.pass-passed-requires-clause-numbered
+pass-passed-requires-clause-numbered c =
     let es = c.self.inside.entries.items in
     let client = c.args.client.now in
     let next : Entry = entry_after c.self.inside.lease c.args.kind c.args.number.now c.as_slice-named.result.now c.args.at (entry_of es client) in
     let entries : c.note.new.entries.items ≡ with_entry next es = c.in_ok-noted.ensures.ok in
-    let late : c.self.inside.moment ≤ c.args.at = (let P : LeaseTable → Type 0 = λ t. t.moment ≤ c.args.at in subst P (sym c.self.view_is) c.requires.late) in
-    let bound_is : c.bound_with-bound.result ≡ (if has_time_left c.args.at next then min c.self.inside.next next.until else 0) =
-    c.bound_with-bound.ensures ∙ ap (λ u. if nat_lt c.args.at u then min c.self.inside.next u else 0) c.in_ok-noted.ensures.until in
+    ap all_numbered entries ∙ numbered-with-noted c.args.at c.self.inside.lease c.args.kind client c.args.number.now c.as_slice-named.result.now es c.self.invariant.0.noted
+
+pub pass-passed-requires-clause-few : goal.pass-passed-requires-clause-few
+pass-passed-requires-clause-few c =
+    let es = c.self.inside.entries.items in
     let m = c.self.inside.moment in
-    let quiet : c.args.at < c.bound_with-bound.result = ltb-true c.args.at c.bound_with-bound.result is_quiet in
-    let settled : m < c.bound_with-bound.result → AllByRecursion (IsSettled m c.bound_with-bound.result) (with_entry next es) =
-    rw bound_is (settled-with m c.self.inside.next c.args.at next es late c.self.invariant.1.settled) in
+    let leased : c.self.inside.sums.leased ≡ length (filter (has_time_left m) es) = ap (λ (s : Sums). s.leased) c.self.invariant.2 in
+    let pairs : c.self.inside.sums.pairs ≡ remembered m es = ap (λ (s : Sums). s.pairs) c.self.invariant.2 in
+    let few : length (filter (has_time_left m) es) ≤ 65536 = c.self.invariant.0.few in
+    let small : remembered m es ≤ 262144 = c.self.invariant.0.small in
+    let more = c.sums_with-with.ensures.leased in
+    let most = c.sums_with-with.ensures.pairs in
+    let one = c.in_ok-noted.ensures.small in (omega (arith, more, one.0, leased, few), omega (arith, most, one.1, pairs, small))
+
+pub pass-passed-requires-clause-sums : goal.pass-passed-requires-clause-sums
+pass-passed-requires-clause-sums c =
+    let es = c.self.inside.entries.items in
+    let client = c.args.client.now in
+    let next : Entry = entry_after c.self.inside.lease c.args.kind c.args.number.now c.as_slice-named.result.now c.args.at (entry_of es client) in
+    let entries : c.note.new.entries.items ≡ with_entry next es = c.in_ok-noted.ensures.ok in
+    let m = c.self.inside.moment in
     let before : c.in_ok-noted.noted.before ≡ entry_sums m (entry_of es client) = c.in_ok-noted.ensures.before in
     let after : c.in_ok-noted.noted.after ≡ entry_sums m next =
     c.in_ok-noted.ensures.after in
@@ -97,8 +109,7 @@ sums_after-self-inside-requires-clause-quiet c = λ is_quiet.
     let pairs : c.sums_with-with.result.pairs + c.in_ok-noted.noted.before.pairs ≡ remembered m es + remembered_of m next =
     c.sums_with-with.ensures.pairs ∙ ap (λ (s : Sums). s.pairs + c.in_ok-noted.noted.after.pairs) all ∙ ap (λ (s : Sums). remembered m es + s.pairs) after in
     sums-with m next es c.in_ok-noted.noted.before c.sums_with-with.result c.self.invariant.0.ordered (before ∙ ap (λ (d : Client). entry_sums m (entry_of es d)) (sym (client-of es client))) leased pairs
-    ∙ sym (quiet-sums m c.bound_with-bound.result c.args.at (with_entry next es) late quiet (settled (omega arith)))
-    ∙ ap (sums_at c.args.at) (sym (c.deref-2.ensures.value ∙ c.pass-self-inside.ensures.entries ∙ ap (after_lapse c.args.at) entries))
+    ∙ ap (sums_at m) (sym entries)
 
 pub invariant_of-self-2 : goal.invariant_of-self-2
 invariant_of-self-2 c =
@@ -109,7 +120,7 @@ invariant_of-self-2 c =
     let late : c.self.inside.moment ≤ c.args.at = (let P : LeaseTable → Type 0 = λ t. t.moment ≤ c.args.at in subst P (sym c.self.view_is) c.requires.late) in
     let room : IsTrue (is_dirty_kind c.args.kind) → clients_after es c.args.client.now c.args.at ≤ MAX_CLIENTS =
     (let P : LeaseTable → Type 0 = λ t. IsTrue (is_dirty_kind c.args.kind) → clients_after t.entries c.args.client.now c.args.at ≤ MAX_CLIENTS in subst P (sym c.self.view_is) c.requires.room) in
-    let entries : c.pass-self-inside.new.entries.items ≡ after_lapse c.args.at (with_entry next es) = c.pass-self-inside.ensures.entries ∙ ap (after_lapse c.args.at) noted_entries in
+    let entries : c.pass-passed.new.entries.items ≡ after_lapse c.args.at (with_entry next es) = c.pass-passed.ensures.entries ∙ ap (after_lapse c.args.at) noted_entries in
     let P : List Entry → Type 0 = λ l. IsSound c.self.inside.lease c.args.at l in (
       subst P (sym entries) record {
         some = c.self.invariant.0.some;
@@ -123,16 +134,7 @@ invariant_of-self-2 c =
             let few = c.if-pairs_after.false in
             let counted : c.pairs_after.result ≡ pairs_after c.args.at es c.args.client.now c.args.kind c.as_slice-named.result.now = c.pairs_after.ensures ∙ ap (λ l. pairs_after c.args.at l c.args.client.now c.args.kind c.as_slice-named.result.now) c.deref.ensures.value in omega arith);
       },
-      c.pass-self-inside.ensures.indexed,
-      c.sums_after-self-inside.ensures ∙ ap (sums_at c.args.at) c.deref-2.ensures.value,
-      c.pass-self-inside.ensures.later,
+      c.pass-passed.ensures.indexed,
+      c.pass-passed.ensures.sums,
+      c.pass-passed.ensures.later,
     )
-
-pub sums_after-self-inside-requires-clause-noted : goal.sums_after-self-inside-requires-clause-noted
-sums_after-self-inside-requires-clause-noted c =
-    let es = c.self.inside.entries.items in
-    let client = c.args.client.now in
-    let next : Entry = entry_after c.self.inside.lease c.args.kind c.args.number.now c.as_slice-named.result.now c.args.at (entry_of es client) in
-    let entries : c.note.new.entries.items ≡ with_entry next es = c.in_ok-noted.ensures.ok in
-    ap all_numbered (c.deref-2.ensures.value ∙ c.pass-self-inside.ensures.entries ∙ ap (after_lapse c.args.at) entries)
-    ∙ numbered-noted c.args.at c.self.inside.lease c.args.kind client c.args.number.now c.as_slice-named.result.now es c.self.invariant.0.noted
