@@ -31,18 +31,6 @@ pub all-on : (t n : ℕ) (ws : List Wait) → t < n → EndsNoEarlier n ws → f
 all-on t n [] early later = refl
 all-on t n (w ∷ ws) early later = rw (on t n w.until early later.0) (ap (λ l. w ∷ l) (all-on t n ws early later.1))
 
-pub some-on : (t n : ℕ) (p : Wait → Bool) (ws : List Wait) → t < n → EndsNoEarlier n ws → filter (λ w. goes_on t w && p w) ws ≡ filter p ws
-some-on t n p [] early later = refl
-some-on t n p (w ∷ ws) early later = rw (on t n w.until early later.0) (go (p w) (some-on t n p ws early later.1))
-  where
-    go : (b : Bool) → filter (λ v. goes_on t v && p v) ws ≡ filter p ws → cond b (w ∷ filter (λ v. goes_on t v && p v) ws) (filter (λ v. goes_on t v && p v) ws) ≡ cond b (w ∷ filter p ws) (filter p ws)
-    go true h = ap (λ l. w ∷ l) h
-    go false h = h
-
-pub any-on : (t n : ℕ) (p : Wait → Bool) (ws : List Wait) → t < n → EndsNoEarlier n ws → list_any (λ w. goes_on t w && p w) ws ≡ list_any p ws
-any-on t n p [] early later = refl
-any-on t n p (w ∷ ws) early later = rw (on t n w.until early later.0) (ap (λ b. p w || b) (any-on t n p ws early later.1))
-
 -- There are some exactly where there is one.
 pub some-any : (p : Wait → Bool) (ws : List Wait) → nat_lt 0 (length (filter p ws)) ≡ list_any p ws
 some-any p [] = refl
@@ -251,6 +239,13 @@ next-index s ws i d m n r t f g within once step index =
 -- Where all before the first place stay, these and all from there on are the whole list.
 pub so-far-first : (s : Wait → Bool) (ws : List Wait) (i : ℕ) → filter s (take i ws) ≡ take i ws → kept_so_far s ws i ≡ ws
 so-far-first s ws i h = ap (λ l. l ++ drop i ws) h ∙ take-append-drop i ws
+
+-- Where all from the last place on stay, these and those that stay of the others are what stays of all.
+pub so-far-last : (s : Wait → Bool) (ws : List Wait) (i : ℕ) → filter s (drop i ws) ≡ drop i ws → kept_so_far s ws i ≡ filter s ws
+so-far-last s ws i h =
+    ap (λ l. filter s (take i ws) ++ l) (sym h)
+    ∙ sym (filter-append s (take i ws) (drop i ws))
+    ∙ ap (filter s) (take-append-drop i ws)
 
 -- ---- where a reference is not listed
 

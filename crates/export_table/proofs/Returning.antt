@@ -1,7 +1,10 @@
 -- How many references of a return are listed, and where the first of them stands.
-use Rattle.std.proofs.Common.{◌≡◌, ℕ, ◌+◌, ◌-◌, List, [], ◌∷◌, ◌++◌, length, take, drop, map, refl, ap, sym, ◌∙◌, arith, cond, Some, None, suc, zero, take-append-drop}
+use Rattle.std.proofs.Common.{◌≡◌, ℕ, ◌+◌, ◌-◌, ◌<◌, ◌≤◌, List, [], ◌∷◌, ◌++◌, length, take, drop, get_or, map, refl, ap, sym, ◌∙◌, arith, cond, Some, None, suc, zero, add-one, append-nil, take-append-drop}
 use Rattle.std.specs.Prelude.{Bool, true, false, not, unwrap_or, filter, if◌then◌else◌}
+use Rattle.std.proofs.Math.Seq.{drop-cons}
+use Rattle.std.proofs.lemmas.List.{drop-drop}
 use Rattle.std.proofs.lemmas.List.Elements.{filter-append}
+use Rattle.std.proofs.lemmas.List.Filters.{length-filter_more}
 use Rattle.object_ids.specs.declared.ids.Uid.{Uid}
 use Rattle.object_ids.specs.declared.ids.ObjId.{ObjId}
 use Rattle.object_ids.specs.Same.{same_id, same_uid, same_uid_key}
@@ -13,7 +16,6 @@ use Rattle.history.proofs.ListLemmas.{filter-same, every-always, and_false}
 use Rattle.export_table.specs.declared.waits.Stays.TheVariants.{OtherReturns}
 use Rattle.export_table.specs.Waits.{is_wait_of, until_of, of_return, objects}
 use Rattle.export_table.specs.Index.{returned_at, stays}
-use Rattle.export_table.proofs.Dropped.{slice_from}
 
 -- ---- one count
 
@@ -73,17 +75,75 @@ twice-not : (b : Bool) → not (not b) ≡ b
 twice-not true = refl
 twice-not false = refl
 
--- The objects of a return, by the waits from that place on.
-pub objects-from : (u : Uid) (ws : List Wait) (n : ℕ) → of_return u (take n ws) ≡ [] →
-    map (λ (w : Wait). w.object) (filter (λ w. not (stays (OtherReturns u) w)) (take (length ws - n) (drop n ws))) ≡ objects (of_return u ws)
-objects-from u ws n h =
-    ap (λ l. objects (filter (λ w. not (stays (OtherReturns u) w)) l)) (slice_from n ws)
-    ∙ ap objects
-    (filter-same (λ w. not (stays (OtherReturns u) w)) (λ w. same_uid w.uid u) (drop n ws) (every-always (λ w. not (stays (OtherReturns u) w) ≡ same_uid w.uid u) (λ w. twice-not (same_uid w.uid u)) (drop n ws))
-    ∙ of-return-rest u ws n h)
+-- Where none stands before a place and none from another on, all of a return stand between them.
+of-return-part : (u : Uid) (ws : List Wait) (m n : ℕ) → m ≤ n → of_return u (take m ws) ≡ [] → of_return u (drop n ws) ≡ [] → of_return u (take (n - m) (drop m ws)) ≡ of_return u ws
+of-return-part u ws m n order before after =
+    let whole : m + (n - m) ≡ n = omega arith in
+    let none : of_return u (drop (n - m) (drop m ws)) ≡ [] = ap (of_return u) (drop-drop (n - m) m ws ∙ ap (λ k. drop k ws) whole) ∙ after in
+    sym (append-nil (of_return u (take (n - m) (drop m ws))))
+    ∙ ap (λ l. of_return u (take (n - m) (drop m ws)) ++ l) (sym none)
+    ∙ sym (filter-append (λ w. same_uid w.uid u) (take (n - m) (drop m ws)) (drop (n - m) (drop m ws)))
+    ∙ ap (of_return u) (take-append-drop (n - m) (drop m ws))
+    ∙ of-return-rest u ws m before
+
+-- The objects of a return, by the waits between.
+pub objects-between : (u : Uid) (ws : List Wait) (m n : ℕ) → m ≤ n → of_return u (take m ws) ≡ [] → of_return u (drop n ws) ≡ [] →
+    map (λ (w : Wait). w.object) (filter (λ w. not (stays (OtherReturns u) w)) (take (n - m) (drop m ws))) ≡ objects (of_return u ws)
+objects-between u ws m n order before after =
+    let part = take (n - m) (drop m ws) in
+    ap objects
+    (filter-same (λ w. not (stays (OtherReturns u) w)) (λ w. same_uid w.uid u) part (every-always (λ w. not (stays (OtherReturns u) w) ≡ same_uid w.uid u) (λ w. twice-not (same_uid w.uid u)) part)
+    ∙ of-return-part u ws m n order before after)
+
+-- How many of a return there are, with one wait more at the front or at the end.
+here-more : (u : Uid) (ws : List Wait) (i : ℕ) (d : Wait) → i < length ws → length (of_return u (drop (i + 1) ws)) + one_if (same_uid (get_or ws i d).uid u) ≡ length (of_return u (drop i ws))
+here-more u ws i d h =
+    let split : drop i ws ≡ get_or ws i d ∷ drop (i + 1) ws = rw add-one (drop-cons ws i d h) in
+    go (same_uid (get_or ws i d).uid u) ∙ sym (ap (λ l. length (of_return u l)) split)
+  where
+    go : (b : Bool) → length (of_return u (drop (i + 1) ws)) + one_if b ≡ length (cond b (get_or ws i d ∷ of_return u (drop (i + 1) ws)) (of_return u (drop (i + 1) ws)))
+    go true = omega arith
+    go false = omega arith
+
+last-more : (u : Uid) (ws : List Wait) (i : ℕ) (d : Wait) → i < length ws → length (of_return u (take i ws)) + one_if (same_uid (get_or ws i d).uid u) ≡ length (of_return u (take (i + 1) ws))
+last-more u ws i d h = go (same_uid (get_or ws i d).uid u) ∙ sym (length-filter_more (λ w. same_uid w.uid u) ws i d h)
+  where
+    go : (b : Bool) → length (of_return u (take i ws)) + one_if b ≡ length (of_return u (take i ws)) + cond b 1 0
+    go true = refl
+    go false = refl
+
+pub here-less : (u : Uid) (ws : List Wait) (i : ℕ) (d : Wait) (left all : ℕ) → i < length ws → left + one_if (same_uid (get_or ws i d).uid u) ≡ all → all ≡ length (of_return u (drop i ws)) → left ≡ length (of_return u (drop (i + 1) ws))
+here-less u ws i d left all h e f = go (one_if (same_uid (get_or ws i d).uid u)) e (here-more u ws i d h)
+  where
+    go : (k : ℕ) → left + k ≡ all → length (of_return u (drop (i + 1) ws)) + k ≡ length (of_return u (drop i ws)) → left ≡ length (of_return u (drop (i + 1) ws))
+    go k e g = omega arith
+
+pub last-less : (u : Uid) (ws : List Wait) (looked : ℕ) (d : Wait) (left all : ℕ) → looked < length ws → left + one_if (same_uid (get_or ws (length ws - (looked + 1)) d).uid u) ≡ all →
+    all ≡ length (of_return u (take (length ws - looked) ws)) → left ≡ length (of_return u (take (length ws - (looked + 1)) ws))
+last-less u ws looked d left all h e f =
+    let i = length ws - (looked + 1) in
+    let one : i + 1 ≡ length ws - looked = omega arith in
+    go (one_if (same_uid (get_or ws i d).uid u)) e (last-more u ws i d (omega arith) ∙ ap (λ n. length (of_return u (take n ws))) one)
+  where
+    go : (k : ℕ) → left + k ≡ all → length (of_return u (take (length ws - (looked + 1)) ws)) + k ≡ length (of_return u (take (length ws - looked) ws)) → left ≡ length (of_return u (take (length ws - (looked + 1)) ws))
+    go k e g = omega arith
+
+-- Where some stand from a place on, the place is in the list.
+pub some-left : (u : Uid) (ws : List Wait) (i : ℕ) → 0 < length (of_return u (drop i ws)) → i < length ws
+some-left u [] zero h = absurd (omega arith)
+some-left u [] (suc i) h = absurd (omega arith)
+some-left u (w ∷ ws) zero h = omega arith
+some-left u (w ∷ ws) (suc i) h = let there = some-left u ws i h in omega arith
+
+pub none-of-count : (u : Uid) (ws : List Wait) → length (of_return u ws) ≡ 0 → of_return u ws ≡ []
+none-of-count u ws h = go (of_return u ws) h
+  where
+    go : (xs : List Wait) → length xs ≡ 0 → xs ≡ []
+    go [] e = refl
+    go (x ∷ xs) e = absurd (omega arith)
 
 -- The moment until which a reference waits, by the waits from that place on.
-until-rest : (o : ObjId) (u : Uid) (ws : List Wait) (n : ℕ) → of_return u (take n ws) ≡ [] → until_of o u (drop n ws) ≡ until_of o u ws
+pub until-rest : (o : ObjId) (u : Uid) (ws : List Wait) (n : ℕ) → of_return u (take n ws) ≡ [] → until_of o u (drop n ws) ≡ until_of o u ws
 until-rest o u ws zero h = refl
 until-rest o u [] (suc n) h = refl
 until-rest o u (w ∷ ws) (suc n) h = go (same_uid w.uid u) refl h (until-rest o u ws n)
@@ -92,9 +152,6 @@ until-rest o u (w ∷ ws) (suc n) h = go (same_uid w.uid u) refl h (until-rest o
         until_of o u (drop n ws) ≡ until_of o u (w ∷ ws)
     go true e f rest = absurd (cc)
     go false e f rest = rest f ∙ sym (rw (e, and_false (same_id w.object o)) refl)
-
-pub until-from : (o : ObjId) (u : Uid) (ws : List Wait) (n : ℕ) → of_return u (take n ws) ≡ [] → until_of o u (take (length ws - n) (drop n ws)) ≡ until_of o u ws
-until-from o u ws n h = ap (until_of o u) (slice_from n ws) ∙ until-rest o u ws n h
 
 -- Where none of a return stands, no reference of it does.
 pub references-stay : (o : ObjId) (u : Uid) (ws : List Wait) → of_return u ws ≡ [] → filter (λ w. not (is_wait_of o u w)) ws ≡ ws

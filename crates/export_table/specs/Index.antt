@@ -1,5 +1,5 @@
 -- The index of the references that await: how many there are of each object and of each return, which there are, and before which moment none of them ends.
-use Rattle.std.specs.Prelude.{◌≡◌, ℕ, ◌≤◌, Bool, not, ◌&&◌, List, length, filter, unwrap_or}
+use Rattle.std.specs.Prelude.{◌≡◌, ℕ, ◌≤◌, Bool, not, ◌&&◌, List, [], ◌∷◌, length, filter, unwrap_or}
 use Rattle.std.specs.List.{list_any, AllByRecursion}
 use Rattle.object_ids.specs.declared.ids.Uid.{Uid}
 use Rattle.object_ids.specs.declared.ids.ObjId.{ObjId}
@@ -44,6 +44,11 @@ pub record IsIndexOf {S T U : Type 0} (counts : IndexMap ObjId ℕ S) (reference
 -- None of these waits ends before this moment.
 abbrev pub EndsNoEarlier : ℕ → List Wait → Type 0
 EndsNoEarlier next waits = AllByRecursion (λ w. next ≤ w.until) waits
+
+-- None of these waits ends before one that was listed earlier.
+abbrev pub EndsRise : List Wait → Type 0
+EndsRise [] = Unit {0}
+EndsRise (w ∷ waits) = EndsNoEarlier w.until waits × EndsRise waits
 
 -- The waits that stay: those that go on after a moment, those of other references, or those of other returns.
 abbrev pub stays : Stays → Wait → Bool

@@ -98,10 +98,6 @@ is_settled_but os t held waits rows = list_all (λ x. is_among os x || is_row_ke
 abbrev pub stays_among : List ObjId → ℕ → (ObjId → Bool) → List Wait → Export → Bool
 stays_among os t held waits x = not (is_among os x) || is_row_kept t held waits x
 
--- A call as if it had named none of these objects.
-abbrev pub without_all : List ObjId → Call → Call
-without_all os x = record x { objects = filter (λ y. not (list_any (λ o. same_id y o) os)) x.objects }
-
 -- ---- what a list shows
 
 abbrev pub row_at : ℕ → List Wait → Export → ExportRow

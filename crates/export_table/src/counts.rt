@@ -18,7 +18,7 @@ pub type Counts = IndexMap<ObjId, u32>;
 pub type References = IndexSet<Reference>;
 
 /// A reference to an object in a return.
-#[derive(Clone, Copy, Debug, PartialEq, Eq, Hash)]
+#[derive(Clone, Copy, PartialEq, Eq, Hash)]
 pub struct Reference {
     /// The object.
     pub object: ObjId,

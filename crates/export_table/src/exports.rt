@@ -3,10 +3,11 @@ ghost use Rattle.std.specs.Prelude.{◌≡◌, ◌≢◌, ◌⊎◌, ◌<◌, �
 ghost use Rattle.history.specs.declared.limits.TheConstants.{MAX_EXPORTS, MAX_AWAITING};
 ghost use Rattle.history.specs.Places.{id_at};
 ghost use Rattle.object_ids.specs.declared.ids.FullKind.TheVariants.{Exports as FullExports, Awaiting as FullAwaiting};
+ghost use Rattle.dgc_server.specs.Counts.{without_all};
 ghost use Rattle.dgc_server.specs.Stands.{StandsFor, ForEachLog};
 ghost use Rattle.export_table.specs.Waits.{waiting, goes_on, over, of_return, objects, is_waiting, listed, acknowledged};
 ghost use Rattle.std.specs.List.{list_any};
-ghost use Rattle.export_table.specs.Rows.{is_exported, kind_of, running_of, pins_of, ids, is_rising, new_row, changed, begun, ended, pinned_once, unpinned_once, is_row_kept, held_by, withdrawn, stays_among, without_all, row_at};
+ghost use Rattle.export_table.specs.Rows.{is_exported, kind_of, running_of, pins_of, ids, is_rising, new_row, changed, begun, ended, pinned_once, unpinned_once, is_row_kept, held_by, withdrawn, stays_among, row_at};
 ghost use Rattle.export_table.specs.Table.{IsSound, no_room};
 
 use crate::row_table::RowTable;
@@ -17,6 +18,7 @@ use history::limits::{MAX_AWAITING, MAX_EXPORTS};
 use history::plain::places::id_at;
 use object_ids::{FullKind, ObjId, Uid};
 use std::alloc::{AllocError, Global};
+use std::fmt;
 use std::marker::Model;
 
 /// Why an entry is refused.
@@ -40,7 +42,6 @@ impl From<AllocError> for ExportFault {
 
 /// The objects that a space has exported, with what keeps each of them: that it was added pinned, pins, calls that run,
 /// and returned references that await their acknowledgement. Contracts see it as an `ExportTable`.
-#[derive(Debug)]
 pub struct Exports {
     space: Uid,
     ack: u64,
@@ -59,6 +60,14 @@ impl Drop for Exports {
         } = self;
         drop(rows);
         drop(waits);
+    }
+}
+
+impl fmt::Debug for Exports {
+    fn fmt<W: fmt::Write>(&self, f: &mut fmt::Formatter<W>) -> fmt::Result {
+        f.debug_struct("Exports")
+            .field("count", &self.rows.count())
+            .finish_non_exhaustive()
     }
 }
 
@@ -288,7 +297,7 @@ impl Exports {
     {
         let before = gone.len();
         rows::sift(&mut self.rows, &mut self.waits, leases, now, gone);
-        drop_all(leases, &gone[before..]);
+        leases.drop_objects(&gone[before..]);
     }
 
     /// Withdraws each of the objects `doubtful` that isn't kept at this moment, as `withdraw` does, and looks at no other object. Waits that ended
@@ -319,16 +328,6 @@ impl Exports {
     {
         let told = gone.len();
         rows::sift_among(&mut self.rows, &mut self.waits, leases, now, doubtful, gone);
-        drop_all(leases, &gone[told..]);
-    }
-}
-
-/// Drops objects from the leases.
-fn drop_all(leases: &mut Leases, objects: &[ObjId])
-    ensures { ForEachLog leases.old (λ lease moment calls.
-        StandsFor lease leases.new moment (map (without_all objects.now) calls)) }
-{
-    for object in objects {
-        leases.drop_object(*object);
+        leases.drop_objects(&gone[told..]);
     }
 }

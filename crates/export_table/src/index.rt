@@ -1,5 +1,5 @@
 //! The index of the references that await, kept beside their list.
-ghost use Rattle.std.specs.Prelude.{◌≡◌, ◌++◌, ◌∷◌, [], ◌+◌, ◌<◌, ◌≤◌, ◌^◌, List, filter, take, IsTrue, true, false, if◌then◌else◌};
+ghost use Rattle.std.specs.Prelude.{◌≡◌, ◌++◌, ◌∷◌, [], ◌+◌, ◌<◌, ◌≤◌, ◌^◌, List, length, filter, take, drop, IsTrue, true, false, if◌then◌else◌};
 ghost use Rattle.indexmap.specs.IndexMap.{spare};
 ghost use Rattle.indexmap.specs.IndexSet.{spare as places};
 ghost use Rattle.export_table.specs.declared.waits.Wait.{Wait};
@@ -64,24 +64,29 @@ fn remove_unless(
     }
 }
 
-/// Notes that of these waits only those are still listed that stay, as all before the place `first` do. It looks at none of these, and takes no memory.
+/// Notes that of these waits only those are still listed that stay, as all before the place `first` do, and all from the place `upto` on. It looks at none
+/// of these, and takes no memory.
 pub fn keep(
     counts: &mut Counts,
     references: &mut References,
     returns: &mut Returns,
     waits: &[Wait],
     first: usize,
+    upto: usize,
     which: &Stays,
 )
+    requires order { first ≤ upto }
+    requires within { upto ≤ length waits.now }
     requires once { IsTrue (each_once waits.now) }
     requires index { IsIndexOf counts.old references.old returns.old waits.now }
     requires before { filter (stays which.now) (take first waits.now) ≡ take first waits.now }
+    requires after { filter (stays which.now) (drop upto waits.now) ≡ drop upto waits.now }
     ensures index { IsIndexOf counts.new references.new returns.new (filter (stays which.now) waits.now) }
     ensures counts_room { spare counts.old ≤ spare counts.new }
     ensures references_room { places references.old ≤ places references.new }
     ensures returns_room { spare returns.old ≤ spare returns.new }
 {
-    for i in first..waits.len() {
+    for i in first..upto {
         remove_unless(counts, references, returns, &waits[i], which);
     }
 }

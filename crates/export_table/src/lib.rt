@@ -11,6 +11,7 @@ mod row_table;
 mod rows;
 mod slots;
 mod wait_list;
+mod wait_queue;
 mod waits;
 
 pub use exports::{ExportFault, Exports};

@@ -13,7 +13,6 @@ use std::marker::Model;
 
 /// The exported objects, by rising number. Where an object goes, a gap stays in its place, so that no other row is moved; once more than half of the
 /// list are gaps, they are closed. Contracts see it as `RowsHeld`.
-#[derive(Debug)]
 pub struct RowTable {
     slots: Vec<Slot>,
     /// How many objects were ever added.

@@ -11,7 +11,7 @@ use mod_utf::list::{Same, Sequence};
 use object_ids::ObjId;
 
 /// An exported object, with what keeps it.
-#[derive(Clone, Copy, Debug, PartialEq, Eq)]
+#[derive(Clone, Copy)]
 pub struct Export {
     /// Its identifier.
     pub id: ObjId,

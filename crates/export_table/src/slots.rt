@@ -12,7 +12,7 @@ use object_ids::ObjId;
 use std::alloc::{AllocError, Global};
 
 /// How a slot stands.
-#[derive(Clone, Copy, Debug)]
+#[derive(Clone, Copy)]
 pub enum Standing {
     /// Its object is exported.
     Here,
@@ -23,7 +23,7 @@ pub enum Standing {
 }
 
 /// A slot of an exported object.
-#[derive(Clone, Copy, Debug)]
+#[derive(Clone, Copy)]
 pub struct Slot {
     /// The row of the object, or of the one that went.
     pub row: Export,
@@ -32,7 +32,7 @@ pub struct Slot {
 }
 
 /// Places from the first on, up to the end.
-#[derive(Clone, Copy, Debug)]
+#[derive(Clone, Copy)]
 pub struct Span {
     /// The first place.
     pub first: usize,

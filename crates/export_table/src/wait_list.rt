@@ -1,5 +1,5 @@
 //! The references that await their acknowledgement, with an index of them.
-ghost use Rattle.std.specs.Prelude.{◌≡◌, ◌++◌, ◌∷◌, [], ◌+◌, ◌<◌, ◌≤◌, ◌^◌, length, filter, take, not, true, false, IsTrue, IsOk, IfOk, OnOk, OnErr, ◌↔◌};
+ghost use Rattle.std.specs.Prelude.{◌≡◌, ◌++◌, ◌∷◌, [], ◌+◌, ◌<◌, ◌≤◌, ◌^◌, length, filter, take, drop, not, true, false, IsTrue, IsOk, IfOk, OnOk, OnErr, ◌↔◌};
 ghost use Rattle.std.specs.List.{list_any};
 ghost use Rattle.history.specs.declared.limits.TheConstants.{MAX_AWAITING};
 ghost use Rattle.export_table.specs.Waits.{is_wait_of, goes_on, waiting, over, of_return, objects, is_waiting, is_awaited, awaiting_of, until_of, listed, acknowledged};
@@ -8,6 +8,7 @@ ghost use Rattle.export_table.specs.Index.{stays};
 use crate::counts::{Counts, References, count_of, has};
 use crate::index;
 use crate::returns::{self, Returns};
+use crate::wait_queue::WaitQueue;
 use crate::waits::{self, Stays, Wait};
 use history::limits::MAX_AWAITING;
 use object_ids::{ObjId, Uid};
@@ -15,11 +16,8 @@ use std::alloc::{AllocError, Global};
 use std::marker::Model;
 
 /// The references that await their acknowledgement, the last listed last. Contracts see it as a `WaitTable`.
-#[derive(Debug)]
 pub struct WaitList {
-    waits: Vec<Wait>,
-    /// None of them ends before this moment.
-    next: u64,
+    queue: WaitQueue,
     /// How many there are of each object.
     counts: Counts,
     /// Which there are.
@@ -34,14 +32,13 @@ pub struct WaitList {
 impl Drop for WaitList {
     fn drop(self) {
         let WaitList {
-            waits,
-            next: _,
+            queue,
             counts,
             references,
             returns,
             room: _,
         } = self;
-        drop(waits);
+        drop(queue);
         drop(counts);
         drop(references);
         drop(returns);
@@ -49,14 +46,13 @@ impl Drop for WaitList {
 }
 
 impl Model for WaitList {
-    ghost use Rattle.std.specs.Prelude.{vec_len, vec_capacity};
     ghost use Rattle.export_table.specs.WaitTable.{WaitTable, IsIndexed};
 
     ghost Value = { WaitTable };
 
-    ghost view = { λ l. record { waits = l.waits.items; room = l.room } };
+    ghost view = { λ l. record { waits = l.queue.waits; room = l.room } };
 
-    ghost invariant = { λ l. IsIndexed l.waits.items (vec_len l.waits) (vec_capacity l.waits) l.next l.counts l.references l.returns l.room };
+    ghost invariant = { λ l. IsIndexed l.queue l.counts l.references l.returns l.room };
 }
 
 impl WaitList {
@@ -65,8 +61,7 @@ impl WaitList {
         ensures { result ≡ record { waits = []; room = 0 } }
     {
         WaitList {
-            waits: Vec::new(alloc),
-            next: u64::MAX,
+            queue: WaitQueue::new(alloc),
             counts: Counts::new(alloc),
             references: References::new(alloc),
             returns: Returns::new(alloc),
@@ -83,7 +78,7 @@ impl WaitList {
         ensures err { OnErr result (self.new ≡ self.old) }
     {
         if more > self.room {
-            self.waits.reserve(more)?;
+            self.queue.reserve(more)?;
             self.counts.reserve(more)?;
             self.references.reserve(more)?;
             self.returns.reserve(more)?;
@@ -97,11 +92,7 @@ impl WaitList {
         ensures value { result ≡ length (waiting at self.now.waits) }
         ensures within { result ≤ length self.now.waits }
     {
-        if at < self.next {
-            self.waits.len()
-        } else {
-            waits::count(&self.waits, at)
-        }
+        self.queue.waits().len() - waits::count_over(self.queue.due(at), at)
     }
 
     /// How many references to an object await at a moment.
@@ -109,33 +100,22 @@ impl WaitList {
         ensures value { result ≡ length (awaiting_of at object.now self.now.waits) }
         ensures within { result ≤ length self.now.waits }
     {
-        if at < self.next {
-            count_of(&self.counts, object) as usize
-        } else {
-            waits::count_of(&self.waits, object, at)
-        }
+        let over = waits::count_over_of(self.queue.due(at), object, at);
+        count_of(&self.counts, object) as usize - over
     }
 
     /// Whether some reference to an object awaits at a moment.
     pub fn is_awaited(&self, object: &ObjId, at: u64) -> bool
         ensures { result ≡ is_awaited at object.now self.now.waits }
     {
-        if at < self.next {
-            count_of(&self.counts, object) > 0
-        } else {
-            waits::is_awaited(&self.waits, object, at)
-        }
+        self.count_of(object, at) > 0
     }
 
     /// Whether this reference awaits at a moment.
     pub fn is_waiting(&self, object: &ObjId, uid: &Uid, at: u64) -> bool
         ensures { result ≡ is_waiting at object.now uid.now self.now.waits }
     {
-        if at < self.next {
-            has(&self.references, object, uid)
-        } else {
-            waits::is_waiting(&self.waits, object, uid, at)
-        }
+        has(&self.references, object, uid) && !waits::is_over(self.queue.due(at), object, uid, at)
     }
 
     /// Whether as many references await at a moment as can be, and this one isn't among them.
@@ -150,8 +130,8 @@ impl WaitList {
         ensures { result ≡ until_of object.now uid.now self.now.waits }
     {
         if has(&self.references, object, uid) {
-            let first = self.first_of(uid);
-            waits::until_of(&self.waits[first..], object, uid)
+            let part = self.part_of(uid);
+            waits::until_of(waits::behind(self.queue.waits(), part.0), object, uid)
         } else {
             0
         }
@@ -177,54 +157,62 @@ impl WaitList {
         self.put(wait);
     }
 
-    /// Forgets the waits that ended. Where none has, it looks at no wait.
+    /// Forgets the waits that ended. Where none has, it looks at no wait; where the ends rise, at those that ended and at one more.
     pub fn forget(&mut self, now: u64)
         ensures waits { self.new.waits ≡ waiting now self.old.waits }
         ensures room { self.new.room ≡ self.old.room }
     {
-        if now < self.next {
-            return;
-        }
-        self.keep(0, Stays::After(now));
-        self.next = waits::least_end(&self.waits);
+        let upto = self.queue.due(now).len();
+        index::keep(
+            &mut self.counts,
+            &mut self.references,
+            &mut self.returns,
+            self.queue.waits(),
+            0,
+            upto,
+            &Stays::After(now),
+        );
+        self.queue.forget(now);
     }
 
     /// Whether some wait has ended at a moment.
     pub fn has_ended(&self, at: u64) -> bool
         ensures { result ≡ list_any (λ w. not (goes_on at w)) self.now.waits }
     {
-        if at < self.next {
-            false
-        } else {
-            waits::has_ended(&self.waits, at)
-        }
+        waits::has_ended(self.queue.due(at), at)
     }
 
-    /// The objects of the waits that have ended at a moment. Where none has, it looks at no wait.
+    /// The objects of the waits that have ended at a moment. Where none has, it looks at no wait; where the ends rise, at those and at one more.
     pub fn ended(&self, alloc: Global, at: u64) -> Result<Vec<ObjId>, AllocError>
         ensures { IfOk result (λ os. os.items ≡ objects (over at self.now.waits)) }
     {
-        if at < self.next {
-            Ok(Vec::new(alloc))
-        } else {
-            waits::objects_that_go(alloc, &self.waits, &Stays::After(at))
-        }
+        waits::objects_that_go(alloc, self.queue.due(at), &Stays::After(at))
     }
 
-    /// The objects of the waits of a return. It looks at those that were listed since the first of them.
+    /// The objects of the waits of a return. It looks at those that were listed since the first of them, or at those that were listed before the last of them.
     pub fn of_return(&self, alloc: Global, uid: &Uid) -> Result<Vec<ObjId>, AllocError>
         ensures { IfOk result (λ os. os.items ≡ objects (of_return uid.now self.now.waits)) }
     {
-        let first = self.first_of(uid);
-        waits::objects_that_go(alloc, &self.waits[first..], &Stays::OtherReturns(*uid))
+        let part = self.part_of(uid);
+        waits::objects_that_go(
+            alloc,
+            &self.queue.waits()[part.0..part.1],
+            &Stays::OtherReturns(*uid),
+        )
     }
 
-    /// The place of the first wait of a return, or behind the last wait where there is none.
-    fn first_of(&self, uid: &Uid) -> usize
-        ensures within { result ≤ length self.now.waits }
-        ensures before { of_return uid.now (take result self.now.waits) ≡ [] }
+    /// A part of the waits that has all of a return, at the end or at the front of the list, whichever is found in fewer steps.
+    fn part_of(&self, uid: &Uid) -> (usize, usize)
+        ensures order { result.0 ≤ result.1 }
+        ensures within { result.1 ≤ length self.now.waits }
+        ensures before { of_return uid.now (take result.0 self.now.waits) ≡ [] }
+        ensures after { of_return uid.now (drop result.1 self.now.waits) ≡ [] }
     {
-        waits::first_of(&self.waits, uid, returns::count_of(&self.returns, uid))
+        waits::part_of(
+            self.queue.waits(),
+            uid,
+            returns::count_of(&self.returns, uid),
+        )
     }
 
     /// Forgets the wait of this object and return, if it is listed.
@@ -233,24 +221,26 @@ impl WaitList {
         ensures room { self.new.room ≡ self.old.room }
     {
         if has(&self.references, object, uid) {
-            let first = self.first_of(uid);
-            self.keep(first, Stays::OtherReferences(*object, *uid));
+            let part = self.part_of(uid);
+            self.keep(part.0, part.1, Stays::OtherReferences(*object, *uid));
         }
     }
 
-    /// Forgets the waits of a return. It looks at those that were listed since the first of them.
+    /// Forgets the waits of a return. It looks at those that were listed since the first of them, or at those that were listed before the last of them.
     pub fn acknowledge(&mut self, uid: &Uid)
         ensures waits { self.new.waits ≡ acknowledged uid.now self.old.waits }
         ensures room { self.new.room ≡ self.old.room }
     {
-        let first = self.first_of(uid);
-        self.keep(first, Stays::OtherReturns(*uid));
+        let part = self.part_of(uid);
+        self.keep(part.0, part.1, Stays::OtherReturns(*uid));
     }
 
-    /// Keeps the waits that stay, as all before the place `first` do.
-    fn keep(&mut self, first: usize, which: Stays)
-        requires within { first ≤ length self.old.waits }
+    /// Keeps the waits that stay, as all before the place `first` do, and all from the place `upto` on.
+    fn keep(&mut self, first: usize, upto: usize, which: Stays)
+        requires order { first ≤ upto }
+        requires within { upto ≤ length self.old.waits }
         requires before { filter (stays which) (take first self.old.waits) ≡ take first self.old.waits }
+        requires after { filter (stays which) (drop upto self.old.waits) ≡ drop upto self.old.waits }
         ensures waits { self.new.waits ≡ filter (stays which) self.old.waits }
         ensures room { self.new.room ≡ self.old.room }
     {
@@ -258,11 +248,12 @@ impl WaitList {
             &mut self.counts,
             &mut self.references,
             &mut self.returns,
-            &self.waits,
+            self.queue.waits(),
             first,
+            upto,
             &which,
         );
-        waits::keep(&mut self.waits, first, &which);
+        self.queue.keep(first, upto, &which);
     }
 
     /// Appends a wait of a reference that is not listed. There is room for it.
@@ -279,8 +270,7 @@ impl WaitList {
             &mut self.returns,
             &wait,
         );
-        waits::put(&mut self.waits, wait);
-        self.next = self.next.min(wait.until);
+        self.queue.put(wait);
         self.room -= 1;
     }
 }

@@ -1,9 +1,10 @@
 //! References that were returned and await their acknowledgement.
-ghost use Rattle.std.specs.Prelude.{◌≡◌, ◌++◌, ◌∷◌, [], ◌+◌, ◌<◌, ◌≤◌, length, filter, take, map, not, IfOk, vec_len, vec_capacity};
+ghost use Rattle.std.specs.Prelude.{◌≡◌, ◌++◌, ◌∷◌, [], ◌+◌, ◌<◌, ◌≤◌, ◌&&◌, true, length, filter, take, drop, map, not, IfOk, vec_len, vec_capacity};
 ghost use Rattle.std.specs.List.{list_any};
 ghost use Rattle.object_ids.specs.Same.{same_id, same_uid};
-ghost use Rattle.export_table.specs.Waits.{is_wait_of, goes_on, waiting, is_waiting, is_awaited, awaiting_of, until_of, of_return};
-ghost use Rattle.export_table.specs.Index.{stays, EndsNoEarlier};
+ghost use Rattle.export_table.specs.Waits.{is_wait_of, goes_on, waiting, over, until_of, of_return};
+ghost use Rattle.export_table.specs.Index.{stays, EndsNoEarlier, EndsRise};
+ghost use Rattle.dgc_server.specs.Index.{one_if};
 
 use mod_utf::list::Same;
 use object_ids::{ObjId, Uid};
@@ -11,7 +12,7 @@ use std::alloc::{AllocError, Global};
 
 /// A reference to an object that was returned, and awaits its acknowledgement (Java RMI Specification,
 /// chapter 10: `DgcAck`).
-#[derive(Clone, Copy, Debug, PartialEq, Eq)]
+#[derive(Clone, Copy)]
 pub struct Wait {
     /// The object.
     pub object: ObjId,
@@ -51,41 +52,30 @@ impl Wait {
     }
 }
 
-/// How many references await at a moment.
-pub fn count(waits: &[Wait], at: u64) -> usize
-    ensures value { result ≡ length (waiting at waits.now) }
-    ensures within { result ≤ length waits.now }
+/// How many waits have ended at a moment.
+pub fn count_over(waits: &[Wait], at: u64) -> usize
+    ensures { result ≡ length (over at waits.now) }
 {
-    waits.iter().filter(|wait| wait.goes_on(at)).count()
+    waits.iter().filter(|wait| !wait.goes_on(at)).count()
 }
 
-/// How many references to an object await at a moment.
-pub fn count_of(waits: &[Wait], object: &ObjId, at: u64) -> usize
-    ensures value { result ≡ length (awaiting_of at object.now waits.now) }
-    ensures within { result ≤ length waits.now }
+/// How many waits of an object have ended at a moment.
+pub fn count_over_of(waits: &[Wait], object: &ObjId, at: u64) -> usize
+    ensures { result ≡ length (filter (λ w. not (goes_on at w) && same_id w.object object.now) waits.now) }
 {
     waits
         .iter()
-        .filter(|wait| wait.goes_on(at) && wait.is_of_object(object))
+        .filter(|wait| !wait.goes_on(at) && wait.is_of_object(object))
         .count()
 }
 
-/// Whether some reference to an object awaits at a moment.
-pub fn is_awaited(waits: &[Wait], object: &ObjId, at: u64) -> bool
-    ensures { result ≡ is_awaited at object.now waits.now }
+/// Whether the wait of this reference has ended at a moment.
+pub fn is_over(waits: &[Wait], object: &ObjId, uid: &Uid, at: u64) -> bool
+    ensures { result ≡ list_any (λ w. not (goes_on at w) && is_wait_of object.now uid.now w) waits.now }
 {
     waits
         .iter()
-        .any(|wait| wait.goes_on(at) && wait.is_of_object(object))
-}
-
-/// Whether this reference awaits at a moment.
-pub fn is_waiting(waits: &[Wait], object: &ObjId, uid: &Uid, at: u64) -> bool
-    ensures { result ≡ is_waiting at object.now uid.now waits.now }
-{
-    waits
-        .iter()
-        .any(|wait| wait.goes_on(at) && wait.is_of(object, uid))
+        .any(|wait| !wait.goes_on(at) && wait.is_of(object, uid))
 }
 
 /// The moment at which this reference ceases to wait, 0 where it is not listed.
@@ -105,13 +95,13 @@ pub fn put(waits: &mut Vec<Wait>, wait: Wait)
     requires { vec_len waits.old < vec_capacity waits.old }
     ensures items { waits.new.items ≡ waits.old.items ++ wait ∷ [] }
     ensures len { vec_len waits.new ≡ vec_len waits.old + 1 }
-    ensures capacity { vec_capacity waits.old ≤ vec_capacity waits.new }
+    ensures capacity { vec_capacity waits.new ≡ vec_capacity waits.old }
 {
     waits.push_reserved(wait);
 }
 
 /// Which waits stay.
-#[derive(Clone, Copy, Debug)]
+#[derive(Clone, Copy)]
 pub enum Stays {
     /// Those that go on after a moment.
     After(u64),
@@ -156,31 +146,49 @@ pub fn has_ended(waits: &[Wait], at: u64) -> bool
     waits.iter().any(|wait| !wait.goes_on(at))
 }
 
-/// The place of the first wait of a return of which there are so many, or behind the last wait where there are none. It looks at none
-/// before that place.
-pub fn first_of(waits: &[Wait], uid: &Uid, count: u32) -> usize
+/// A part of the waits, from its first place up to the second, that has all of a return, of which there are so many: it ends with the list or begins with it,
+/// whichever is found in fewer steps. It looks at twice as many waits as this part has.
+pub fn part_of(waits: &[Wait], uid: &Uid, count: u32) -> (usize, usize)
     requires { count ≡ length (of_return uid.now waits.now) }
-    ensures within { result ≤ length waits.now }
-    ensures before { of_return uid.now (take result waits.now) ≡ [] }
+    ensures order { result.0 ≤ result.1 }
+    ensures within { result.1 ≤ length waits.now }
+    ensures before { of_return uid.now (take result.0 waits.now) ≡ [] }
+    ensures after { of_return uid.now (drop result.1 waits.now) ≡ [] }
 {
-    let mut left = count;
-    let mut first = waits.len();
-    while left > 0 {
-        first -= 1;
-        if waits[first].is_of_return(uid) {
-            left -= 1;
-        }
+    let mut earlier = count;
+    let mut later = count;
+    let mut looked = 0;
+    while earlier > 0 && later > 0 {
+        later = less_if(later, &waits[looked], uid);
+        looked += 1;
+        earlier = less_if(earlier, &waits[waits.len() - looked], uid);
     }
-    first
+    if later == 0 {
+        (0, looked)
+    } else {
+        (waits.len() - looked, waits.len())
+    }
 }
 
-/// Keeps the waits that stay, as all before the place `first` do. It looks at none of these.
-pub fn keep(waits: &mut Vec<Wait>, first: usize, which: &Stays)
-    requires within { first ≤ vec_len waits.old }
-    requires before { filter (stays which.now) (take first waits.old.items) ≡ take first waits.old.items }
-    ensures items { waits.new.items ≡ filter (stays which.now) waits.old.items }
-    ensures len { vec_len waits.new ≤ vec_len waits.old }
-    ensures capacity { vec_capacity waits.new ≡ vec_capacity waits.old }
+/// One fewer than a count where a wait is of this return, and else the count.
+fn less_if(count: u32, wait: &Wait, uid: &Uid) -> u32
+    requires { one_if (same_uid wait.now.uid uid.now) ≤ count }
+    ensures { result + one_if (same_uid wait.now.uid uid.now) ≡ count }
+{
+    if wait.is_of_return(uid) {
+        count - 1
+    } else {
+        count
+    }
+}
+
+/// Moves the waits that stay to the front, in their order, as all before the place `first` stand there, and says how many stay. It looks at none of these.
+fn keep(waits: &mut [Wait], first: usize, which: &Stays) -> usize
+    requires within { first ≤ length waits.old }
+    requires before { filter (stays which.now) (take first waits.old) ≡ take first waits.old }
+    ensures kept { take result waits.new ≡ filter (stays which.now) waits.old }
+    ensures within { result ≤ length waits.new }
+    ensures len { length waits.new ≡ length waits.old }
 {
     let mut kept = first;
     for i in first..waits.len() {
@@ -190,7 +198,113 @@ pub fn keep(waits: &mut Vec<Wait>, first: usize, which: &Stays)
             kept += 1;
         }
     }
-    waits.truncate(kept);
+    kept
+}
+
+/// Keeps of the waits behind so many at the front those that stay, as all of them before the place `first` do. It looks at none of these.
+pub fn keep_behind(waits: &mut Vec<Wait>, gone: usize, first: usize, which: &Stays)
+    requires gone { gone ≤ length waits.old.items }
+    requires within { first ≤ length (drop gone waits.old.items) }
+    requires before { filter (stays which.now) (take first (drop gone waits.old.items)) ≡ take first (drop gone waits.old.items) }
+    ensures kept { drop gone waits.new.items ≡ filter (stays which.now) (drop gone waits.old.items) }
+    ensures gone { gone ≤ length waits.new.items }
+    ensures len { vec_len waits.new ≤ vec_len waits.old }
+    ensures capacity { vec_capacity waits.new ≡ vec_capacity waits.old }
+{
+    let kept = keep(&mut waits[gone..], first, which);
+    waits.truncate(gone + kept);
+}
+
+/// Keeps of the waits behind so many at the front those that stay, as all of them from the place `upto` on do, and answers how many at the front are gone then.
+/// It looks at none from that place on.
+pub fn keep_before(waits: &mut [Wait], gone: usize, upto: usize, which: &Stays) -> usize
+    requires within { gone + upto ≤ length waits.old }
+    requires after { filter (stays which.now) (drop (gone + upto) waits.old) ≡ drop (gone + upto) waits.old }
+    ensures kept { drop result waits.new ≡ filter (stays which.now) (drop gone waits.old) }
+    ensures within { result ≤ length waits.new }
+    ensures len { length waits.new ≡ length waits.old }
+{
+    let mut kept = gone + upto;
+    let mut place = kept;
+    while place > gone {
+        place -= 1;
+        let wait = waits[place];
+        if which.has(&wait) {
+            kept -= 1;
+            waits[kept] = wait;
+        }
+    }
+    kept
+}
+
+/// The waits behind so many at the front.
+pub fn behind(waits: &[Wait], gone: usize) -> &[Wait]
+    requires { gone ≤ length waits.now }
+    ensures { result.now ≡ drop gone waits.now }
+{
+    &waits[gone..]
+}
+
+/// Takes out so many waits at the front.
+pub fn drop_front(waits: &mut Vec<Wait>, count: usize)
+    requires { count ≤ vec_len waits.old }
+    ensures items { waits.new.items ≡ drop count waits.old.items }
+    ensures len { vec_len waits.new ≤ vec_len waits.old }
+    ensures capacity { vec_capacity waits.new ≡ vec_capacity waits.old }
+{
+    let left = waits.len() - count;
+    waits.copy_within(count.., 0);
+    waits.truncate(left);
+}
+
+/// How many waits have ended at a moment, where their ends rise. It looks at these, and at one more.
+pub fn due_front(waits: &[Wait], at: u64) -> usize
+    requires { EndsRise waits.now }
+    ensures within { result ≤ length waits.now }
+    ensures rest { waiting at waits.now ≡ drop result waits.now }
+{
+    for i in 0..waits.len() {
+        if waits[i].goes_on(at) {
+            return i;
+        }
+    }
+    waits.len()
+}
+
+/// Whether the ends rise with one wait more, where it is told whether they rise without it.
+pub fn rises_with(waits: &[Wait], rising: bool, wait: &Wait) -> bool
+    requires { rising ≡ true → EndsRise waits.now }
+    ensures { result ≡ true → EndsRise (waits.now ++ wait.now ∷ []) }
+{
+    if waits.is_empty() {
+        return true;
+    }
+    rising && waits[waits.len() - 1].until <= wait.until
+}
+
+/// The moment at which the first of these ceases to wait, where their ends rise; the greatest number where there is none.
+pub fn first_end(waits: &[Wait]) -> u64
+    requires { EndsRise waits.now }
+    ensures { EndsNoEarlier result waits.now }
+{
+    if waits.is_empty() {
+        return u64::MAX;
+    }
+    waits[0].until
+}
+
+/// Whether of these waits none ends before one that was listed earlier.
+pub fn rise(waits: &[Wait]) -> bool
+    ensures { result ≡ true → EndsRise waits.now }
+{
+    let mut greatest = 0;
+    for wait in waits {
+        if wait.until < greatest {
+            return false;
+        }
+        greatest = wait.until;
+    }
+    true
 }
 
 /// The moment at which the first of these ceases to wait; the greatest number where there is none.

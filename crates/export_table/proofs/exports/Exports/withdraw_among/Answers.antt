@@ -2,12 +2,13 @@ use Rattle.std.proofs.Common.{◌≡◌, ◌++◌, ℕ, List, length, drop, map,
 use Rattle.std.specs.Prelude.{vec_len, not, filter}
 use Rattle.std.proofs.lemmas.List.Prefix.{front_rest}
 use Rattle.object_ids.specs.declared.ids.ObjId.{ObjId}
+use Rattle.dgc_server.specs.Counts.{without_all}
 use Rattle.dgc_server.specs.Stands.{StandsFor}
-use Rattle.export_table.specs.Rows.{ids, held_by, stays_among, without_all}
+use Rattle.export_table.specs.Rows.{ids, held_by, stays_among}
 use Rattle.export_table.specs.Table.{ExportTable, IsSound}
 use Rattle.export_table.specs.Slots.{RowsHeld}
 use Rattle.export_table.specs.Waits.{goes_on}
-use Rattle.export_table.proofs.Dropped.{slice_from}
+use Rattle.export_table.proofs.Slices.{slice_from}
 use Rattle.export_table.proofs.Sound.{sound-part, sound-filter}
 use Rattle.export_table.proofs.exports.Exports.withdraw_among.Goals as goal
 
@@ -27,7 +28,7 @@ returns-clause-gone c lease moment calls s =
 
 pub returns-clause-dropped : goal.returns-clause-dropped
 returns-clause-dropped c lease moment calls s =
-    let Q : List ObjId → Type 0 = λ os. StandsFor lease c.drop_all.new.leases moment (map (without_all os) calls) in
+    let Q : List ObjId → Type 0 = λ os. StandsFor lease c.drop_objects.new.self moment (map (without_all os) calls) in
     let held = held_by lease (max c.args.now moment) calls in
     let len : vec_len c.args.gone.now ≡ length c.args.gone.now.items = search rules in
     subst Q
@@ -35,4 +36,4 @@ returns-clause-dropped c lease moment calls s =
     ∙ ap (λ (n : ℕ). drop n c.deref.result.now) (c.len-told.ensures ∙ len)
     ∙ front_rest c.deref.result.now c.args.gone.now.items _ (c.deref.ensures.value ∙ c.sift_among.ensures.gone lease moment calls s)
     ∙ ap (λ (t : ExportTable). ids (filter (λ x. not (stays_among c.args.doubtful.now c.args.now held t.waits x)) t.rows)) c.self.view_is)
-    (c.drop_all.ensures lease moment calls s)
+    (c.drop_objects.ensures.stands lease moment calls s)
