@@ -1,4 +1,3 @@
-pub mod Ids
 pub mod Log
 pub mod Rows
 pub mod Views

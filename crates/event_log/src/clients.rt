@@ -16,7 +16,7 @@ const LEAST: usize = 16;
 
 /// Clients by number, which is the place in the list. A client's number is looked for in a few slots only, so that no choice of clients makes
 /// that slow. Where it isn't found there, the client gets a further number, so one may stand in the list more than once.
-#[derive(Debug, Drop)]
+#[derive(Drop)]
 pub struct Clients {
     /// The clients, each at the place that is its number.
     pub list: Vec<Vmid>,

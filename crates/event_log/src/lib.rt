@@ -3,7 +3,6 @@
 #![tactic(auto)]
 
 mod clients;
-pub mod ids;
 pub mod log;
 mod rows;
 pub mod view;

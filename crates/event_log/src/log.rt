@@ -9,13 +9,14 @@ use crate::view::EventView;
 use history::{Ask, Event};
 use object_ids::Uid;
 use std::alloc::{AllocError, Global};
+use std::fmt;
 use std::marker::Model;
 
 /// The events of a space, oldest first. A plain event takes a row of 48 bytes: an Open, a Begin, an Abandon, an Ack, a List, a Tick, or a Finish
 /// of one of the space's own objects that makes and lists nothing. So does a Dirty or a Clean of none or one of its own objects; the client is
 /// kept beside, mostly once for all its calls. Each other event takes a box beside its row. Contracts see a log as an `EventRecord`: its space, the
 /// list of its events, how many of them it has room for, and whether it has a box and room for a client to spare.
-#[derive(Debug, Drop)]
+#[derive(Drop)]
 pub struct EventLog {
     alloc: Global,
     space: Uid,
@@ -41,6 +42,14 @@ impl Model for EventLog {
 
     ghost invariant = { λ l. AllByRecursion (IsKnown (length l.clients.list.items)) l.rows.items
         × (is_some l.spare ≡ true → length l.clients.list.items < vec_capacity l.clients.list) };
+}
+
+impl fmt::Debug for EventLog {
+    fn fmt<W: fmt::Write>(&self, f: &mut fmt::Formatter<W>) -> fmt::Result {
+        f.debug_struct("EventLog")
+            .field("len", &self.rows.len())
+            .finish_non_exhaustive()
+    }
 }
 
 /// A box with room for an event.

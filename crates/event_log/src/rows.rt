@@ -13,7 +13,7 @@ use object_ids::{ObjId, ObjIds, Uid, Vmid};
 use std::alloc::{AllocError, Global};
 
 /// What a row says beside its connection and its moment.
-#[derive(Debug, Drop)]
+#[derive(Drop)]
 pub enum What {
     /// An Open.
     Opens {
@@ -72,7 +72,7 @@ pub enum What {
 }
 
 /// An event as a log keeps it.
-#[derive(Debug, Drop)]
+#[derive(Drop)]
 pub struct Row {
     /// The event's moment, in milliseconds.
     pub moment: u64,
@@ -299,16 +299,12 @@ fn whole_row(room: Option<Box<Event>>, event: Event) -> Row
 {
     let moment = event.moment;
     let by = event.by;
-    match room {
-        Some(mut room) => {
-            *room = event;
-            let what = What::Whole(room);
-            Row { moment, by, what }
-        }
-        None => {
-            let what = What::Ticks;
-            Row { moment, by, what }
-        }
+    let Some(mut room) = room else { unreachable!() };
+    *room = event;
+    Row {
+        moment,
+        by,
+        what: What::Whole(room),
     }
 }
 

@@ -313,3 +313,12 @@ in-doubt-taken leases t waits taken still none = record {
   ended = λ o h. absurd (true≢false (sym h ∙ ap (λ ws. among (objects ws) o) none));
   taken = λ o h. h;
 }
+
+-- Where no wait has ended, none is over.
+pub nothing-over : (t : ℕ) (ws : List Wait) → list_any (λ w. not (goes_on t w)) ws ≡ false → over t ws ≡ []
+nothing-over t [] h = refl
+nothing-over t (w ∷ ws) h = go (goes_on t w) h (nothing-over t ws)
+  where
+    go : (b : Bool) → (not b || list_any (λ v. not (goes_on t v)) ws) ≡ false → (list_any (λ v. not (goes_on t v)) ws ≡ false → over t ws ≡ []) → cond (not b) (w ∷ over t ws) (over t ws) ≡ []
+    go true h f = f h
+    go false h f = absurd (cc)

@@ -10,8 +10,9 @@ use Rattle.history.specs.declared.replies.Refused.{Refused}
 use Rattle.history.specs.LeaseCalls.{call_with}
 use Rattle.history.specs.Places.{now}
 use Rattle.history.specs.Table.{places}
+use Rattle.dgc_server.specs.Counts.{without_all}
 use Rattle.dgc_server.specs.Stands.{LeaseTable, StandsFor, ForEachLog}
-use Rattle.export_table.specs.Rows.{is_exported, is_row_kept as row_kept, held_by, without_all, withdrawn as rows_withdrawn}
+use Rattle.export_table.specs.Rows.{is_exported, is_row_kept as row_kept, held_by, withdrawn as rows_withdrawn}
 use Rattle.export_table.specs.Table.{ExportTable}
 use Rattle.export_table.specs.Waits.{waiting}
 use Rattle.space.specs.declared.runs.Run.{Run}

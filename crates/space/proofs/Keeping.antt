@@ -29,9 +29,10 @@ use Rattle.history.proofs.GoneLaws.{pending, pending-push, withdrawals-push}
 use Rattle.history.proofs.ListLemmas.{every-weaker}
 use Rattle.history.proofs.StepLaws.{IsLegal-step}
 use Rattle.history.proofs.TableLaws.{places-push, places-numbered, length-places, now-push, table-place, units-push, ask-place_of, index-place_of}
+use Rattle.dgc_server.specs.Counts.{without_all}
 use Rattle.dgc_server.specs.Stands.{LeaseTable, StandsFor}
 use Rattle.export_table.specs.declared.rows.Export.{Export}
-use Rattle.export_table.specs.Rows.{is_row_kept as row_kept, held_by, without_all, withdrawn as rows_withdrawn, is_exported}
+use Rattle.export_table.specs.Rows.{is_row_kept as row_kept, held_by, withdrawn as rows_withdrawn, is_exported}
 use Rattle.export_table.specs.Table.{ExportTable}
 use Rattle.export_table.specs.Waits.{waiting}
 use Rattle.space.specs.declared.runs.Run.{Run}

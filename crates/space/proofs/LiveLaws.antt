@@ -25,6 +25,7 @@ use Rattle.history.proofs.AlikeCalls.{AllAlike, AllAlike-append, AllAlike-map, h
 use Rattle.history.proofs.ListLemmas.{list_any-filter, list_any-same, and_false}
 use Rattle.history.proofs.NamedCalls.{call_with-alike}
 use Rattle.history.proofs.NumberLaws.{AllApart}
+use Rattle.dgc_server.specs.Counts.{without_all}
 use Rattle.space.specs.Kept.{live_call, live_calls}
 use Rattle.space.proofs.Named.{NamesOnly, naming-has, any-ids, passing}
 use Rattle.space.proofs.Pairs.{any-pairs_with, any-pairs, remembered-named}
@@ -142,10 +143,6 @@ new_pairs-live objects lease calls x =
     ap (λ n. if is_dirty x || is_strong x || nat_lt x.moment n then pairs_of x.client x.objects else []) (sym (live-lease_end objects lease x.client calls))
 
 -- ---- objects leave the table
-
--- A call as if it had named none of these objects.
-abbrev pub without_all : List ObjId → Call → Call
-without_all os x = record x { objects = filter (λ y. not (list_any (λ o. same_id y o) os)) x.objects }
 
 abbrev among : ObjId → List ObjId → Bool
 among y os = list_any (λ o. same_id y o) os

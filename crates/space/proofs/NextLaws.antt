@@ -27,8 +27,9 @@ use Rattle.history.proofs.ListLemmas.{every-append, every-weaker}
 use Rattle.history.proofs.NumberLaws.{NumberedFrom-apart, adds-numbered, has-self, AllApart, table-apart, table-exported}
 use Rattle.history.proofs.RunningLaws.{is_running-calls}
 use Rattle.history.proofs.TableLaws.{places-numbered, table-place, now-push, withdrawn-place}
+use Rattle.dgc_server.specs.Counts.{without_all}
 use Rattle.space.specs.Kept.{live_calls}
-use Rattle.space.proofs.LiveLaws.{IsNext, gone_of, without_all, live-push, told-alike}
+use Rattle.space.proofs.LiveLaws.{IsNext, gone_of, live-push, told-alike}
 use Rattle.space.proofs.Named.{calls-names, naming-has, lease_calls-push}
 use Rattle.export_table.proofs.ThereLaws.{old-not-new, new-not-old, not-exported-nowhere}
 use Rattle.space.proofs.ObjectLaws.{named-there, awaited-there}

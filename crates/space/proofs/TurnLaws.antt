@@ -15,8 +15,9 @@ use Rattle.history.specs.Names.{names}
 use Rattle.history.specs.Places.{has, now}
 use Rattle.history.specs.Steps.{Step}
 use Rattle.history.specs.Table.{is_effective, table, place_of, places}
+use Rattle.dgc_server.specs.Counts.{without_all}
 use Rattle.dgc_server.specs.Stands.{LeaseTable, StandsFor, ForEachLog}
-use Rattle.export_table.specs.Rows.{is_row_kept as row_kept, held_by, without_all, withdrawn as rows_withdrawn, is_exported}
+use Rattle.export_table.specs.Rows.{is_row_kept as row_kept, held_by, withdrawn as rows_withdrawn, is_exported}
 use Rattle.export_table.specs.Table.{ExportTable, Room}
 use Rattle.export_table.specs.Waits.{waiting}
 use Rattle.space.specs.declared.runs.Run.{Run}

@@ -6,7 +6,6 @@ use Rattle.history.specs.declared.replies.Reply.{Reply}
 use Rattle.history.specs.declared.replies.Reply.TheVariants.{Started, Finished, Done}
 use Rattle.history.specs.declared.replies.Refused.TheVariants.{OutOfMemory}
 use Rattle.history.specs.declared.replies.Turn.{Turn}
-use Rattle.event_log.specs.Ids.{id_of, uid_of}
 use Rattle.space.specs.declared.asked.Asked.{Asked}
 use Rattle.space.specs.declared.asked.AskedEnd.{AskedEnd}
 use Rattle.space.specs.declared.asked.AskedEnd.TheVariants.{Turned, Abandoned, Refused as Denied}
@@ -53,10 +52,10 @@ whole_at wholes number = unwrap_or (slice_get wholes number) no_entry
 
 -- The entry of a moment that says this, where these are the entries that are kept whole, by their numbers.
 abbrev pub entry_with : List Asked → ℕ → AskedWhat → Asked
-entry_with wholes moment (Began place object kind) = record { moment = moment; ask = Begin (id_of object); end = Turned (plain_turn place (Started kind)) }
-entry_with wholes moment (Returned place object uid) = record { moment = moment; ask = Finish (id_of object) [] [] (uid_of uid); end = Turned (plain_turn place (Finished [])) }
-entry_with wholes moment (GivenUp place object) = record { moment = moment; ask = Abandon (id_of object); end = Abandoned place }
-entry_with wholes moment (Acked place uid) = record { moment = moment; ask = Ack (uid_of uid); end = Turned (plain_turn place Done) }
+entry_with wholes moment (Began place object kind) = record { moment = moment; ask = Begin object; end = Turned (plain_turn place (Started kind)) }
+entry_with wholes moment (Returned place object uid) = record { moment = moment; ask = Finish object [] [] uid; end = Turned (plain_turn place (Finished [])) }
+entry_with wholes moment (GivenUp place object) = record { moment = moment; ask = Abandon object; end = Abandoned place }
+entry_with wholes moment (Acked place uid) = record { moment = moment; ask = Ack uid; end = Turned (plain_turn place Done) }
 entry_with wholes moment (Whole number) = whole_at wholes number
 
 -- The entry of a row.

@@ -9,13 +9,13 @@ use crate::asked_rows::{AskedRow, is_plain, plain_row, view_of, whole_row};
 use crate::asked_view::AskedView;
 use mod_utf::list::TryCopy;
 use std::alloc::{AllocError, Global};
+use std::fmt;
 use std::marker::Model;
 
 /// The entries of a port, oldest first. One that is plain (a Begin that started a call, a Finish that makes and lists nothing and ended
 /// one, an Ack, each with nothing told as gone, and a call that was ended without an answer) takes 64 bytes, and each other one a place
 /// in a list beside. Contracts see it as an `AskedRecord`: the list of its entries, how many of them it has room for, and whether it has a
 /// place in the list beside to spare.
-#[derive(Debug)]
 pub struct AskedLog {
     alloc: Global,
     rows: Vec<AskedRow>,
@@ -36,6 +36,14 @@ impl Drop for AskedLog {
         } = self;
         drop(rows);
         drop(wholes);
+    }
+}
+
+impl fmt::Debug for AskedLog {
+    fn fmt<W: fmt::Write>(&self, f: &mut fmt::Formatter<W>) -> fmt::Result {
+        f.debug_struct("AskedLog")
+            .field("len", &self.rows.len())
+            .finish_non_exhaustive()
     }
 }
 

@@ -1,7 +1,6 @@
 //! Entries of turns as a port keeps them.
 ghost use Rattle.std.specs.Prelude.{◌≡◌, ◌↔◌, ◌<◌, ℕ, List, [], length, IsTrue};
 ghost use Rattle.history.specs.declared.asks.Ask.TheVariants.{Finish as FinishAsk};
-ghost use Rattle.event_log.specs.Ids.{id_of, uid_of};
 ghost use Rattle.history.specs.declared.replies.Reply.TheVariants.{Started, Finished, Done};
 ghost use Rattle.history.specs.declared.replies.Turn.{Turn};
 ghost use Rattle.space.specs.declared.asked.Asked.{Asked as Entry};
@@ -11,43 +10,42 @@ ghost use Rattle.space.specs.AskedViews.{viewed};
 
 use crate::asked::{Asked, AskedEnd};
 use crate::asked_view::AskedView;
-use event_log::ids::{RowId, RowUid};
 use history::{Ask, Reply, Turn};
 use mod_utf::list::Kinds;
-use object_ids::ObjIds;
+use object_ids::{ObjId, ObjIds, Uid};
 use std::alloc::Global;
 
 /// What a row says beside its moment: an ask, its answer, and the place of its event. Nothing is told as gone.
-#[derive(Debug, Drop)]
+#[derive(Drop)]
 pub enum AskedWhat {
     /// A Begin that started a call of an object of this kind.
     Began {
         place: u64,
-        object: RowId,
+        object: ObjId,
         kind: u32,
     },
     /// A Finish that makes and lists nothing, and ended a call.
     Returned {
         place: u64,
-        object: RowId,
-        uid: RowUid,
+        object: ObjId,
+        uid: Uid,
     },
     /// A call that was ended without an answer.
     GivenUp {
         place: u64,
-        object: RowId,
+        object: ObjId,
     },
     /// An Ack.
     Acked {
         place: u64,
-        uid: RowUid,
+        uid: Uid,
     },
     /// Any other entry: the one of this number among those that are kept whole. What that one says of its moment is what counts.
     Whole(usize),
 }
 
 /// An entry as a port keeps it.
-#[derive(Debug, Drop)]
+#[derive(Drop)]
 pub struct AskedRow {
     pub moment: u64,
     pub what: AskedWhat,
@@ -137,22 +135,19 @@ fn turned(place: u64, ask: &Ask, reply: &Reply) -> AskedWhat
     match ask {
         Ask::Begin { object } => AskedWhat::Began {
             place,
-            object: RowId::of(object),
+            object: *object,
             kind: kind_of(reply),
         },
         Ask::Finish { object, uid, .. } => AskedWhat::Returned {
             place,
-            object: RowId::of(object),
-            uid: RowUid::of(uid),
+            object: *object,
+            uid: *uid,
         },
-        Ask::Ack { uid } => AskedWhat::Acked {
-            place,
-            uid: RowUid::of(uid),
-        },
+        Ask::Ack { uid } => AskedWhat::Acked { place, uid: *uid },
         // no other reply is plain
         _ => AskedWhat::Acked {
             place,
-            uid: RowUid {
+            uid: Uid {
                 time: 0,
                 unique: 0,
                 count: 0,
@@ -167,16 +162,16 @@ fn given_up(place: u64, ask: &Ask) -> AskedWhat
     ensures row { (wholes : List Entry) → (moment : ℕ) → entry_with wholes moment result ≡ record { moment = moment; ask = ask.now; end = Abandoned place } }
     ensures known { (count : ℕ) → IsAmongWhole count result }
 {
-    let mut row = RowId {
+    let mut row = ObjId {
         number: 0,
-        space: RowUid {
+        space: Uid {
             time: 0,
             unique: 0,
             count: 0,
         },
     };
     if let Ask::Abandon { object } = ask {
-        row = RowId::of(object);
+        row = *object;
     }
     AskedWhat::GivenUp { place, object: row }
 }
@@ -227,14 +222,14 @@ fn turn(alloc: Global, place: u64, reply: Reply) -> AskedEnd
 }
 
 /// A Finish that makes and lists nothing.
-fn finish(alloc: Global, object: &RowId, uid: &RowUid) -> Ask
-    ensures { result ≡ FinishAsk (id_of object.now) [] [] (uid_of uid.now) }
+fn finish(alloc: Global, object: &ObjId, uid: &Uid) -> Ask
+    ensures { result ≡ FinishAsk object.now [] [] uid.now }
 {
     Ask::Finish {
-        object: object.id(),
+        object: *object,
         made: Kinds::new(alloc),
         listed: ObjIds::new(alloc),
-        uid: uid.uid(),
+        uid: *uid,
     }
 }
 
@@ -259,9 +254,7 @@ pub(crate) fn view_of<'a>(alloc: Global, wholes: &'a [Asked], row: &AskedRow) ->
             object,
             kind,
         } => (
-            Ask::Begin {
-                object: object.id(),
-            },
+            Ask::Begin { object: *object },
             turn(alloc, *place, Reply::Started(*kind)),
         ),
         AskedWhat::Returned { place, object, uid } => (
@@ -269,13 +262,11 @@ pub(crate) fn view_of<'a>(alloc: Global, wholes: &'a [Asked], row: &AskedRow) ->
             turn(alloc, *place, Reply::Finished(ObjIds::new(alloc))),
         ),
         AskedWhat::GivenUp { place, object } => (
-            Ask::Abandon {
-                object: object.id(),
-            },
+            Ask::Abandon { object: *object },
             AskedEnd::Abandoned(*place),
         ),
         AskedWhat::Acked { place, uid } => (
-            Ask::Ack { uid: uid.uid() },
+            Ask::Ack { uid: *uid },
             turn(alloc, *place, Reply::Done),
         ),
     };

@@ -2,8 +2,9 @@
 //! every exported object is kept, so that no other object can go at the next one.
 ghost use Rattle.std.specs.Prelude.{◌≡◌, ◌≤◌, ◌++◌, ◌∷◌, ◌+◌, List, true, false, max, filter, length, map, IfOk, vec_len, vec_capacity};
 ghost use Rattle.object_ids.specs.declared.ids.ObjId.{ObjId};
+ghost use Rattle.dgc_server.specs.Counts.{without_all};
 ghost use Rattle.dgc_server.specs.Stands.{StandsFor, ForEachLog};
-ghost use Rattle.export_table.specs.Rows.{is_row_kept, is_settled_but, held_by, withdrawn, without_all};
+ghost use Rattle.export_table.specs.Rows.{is_row_kept, is_settled_but, held_by, withdrawn};
 ghost use Rattle.export_table.specs.Waits.{waiting};
 ghost use Rattle.space.specs.Doubts.{AreInDoubt, HasLog, taken_by};
 

@@ -41,7 +41,7 @@ fn put_events(text: &mut ByteList, space: Uid, events: &EventLog) -> Result<(), 
 }
 
 /// How many entries the tables of a space have.
-#[derive(Clone, Copy, Debug)]
+#[derive(Clone, Copy)]
 struct Counts {
     objects: u64,
     clients: u64,

@@ -45,7 +45,7 @@ impl Space {
 }
 
 /// A copy of an ask, and room for a copy of its turn.
-#[derive(Debug, Drop)]
+#[derive(Drop)]
 struct Note {
     /// The ask.
     ask: Ask,

@@ -16,7 +16,6 @@ use object_ids::{ObjId, ObjIds};
 use std::alloc::{AllocError, Global};
 
 /// What a turn answers and adds.
-#[derive(Debug)]
 pub(crate) struct Prepared {
     /// How many objects it exports.
     pub opened: u64,

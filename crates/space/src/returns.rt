@@ -1,9 +1,11 @@
 //! The references that an ask returns.
-ghost use Rattle.std.specs.Prelude.{◌≡◌, ◌+◌, ◌<◌, ◌≤◌, ◌^◌, ◌++◌, ◌&&◌, length, filter, not, nat_lt, option_to_list, IfOk};
+ghost use Rattle.std.specs.Prelude.{◌≡◌, ◌+◌, ◌<◌, ◌≤◌, ◌^◌, ◌++◌, ◌&&◌, length, filter, not, nat_lt, option_to_list, cond, true, IfOk, OnOk};
 ghost use Rattle.std.specs.List.{list_any};
+ghost use Rattle.indexmap.specs.IndexSet.{contains};
 ghost use Rattle.history.specs.declared.limits.TheConstants.{MAX_AWAITING};
 ghost use Rattle.history.specs.Lists.{distinct};
-ghost use Rattle.object_ids.specs.Same.{same_id};
+ghost use Rattle.object_ids.specs.declared.ids.ObjId.{ObjId};
+ghost use Rattle.object_ids.specs.Same.{same_id, same_key};
 ghost use Rattle.export_table.specs.Rows.{is_exported};
 ghost use Rattle.export_table.specs.Waits.{is_waiting};
 ghost use Rattle.space.specs.Acts.{Agrees, await_refusal, awaiting_after, new_ids, opens, return_refusal, returned_by};
@@ -13,9 +15,13 @@ use export_table::Exports;
 use history::limits::MAX_AWAITING;
 use history::plain::places::id_at;
 use history::{Ask, Refused};
+use indexmap::IndexSet;
 use mod_utf::list::Same;
 use object_ids::{FullKind, ObjId, ObjIds, Uid};
 use std::alloc::{AllocError, Global};
+
+/// So many objects are counted without memory.
+const FEW: usize = 16;
 
 /// The objects to which an ask returns references, where the next object is the space's k-th, and the ask's name
 /// stands for `stood`. It is refused where these references would pass the limit of those that await at a moment.
@@ -63,7 +69,7 @@ fn of_lookup(
     ensures refusal { Agrees (return_refusal now uid.now 0 (option_to_list stood) exports.now.waits) result }
 {
     let found = listed(alloc, stood)?;
-    if is_past(exports, now, uid, 0, &found) {
+    if is_past(alloc, exports, now, uid, 0, &found) {
         return Err(Refused::Full(FullKind::Awaiting));
     }
     Ok(found)
@@ -95,7 +101,7 @@ fn of_return(
         Agrees (return_refusal now uid.now (length made.now) live exports.now.waits) result }
 {
     let live = live_among(alloc, exports, listed)?;
-    if is_past(exports, now, uid, made.len(), live.as_slice()) {
+    if is_past(alloc, exports, now, uid, made.len(), live.as_slice()) {
         return Err(Refused::Full(FullKind::Awaiting));
     }
     Ok(new_and(alloc, space, k, made, live.as_slice())?)
@@ -136,17 +142,40 @@ pub(crate) fn new_ids(
 }
 
 /// Whether the references that await at a moment, with those of a return to so many new objects and to these exported ones, pass their limit.
-fn is_past(exports: &Exports, now: u64, uid: &Uid, made: usize, live: &[ObjId]) -> bool
+fn is_past(
+    alloc: Global,
+    exports: &Exports,
+    now: u64,
+    uid: &Uid,
+    made: usize,
+    live: &[ObjId],
+) -> bool
     ensures { result ≡ nat_lt MAX_AWAITING (awaiting_after now uid.now made live.now exports.now.waits) }
 {
     let waiting = u128::from(exports.waiting(now)) + made as u128;
     let most = u128::from(MAX_AWAITING);
     most < waiting + live.len() as u128
-        && most < waiting + new_waits(exports, now, uid, live) as u128
+        && most < waiting + new_waits(alloc, exports, now, uid, live) as u128
 }
 
-/// How many of these objects, each counted once, do not wait at a moment as listed in a return.
-fn new_waits(exports: &Exports, now: u64, uid: &Uid, live: &[ObjId]) -> usize
+/// How many of these objects, each counted once, do not wait at a moment as listed in a return. Many are counted with memory, and
+/// where there is none, one by one.
+fn new_waits(alloc: Global, exports: &Exports, now: u64, uid: &Uid, live: &[ObjId]) -> usize
+    ensures value { result ≡ length (filter (λ o. not (is_waiting now o uid.now exports.now.waits)) (distinct same_id live.now)) }
+    ensures bound { result ≤ length live.now }
+{
+    if live.len() > FEW {
+        match counted_with_memory(alloc, exports, now, uid, live) {
+            Ok(count) => count,
+            Err(_refused) => counted_one_by_one(exports, now, uid, live),
+        }
+    } else {
+        counted_one_by_one(exports, now, uid, live)
+    }
+}
+
+/// How many of these objects, each counted once, do not wait at a moment as listed in a return, each compared with all that follow.
+fn counted_one_by_one(exports: &Exports, now: u64, uid: &Uid, live: &[ObjId]) -> usize
     ensures value { result ≡ length (filter (λ o. not (is_waiting now o uid.now exports.now.waits)) (distinct same_id live.now)) }
     ensures bound { result ≤ length live.now }
 {
@@ -157,6 +186,44 @@ fn new_waits(exports: &Exports, now: u64, uid: &Uid, live: &[ObjId]) -> usize
         }
     }
     count
+}
+
+/// How many of these objects, each counted once, do not wait at a moment as listed in a return, from the last to the first.
+fn counted_with_memory(
+    alloc: Global,
+    exports: &Exports,
+    now: u64,
+    uid: &Uid,
+    live: &[ObjId],
+) -> Result<usize, AllocError>
+    ensures value { IfOk result (λ count. count ≡ length (filter (λ o. not (is_waiting now o uid.now exports.now.waits)) (distinct same_id live.now))) }
+    ensures bound { IfOk result (λ count. count ≤ length live.now) }
+{
+    let mut seen = IndexSet::new(alloc);
+    let mut count = 0;
+    let mut i = live.len();
+    while i > 0 {
+        i -= 1;
+        if is_first_new_wait(&mut seen, exports, now, uid, &live[i])? {
+            count += 1;
+        }
+    }
+    Ok(count)
+}
+
+/// Notes that an object was seen, and says whether it was not before and does not wait at a moment as listed in a return.
+fn is_first_new_wait(
+    seen: &mut IndexSet<ObjId>,
+    exports: &Exports,
+    now: u64,
+    uid: &Uid,
+    object: &ObjId,
+) -> Result<bool, AllocError>
+    ensures value { IfOk result (λ first. first ≡ (not (contains same_key seen.old object.now) && not (is_waiting now object.now uid.now exports.now.waits))) }
+    ensures seen { OnOk result ((o : ObjId) → contains same_key seen.new o ≡ cond (same_key object.now o) true (contains same_key seen.old o)) }
+{
+    let is_new = seen.insert(*object)?;
+    Ok(is_new && !exports.is_waiting(*object, *uid, now))
 }
 
 /// Whether an object does not wait at a moment as listed in a return, and is none of the others.

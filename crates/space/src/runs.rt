@@ -12,7 +12,7 @@ use std::alloc::{AllocError, Global};
 use std::marker::Model;
 
 /// A call that a connection runs.
-#[derive(Clone, Copy, Debug, PartialEq, Eq)]
+#[derive(Clone, Copy)]
 pub struct Run {
     /// The number of the connection.
     pub by: u32,
@@ -31,7 +31,6 @@ impl Run {
 }
 
 /// The calls that connections run. Contracts see them as a `RunTable`, whose list is in no order that matters.
-#[derive(Debug)]
 pub struct Runs {
     /// A connection's calls stand in the list at its number modulo 256. A list is made when a connection first needs it.
     lists: Vec<Vec<Run>>,

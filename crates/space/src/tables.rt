@@ -22,7 +22,7 @@ use rmi_registry::Names;
 use std::alloc::Global;
 
 /// What a space keeps of the events that it took.
-#[derive(Debug, Drop)]
+#[derive(Drop)]
 pub struct Tables {
     /// Where it takes memory.
     pub alloc: Global,

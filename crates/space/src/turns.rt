@@ -19,11 +19,11 @@ use history::{Ask, Event, Refused, SpaceConfig, Turn};
 use object_ids::{ObjId, ObjIds};
 use rmi_registry::Names;
 use std::alloc::Global;
+use std::fmt;
 use std::marker::Model;
 
 /// A space of exported objects. Contracts see it as its configuration and the list of the events that it
 /// took, the oldest first; all else that it answers follows from these.
-#[derive(Debug)]
 pub struct Space {
     pub(crate) tables: Tables,
 }
@@ -34,6 +34,14 @@ impl Drop for Space {
     fn drop(self) {
         let Space { tables } = self;
         drop(tables);
+    }
+}
+
+impl fmt::Debug for Space {
+    fn fmt<W: fmt::Write>(&self, f: &mut fmt::Formatter<W>) -> fmt::Result {
+        f.debug_struct("Space")
+            .field("events", &self.tables.events.len())
+            .finish_non_exhaustive()
     }
 }
 

@@ -1,8 +1,9 @@
 //! The withdrawals of a space.
 ghost use Rattle.std.specs.Prelude.{◌≡◌, ◌<◌, ◌≤◌, ◌+◌, ◌++◌, [], List, true, false, max, drop, filter, length, map, replicate, slice_get, IfOk, OnOk, vec_len, vec_capacity};
 ghost use Rattle.object_ids.specs.declared.ids.ObjId.{ObjId};
+ghost use Rattle.dgc_server.specs.Counts.{without_all};
 ghost use Rattle.dgc_server.specs.Stands.{StandsFor, ForEachLog};
-ghost use Rattle.export_table.specs.Rows.{is_row_kept, is_settled_but, held_by, withdrawn, without_all};
+ghost use Rattle.export_table.specs.Rows.{is_row_kept, is_settled_but, held_by, withdrawn};
 ghost use Rattle.export_table.specs.Waits.{waiting};
 ghost use Rattle.space.specs.Acts.{withdrawal_at};
 ghost use Rattle.space.specs.Doubts.{HasLog};
@@ -17,7 +18,6 @@ use std::marker::Model;
 
 /// The withdrawals, in their order: their objects and their places apart, so that objects that go are put at once where they stay. Contracts see
 /// them as a `WithdrawalTable`.
-#[derive(Debug)]
 pub struct Withdrawals {
     objects: Vec<ObjId>,
     places: Vec<u64>,

@@ -1,6 +1,5 @@
 use Rattle.std.proofs.Common.{sym, ◌∙◌}
-use Rattle.export_table.proofs.Doubts.{nothing-over}
-use Rattle.space.proofs.Doubting.{in-doubt-taken}
+use Rattle.space.proofs.Doubting.{in-doubt-taken, nothing-over}
 use Rattle.space.proofs.doubts.takes_time.Goals as goal
 
 pub returns-else-is_due : goal.returns-else-is_due

@@ -1,8 +1,9 @@
 use Rattle.std.proofs.Common.{◌≡◌, List, ◌++◌, map, max, ap, subst, ◌∙◌}
 use Rattle.object_ids.specs.declared.ids.ObjId.{ObjId}
+use Rattle.dgc_server.specs.Counts.{without_all}
 use Rattle.dgc_server.specs.Stands.{StandsFor}
 use Rattle.export_table.specs.declared.rows.Export.{Export}
-use Rattle.export_table.specs.Rows.{held_by, without_all}
+use Rattle.export_table.specs.Rows.{held_by}
 use Rattle.export_table.specs.Waits.{waiting}
 use Rattle.export_table.proofs.Among.{rows-among, gone-among}
 use Rattle.space.proofs.doubts.withdraw.Goals as goal

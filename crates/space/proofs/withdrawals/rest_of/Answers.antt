@@ -1,7 +1,7 @@
 use Rattle.std.proofs.Common.{◌≡◌, ◌-◌, ◌++◌, List, length, take, drop, ap, subst, ◌∙◌}
 use Rattle.std.specs.Prelude.{IfOk}
 use Rattle.object_ids.specs.declared.ids.ObjId.{ObjId}
-use Rattle.export_table.proofs.Dropped.{slice_from}
+use Rattle.export_table.proofs.Slices.{slice_from}
 use Rattle.space.proofs.withdrawals.rest_of.Goals as goal
 
 pub returns : goal.returns

@@ -1,6 +1,6 @@
 use Rattle.std.proofs.Common.{◌-◌, ◌++◌, length, drop, map, ap, ◌∙◌, arith}
 use Rattle.std.proofs.lemmas.List.{length-drop}
-use Rattle.export_table.proofs.Dropped.{slice_from}
+use Rattle.export_table.proofs.Slices.{slice_from}
 use Rattle.space.specs.Acts.{withdrawal_at}
 use Rattle.space.specs.Withdrawals.{WithdrawalTable}
 use Rattle.space.proofs.WithdrawalLaws.{paired-length, noted, noted-even}

@@ -3,7 +3,7 @@ use Rattle.std.specs.Prelude.{filter, not}
 use Rattle.object_ids.specs.Same.{same_id}
 use Rattle.history.specs.Lists.{distinct}
 use Rattle.export_table.specs.Waits.{is_waiting}
-use Rattle.space.proofs.returns.new_waits.Given as goal
+use Rattle.space.proofs.returns.counted_one_by_one.Given as goal
 
 abbrev pub invariant-loop-i : goal.invariant-loop-i
 invariant-loop-i l =
