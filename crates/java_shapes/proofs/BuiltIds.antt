@@ -85,29 +85,29 @@ ids_seen nodes ids s h =
     let refs : as_refs (array_at nodes (codes "[Ljava.rmi.server.ObjID;") s) ≡ Some h.objects = rw (h.is, e, same_ids_name) refl in
     rw refs (ids_told nodes h.id_class h.uid_class ids h.objects h.id_own h.uid_own h.are)
 
-pub puts_ids : (old first second mid last new : List Node) (ids : List ObjId) (objects : List Slot) (class ic uc : Slot) (r : Result Slot BuildFault) → Grows 3 old first → IsClassAt first known.ObjId slots.Null ic
-    → Grows 4 first second → IsClassAt second known.Uid slots.Null uc → Grows (2 * length ids) second mid → AreIds mid ic uc ids objects
-    → Grows 1 mid last → IsClassAt last known.ObjIdArray slots.Null class → Puts 1 (λ loose s. node_at loose s ≡ Some (Array (number_of class) (kinds.Refs objects))) last new r
+pub puts_ids : (old begun first second mid new : List Node) (ids : List ObjId) (objects : List Slot) (class ic uc : Slot) (r : Result Slot BuildFault) → Grows 1 old begun → IsClassAt begun known.ObjIdArray slots.Null class
+    → Grows 3 begun first → IsClassAt first known.ObjId slots.Null ic → Grows 4 first second → IsClassAt second known.Uid slots.Null uc → Grows (2 * length ids) second mid → AreIds mid ic uc ids objects
+    → Puts 1 (λ loose s. node_at loose s ≡ Some (Array (number_of class) (kinds.Refs objects))) mid new r
     → Puts (16 + 2 * length ids) (λ loose s. ObjIdsAt loose ids s) old new r
-puts_ids old first second mid last new ids objects class ic uc r g1 i g2 u g3 are g4 own put =
-    let up2 : Grows 7 old second = grows_then g1 g2 (omega arith) in
-    let up3 : Grows (7 + 2 * length ids) old mid = grows_then up2 g3 (omega arith) in
-    let up4 : Grows (8 + 2 * length ids) old last = grows_then up3 g4 (omega arith) in
-    puts_after (λ loose s. ObjIdsAt loose ids s) 1 (16 + 2 * length ids) new r up4
-    (puts_map (λ loose s. node_at loose s ≡ Some (Array (number_of class) (kinds.Refs objects))) (λ loose s. ObjIdsAt loose ids s) 1 last new r put
+puts_ids old begun first second mid new ids objects class ic uc r g0 own g1 i g2 u g3 are put =
+    let up1 : Grows 4 old first = grows_then g0 g1 (omega arith) in
+    let up2 : Grows 8 old second = grows_then up1 g2 (omega arith) in
+    let up3 : Grows (8 + 2 * length ids) old mid = grows_then up2 g3 (omega arith) in
+    puts_after (λ loose s. ObjIdsAt loose ids s) 1 (16 + 2 * length ids) new r up3
+    (puts_map (λ loose s. node_at loose s ≡ Some (Array (number_of class) (kinds.Refs objects))) (λ loose s. ObjIdsAt loose ids s) 1 mid new r put
     (λ s grown is.
-    let down3 : Grows 2 mid new = grows_then g4 grown (omega arith) in
-    let down2 : Grows (2 + 2 * length ids) second new = grows_then g3 down3 (omega arith) in
-    let down1 : Grows (6 + 2 * length ids) first new = grows_then g2 down2 (omega arith) in
+    let down2 : Grows (1 + 2 * length ids) second new = grows_then g3 grown (omega arith) in
+    let down1 : Grows (5 + 2 * length ids) first new = grows_then g2 down2 (omega arith) in
+    let down0 : Grows (8 + 2 * length ids) begun new = grows_then g1 down1 (omega arith) in
     record {
       class = class;
       id_class = ic;
       uid_class = uc;
       objects = objects;
-      own = class_grown grown own;
+      own = class_grown down0 own;
       id_own = class_grown down1 i;
       uid_own = class_grown down2 u;
-      are = ids_grown down3 ic uc ids objects are;
+      are = ids_grown grown ic uc ids objects are;
       is = is;
     }))
     (omega arith)

@@ -26,6 +26,16 @@ empty_part = record { values = []; note = [] }
 abbrev pub fault_parts : Slot → List Part
 fault_parts text = reference text ∷ empty_part ∷ empty_part ∷ reference slots.Null ∷ []
 
+-- The slot names the description of java.rmi.RemoteException, over those of IOException, Exception and Throwable.
+pub record FaultClassAt (nodes : List Node) (remote_exception : Slot) : Type 0 where
+  pub throwable : Slot
+  pub exception : Slot
+  pub io_exception : Slot
+  pub highest : IsClassAt nodes known.Throwable slots.Null throwable
+  pub second : IsClassAt nodes known.Exception throwable exception
+  pub third : IsClassAt nodes known.IoException exception io_exception
+  pub own : IsClassAt nodes known.RemoteException io_exception remote_exception
+
 -- The slot names an object of java.rmi.RemoteException, over IOException, Exception and Throwable, with this message.
 pub record FaultAt (nodes : List Node) (message : List ℕ) (s : Slot) : Type 0 where
   pub throwable : Slot

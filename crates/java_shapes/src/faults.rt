@@ -1,6 +1,6 @@
 //! Faults among the loose nodes of a builder.
 ghost use Rattle.std.specs.Prelude.{◌≡◌, Some, IfOk, IfErr, OnOk, OnErr};
-ghost use Rattle.java_shapes.specs.Fault.{FaultAt, fault_parts, fault_text, reference, empty_part};
+ghost use Rattle.java_shapes.specs.Fault.{FaultAt, FaultClassAt, fault_parts, fault_text, reference, empty_part};
 ghost use Rattle.java_shapes.specs.Put.{Grows, IsPutRefusal, Puts};
 ghost use Rattle.java_shapes.specs.Throwable.{fault_text_at};
 
@@ -42,17 +42,24 @@ pub(crate) fn fault_parts(alloc: Global, text: Slot) -> Result<PartList, AllocEr
     Ok(parts)
 }
 
-/// Puts a fault, node by node.
-fn put_all(alloc: Global, b: &mut Builder, message: Units) -> Result<Slot, BuildFault>
-    ensures { Puts 16 (λ nodes s. FaultAt nodes message s) b.old b.new result }
+/// Puts the description of a fault's class, with those of its superclasses before it.
+fn put_classes(alloc: Global, b: &mut Builder) -> Result<Slot, BuildFault>
+    ensures { Puts 6 (λ nodes s. FaultClassAt nodes s) b.old b.new result }
 {
     let throwable = put_class(alloc, b, KnownClass::Throwable, Slot::Null)?;
     let exception = put_class(alloc, b, KnownClass::Exception, throwable)?;
     let io_exception = put_class(alloc, b, KnownClass::IoException, exception)?;
-    let remote_exception = put_class(alloc, b, KnownClass::RemoteException, io_exception)?;
+    put_class(alloc, b, KnownClass::RemoteException, io_exception)
+}
+
+/// Puts a fault, node by node.
+fn put_all(alloc: Global, b: &mut Builder, message: Units) -> Result<Slot, BuildFault>
+    ensures { Puts 16 (λ nodes s. FaultAt nodes message s) b.old b.new result }
+{
     let text = put_text(b, message)?;
+    let class = put_classes(alloc, b)?;
     let parts = fault_parts(alloc, text)?;
-    put_object(b, remote_exception, parts)
+    put_object(b, class, parts)
 }
 
 /// Puts a `java.rmi.RemoteException` with a message and a null detail. TooManyNodes comes only where the loose nodes before

@@ -56,10 +56,10 @@ fn put_each(
 fn put_some_objids(alloc: Global, b: &mut Builder, ids: &[ObjId]) -> Result<Slot, BuildFault>
     ensures { Puts (16 + 2 * length ids.now) (λ nodes s. ObjIdsAt nodes ids.now s) b.old b.new result }
 {
+    let class = put_class(alloc, b, KnownClass::ObjIdArray, Slot::Null)?;
     let id_class = put_class(alloc, b, KnownClass::ObjId, Slot::Null)?;
     let uid_class = put_class(alloc, b, KnownClass::Uid, Slot::Null)?;
     let objects = put_each(alloc, b, id_class, uid_class, ids)?;
-    let class = put_class(alloc, b, KnownClass::ObjIdArray, Slot::Null)?;
     put_array(b, class, Values::Refs(objects))
 }
 
