@@ -1,5 +1,5 @@
 //! Transcripts of lease tables: a journal's lines of lease calls, and of ticks, which let time pass. A line `? MOMENT` asks for the remembered
-//! pairs, for the holders of objects 16 and 17, and for the clients with time left; `! NUMBER` drops an object. A line `# MOMENT` asks whether a
+//! pairs, for the holders of objects 16 and 17, and for the clients with time left; `! NUMBER,..` drops objects. A line `# MOMENT` asks whether a
 //! lease may end as time passes to that moment, and for the objects that some client holds and none holds then.
 ghost use Rattle.std.specs.Prelude.{◌<◌, ◌^◌};
 
@@ -45,12 +45,21 @@ fn put_line_of(
     } else if let Some(moment) = line.strip_prefix("# ") {
         let moment = moment.parse::<u64>().expect(rt, "a moment");
         put_ended(alloc, leases, moment, text).expect(rt, MEMORY);
-    } else if let Some(number) = line.strip_prefix("! ") {
-        let number = number.parse::<i64>().expect(rt, "a number");
-        leases.drop_object(numbered(number));
+    } else if let Some(numbers) = line.strip_prefix("! ") {
+        drop_told(rt, alloc, leases, numbers);
     } else {
         put_told(rt, alloc, leases, line, text);
     }
+}
+
+/// Drops the objects of these numbers, between which commas stand.
+fn drop_told(rt: &impl Abort, alloc: Global, leases: &mut Leases, numbers: &str) {
+    let mut objects = Vec::new(alloc);
+    for number in numbers.split(',') {
+        let number = number.parse::<i64>().expect(rt, "a number");
+        objects.push(numbered(number)).expect(rt, MEMORY);
+    }
+    leases.drop_objects(&objects);
 }
 
 /// Tells the table of the call that a line spells, and appends the answer.
@@ -252,6 +261,43 @@ const LATE_DIRTY: &str = "1 0 dirty 01@3/4/5 1 1 16,17
 > lease 01@3/4/5 until 102
 ";
 
+// Of the objects that go at once one is named twice, and one by no call.
+const DROPPED_AT_ONCE: &str = "1 10 dirty 01@3/4/5 1 1 16,17,18,19,20,21,22
+> granted 100
+1 20 dirty 02@3/4/5 1 1 17,18,23
+> granted 100
+1 20 clean 03@3/4/5 1 strong 19,21
+> done
+! 18,17,19,20,20,99,21
+? 20
+> pairs 3
+> 16 held by 1
+> 17 free of 0
+> lease 01@3/4/5 until 110
+> lease 02@3/4/5 until 120
+1 21 dirty 02@3/4/5 1 1 17
+> granted 100
+? 21
+> pairs 4
+> 16 held by 1
+> 17 held by 1
+> lease 01@3/4/5 until 110
+> lease 02@3/4/5 until 121
+# 121
+> due
+> freed 16
+> freed 17
+> freed 22
+> freed 23
+! 16,17,18,19,22,23
+? 21
+> pairs 0
+> 16 free of 0
+> 17 free of 0
+> lease 01@3/4/5 until 110
+> lease 02@3/4/5 until 121
+";
+
 // Leases that end at 169, 170 and 171.
 const ENDS: &str = "# 4611686018427387903
 > none due
@@ -386,7 +432,12 @@ fn told(rt: &impl Abort, alloc: Global, lease: u64, script: &str) -> ByteList {
 
 #[test]
 fn lease_tables_are_told(rt: HostRuntime) {
-    for (lease, script) in [(100, LEASE_OF_100), (1, STRONG_CLEAN), (100, LATE_DIRTY)] {
+    for (lease, script) in [
+        (100, LEASE_OF_100),
+        (1, STRONG_CLEAN),
+        (100, LATE_DIRTY),
+        (100, DROPPED_AT_ONCE),
+    ] {
         let text = told(&rt, rt.alloc(), lease, script);
         must_be(&rt, &text, script);
     }

@@ -1,5 +1,5 @@
 //! Drives spaces by turns to their limits, and prints what they answer there. Each word of the command line names what is
-//! filled: `history`, `pairs`, `returns`, `clients`, `exports`, by `many_pairs` the pairs, by calls that each name many objects, or by
+//! filled: `history`, `pairs`, `returns`, `twice`, `clients`, `exports`, by `many_pairs` the pairs, by calls that each name many objects, or by
 //! `many_calls` the running calls.
 #![tactic(auto)]
 
@@ -99,6 +99,26 @@ fn finish(
     unique: i32,
 ) -> Result<(), Refused> {
     match finish_ask(alloc, made, listed, unique) {
+        Ok(ask) => turn(space, 1, ask),
+        Err(_refused) => Err(Refused::OutOfMemory),
+    }
+}
+
+/// What returns a call of the first object, with so many objects, from the first on, and with the first once more.
+fn finish_all_ask(alloc: Global, count: u32, unique: i32) -> Result<Ask, AllocError> {
+    let mut listed = first_objects(alloc, count)?;
+    listed.push(object(0))?;
+    Ok(Ask::Finish {
+        object: object(0),
+        made: Kinds::new(alloc),
+        listed,
+        uid: numbered(unique),
+    })
+}
+
+/// Returns a call of the first object, with so many objects, from the first on, and with the first once more.
+fn finish_all(alloc: Global, space: &mut Space, count: u32, unique: i32) -> Result<(), Refused> {
+    match finish_all_ask(alloc, count, unique) {
         Ok(ask) => turn(space, 1, ask),
         Err(_refused) => Err(Refused::OutOfMemory),
     }
@@ -212,6 +232,14 @@ fn returns<W: Write>(alloc: Global, out: &mut W, space: &mut Space) -> io::Resul
     Ok(())
 }
 
+/// A return that lists one of its objects twice and fills the references that await, where counting it twice would pass the limit; and
+/// one reference more.
+fn twice<W: Write>(alloc: Global, out: &mut W, space: &mut Space) -> io::Result<()> {
+    show(out, "Awaiting 32768", finish(alloc, space, 32_767, 0, 0))?;
+    show(out, "Awaiting 65536", finish_all(alloc, space, 32_768, 1))?;
+    show(out, "Awaiting 65537", finish(alloc, space, 0, 1, 2))
+}
+
 /// The last client, one more, one that has time left, and a call that brings no client.
 fn clients<W: Write>(alloc: Global, out: &mut W, space: &mut Space) -> io::Result<()> {
     show(out, "Clients 65536", dirty(alloc, space, 65_535, 0))?;
@@ -257,6 +285,7 @@ fn show_limits<W: Write>(
         "history" => history(alloc, out, space),
         "pairs" => pairs(alloc, out, space),
         "returns" => returns(alloc, out, space),
+        "twice" => twice(alloc, out, space),
         "clients" => clients(alloc, out, space),
         "exports" => exports(alloc, out, space),
         _ => writeln!(out, "{word} is no word"),
