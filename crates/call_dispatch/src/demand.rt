@@ -20,7 +20,7 @@ use ser_values::Value;
 use std::alloc::{AllocError, Global};
 
 /// Why a call of the registry or the collector is barred, so that nothing is asked.
-#[derive(Clone, Copy, Debug, PartialEq, Eq)]
+#[derive(Clone, Copy)]
 pub enum Bar {
     /// An argument is none of its method's.
     WrongArgument,
@@ -63,7 +63,7 @@ pub enum Demand {
 }
 
 /// Why a call asks for nothing.
-#[derive(Clone, Copy, Debug, PartialEq, Eq)]
+#[derive(Clone, Copy)]
 enum Stop {
     /// It is barred.
     Barred(Bar),

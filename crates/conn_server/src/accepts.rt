@@ -34,7 +34,7 @@ const TRIES: u32 = 10_000_000;
 const RESTS: u32 = 4;
 
 /// Why no more links were accepted.
-#[derive(Clone, Copy, Debug, PartialEq, Eq)]
+#[derive(Clone, Copy)]
 pub enum Stop {
     /// As many were served as were to be.
     All,

@@ -3,7 +3,7 @@ ghost use Rattle.std.specs.Prelude.{◌≡◌, ◌<◌, ◌^◌, ◌%◌};
 ghost use Rattle.drill.specs.Generator.{next_state, drawn_with, choice_of, draws_after};
 
 /// What a round of a drill does.
-#[derive(Clone, Copy, Debug, PartialEq, Eq)]
+#[derive(Clone, Copy)]
 pub enum Choice {
     /// A call of the first object makes another one.
     Make,
@@ -24,7 +24,7 @@ pub enum Choice {
 }
 
 /// What is drawn for a round, each number below 2^31, and the generator's state after it.
-#[derive(Clone, Copy, Debug)]
+#[derive(Clone, Copy)]
 pub struct Draws {
     /// How far the moment goes on.
     pub steps: u64,

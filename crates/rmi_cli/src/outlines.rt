@@ -162,7 +162,7 @@ fn read_batch<'a>(
 }
 
 /// Why a line gives no event.
-#[derive(Clone, Copy, Debug, PartialEq, Eq)]
+#[derive(Clone, Copy)]
 enum LineFault {
     /// It is none of a journal.
     Bad,
