@@ -22,7 +22,7 @@ use Rattle.ser_values.specs.declared.node.Place.TheVariants as places
 use Rattle.ser_values.specs.Shape.{count_of}
 use Rattle.ser_values.specs.Spelled.{put_block, Token, raw, truth, want, note, short_text, field_tokens, value_token, element_tokens, part_tokens}
 use Rattle.ser_write.proofs.Begins.{begins_on}
-use Rattle.ser_write.specs.Canonical.{Written, Writing, pieces_in, pieces, blocks, before_more, write_items, write_token, write_all, value_bytes, primitive_bytes, short_bytes, code_of, tokens_before, note_tokens, array_tokens, tokens_after, write_new, write_one, write_at, front_bytes, after_front, Adds}
+use Rattle.ser_write.specs.Canonical.{Written, Writing, pieces_in, pieces, blocks, before_more, write_items, write_token, write_all, value_bytes, primitive_bytes, short_bytes, code_of, tokens_before, note_tokens, array_tokens, tokens_after, write_new, write_one, write_at, front_bytes, after_front, ending_tokens, handle_bytes, title_bytes, interface_bytes, Adds}
 
 -- ---- one after the other
 
@@ -98,12 +98,12 @@ write_at_is zero nodes n slots.Null = refl
 write_at_is zero nodes n (slots.Node k) = refl
 write_at_is (suc d) nodes n s = let e : suc d - 1 ≡ d = omega arith in rw e refl
 
-pub again_adds : (old o1 o2 : List ℕ) (left : ℕ) (nodes : List Node) (n k : ℕ) → o1 ≡ old ++ 0x71 ∷ [] → o2 ≡ o1 ++ to_be_bytes w32 (0x7E0000 + k) → k < n → Adds old o2 (Ok n) (write_at left nodes n (slots.Node k))
+pub again_adds : (old new : List ℕ) (left : ℕ) (nodes : List Node) (n k : ℕ) → new ≡ old ++ handle_bytes k → k < n → Adds old new (Ok n) (write_at left nodes n (slots.Node k))
 unfolding write_one
-again_adds old o1 o2 left nodes n k e1 e2 lt =
+again_adds old new left nodes n k is lt =
     let t : ltb k n ≡ true = lt-ltb k n lt in
-    let e : write_at left nodes n (slots.Node k) ≡ (0x71 ∷ to_be_bytes w32 (0x7E0000 + k), n) = write_at_is left nodes n (slots.Node k) ∙ rw t refl in
-    rw e (e2 ∙ (ap (λ (l : List ℕ). l ++ to_be_bytes w32 (0x7E0000 + k)) e1 ∙ append_assoc old (0x71 ∷ []) (to_be_bytes w32 (0x7E0000 + k))), refl)
+    let e : write_at left nodes n (slots.Node k) ≡ (handle_bytes k, n) = write_at_is left nodes n (slots.Node k) ∙ rw t refl in
+    rw e (is, refl)
 
 pub flat_adds : (old : List ℕ) (left : ℕ) (nodes : List Node) (n k : ℕ) → n ≤ k → left ≡ 0 → Adds old old (Ok n) (write_at left nodes n (slots.Node k))
 unfolding write_one
@@ -120,40 +120,37 @@ new_adds nodes inner n k i old o1 o2 new m r e a h =
     let head : o2 ≡ old ++ (code_of i ∷ (write_all inner n (tokens_before i)).0) = a.0 ∙ (ap (λ (l : List ℕ). l ++ (write_all inner n (tokens_before i)).0) e ∙ append_assoc old (code_of i ∷ []) (write_all inner n (tokens_before i)).0) in
     adds_more old o2 new (k + 1) r (code_of i ∷ (write_all inner n (tokens_before i)).0, k + 1) (λ m. write_all inner m (tokens_after nodes i)) (head, refl) h
 
-pub desc_before : (one : Writing) (n : ℕ) (d : ClassDesc) (old o1 o2 : List ℕ) → o1 ≡ old ++ short_bytes d.name → o2 ≡ o1 ++ to_be_bytes w64 (cast_unsigned w64 d.suid) → Adds old o2 (Ok n) (write_all one n (tokens_before (Desc d)))
+pub desc_before : (one : Writing) (n : ℕ) (d : ClassDesc) (old new : List ℕ) → new ≡ old ++ title_bytes d → Adds old new (Ok n) (write_all one n (tokens_before (Desc d)))
 unfolding write_all tokens_before
-desc_before one n d old o1 o2 e1 e2 = adds_bytes old o1 o2 n (Ok n) (short_bytes d.name) (λ m. write_all one m (raw (to_be_bytes w64 (cast_unsigned w64 d.suid)) ∷ [])) e1
-    (adds_bytes o1 o2 o2 n (Ok n) (to_be_bytes w64 (cast_unsigned w64 d.suid)) (λ m. write_all one m []) e2 (sym (append-nil o2), refl))
+desc_before one n d old new is = (is ∙ ap (λ (l : List ℕ). old ++ (short_bytes d.name ++ l)) (sym (append-nil (to_be_bytes w64 (cast_unsigned w64 d.suid)))), refl)
 
-note_then : (one : Writing) (n n2 : ℕ) (is : List Item) (old o1 o2 new : List ℕ) (r : Result ℕ AllocError) (f : ℕ → Written) → Adds old o1 (Ok n2) (write_items one n is) → o2 ≡ o1 ++ 0x78 ∷ [] → Adds o2 new r (f n2)
-    → Adds old new r (before_more (before_more (write_items one n is) (λ m. (0x78 ∷ [], m))) f)
-note_then one n n2 is old o1 o2 new r f a e h = adds_more old o2 new n2 r (before_more (write_items one n is) (λ m. (0x78 ∷ [], m))) f (adds_more old o1 o2 n2 (Ok n2) (write_items one n is) (λ m. (0x78 ∷ [], m)) a (e, refl)) h
+pub closed_adds : (one : Writing) (n m : ℕ) (is : List Item) (old mid new : List ℕ) → Adds old mid (Ok m) (write_items one n is) → new ≡ mid ++ 0x78 ∷ [] → Adds old new (Ok m) (write_all one n (note is ∷ []))
+closed_adds one n m is old mid new a e = rw (write_all-one one n (note is)) (adds_more old mid new m (Ok m) (write_items one n is) (λ m. (0x78 ∷ [], m)) a (e, refl))
 
 -- the end of a description: its annotation and its superclass
-ending : (one : Writing) (n n2 : ℕ) (is : List Item) (s : Slot) (old o1 o2 new : List ℕ) (r : Result ℕ AllocError) → Adds old o1 (Ok n2) (write_items one n is) → o2 ≡ o1 ++ 0x78 ∷ [] → Adds o2 new r (one n2 s)
-    → Adds old new r (write_all one n (note is ∷ want (places.Parent, s) ∷ []))
-unfolding write_all
-ending one n n2 is s old o1 o2 new r a e h = note_then one n n2 is old o1 o2 new r (λ m. write_all one m (want (places.Parent, s) ∷ [])) a e (rw (write_all-one one n2 (want (places.Parent, s))) h)
+pub ending_adds : (one : Writing) (n m : ℕ) (is : List Item) (s : Slot) (old mid new : List ℕ) (r : Result ℕ AllocError) → Adds old mid (Ok m) (write_all one n (note is ∷ [])) → Adds mid new r (one m s) → Adds old new r (write_all one n (ending_tokens is s))
+ending_adds one n m is s old mid new r a h =
+    let parent : List Token = want (places.Parent, s) ∷ [] in
+    let e : write_all one n (ending_tokens is s) ≡ before_more (write_all one n (note is ∷ [])) (λ m. write_all one m parent) = write_all-append one n (note is ∷ []) parent in
+    rw e (adds_more old mid new m r (write_all one n (note is ∷ [])) (λ m. write_all one m parent) a (rw (write_all-one one m (want (places.Parent, s))) h))
 
-pub desc_after : (nodes : List Node) (one : Writing) (n n1 n2 : ℕ) (d : ClassDesc) (old o1 o2 o3 o4 o5 new : List ℕ) (r : Result ℕ AllocError) → o1 ≡ old ++ d.flags ∷ [] → o2 ≡ o1 ++ to_be_bytes w16 (length d.fields)
-    → Adds o2 o3 (Ok n1) (write_all one n (field_tokens d.fields)) → Adds o3 o4 (Ok n2) (write_items one n1 d.note) → o5 ≡ o4 ++ 0x78 ∷ [] → Adds o5 new r (one n2 d.parent)
-    → Adds old new r (write_all one n (tokens_after nodes (Desc d)))
+pub desc_after : (nodes : List Node) (one : Writing) (n m : ℕ) (d : ClassDesc) (old o1 o2 new : List ℕ) (r : Result ℕ AllocError) → o1 ≡ old ++ d.flags ∷ to_be_bytes w16 (length d.fields)
+    → Adds o1 o2 (Ok m) (write_all one n (field_tokens d.fields)) → Adds o2 new r (write_all one m (ending_tokens d.note d.parent)) → Adds old new r (write_all one n (tokens_after nodes (Desc d)))
 unfolding write_all tokens_after
-desc_after nodes one n n1 n2 d old o1 o2 o3 o4 o5 new r e1 e2 a b e3 h =
-    let ends = note d.note ∷ want (places.Parent, d.parent) ∷ [] in
-    adds_bytes old o1 new n r (d.flags ∷ []) (λ m. write_all one m (raw (to_be_bytes w16 (length d.fields)) ∷ (field_tokens d.fields ++ ends))) e1
-    (adds_bytes o1 o2 new n r (to_be_bytes w16 (length d.fields)) (λ m. write_all one m (field_tokens d.fields ++ ends)) e2
-    (rw (write_all-append one n (field_tokens d.fields) (note d.note ∷ want (places.Parent, d.parent) ∷ []))
-    (adds_more o2 o3 new n1 r (write_all one n (field_tokens d.fields)) (λ m. write_all one m (note d.note ∷ want (places.Parent, d.parent) ∷ [])) a (ending one n1 n2 d.note d.parent o3 o4 o5 new r b e3 h))))
+desc_after nodes one n m d old o1 o2 new r e a h =
+    adds_bytes old o1 new n r (d.flags ∷ to_be_bytes w16 (length d.fields)) (λ m. write_all one m (field_tokens d.fields ++ ending_tokens d.note d.parent)) e
+    (rw (write_all-append one n (field_tokens d.fields) (ending_tokens d.note d.parent))
+    (adds_more o1 o2 new m r (write_all one n (field_tokens d.fields)) (λ m. write_all one m (ending_tokens d.note d.parent)) a h))
 
-pub proxy_after : (nodes : List Node) (one : Writing) (n n2 : ℕ) (p : ProxyDesc) (old o1 o2 o3 o4 new : List ℕ) (r : Result ℕ AllocError) → o1 ≡ old ++ to_be_bytes w32 (length p.names) → o2 ≡ o1 ++ flat_map short_bytes p.names
-    → Adds o2 o3 (Ok n2) (write_items one n p.note) → o4 ≡ o3 ++ 0x78 ∷ [] → Adds o4 new r (one n2 p.parent)
-    → Adds old new r (write_all one n (tokens_after nodes (Proxy p)))
+pub proxy_after : (nodes : List Node) (one : Writing) (n : ℕ) (p : ProxyDesc) (old mid new : List ℕ) (r : Result ℕ AllocError) → mid ≡ old ++ interface_bytes p.names
+    → Adds mid new r (write_all one n (ending_tokens p.note p.parent)) → Adds old new r (write_all one n (tokens_after nodes (Proxy p)))
 unfolding write_all tokens_after
-proxy_after nodes one n n2 p old o1 o2 o3 o4 new r e1 e2 a e3 h =
-    adds_bytes old o1 new n r (to_be_bytes w32 (length p.names)) (λ m. write_all one m (map short_text p.names ++ (note p.note ∷ want (places.Parent, p.parent) ∷ []))) e1
-    (rw (write_all-append one n (map short_text p.names) (note p.note ∷ want (places.Parent, p.parent) ∷ []), write_all-raw one n short_bytes p.names)
-    (adds_bytes o1 o2 new n r (flat_map short_bytes p.names) (λ m. write_all one m (note p.note ∷ want (places.Parent, p.parent) ∷ [])) e2 (ending one n n2 p.note p.parent o2 o3 o4 new r a e3 h)))
+proxy_after nodes one n p old mid new r e h =
+    let count = to_be_bytes w32 (length p.names) in
+    let names = flat_map short_bytes p.names in
+    adds_bytes old (old ++ count) new n r count (λ m. write_all one m (map short_text p.names ++ ending_tokens p.note p.parent)) refl
+    (rw (write_all-append one n (map short_text p.names) (ending_tokens p.note p.parent), write_all-raw one n short_bytes p.names)
+    (adds_bytes (old ++ count) mid new n r names (λ m. write_all one m (ending_tokens p.note p.parent)) (e ∙ sym (append_assoc old count names)) h))
 
 pub array_adds : (one : Writing) (n : ℕ) (vs : Values) (old o1 new : List ℕ) (r : Result ℕ AllocError) → o1 ≡ old ++ to_be_bytes w32 (count_of vs) → Adds o1 new r (write_all one n (element_tokens vs)) → Adds old new r (write_all one n (array_tokens vs))
 unfolding write_all

@@ -8,7 +8,10 @@ use Rattle.class_desc.specs.declared.slot.Slot.{Slot}
 use Rattle.class_desc.specs.declared.slot.Slot.TheVariants as slots
 use Rattle.class_desc.specs.declared.slot.Item.{Item}
 use Rattle.class_desc.specs.declared.slot.Item.TheVariants as items
+use Rattle.class_desc.specs.declared.desc.ClassDesc.{ClassDesc}
+use Rattle.class_desc.specs.declared.field.FieldDesc.{FieldDesc}
 use Rattle.class_desc.specs.ClassDesc.{has_flag}
+use Rattle.class_desc.specs.TypeCode.{letter}
 use Rattle.ser_values.specs.declared.value.Value.{Value}
 use Rattle.ser_values.specs.declared.value.Value.TheVariants as values
 use Rattle.ser_values.specs.declared.value.Part.{Part}
@@ -53,6 +56,22 @@ long_bytes t = to_be_bytes w64 (length (utf t)) ++ utf t
 -- with a length of 64 bits only where 16 don't do
 abbrev pub text_bytes : List ℕ → List ℕ
 text_bytes t = if is_short t then short_bytes t else long_bytes t
+
+-- the handle of a node
+abbrev pub handle_bytes : ℕ → List ℕ
+handle_bytes k = 0x71 ∷ to_be_bytes w32 (0x7E0000 + k)
+
+-- a description's name and its number
+abbrev pub title_bytes : ClassDesc → List ℕ
+title_bytes d = short_bytes d.name ++ to_be_bytes w64 (cast_unsigned w64 d.suid)
+
+-- a field's code and its name
+abbrev pub field_bytes : FieldDesc → List ℕ
+field_bytes f = letter f.code ∷ short_bytes f.name
+
+-- how many interfaces a proxy has, and their names
+abbrev pub interface_bytes : List (List ℕ) → List ℕ
+interface_bytes names = to_be_bytes w32 (length names) ++ flat_map short_bytes names
 
 -- a primitive value; a reference has no bytes of its own
 abbrev pub value_bytes : Value → List ℕ
@@ -124,6 +143,10 @@ tokens_before (Object c ps) = want (places.Class, slots.Node c) ∷ []
 tokens_before (Array c vs) = want (places.Class, slots.Node c) ∷ []
 tokens_before (Class c) = want (places.Class, slots.Node c) ∷ []
 tokens_before (Enum c t) = want (places.Class, slots.Node c) ∷ []
+
+-- what a description ends with: its annotation, and its superclass
+abbrev pub ending_tokens : List Item → Slot → List Token
+ending_tokens is s = note is ∷ want (places.Parent, s) ∷ []
 
 -- an externalizable class
 abbrev pub is_external_class : Option Node → Bool

@@ -1,15 +1,19 @@
 //! What is written of a node by itself.
 ghost use Rattle.std.specs.Prelude.{◌≡◌, ◌∷◌, ◌++◌, [], ℕ, suc, IfOk, OnErr, OnOk, option_map, reverse, slice_get, take, drop};
+ghost use Rattle.std.specs.Int.{w16, to_be_bytes};
 ghost use Rattle.std.specs.List.{flat_map};
 ghost use Rattle.ser_values.specs.Spelled.{writers};
-ghost use Rattle.ser_write.specs.Canonical.{Begins, block_of, blocks, code_of, short_bytes, text_bytes, primitive_bytes, value_bytes, is_external_class, writers_by};
+ghost use Rattle.ser_write.specs.Canonical.{Begins, block_of, blocks, code_of, field_bytes, handle_bytes, interface_bytes, short_bytes, text_bytes, title_bytes, primitive_bytes, value_bytes, is_external_class, writers_by};
 
-use crate::numbers::{Spelled, put_32, put_byte, put_each, put_long_text, put_short_text};
-use class_desc::{EXTERNALIZABLE, Slot, WRITE_METHOD, has_flag};
+use crate::numbers::{Spelled, put_16, put_32, put_byte, put_each, put_long_text, put_short_text};
+use class_desc::{ClassDesc, EXTERNALIZABLE, FieldDesc, Slot, WRITE_METHOD, has_flag};
 use mod_utf::list::{ByteList, Units};
 use mod_utf::utf::encoded_len;
 use ser_values::{Node, Value, Values};
 use std::alloc::{AllocError, Global};
+
+/// The handle of the first node.
+const FIRST_HANDLE: usize = 0x7E_0000;
 
 /// The greatest number of bytes in a block.
 const BLOCK: usize = 1024;
@@ -100,8 +104,53 @@ pub(crate) fn put_text(out: &mut ByteList, text: &Units) -> Result<(), AllocErro
     }
 }
 
+/// Appends the handle of a node.
+pub(crate) fn put_handle(out: &mut ByteList, number: u32) -> Result<(), AllocError>
+    ensures written { OnOk result (out.new ≡ out.old ++ handle_bytes number) }
+    ensures kept { OnErr result (Begins out.old out.new) }
+{
+    put_byte(out, 0x71)?;
+    put_32(out, FIRST_HANDLE + number as usize)
+}
+
+/// Appends a description's name and its number.
+pub(crate) fn put_title(out: &mut ByteList, desc: &ClassDesc) -> Result<(), AllocError>
+    ensures written { OnOk result (out.new ≡ out.old ++ title_bytes desc.now) }
+    ensures kept { OnErr result (Begins out.old out.new) }
+{
+    put_short_text(out, &desc.name)?;
+    desc.suid.put(out)
+}
+
+/// Appends a description's flags and how many fields it has.
+pub(crate) fn put_counts(out: &mut ByteList, flags: u8, fields: usize) -> Result<(), AllocError>
+    ensures written { OnOk result (out.new ≡ out.old ++ flags ∷ to_be_bytes w16 fields) }
+    ensures kept { OnErr result (Begins out.old out.new) }
+{
+    put_byte(out, flags)?;
+    put_16(out, fields)
+}
+
+/// Appends a field's code and its name.
+pub(crate) fn put_field(out: &mut ByteList, field: &FieldDesc) -> Result<(), AllocError>
+    ensures written { OnOk result (out.new ≡ out.old ++ field_bytes field.now) }
+    ensures kept { OnErr result (Begins out.old out.new) }
+{
+    put_byte(out, field.code.letter())?;
+    put_short_text(out, &field.name)
+}
+
+/// Appends how many interfaces a proxy has, and their names.
+pub(crate) fn put_interfaces(out: &mut ByteList, names: &[Units]) -> Result<(), AllocError>
+    ensures written { OnOk result (out.new ≡ out.old ++ interface_bytes names.now) }
+    ensures kept { OnErr result (Begins out.old out.new) }
+{
+    put_32(out, names.len())?;
+    put_names(out, names)
+}
+
 /// Appends the names of a proxy's interfaces.
-pub(crate) fn put_names(out: &mut ByteList, names: &[Units]) -> Result<(), AllocError>
+fn put_names(out: &mut ByteList, names: &[Units]) -> Result<(), AllocError>
     ensures written { OnOk result (out.new ≡ out.old ++ flat_map short_bytes names.now) }
     ensures kept { OnErr result (Begins out.old out.new) }
 {

@@ -1,22 +1,20 @@
 //! Nodes are written where they are first wanted.
-ghost use Rattle.std.specs.Prelude.{◌≡◌, ◌++◌, IfOk, OnErr, OnOk, map, slice_get};
-ghost use Rattle.ser_values.specs.Spelled.{field_tokens, value_token, reference, part_tokens};
+ghost use Rattle.std.specs.Prelude.{◌≡◌, ◌∷◌, ◌++◌, [], IfOk, OnErr, OnOk, map, slice_get};
+ghost use Rattle.ser_values.specs.declared.node.Node.TheVariants as loose;
+ghost use Rattle.ser_values.specs.Spelled.{note, field_tokens, value_token, reference, part_tokens};
 ghost use Rattle.ser_values.specs.Spelled.{IsStream, put_block};
-ghost use Rattle.ser_write.specs.Canonical.{write_items, write_all, tokens_before, object_tokens, note_tokens, array_tokens, tokens_after, write_new, write_at, contents, canonical, front_bytes, after_front, SpellContents, SpellFully, AreOfNoOther, Adds};
+ghost use Rattle.ser_write.specs.Canonical.{write_items, write_all, ending_tokens, tokens_before, object_tokens, note_tokens, array_tokens, tokens_after, write_new, write_at, contents, canonical, front_bytes, after_front, SpellContents, SpellFully, AreOfNoOther, Adds};
 
-use crate::numbers::{Spelled, put_16, put_32, put_byte, put_short_text};
+use crate::numbers::{put_32, put_byte};
 use crate::pieces::{
-    code_of, is_external_class, node_at, put_blocks, put_names, put_primitive, put_primitives,
-    put_text, writers_of,
+    code_of, is_external_class, node_at, put_blocks, put_counts, put_field, put_handle,
+    put_interfaces, put_primitive, put_primitives, put_text, put_title, writers_of,
 };
-use class_desc::{FieldDesc, Item, Slot, is_primitive};
+use class_desc::{ClassDesc, FieldDesc, Item, ProxyDesc, Slot, is_primitive};
 use mod_utf::list::ByteList;
 use ser_values::limits::LEVELS;
 use ser_values::{Graph, Node, Part, Value, Values};
 use std::alloc::{AllocError, Global};
-
-/// The handle of the first node.
-const FIRST_HANDLE: usize = 0x7E_0000;
 
 /// Writes a reference, at most so many levels deep: null, a handle, or a node whole. `next` nodes have handles; the answer
 /// is how many have one afterwards.
@@ -39,8 +37,7 @@ fn put_slot(
         }
         Slot::Node(number) => {
             if u64::from(number) < next {
-                put_byte(out, 0x71)?;
-                put_32(out, FIRST_HANDLE + number as usize)?;
+                put_handle(out, number)?;
                 Ok(next)
             } else if left == 0 {
                 Ok(next)
@@ -90,8 +87,7 @@ fn put_before(
         Node::Text(_) => Ok(next),
         Node::Proxy(_) => Ok(next),
         Node::Desc(desc) => {
-            put_short_text(out, &desc.name)?;
-            desc.suid.put(out)?;
+            put_title(out, desc)?;
             Ok(next)
         }
         Node::Object { class, .. } => put_slot(alloc, out, nodes, next, Slot::Node(*class), left),
@@ -119,21 +115,8 @@ fn put_after(
             put_text(out, text)?;
             Ok(next)
         }
-        Node::Desc(desc) => {
-            put_byte(out, desc.flags)?;
-            put_16(out, desc.fields.len())?;
-            let next = put_fields(alloc, out, nodes, next, desc.fields.as_slice(), left)?;
-            let next = put_items(alloc, out, nodes, next, desc.note.as_slice(), left)?;
-            put_byte(out, 0x78)?;
-            put_slot(alloc, out, nodes, next, desc.parent, left)
-        }
-        Node::Proxy(proxy) => {
-            put_32(out, proxy.names.len())?;
-            put_names(out, proxy.names.as_slice())?;
-            let next = put_items(alloc, out, nodes, next, proxy.note.as_slice(), left)?;
-            put_byte(out, 0x78)?;
-            put_slot(alloc, out, nodes, next, proxy.parent, left)
-        }
+        Node::Desc(desc) => put_desc(alloc, out, nodes, next, desc, left),
+        Node::Proxy(proxy) => put_proxy(alloc, out, nodes, next, proxy, left),
         Node::Object { class, parts } => {
             put_object(alloc, out, nodes, next, *class, parts.as_slice(), left)
         }
@@ -141,6 +124,89 @@ fn put_after(
         Node::Class { .. } => Ok(next),
         Node::Enum { name, .. } => put_slot(alloc, out, nodes, next, Slot::Node(*name), left),
     }
+}
+
+/// Writes what stands after a description's handle.
+#[cycle(writing)]
+fn put_desc(
+    alloc: Global,
+    out: &mut ByteList,
+    nodes: &[Node],
+    next: u64,
+    desc: &ClassDesc,
+    left: u32,
+) -> Result<u64, AllocError>
+    ensures { Adds out.old out.new result (write_all (write_at left nodes.now) next (tokens_after nodes.now (loose.Desc desc.now))) }
+{
+    put_counts(out, desc.flags, desc.fields.len())?;
+    let next = put_fields(alloc, out, nodes, next, desc.fields.as_slice(), left)?;
+    put_ending(
+        alloc,
+        out,
+        nodes,
+        next,
+        desc.note.as_slice(),
+        desc.parent,
+        left,
+    )
+}
+
+/// Writes what stands after a proxy class's handle.
+#[cycle(writing)]
+fn put_proxy(
+    alloc: Global,
+    out: &mut ByteList,
+    nodes: &[Node],
+    next: u64,
+    proxy: &ProxyDesc,
+    left: u32,
+) -> Result<u64, AllocError>
+    ensures { Adds out.old out.new result (write_all (write_at left nodes.now) next (tokens_after nodes.now (loose.Proxy proxy.now))) }
+{
+    put_interfaces(out, proxy.names.as_slice())?;
+    put_ending(
+        alloc,
+        out,
+        nodes,
+        next,
+        proxy.note.as_slice(),
+        proxy.parent,
+        left,
+    )
+}
+
+/// Writes what a description ends with: its annotation, and its superclass.
+#[cycle(writing)]
+fn put_ending(
+    alloc: Global,
+    out: &mut ByteList,
+    nodes: &[Node],
+    next: u64,
+    annotation: &[Item],
+    parent: Slot,
+    left: u32,
+) -> Result<u64, AllocError>
+    ensures { Adds out.old out.new result (write_all (write_at left nodes.now) next (ending_tokens annotation.now parent)) }
+{
+    let next = put_closed(alloc, out, nodes, next, annotation, left)?;
+    put_slot(alloc, out, nodes, next, parent, left)
+}
+
+/// Writes items, and the mark of their end.
+#[cycle(writing)]
+fn put_closed(
+    alloc: Global,
+    out: &mut ByteList,
+    nodes: &[Node],
+    next: u64,
+    items: &[Item],
+    left: u32,
+) -> Result<u64, AllocError>
+    ensures { Adds out.old out.new result (write_all (write_at left nodes.now) next (note items.now ∷ [])) }
+{
+    let next = put_items(alloc, out, nodes, next, items, left)?;
+    put_byte(out, 0x78)?;
+    Ok(next)
 }
 
 /// Writes an object's parts, or the note of an externalizable one.
@@ -160,11 +226,7 @@ fn put_object(
     if is_external_class(node_at(nodes, class)) {
         match parts {
             [] => Ok(next),
-            [part, ..] => {
-                let next = put_items(alloc, out, nodes, next, part.note.as_slice(), left)?;
-                put_byte(out, 0x78)?;
-                Ok(next)
-            }
+            [part, ..] => put_closed(alloc, out, nodes, next, part.note.as_slice(), left),
         }
     } else {
         let writes = writers_of(alloc, nodes, Slot::Node(class), parts.len())?;
@@ -187,8 +249,7 @@ fn put_fields(
 {
     let mut next = next;
     for field in fields {
-        put_byte(out, field.code.letter())?;
-        put_short_text(out, &field.name)?;
+        put_field(out, field)?;
         if !is_primitive(field.code) {
             next = put_slot(alloc, out, nodes, next, field.type_text, left)?;
         }
@@ -290,9 +351,7 @@ fn put_note(
     ensures { Adds out.old out.new result (write_all (write_at left nodes.now) next (note_tokens writes note.now)) }
 {
     if writes {
-        let next = put_items(alloc, out, nodes, next, note, left)?;
-        put_byte(out, 0x78)?;
-        Ok(next)
+        put_closed(alloc, out, nodes, next, note, left)
     } else {
         Ok(next)
     }

@@ -3,34 +3,40 @@ use Rattle.std.proofs.lemmas.List.{append-nil}
 use Rattle.ser_values.proofs.Lists.{slice_get-or}
 use Rattle.ser_write.specs.Canonical.{write_at}
 use Rattle.ser_write.proofs.Begins.{begins_more}
-use Rattle.ser_write.proofs.Writes.{again_adds, flat_adds, desc_before, desc_after, proxy_after, array_adds, write_all-primitive, parts_stop, part_next, slice_get_within_or}
+use Rattle.ser_write.proofs.Writes.{again_adds, flat_adds, desc_before, closed_adds, ending_adds, desc_after, proxy_after, array_adds, write_all-primitive, parts_stop, part_next, slice_get_within_or}
 use Rattle.ser_write.proofs.writing.+writing.Goals as goal
 
-pub put_slot-returns-in_ok-put_32-in-Node : goal.put_slot-returns-in_ok-put_32-in-Node
-put_slot-returns-in_ok-put_32-in-Node t c =
+pub put_slot-returns-in_ok-put_handle-in-Node : goal.put_slot-returns-in_ok-put_handle-in-Node
+put_slot-returns-in_ok-put_handle-in-Node t c =
     let lt : c.in-Node.number < c.args.next = search rules in
-    rw c.in-Node.is (again_adds c.args.out.now c.put_byte-then-from-next.new.out c.put_32.new.out c.args.left c.args.nodes.now c.args.next c.in-Node.number c.in_ok-put_byte-in-Node.ensures.written c.in_ok-put_32-in-Node.ensures.written lt)
+    rw c.in-Node.is (again_adds c.args.out.now c.put_handle.new.out c.args.left c.args.nodes.now c.args.next c.in-Node.number c.in_ok-put_handle-in-Node.ensures.written lt)
 
 pub put_slot-returns-then-left-eq0 : goal.put_slot-returns-then-left-eq0
 put_slot-returns-then-left-eq0 t c =
     let le : c.args.next ≤ c.in-Node.number = search rules in
     rw c.in-Node.is (flat_adds c.args.out.now c.args.left c.args.nodes.now c.args.next c.in-Node.number le c.if-left-eq0.true)
 
-pub put_before-returns-in_ok-put-in-Desc : goal.put_before-returns-in_ok-put-in-Desc
-put_before-returns-in_ok-put-in-Desc t c =
-    rw c.in-Desc.is (desc_before (write_at c.args.left c.args.nodes.now) c.args.next c.in-Desc.desc c.args.out.now c.put_short_text.new.out c.put.new.out c.in_ok-put_short_text-in-Desc.ensures.written c.in_ok-put-in-Desc.ensures.written)
+pub put_before-returns-in_ok-put_title-in-Desc : goal.put_before-returns-in_ok-put_title-in-Desc
+put_before-returns-in_ok-put_title-in-Desc t c =
+    rw c.in-Desc.is (desc_before (write_at c.args.left c.args.nodes.now) c.args.next c.in-Desc.desc c.args.out.now c.put_title.new.out c.in_ok-put_title-in-Desc.ensures.written)
 
-pub put_after-returns-in_ok-put_byte-in-Desc-2 : goal.put_after-returns-in_ok-put_byte-in-Desc-2
-put_after-returns-in_ok-put_byte-in-Desc-2 t c =
-    rw c.in-Desc.is (desc_after c.args.nodes.now (write_at c.args.left c.args.nodes.now) c.args.next c.in_ok-next-in-Desc.next c.in_ok-next-in-Desc-2.next c.in-Desc.desc
-    c.args.out.now c.put_byte.new.out c.put_16.new.out c.put_fields.new.out c.put_items.new.out c.put_byte-in-Desc.new.out c.put_slot.new.out c.put_slot.result
-    c.in_ok-put_byte-in-Desc.ensures.written (rw c.len.ensures at c.in_ok-put_16-in-Desc.ensures.written) (rw c.as_slice.ensures at c.in_ok-next-in-Desc.ensures) (rw c.as_slice-in-Desc.ensures at c.in_ok-next-in-Desc-2.ensures) c.in_ok-put_byte-in-Desc-2.ensures.written c.put_slot.ensures)
+pub put_desc-returns : goal.put_desc-returns
+put_desc-returns t c =
+    desc_after c.args.nodes.now (write_at c.args.left c.args.nodes.now) c.args.next c.in_ok-next.next c.args.desc.now c.args.out.now c.put_counts.new.out c.put_fields.new.out c.put_ending.new.out c.put_ending.result
+    (rw c.len.ensures at c.in_ok-put_counts.ensures.written) (rw c.as_slice.ensures at c.in_ok-next.ensures) (rw c.as_slice-2.ensures at c.put_ending.ensures)
 
-pub put_after-returns-in_ok-put_byte-in-Proxy : goal.put_after-returns-in_ok-put_byte-in-Proxy
-put_after-returns-in_ok-put_byte-in-Proxy t c =
-    rw c.in-Proxy.is (proxy_after c.args.nodes.now (write_at c.args.left c.args.nodes.now) c.args.next c.in_ok-next-in-Proxy.next c.in-Proxy.proxy
-    c.args.out.now c.put_32.new.out c.put_names.new.out c.put_items-in-Proxy.new.out c.put_byte-in-Proxy.new.out c.put_slot-in-Proxy.new.out c.put_slot-in-Proxy.result
-    (rw c.len-in-Proxy.ensures at c.in_ok-put_32-in-Proxy.ensures.written) (rw c.as_slice-in-Proxy.ensures at c.in_ok-put_names-in-Proxy.ensures.written) (rw c.as_slice-in-Proxy-2.ensures at c.in_ok-next-in-Proxy.ensures) c.in_ok-put_byte-in-Proxy.ensures.written c.put_slot-in-Proxy.ensures)
+pub put_proxy-returns : goal.put_proxy-returns
+put_proxy-returns t c =
+    proxy_after c.args.nodes.now (write_at c.args.left c.args.nodes.now) c.args.next c.args.proxy.now c.args.out.now c.put_interfaces.new.out c.put_ending.new.out c.put_ending.result
+    (rw c.as_slice.ensures at c.in_ok-put_interfaces.ensures.written) (rw c.as_slice-2.ensures at c.put_ending.ensures)
+
+pub put_ending-returns : goal.put_ending-returns
+put_ending-returns t c =
+    ending_adds (write_at c.args.left c.args.nodes.now) c.args.next c.in_ok-next.next c.args.annotation.now c.args.parent c.args.out.now c.put_closed.new.out c.put_slot.new.out c.put_slot.result c.in_ok-next.ensures c.put_slot.ensures
+
+pub put_closed-returns : goal.put_closed-returns
+put_closed-returns t c =
+    closed_adds (write_at c.args.left c.args.nodes.now) c.args.next c.in_ok-next.next c.args.items.now c.args.out.now c.put_items.new.out c.put_byte.new.out c.in_ok-next.ensures c.in_ok-put_byte.ensures.written
 
 pub put_array-returns-in-Refs : goal.put_array-returns-in-Refs
 put_array-returns-in-Refs t c =

@@ -15,11 +15,23 @@ decreases-put_before l = 16 * l.left + 14
 abbrev pub decreases-put_after : goal.decreases-put_after
 decreases-put_after l = 16 * l.left + 13
 
+abbrev pub decreases-put_desc : goal.decreases-put_desc
+decreases-put_desc l = 16 * l.left + 12
+
+abbrev pub decreases-put_proxy : goal.decreases-put_proxy
+decreases-put_proxy l = 16 * l.left + 12
+
+abbrev pub decreases-put_ending : goal.decreases-put_ending
+decreases-put_ending l = 16 * l.left + 8
+
+abbrev pub decreases-put_closed : goal.decreases-put_closed
+decreases-put_closed l = 16 * l.left + 7
+
 abbrev pub decreases-put_object : goal.decreases-put_object
 decreases-put_object l = 16 * l.left + 12
 
 abbrev pub decreases-put_parts : goal.decreases-put_parts
-decreases-put_parts l = 16 * l.left + 8
+decreases-put_parts l = 16 * l.left + 9
 
 abbrev pub decreases-put_fields : goal.decreases-put_fields
 decreases-put_fields l = 16 * l.left + 6
@@ -34,7 +46,7 @@ abbrev pub decreases-put_array : goal.decreases-put_array
 decreases-put_array l = 16 * l.left + 7
 
 abbrev pub decreases-put_note : goal.decreases-put_note
-decreases-put_note l = 16 * l.left + 7
+decreases-put_note l = 16 * l.left + 8
 
 abbrev pub decreases-put_slots : goal.decreases-put_slots
 decreases-put_slots l = 16 * l.left + 6
