@@ -1,5 +1,6 @@
 -- Lists of identifiers that were built.
-use Rattle.std.proofs.Common.{◌≡◌, ◌∙◌, ◌<◌, ◌+◌, ◌*◌, ◌++◌, take, get_or, ℕ, ℤ, true, List, [], ◌∷◌, length, Some, Result, slice_get, codes, refl, ap, sym, arith}
+use Rattle.std.proofs.Common.{◌≡◌, ◌∙◌, ◌<◌, ◌≤◌, ◌+◌, ◌*◌, ◌++◌, take, get_or, ℕ, ℤ, true, List, [], ◌∷◌, length, Some, Result, Ok, Err, slice_get, codes, refl, ap, sym, subst, append-nil, arith}
+use Rattle.std.specs.Prelude.{IsErrAnd}
 use Rattle.std.proofs.lemmas.List.{take_more}
 use Rattle.class_desc.specs.declared.slot.Slot.{Slot}
 use Rattle.class_desc.specs.declared.slot.Slot.TheVariants as slots
@@ -14,10 +15,12 @@ use Rattle.ser_values.specs.declared.value.Values.TheVariants as kinds
 use Rattle.ser_values.specs.declared.node.Node.{Node}
 use Rattle.ser_values.specs.declared.node.Node.TheVariants.{Desc, Object, Array}
 use Rattle.ser_values.specs.Builder.{number_of}
+use Rattle.java_shapes.specs.declared.id_lists.ListClasses.{ListClasses}
 use Rattle.java_shapes.specs.Objects.{Held, same_text, node_at, value_of, as_slot, as_long, array_at, as_refs, each}
-use Rattle.java_shapes.specs.Put.{Grows, Puts, IsClassAt, desc_with}
+use Rattle.java_shapes.specs.Put.{Grows, IsPutRefusal, Puts, IsClassAt, desc_with}
 use Rattle.java_shapes.specs.Ids.{uid_at, objid_of, objid_at, objids_at}
 use Rattle.java_shapes.specs.Shapes.{one_part, uid_values, ObjIdAt, AreIds, ObjIdsAt}
+use Rattle.java_shapes.specs.ListClasses.{AreListClasses}
 use Rattle.java_shapes.proofs.Growth.{grows_then, puts_after, puts_map, class_grown, node_grown, numbered}
 use Rattle.java_shapes.proofs.Built.{own_seen, two_types, held_of, uid_seen}
 
@@ -85,29 +88,40 @@ ids_seen nodes ids s h =
     let refs : as_refs (array_at nodes (codes "[Ljava.rmi.server.ObjID;") s) ≡ Some h.objects = rw (h.is, e, same_ids_name) refl in
     rw refs (ids_told nodes h.id_class h.uid_class ids h.objects h.id_own h.uid_own h.are)
 
-pub puts_ids : (old begun first second mid new : List Node) (ids : List ObjId) (objects : List Slot) (class ic uc : Slot) (r : Result Slot BuildFault) → Grows 1 old begun → IsClassAt begun known.ObjIdArray slots.Null class
-    → Grows 3 begun first → IsClassAt first known.ObjId slots.Null ic → Grows 4 first second → IsClassAt second known.Uid slots.Null uc → Grows (2 * length ids) second mid → AreIds mid ic uc ids objects
-    → Puts 1 (λ loose s. node_at loose s ≡ Some (Array (number_of class) (kinds.Refs objects))) mid new r
+pub grows_not : (nodes : List Node) → Grows 0 nodes nodes
+grows_not nodes = record { added = []; few = omega arith; is = sym (append-nil nodes) }
+
+-- What refuses a part refuses the whole.
+pub puts_refused : {A : Type 0} (Shape : List Node → A → Type 0) {n m : ℕ} (most : ℕ) {a b c : List Node} (e : BuildFault) (result : Result A BuildFault) → IsErrAnd result (λ f. f ≡ e) → Grows n a b → Grows m b c × IsPutRefusal m b e → n + m ≤ most
+    → Puts most Shape a c result
+puts_refused Shape most e (Ok s) is g h le = absurd is
+puts_refused Shape {m = m} most {a = a} {c = c} e (Err f) is g h le = subst (λ (x : BuildFault). Puts most Shape a c (Err x)) (sym is) (puts_after Shape m most c (Err e) g h le)
+
+pub puts_list_classes : {old begun first new : List Node} (classes : ListClasses) → Grows 1 old begun → IsClassAt begun known.ObjIdArray slots.Null classes.list → Grows 3 begun first → IsClassAt first known.ObjId slots.Null classes.id
+    → Grows 4 first new → IsClassAt new known.Uid slots.Null classes.uid → Grows 8 old new × AreListClasses new classes
+puts_list_classes {old} {begun} {first} {new} classes g0 list g1 id g2 uid =
+    let down : Grows 7 begun new = grows_then g1 g2 (omega arith) in
+    (grows_then g0 down (omega arith), record { list = class_grown down list; id = class_grown g2 id; uid = uid })
+
+pub puts_ids : (old begun mid new : List Node) (ids : List ObjId) (objects : List Slot) (classes : ListClasses) (r : Result Slot BuildFault) → Grows 8 old begun → AreListClasses begun classes
+    → Grows (2 * length ids) begun mid → AreIds mid classes.id classes.uid ids objects
+    → Puts 1 (λ loose s. node_at loose s ≡ Some (Array (number_of classes.list) (kinds.Refs objects))) mid new r
     → Puts (16 + 2 * length ids) (λ loose s. ObjIdsAt loose ids s) old new r
-puts_ids old begun first second mid new ids objects class ic uc r g0 own g1 i g2 u g3 are put =
-    let up1 : Grows 4 old first = grows_then g0 g1 (omega arith) in
-    let up2 : Grows 8 old second = grows_then up1 g2 (omega arith) in
-    let up3 : Grows (8 + 2 * length ids) old mid = grows_then up2 g3 (omega arith) in
-    puts_after (λ loose s. ObjIdsAt loose ids s) 1 (16 + 2 * length ids) new r up3
-    (puts_map (λ loose s. node_at loose s ≡ Some (Array (number_of class) (kinds.Refs objects))) (λ loose s. ObjIdsAt loose ids s) 1 mid new r put
+puts_ids old begun mid new ids objects classes r g own g1 are put =
+    let up : Grows (8 + 2 * length ids) old mid = grows_then g g1 (omega arith) in
+    puts_after (λ loose s. ObjIdsAt loose ids s) 1 (16 + 2 * length ids) new r up
+    (puts_map (λ loose s. node_at loose s ≡ Some (Array (number_of classes.list) (kinds.Refs objects))) (λ loose s. ObjIdsAt loose ids s) 1 mid new r put
     (λ s grown is.
-    let down2 : Grows (1 + 2 * length ids) second new = grows_then g3 grown (omega arith) in
-    let down1 : Grows (5 + 2 * length ids) first new = grows_then g2 down2 (omega arith) in
-    let down0 : Grows (8 + 2 * length ids) begun new = grows_then g1 down1 (omega arith) in
+    let down : Grows (1 + 2 * length ids) begun new = grows_then g1 grown (omega arith) in
     record {
-      class = class;
-      id_class = ic;
-      uid_class = uc;
+      class = classes.list;
+      id_class = classes.id;
+      uid_class = classes.uid;
       objects = objects;
-      own = class_grown down0 own;
-      id_own = class_grown down1 i;
-      uid_own = class_grown down2 u;
-      are = ids_grown grown ic uc ids objects are;
+      own = class_grown down own.list;
+      id_own = class_grown down own.id;
+      uid_own = class_grown down own.uid;
+      are = ids_grown grown classes.id classes.uid ids objects are;
       is = is;
     }))
     (omega arith)

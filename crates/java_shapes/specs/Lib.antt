@@ -14,3 +14,4 @@ pub mod Laws
 pub mod LeaseGraph
 pub mod RefGraph
 pub mod TextsGraph
+pub mod ListClasses

@@ -2,6 +2,7 @@
 ghost use Rattle.std.specs.Prelude.{◌≡◌, ◌+◌, ◌*◌, ◌∷◌, [], Some, length, IfOk, IfErr, OnOk, OnErr};
 ghost use Rattle.ser_values.specs.declared.value.Value.TheVariants as values;
 ghost use Rattle.java_shapes.specs.Ids.{objids_at};
+ghost use Rattle.java_shapes.specs.ListClasses.{AreListClasses};
 ghost use Rattle.java_shapes.specs.Put.{Grows, IsPutRefusal, Puts};
 ghost use Rattle.java_shapes.specs.Shapes.{AreIds, ObjIdAt, ObjIdsAt, one_part};
 
@@ -52,15 +53,31 @@ fn put_each(
     Ok(objects)
 }
 
+/// The descriptions that a list of identifiers wants: of the list's class, of an identifier's, and of the class of its unique part.
+#[derive(Clone, Copy)]
+struct ListClasses {
+    list: Slot,
+    id: Slot,
+    uid: Slot,
+}
+
+/// Puts the descriptions that a list of identifiers wants.
+fn put_classes(alloc: Global, b: &mut Builder) -> Result<ListClasses, BuildFault>
+    ensures { Puts 8 AreListClasses b.old b.new result }
+{
+    let list = put_class(alloc, b, KnownClass::ObjIdArray, Slot::Null)?;
+    let id = put_class(alloc, b, KnownClass::ObjId, Slot::Null)?;
+    let uid = put_class(alloc, b, KnownClass::Uid, Slot::Null)?;
+    Ok(ListClasses { list, id, uid })
+}
+
 /// Puts a list of identifiers; a refusal may leave some of its nodes.
 fn put_some_objids(alloc: Global, b: &mut Builder, ids: &[ObjId]) -> Result<Slot, BuildFault>
     ensures { Puts (16 + 2 * length ids.now) (λ nodes s. ObjIdsAt nodes ids.now s) b.old b.new result }
 {
-    let class = put_class(alloc, b, KnownClass::ObjIdArray, Slot::Null)?;
-    let id_class = put_class(alloc, b, KnownClass::ObjId, Slot::Null)?;
-    let uid_class = put_class(alloc, b, KnownClass::Uid, Slot::Null)?;
-    let objects = put_each(alloc, b, id_class, uid_class, ids)?;
-    put_array(b, class, Values::Refs(objects))
+    let classes = put_classes(alloc, b)?;
+    let objects = put_each(alloc, b, classes.id, classes.uid, ids)?;
+    put_array(b, classes.list, Values::Refs(objects))
 }
 
 /// Puts an `ObjID[]`. TooManyNodes comes only where the loose nodes before, at most 16 and two for each identifier are more than
