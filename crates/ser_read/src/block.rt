@@ -1,5 +1,5 @@
 //! Block data in the outermost place.
-ghost use Rattle.std.specs.Prelude.{◌≡◌, ℕ, length};
+ghost use Rattle.std.specs.Prelude.{◌≡◌, ℕ, [], length};
 ghost use Rattle.ser_read.specs.Here.{ReadsTaken, StopsTaken};
 ghost use Rattle.ser_read.specs.Heads.{one_head, any_head, is_empty, head_at};
 ghost use Rattle.ser_read.specs.Wants.{StopsWant, WantTaken, fault_at, no_block, opened_at, run_at};
@@ -107,6 +107,31 @@ fn opened<S: Source>(pull: &mut Pull<'_, S>, block: u32) -> Result<u32, StreamFa
     }
 }
 
+/// Takes the next `n` bytes of block data, across blocks, into an empty list, where so many of the present block are left.
+fn run_onto<S: Source>(
+    alloc: Global,
+    pull: &mut Pull<'_, S>,
+    block: &mut u32,
+    n: u32,
+    bytes: &mut ByteList,
+) -> Result<(), StreamFault>
+    requires empty { bytes.old ≡ [] }
+    ensures lent { pull.new.source.ghost_name ≡ pull.old.source.ghost_name }
+    ensures reads { WantTaken S.left S.faults pull.old pull.new result (λ end. run_at end n block.old) (λ x rest. (bytes.new, block.new, rest)) }
+    ensures stops { StopsWant S.left S.faults pull.old pull.new result (λ end. run_at end n block.old) }
+{
+    let mut left = n;
+    while left > 0 {
+        let present = opened(pull, *block)?;
+        let more = left.min(present);
+        let piece = take(alloc, pull, u64::from(more))?;
+        add_piece(bytes, piece)?;
+        *block = present - more;
+        left -= more;
+    }
+    Ok(())
+}
+
 /// The next `n` bytes of block data, across blocks, where so many of the present block are left.
 pub(crate) fn run<S: Source>(
     alloc: Global,
@@ -119,15 +144,7 @@ pub(crate) fn run<S: Source>(
     ensures stops { StopsWant S.left S.faults pull.old pull.new result (λ end. run_at end n block.old) }
 {
     let mut bytes = ByteList::new(alloc);
-    let mut left = n;
-    while left > 0 {
-        let present = opened(pull, *block)?;
-        let more = left.min(present);
-        let piece = take(alloc, pull, u64::from(more))?;
-        add_piece(&mut bytes, piece)?;
-        *block = present - more;
-        left -= more;
-    }
+    run_onto(alloc, pull, block, n, &mut bytes)?;
     Ok(bytes)
 }
 

@@ -4,7 +4,7 @@ use Rattle.ser_values.specs.Reading.{short}
 use Rattle.ser_read.proofs.Steps.{leads_more, leads_done}
 use Rattle.ser_read.proofs.Runs.{behind, opened_some, run_opens, run_unopened, piece_next, piece_err, run_end}
 use Rattle.ser_read.proofs.Breaking.{want_raised, want_loop_stops, inside_loop_stops, took}
-use Rattle.ser_read.proofs.block.run.Goals as goal
+use Rattle.ser_read.proofs.block.run_onto.Goals as goal
 
 pub loop-left-smaller : goal.loop-left-smaller
 loop-left-smaller g c =

@@ -5,7 +5,7 @@ use Rattle.ser_values.specs.Reading.{short}
 use Rattle.ser_read.specs.Wants.{inside}
 use Rattle.ser_read.proofs.Steps.{Leads}
 use Rattle.ser_read.proofs.Runs.{behind}
-use Rattle.ser_read.proofs.block.run.Given as goal
+use Rattle.ser_read.proofs.block.run_onto.Given as goal
 
 abbrev pub invariant-loop-left : goal.invariant-loop-left
 invariant-loop-left g l =
