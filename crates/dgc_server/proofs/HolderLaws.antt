@@ -1,5 +1,5 @@
 -- Counts of an index: one count after it is set, and the counts over the objects of a client.
-use Rattle.std.proofs.Common.{◌≡◌, ℕ, ◌+◌, ◌≤◌, ◌<◌, List, [], ◌∷◌, refl, ap, sym, subst, ◌∙◌, arith, cond, Option, Some, None, length, map, drop, suc, zero}
+use Rattle.std.proofs.Common.{◌≡◌, ℕ, ◌+◌, ◌≤◌, ◌<◌, List, [], ◌∷◌, refl, ap, sym, subst, ◌∙◌, arith, cond, Option, Some, None, length, drop, suc, zero}
 use Rattle.std.specs.Prelude.{Bool, true, false, ◌&&◌, ◌||◌, not, is_some, unwrap_or, filter, if◌then◌else◌}
 use Rattle.std.proofs.Common.{add-one, get_or, take}
 use Rattle.std.specs.Prelude.{pos}
@@ -201,60 +201,3 @@ there-more objects m n i d within kept here inv o h =
 -- How many of these clients hold an object at the moment t.
 abbrev pub holding : ℕ → List Entry → ObjId → ℕ
 holding t es o = length (filter (entry_holds t o) es)
-
-module _ (p q : ObjId → Entry → Bool) where
-  many-first : (r : ObjId → Entry → Bool) (e : Entry) (rest : List Entry) (o : ObjId) → length (filter (r o) (e ∷ rest)) ≡ length (filter (r o) rest) + one_if (r o e)
-  many-first r e rest o = go (r o e)
-    where
-      go : (b : Bool) → length (cond b (e ∷ filter (r o) rest) (filter (r o) rest)) ≡ length (filter (r o) rest) + one_if b
-      go true = omega arith
-      go false = omega arith
-
-  many-rest : (es : List Entry) (i : ℕ) (o : ObjId) → length (filter (q o) (drop i es)) ≤ length (filter (q o) es)
-  many-rest es zero o = omega arith
-  many-rest [] (suc i) o = omega arith
-  many-rest (e ∷ es) (suc i) o = let h = many-rest es i o in let f = many-first q e es o in omega arith
-
-  -- An invariant of a loop over the clients: those to come are counted by the first test, the others by the second.
-  abbrev pub Passes : List Entry → (ObjId → ℕ) → List Entry → Type 0
-  Passes es g rest = (o : ObjId) → g o + length (filter (q o) rest) ≡ length (filter (q o) es) + length (filter (p o) rest)
-
-  pub passes-first : (es : List Entry) (g : ObjId → ℕ) → ((o : ObjId) → g o ≡ length (filter (p o) es)) → Passes es g es
-  passes-first es g h o = let e = h o in omega arith
-
-  pub passes-last : (es : List Entry) (g : ObjId → ℕ) (n : ℕ) → length es ≤ n → Passes es g (drop n es) → (o : ObjId) → g o ≡ length (filter (q o) es)
-  passes-last es g n long h o =
-      let gone : drop n es ≡ [] = drop-gone es n long in
-      same (g o) (length (filter (q o) es)) (ap (λ l. g o + length (filter (q o) l)) (sym gone) ∙ h o ∙ ap (λ l. length (filter (q o) es) + length (filter (p o) l)) gone)
-    where
-      same : (a b : ℕ) → a + 0 ≡ b + 0 → a ≡ b
-      same a b e = omega arith
-
-  pub passes-step : (es : List Entry) (g h : ObjId → ℕ) (i : ℕ) (d : Entry) → i < length es → Passes es g (drop i es) →
-      ((o : ObjId) → h o + one_if (p o (get_or es i d)) ≡ g o + one_if (q o (get_or es i d))) → Passes es h (drop (i + 1) es)
-  passes-step es g h i d within inv step o =
-      let e = get_or es i d in
-      let rest = drop (i + 1) es in
-      let parted : drop i es ≡ e ∷ rest = drop-at es i d within in
-      sums (h o) (g o) (length (filter (q o) es)) (length (filter (q o) (drop i es))) (length (filter (p o) (drop i es))) (length (filter (q o) rest)) (length (filter (p o) rest)) (one_if (q o e)) (one_if (p o e))
-      (inv o) (ap (λ l. length (filter (q o) l)) parted ∙ many-first q e rest o) (ap (λ l. length (filter (p o) l)) parted ∙ many-first p e rest o) (step o)
-    where
-      sums : (h g all q_ p_ q_rest p_rest one_q one_p : ℕ) → g + q_ ≡ all + p_ → q_ ≡ q_rest + one_q → p_ ≡ p_rest + one_p → h + one_p ≡ g + one_q → h + q_rest ≡ all + p_rest
-      sums h g all q_ p_ q_rest p_rest one_q one_p a b c d = omega arith
-
-  -- What the next client is counted for is counted.
-  pub passes-enough : (es : List Entry) (g : ObjId → ℕ) (i : ℕ) (d : Entry) → i < length es → Passes es g (drop i es) → (o : ObjId) → one_if (p o (get_or es i d)) ≤ g o
-  passes-enough es g i d within inv o =
-      let e = get_or es i d in
-      let rest = drop (i + 1) es in
-      let first : length (filter (p o) (drop i es)) ≡ length (filter (p o) rest) + one_if (p o e) = ap (λ l. length (filter (p o) l)) (drop-at es i d within) ∙ many-first p e rest o in
-      let whole = many-rest es i o in let now = inv o in omega arith
-
--- The list before a change, by the test after it.
-pub many-mapped : (r : Entry → Bool) (f : Entry → Entry) (es : List Entry) → length (filter (λ e. r (f e)) es) ≡ length (filter r (map f es))
-many-mapped r f [] = refl
-many-mapped r f (e ∷ es) = go (r (f e)) (many-mapped r f es)
-  where
-    go : (b : Bool) → length (filter (λ e. r (f e)) es) ≡ length (filter r (map f es)) → length (cond b (e ∷ filter (λ e. r (f e)) es) (filter (λ e. r (f e)) es)) ≡ length (cond b (f e ∷ filter r (map f es)) (filter r (map f es)))
-    go true h = omega arith
-    go false h = h

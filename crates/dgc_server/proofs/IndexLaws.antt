@@ -240,6 +240,12 @@ ends-earlier m n k e le h = go (nat_lt m e.until) refl h
     go true p q = le-leb n e.until (let l = leb-true k e.until q in omega arith)
     go false p q = refl
 
+pub all-earlier : (m n k : ℕ) (es : List Entry) → n ≤ k → list_all (ends_later m k) es ≡ true → list_all (ends_later m n) es ≡ true
+all-earlier m n k [] le h = refl
+all-earlier m n k (e ∷ es) le h =
+    let two = and_parts (ends_later m k e) (list_all (ends_later m k) es) h in
+    and_from (ends_later m n e) (list_all (ends_later m n) es) (ends-earlier m n k e le two.0) (all-earlier m n k es le two.1)
+
 -- What holds of the ends to come, with a bound that is no later, holds of all.
 abbrev pub Bounds : ℕ → List Entry → ℕ → List Entry → Type 0
 Bounds m es least rest = (n : ℕ) → n ≤ least → list_all (ends_later m n) rest ≡ true → list_all (ends_later m n) es ≡ true

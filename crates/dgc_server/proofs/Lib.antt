@@ -20,8 +20,11 @@ pub mod Search
 pub mod HolderLaws
 pub mod IndexLaws
 pub mod SumLaws
+pub mod Chunked
+pub mod Moving
 pub mod Passing
 pub mod MarkLaws
+pub mod MarkLists
 pub mod Freeing
 pub mod Dropping
 pub mod Shares

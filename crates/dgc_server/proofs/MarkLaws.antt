@@ -25,7 +25,7 @@ use Rattle.dgc_server.proofs.Objects.{numbers_after, numbers-with, numbers-forgo
 use Rattle.dgc_server.proofs.Steps.{earlier}
 use Rattle.dgc_server.proofs.HolderLaws.{drop-at}
 
-key-turned : (a b : ObjId) → same_key a b ≡ same_id b a
+pub key-turned : (a b : ObjId) → same_key a b ≡ same_id b a
 key-turned a b = same_key-same a b ∙ same_id-turned a b
 
 -- ---- one object

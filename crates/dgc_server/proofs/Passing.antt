@@ -1,52 +1,60 @@
 -- A loop over the clients as time passes: the counts, the sums, and the least end of a lease.
-use Rattle.std.proofs.Common.{◌≡◌, ℕ, ◌+◌, ◌≤◌, ◌<◌, ◌^◌, List, [], ◌∷◌, refl, ap, sym, ◌∙◌, arith, cond, length, map, drop, get_or}
+use Rattle.std.proofs.Common.{◌≡◌, ℕ, ◌+◌, ◌≤◌, ◌<◌, ◌^◌, List, [], ◌∷◌, refl, ap, sym, ◌∙◌, arith, cond, length, map, take, drop, get_or}
 use Rattle.std.specs.Prelude.{min, Bool, true, false, ◌||◌, not, filter, nat_lt, nat_le, sum_by, if◌then◌else◌}
 use Rattle.std.specs.List.{list_all}
 use Rattle.std.proofs.lemmas.Bool.{and_parts, and_from, le-leb, ltb-true}
-use Rattle.std.proofs.lemmas.List.Sums.{sum_by-cons, sum_by-take-drop, sum_by-drop_more}
+use Rattle.std.proofs.lemmas.List.{take-append-drop}
+use Rattle.std.proofs.lemmas.List.Folds.{list_all-append}
+use Rattle.std.proofs.lemmas.List.Sums.{sum_by-cons, sum_by-append, sum_by-take-drop, sum_by-drop_more}
 use Rattle.object_ids.specs.declared.ids.ObjId.{ObjId}
+use Rattle.indexmap.specs.IndexMap.{IndexMap}
+use Rattle.dgc_server.specs.declared.clients.Chunk.{Chunk}
+use Rattle.dgc_server.specs.declared.holders.Count.{Count}
 use Rattle.dgc_server.specs.declared.table.Sums.{Sums}
 use Rattle.dgc_server.specs.Numbers.{is_remembered}
 use Rattle.dgc_server.specs.Entry.{ObjectEntry, Entry, lapsed, is_entry_kept, is_empty, has_time_left, remembered_of, tenure_forgotten}
 use Rattle.dgc_server.specs.Table.{after_lapse, remembered}
-use Rattle.dgc_server.specs.Index.{Way, is_counted, one_if, ends_later, sums_at}
+use Rattle.dgc_server.specs.Index.{Way, Tally, Counted, Leased, Pairs, tally_of, tally_in, tally_at, counted_at, is_counted, one_if, ends_later, sums_at}
+use Rattle.dgc_server.specs.Chunks.{all_of}
 use Rattle.dgc_server.proofs.Steps.{earlier}
 use Rattle.dgc_server.proofs.Few.{lapsed-time}
 use Rattle.dgc_server.proofs.Kept.{fewer-lapsed}
 use Rattle.dgc_server.proofs.Shares.{still-step}
 use Rattle.dgc_server.proofs.SumLaws.{sums-are}
-use Rattle.dgc_server.proofs.HolderLaws.{Passes, passes-first, passes-step, passes-enough, passes-last, many-mapped, drop-gone}
-use Rattle.dgc_server.proofs.IndexLaws.{Bounds, bounds-step, bounds-last}
+use Rattle.dgc_server.proofs.HolderLaws.{drop-gone}
+use Rattle.dgc_server.proofs.IndexLaws.{Bounds, bounds-step, bounds-last, all-earlier}
+use Rattle.dgc_server.proofs.Chunked.{all-append}
+use Rattle.dgc_server.proofs.Moving.{drop-chunk, drop-end}
 
 -- ---- a sum over the clients
 
 module _ (f g : Entry → ℕ) where
-  -- An invariant of a loop over the clients: of those to come the first function is summed, of the others the second.
-  abbrev pub Adds : List Entry → ℕ → List Entry → Type 0
-  Adds es s rest = s + sum_by g rest ≡ sum_by g es + sum_by f rest
+  -- An invariant of a loop over the clients, of a sum that was `first` with those of others: of those to come the first function is summed, of
+  -- the others the second.
+  abbrev pub Adds : List Entry → ℕ → ℕ → List Entry → Type 0
+  Adds es first s rest = s + (sum_by f es + sum_by g rest) ≡ first + (sum_by g es + sum_by f rest)
 
-  adds-step : (es : List Entry) (s t i : ℕ) (d : Entry) → i < length es → Adds es s (drop i es) → t + f (get_or es i d) ≡ s + g (get_or es i d) → Adds es t (drop (i + 1) es)
-  adds-step es s t i d within inv step =
-      sums s t (sum_by g es) (sum_by g (drop i es)) (sum_by f (drop i es)) (sum_by g (drop (i + 1) es)) (sum_by f (drop (i + 1) es)) (g (get_or es i d)) (f (get_or es i d))
-      inv (sum_by-drop_more g es i d within) (sum_by-drop_more f es i d within) step
+  pub adds-part : (es : List Entry) (first s t a b : ℕ) (rest later : List Entry) → Adds es first s rest → sum_by f rest ≡ a + sum_by f later → sum_by g rest ≡ b + sum_by g later → t + a ≡ s + b →
+      Adds es first t later
+  adds-part es first s t a b rest later inv x y step =
+      sums s t first (sum_by f es) (sum_by g es) (sum_by f rest) (sum_by g rest) (sum_by f later) (sum_by g later) a b inv x y step
     where
-      sums : (s t all g_ f_ g_rest f_rest one_g one_f : ℕ) → s + g_ ≡ all + f_ → g_ ≡ one_g + g_rest → f_ ≡ one_f + f_rest → t + one_f ≡ s + one_g → t + g_rest ≡ all + f_rest
-      sums s t all g_ f_ g_rest f_rest one_g one_f a b c d = omega arith
+      sums : (s t first f_all g_all f_ g_ f_rest g_rest a b : ℕ) → s + (f_all + g_) ≡ first + (g_all + f_) → f_ ≡ a + f_rest → g_ ≡ b + g_rest → t + a ≡ s + b → t + (f_all + g_rest) ≡ first + (g_all + f_rest)
+      sums s t first f_all g_all f_ g_ f_rest g_rest a b p q r u = omega arith
 
-  adds-enough : (es : List Entry) (s i : ℕ) (d : Entry) → i < length es → Adds es s (drop i es) → f (get_or es i d) ≤ s
-  adds-enough es s i d within inv =
-      least s (sum_by g es) (sum_by g (drop i es)) (sum_by f (drop i es)) (sum_by f (drop (i + 1) es)) (f (get_or es i d)) _ inv (sum_by-drop_more f es i d within) (sum_by-take-drop g es i)
+  pub adds-enough : (es : List Entry) (first s a before : ℕ) (rest later : List Entry) → Adds es first s rest → sum_by f es ≤ first → sum_by f rest ≡ a + sum_by f later → before + sum_by g rest ≡ sum_by g es → a ≤ s
+  adds-enough es first s a before rest later inv enough x y =
+      least s first (sum_by f es) (sum_by g es) (sum_by f rest) (sum_by g rest) (sum_by f later) a before inv enough x y
     where
-      least : (s all g_ f_ f_rest one_f before : ℕ) → s + g_ ≡ all + f_ → f_ ≡ one_f + f_rest → before + g_ ≡ all → one_f ≤ s
-      least s all g_ f_ f_rest one_f before a b c = omega arith
+      least : (s first f_all g_all f_ g_ f_rest a before : ℕ) → s + (f_all + g_) ≡ first + (g_all + f_) → f_all ≤ first → f_ ≡ a + f_rest → before + g_ ≡ g_all → a ≤ s
+      least s first f_all g_all f_ g_ f_rest a before p q r u = omega arith
 
-  adds-last : (es : List Entry) (s n : ℕ) → length es ≤ n → Adds es s (drop n es) → s ≡ sum_by g es
-  adds-last es s n long inv =
-      let gone : drop n es ≡ [] = drop-gone es n long in
-      same s (sum_by g es) (ap (λ l. s + sum_by g l) (sym gone) ∙ inv ∙ ap (λ l. sum_by g es + sum_by f l) gone)
+  pub adds-last : (es : List Entry) (first s : ℕ) (rest : List Entry) → rest ≡ [] → Adds es first s rest → s + sum_by f es ≡ first + sum_by g es
+  adds-last es first s rest gone inv =
+      same s first (sum_by f es) (sum_by g es) (sum_by f rest) (sum_by g rest) inv (ap (sum_by f) gone) (ap (sum_by g) gone)
     where
-      same : (a b : ℕ) → a + 0 ≡ b + 0 → a ≡ b
-      same a b e = omega arith
+      same : (s first f_all g_all f_ g_ : ℕ) → s + (f_all + g_) ≡ first + (g_all + f_) → f_ ≡ 0 → g_ ≡ 0 → s + f_all ≡ first + g_all
+      same s first f_all g_all f_ g_ p q r = omega arith
 
 -- The list before a change, by the function after it.
 sum-mapped : (f : Entry → ℕ) (h : Entry → Entry) (es : List Entry) → sum_by (λ e. f (h e)) es ≡ sum_by f (map h es)
@@ -69,102 +77,163 @@ many-summed p (e ∷ es) = go (p e) (many-summed p es) (sum_by-cons (λ e. one_i
 pub still-same : (t : ℕ) (e : Entry) → nat_lt t e.until ≡ true → lapsed t e ≡ e
 still-same t e left = ap (λ b. if b then e else record e { objects = tenure_forgotten e.objects }) left
 
--- How many clients are counted for an object, in both ways.
-abbrev pub Counted : Type 0
-Counted = Way → ObjId → ℕ
+-- What holds of each tally.
+pub each-tally : (P : Tally → Type 0) → ((w : Way) (o : ObjId) → P (Counted w o)) → P Leased → P Pairs → (k : Tally) → P k
+each-tally P a b c (Counted w o) = a w o
+each-tally P a b c Leased = b
+each-tally P a b c Pairs = c
 
--- What holds in the loop: the clients to come are counted and summed as of the first moment, the others as of the second.
-pub record Passing (from to : ℕ) (es : List Entry) (counted : Counted) (sums : Sums) (next : ℕ) (rest : List Entry) : Type 0 where
-  pub counts : (w : Way) → Passes (is_counted w from) (λ o e. is_counted w to o (lapsed to e)) es (counted w) rest
-  pub leased : Adds (λ e. one_if (has_time_left from e)) (λ e. one_if (has_time_left to (lapsed to e))) es sums.leased rest
-  pub pairs : Adds (remembered_of from) (λ e. remembered_of to (lapsed to e)) es sums.pairs rest
-  pub few : (sums.leased ≤ 2 ^ 17) × (sums.pairs ≤ 2 ^ 65)
+-- What one client adds to a tally once it is passed.
+abbrev pub passed_of : ℕ → Tally → Entry → ℕ
+passed_of to k e = tally_of k to (lapsed to e)
+
+-- What holds in a loop: the clients to come are counted and summed as of the first moment, the others as of the second.
+pub record Passing (from to : ℕ) (es : List Entry) (first tally : Tally → ℕ) (next : ℕ) (rest : List Entry) : Type 0 where
+  pub tallies : (k : Tally) → Adds (tally_of k from) (passed_of to k) es (first k) (tally k) rest
+  pub few : (tally Leased ≤ 2 ^ 17) × (tally Pairs ≤ 2 ^ 65)
   pub bounds : Bounds to es next rest
   pub later : to < next
 
-pub passing-first : (from to : ℕ) (es : List Entry) (counted : Counted) (sums : Sums) (next : ℕ) → ((w : Way) (o : ObjId) → counted w o ≡ length (filter (is_counted w from o) es)) →
-    sums ≡ sums_at from es → (sums.leased ≤ 2 ^ 17) × (sums.pairs ≤ 2 ^ 65) → to < next → Passing from to es counted sums next es
-passing-first from to es counted sums next count sum small late =
-    let leased : sums.leased ≡ sum_by (λ e. one_if (has_time_left from e)) es = ap (λ (s : Sums). s.leased) sum ∙ many-summed (has_time_left from) es in
-    let pairs : sums.pairs ≡ remembered from es = ap (λ (s : Sums). s.pairs) sum in record {
-      counts = λ w. passes-first (is_counted w from) (λ o e. is_counted w to o (lapsed to e)) es (counted w) (count w);
-      leased = omega arith;
-      pairs = omega arith;
-      few = small;
-      bounds = λ n le h. h;
-      later = late;
-    }
+pub passing-first : (from to : ℕ) (es : List Entry) (first : Tally → ℕ) (next : ℕ) → (first Leased ≤ 2 ^ 17) × (first Pairs ≤ 2 ^ 65) → to < next → Passing from to es first first next es
+passing-first from to es first next small late = record {
+  tallies = λ k. (let a = sum_by (tally_of k from) es in let b = sum_by (passed_of to k) es in swapped (first k) a b);
+  few = small;
+  bounds = λ n le h. h;
+  later = late;
+}
+  where
+    swapped : (s a b : ℕ) → s + (a + b) ≡ s + (b + a)
+    swapped s a b = omega arith
 
-module _ (from to : ℕ) (es : List Entry) (counted : Counted) (sums : Sums) (next i : ℕ) (d : Entry) (within : i < length es) (le : from ≤ to) (inv : Passing from to es counted sums next (drop i es)) where
+-- What a client whose lease goes on adds stays.
+still : (from to : ℕ) (e : Entry) → from ≤ to → nat_lt to e.until ≡ true → (k : Tally) → tally_of k from e ≡ passed_of to k e
+still from to e le left = each-tally (λ k. tally_of k from e ≡ passed_of to k e) (λ w o. ap one_if (still-step w o e from to le left)) (ap one_if time) pairs
+  where
+    same : lapsed to e ≡ e
+    same = still-same to e left
+
+    before : nat_lt from e.until ≡ true
+    before = earlier from to e.until le left
+
+    time : has_time_left from e ≡ has_time_left to (lapsed to e)
+    time = before ∙ sym (ap (has_time_left to) same ∙ left)
+
+    pairs : remembered_of from e ≡ remembered_of to (lapsed to e)
+    pairs = ap (λ b. length (filter (λ o. is_remembered b o.numbers) e.objects)) (before ∙ sym left) ∙ ap (remembered_of to) (sym same)
+
+-- Few stay few, where no more are added than are taken away.
+few-still : (from to : ℕ) (first tally : Tally → ℕ) (lost won : Tally → ℕ) → ((k : Tally) → tally k + lost k ≡ first k + won k) → won Leased ≤ lost Leased → won Pairs ≤ lost Pairs →
+    (first Leased ≤ 2 ^ 17) × (first Pairs ≤ 2 ^ 65) → (tally Leased ≤ 2 ^ 17) × (tally Pairs ≤ 2 ^ 65)
+few-still from to first tally lost won moved a b few =
+    (at-most (tally Leased) (first Leased) (lost Leased) (won Leased) (2 ^ 17) (moved Leased) a few.0, at-most (tally Pairs) (first Pairs) (lost Pairs) (won Pairs) (2 ^ 65) (moved Pairs) b few.1)
+  where
+    at-most : (a b x y most : ℕ) → a + x ≡ b + y → y ≤ x → b ≤ most → a ≤ most
+    at-most a b x y most p q r = omega arith
+
+module _ (from to : ℕ) (es : List Entry) (first tally : Tally → ℕ) (next i : ℕ) (d : Entry) (within : i < length es) (le : from ≤ to) (inv : Passing from to es first tally next (drop i es)) where
   -- The next client.
   abbrev this : Entry
   this = get_or es i d
 
-  pub passing-enough : (w : Way) (o : ObjId) → one_if (is_counted w from o this) ≤ counted w o
-  passing-enough w o = passes-enough (is_counted w from) (λ o e. is_counted w to o (lapsed to e)) es (counted w) i d within (inv.counts w) o
+  pub passing-enough : ((k : Tally) → tally_in k from es ≤ first k) → (k : Tally) → tally_of k from this ≤ tally k
+  passing-enough enough k =
+      adds-enough (tally_of k from) (passed_of to k) es (first k) (tally k) (tally_of k from this) (sum_by (passed_of to k) (take i es)) (drop i es) (drop (i + 1) es)
+      (inv.tallies k) (enough k) (sum_by-drop_more (tally_of k from) es i d within) (sum_by-take-drop (passed_of to k) es i)
 
-  pub passing-leased : one_if (has_time_left from this) ≤ sums.leased
-  passing-leased = adds-enough (λ e. one_if (has_time_left from e)) (λ e. one_if (has_time_left to (lapsed to e))) es sums.leased i d within inv.leased
-
-  pub passing-pairs : remembered_of from this ≤ sums.pairs
-  passing-pairs = adds-enough (remembered_of from) (λ e. remembered_of to (lapsed to e)) es sums.pairs i d within inv.pairs
+  step : (result : Tally → ℕ) → ((k : Tally) → result k + tally_of k from this ≡ tally k + passed_of to k this) → (k : Tally) →
+      Adds (tally_of k from) (passed_of to k) es (first k) (result k) (drop (i + 1) es)
+  step result moved k =
+      adds-part (tally_of k from) (passed_of to k) es (first k) (tally k) (result k) (tally_of k from this) (passed_of to k this) (drop i es) (drop (i + 1) es)
+      (inv.tallies k) (sum_by-drop_more (tally_of k from) es i d within) (sum_by-drop_more (passed_of to k) es i d within) (moved k)
 
   -- A client whose lease goes on lowers the least end, and changes no more.
-  pub passing-goes-on : nat_lt to this.until ≡ true → Passing from to es counted sums (min next this.until) (drop (i + 1) es)
+  pub passing-goes-on : nat_lt to this.until ≡ true → Passing from to es first tally (min next this.until) (drop (i + 1) es)
   passing-goes-on left =
-      let same : lapsed to this ≡ this = still-same to this left in
-      let before : nat_lt from this.until ≡ true = earlier from to this.until le left in
-      let time : has_time_left from this ≡ has_time_left to (lapsed to this) = before ∙ sym (ap (has_time_left to) same ∙ left) in
-      let pairs : remembered_of from this ≡ remembered_of to (lapsed to this) =
-      ap (λ b. length (filter (λ o. is_remembered b o.numbers) this.objects)) (before ∙ sym left) ∙ ap (remembered_of to) (sym same) in
       let lt = ltb-true to this.until left in
       let late = inv.later in record {
-        counts = λ w. passes-step (is_counted w from) (λ o e. is_counted w to o (lapsed to e)) es (counted w) (counted w) i d within (inv.counts w)
-            (λ o. ap (λ b. counted w o + one_if b) (still-step w o this from to le left));
-        leased = adds-step (λ e. one_if (has_time_left from e)) (λ e. one_if (has_time_left to (lapsed to e))) es sums.leased sums.leased i d within inv.leased (ap (λ b. sums.leased + one_if b) time);
-        pairs = adds-step (remembered_of from) (λ e. remembered_of to (lapsed to e)) es sums.pairs sums.pairs i d within inv.pairs (ap (λ n. sums.pairs + n) pairs);
+        tallies = step tally (λ k. ap (λ n. tally k + n) (still from to this le left k));
         few = inv.few;
         bounds = bounds-step to es next (min next this.until) i d within inv.bounds (omega arith) (ap (λ b. not b || nat_le (min next this.until) this.until) left ∙ le-leb (min next this.until) this.until (omega arith));
         later = omega arith;
       }
 
   -- A client whose lease is over.
-  pub passing-over : nat_lt to this.until ≡ false → (after : Counted) (result : Sums) →
-      ((w : Way) (o : ObjId) → after w o + one_if (is_counted w from o this) ≡ counted w o + one_if (is_counted w to o (lapsed to this))) →
-      result.leased + one_if (has_time_left from this) ≡ sums.leased + one_if (has_time_left to (lapsed to this)) →
-      result.pairs + remembered_of from this ≡ sums.pairs + remembered_of to (lapsed to this) → Passing from to es after result next (drop (i + 1) es)
-  passing-over over after result counts leased pairs =
-      let time : one_if (has_time_left to (lapsed to this)) ≡ 0 = ap one_if (lapsed-time to this ∙ over) in
-      let fewer = fewer-lapsed from to this le in
-      let few = inv.few in record {
-        counts = λ w. passes-step (is_counted w from) (λ o e. is_counted w to o (lapsed to e)) es (counted w) (after w) i d within (inv.counts w) (counts w);
-        leased = adds-step (λ e. one_if (has_time_left from e)) (λ e. one_if (has_time_left to (lapsed to e))) es sums.leased result.leased i d within inv.leased leased;
-        pairs = adds-step (remembered_of from) (λ e. remembered_of to (lapsed to e)) es sums.pairs result.pairs i d within inv.pairs pairs;
-        few = (at-most result.leased sums.leased (one_if (has_time_left from this)) _ (2 ^ 17) leased time few.0, at-most-too result.pairs sums.pairs (remembered_of from this) _ (2 ^ 65) pairs fewer few.1);
+  pub passing-over : nat_lt to this.until ≡ false → (result : Tally → ℕ) → ((k : Tally) → result k + tally_of k from this ≡ tally k + passed_of to k this) → Passing from to es first result next (drop (i + 1) es)
+  passing-over over result moved =
+      let time : passed_of to Leased this ≡ 0 = ap one_if (lapsed-time to this ∙ over) in record {
+        tallies = step result moved;
+        few = few-still from to tally result (λ k. tally_of k from this) (λ k. passed_of to k this) moved (omega arith) (fewer-lapsed from to this le) inv.few;
         bounds = bounds-step to es next next i d within inv.bounds (omega arith) (ap (λ b. not b || nat_le next this.until) over);
         later = inv.later;
       }
-    where
-      at-most : (a b x y most : ℕ) → a + x ≡ b + y → y ≡ 0 → b ≤ most → a ≤ most
-      at-most a b x y most p q r = omega arith
 
-      at-most-too : (a b x y most : ℕ) → a + x ≡ b + y → y ≤ x → b ≤ most → a ≤ most
-      at-most-too a b x y most p q r = omega arith
+-- All are passed.
+pub passed-tallies : (from to : ℕ) (es : List Entry) (first tally : Tally → ℕ) (next n : ℕ) → length es ≤ n → Passing from to es first tally next (drop n es) → (k : Tally) →
+    tally k + tally_in k from es ≡ first k + tally_in k to (map (lapsed to) es)
+passed-tallies from to es first tally next n long inv k =
+    adds-last (tally_of k from) (passed_of to k) es (first k) (tally k) (drop n es) (drop-gone es n long) (inv.tallies k)
+    ∙ ap (λ m. first k + m) (sum-mapped (tally_of k to) (lapsed to) es)
 
-module _ (from to : ℕ) (es : List Entry) (counted : Counted) (sums : Sums) (next n : ℕ) (long : length es ≤ n) (inv : Passing from to es counted sums next (drop n es)) where
-  pub passed-counts : (w : Way) (o : ObjId) → counted w o ≡ length (filter (is_counted w to o) (map (lapsed to) es))
-  passed-counts w o =
-      passes-last (is_counted w from) (λ o e. is_counted w to o (lapsed to e)) es (counted w) n long (inv.counts w) o ∙ many-mapped (is_counted w to o) (lapsed to) es
+pub passed-ends : (from to : ℕ) (es : List Entry) (first tally : Tally → ℕ) (next n : ℕ) → length es ≤ n → Passing from to es first tally next (drop n es) → list_all (ends_later to next) es ≡ true
+passed-ends from to es first tally next n long inv = bounds-last to es next n long inv.bounds
 
-  pub passed-ends : list_all (ends_later to next) es ≡ true
-  passed-ends = bounds-last to es next n long inv.bounds
+-- ---- the loop over the chunks
 
-  pub passed-sums : sums ≡ sums_at to (map (lapsed to) es)
-  passed-sums =
-      sums-are sums (length (filter (has_time_left to) (map (lapsed to) es))) (remembered to (map (lapsed to) es))
-      (adds-last (λ e. one_if (has_time_left from e)) (λ e. one_if (has_time_left to (lapsed to e))) es sums.leased n long inv.leased
-      ∙ sym (many-summed (λ e. has_time_left to (lapsed to e)) es) ∙ many-mapped (has_time_left to) (lapsed to) es)
-      (adds-last (remembered_of from) (λ e. remembered_of to (lapsed to e)) es sums.pairs n long inv.pairs ∙ sum-mapped (remembered_of to) (lapsed to) es)
+module _ (from to : ℕ) (cs : List Chunk) (first tally : Tally → ℕ) (next i : ℕ) (d : Chunk) (within : i < length cs) (inv : Passing from to (all_of cs) first tally next (all_of (drop i cs))) where
+  -- The clients of the next chunk.
+  abbrev own : List Entry
+  own = (get_or cs i d).entries.items
+
+  abbrev later : List Entry
+  later = all_of (drop (i + 1) cs)
+
+  parted : (f : Entry → ℕ) → sum_by f (all_of (drop i cs)) ≡ sum_by f own + sum_by f later
+  parted f = ap (sum_by f) (drop-chunk cs i d within) ∙ sum_by-append f own later
+
+  pub chunk-enough : ((k : Tally) → first k ≡ tally_in k from (all_of cs)) → (k : Tally) → tally_in k from own ≤ tally k
+  chunk-enough exact k =
+      let all = exact k in
+      adds-enough (tally_of k from) (passed_of to k) (all_of cs) (first k) (tally k) (tally_in k from own) (sum_by (passed_of to k) (all_of (take i cs))) (all_of (drop i cs)) later
+      (inv.tallies k) (omega arith) (parted (tally_of k from))
+      (sym (sum_by-append (passed_of to k) (all_of (take i cs)) (all_of (drop i cs))) ∙ ap (sum_by (passed_of to k)) (sym (all-append (take i cs) (drop i cs)) ∙ ap all_of (take-append-drop i cs)))
+
+  -- A chunk whose clients are passed.
+  pub chunk-passed : (result : Tally → ℕ) (least : ℕ) → ((k : Tally) → result k + tally_in k from own ≡ tally k + tally_in k to (map (lapsed to) own)) →
+      (result Leased ≤ 2 ^ 17) × (result Pairs ≤ 2 ^ 65) → least ≤ next → list_all (ends_later to least) own ≡ true → to < least → Passing from to (all_of cs) first result least later
+  chunk-passed result least moved few lower ends late = record {
+    tallies = λ k. adds-part (tally_of k from) (passed_of to k) (all_of cs) (first k) (tally k) (result k) (tally_in k from own) (sum_by (passed_of to k) own) (all_of (drop i cs)) later
+        (inv.tallies k) (parted (tally_of k from)) (parted (passed_of to k)) (moved k ∙ ap (λ n. tally k + n) (sym (sum-mapped (tally_of k to) (lapsed to) own)));
+    few = few;
+    bounds = λ n le rest. inv.bounds n (omega arith) (ap (list_all (ends_later to n)) (drop-chunk cs i d within) ∙ list_all-append (ends_later to n) own later
+        ∙ and_from (list_all (ends_later to n) own) (list_all (ends_later to n) later) (all-earlier to n least own le ends) rest);
+    later = late;
+  }
+
+pub chunks-tallies : (from to : ℕ) (cs : List Chunk) (first tally : Tally → ℕ) (next n : ℕ) → length cs ≤ n → Passing from to (all_of cs) first tally next (all_of (drop n cs)) →
+    ((k : Tally) → first k ≡ tally_in k from (all_of cs)) → (k : Tally) → tally k ≡ tally_in k to (map (lapsed to) (all_of cs))
+chunks-tallies from to cs first tally next n long inv exact k =
+    let all = exact k in
+    let last = adds-last (tally_of k from) (passed_of to k) (all_of cs) (first k) (tally k) (all_of (drop n cs)) (drop-end cs n long) (inv.tallies k) in
+    let same = sum-mapped (tally_of k to) (lapsed to) (all_of cs) in omega arith
+
+pub chunks-ends : (from to : ℕ) (cs : List Chunk) (first tally : Tally → ℕ) (next n : ℕ) → length cs ≤ n → Passing from to (all_of cs) first tally next (all_of (drop n cs)) →
+    list_all (ends_later to next) (all_of cs) ≡ true
+chunks-ends from to cs first tally next n long inv = inv.bounds next (omega arith) (ap (list_all (ends_later to next)) (drop-end cs n long))
+
+-- ---- what an index says of the tallies
+
+pub tallies-are : {S : Type 0} (t : ℕ) (counts : IndexMap ObjId Count S) (sums : Sums) (es : List Entry) → ((w : Way) (o : ObjId) → counted_at w counts o ≡ length (filter (is_counted w t o) es)) → sums ≡ sums_at t es →
+    (k : Tally) → tally_at k counts sums ≡ tally_in k t es
+tallies-are t counts sums es counted sum =
+    each-tally (λ k. tally_at k counts sums ≡ tally_in k t es) (λ w o. counted w o ∙ many-summed (is_counted w t o) es) (ap (λ (s : Sums). s.leased) sum ∙ many-summed (has_time_left t) es) (ap (λ (s : Sums). s.pairs) sum)
+
+pub counts-are : {S : Type 0} (t : ℕ) (counts : IndexMap ObjId Count S) (sums : Sums) (es : List Entry) → ((k : Tally) → tally_at k counts sums ≡ tally_in k t es) →
+    (w : Way) (o : ObjId) → counted_at w counts o ≡ length (filter (is_counted w t o) es)
+counts-are t counts sums es tallies w o = tallies (Counted w o) ∙ sym (many-summed (is_counted w t o) es)
+
+pub sums-of : {S : Type 0} (t : ℕ) (counts : IndexMap ObjId Count S) (sums : Sums) (es : List Entry) → ((k : Tally) → tally_at k counts sums ≡ tally_in k t es) → sums ≡ sums_at t es
+sums-of t counts sums es tallies =
+    sums-are sums (length (filter (has_time_left t) es)) (remembered t es) (tallies Leased ∙ sym (many-summed (has_time_left t) es)) (tallies Pairs)
 
 -- ---- what is kept
 

@@ -47,6 +47,10 @@ module _ (q : ObjId → Bool) where
   again : (e : Entry) → with_only q (with_only q e) ≡ with_only q e
   again e = ap (λ (os : List ObjectEntry). record e { objects = os }) (filter-again (λ x. q x.object) e.objects)
 
+  pub only-only : (es : List Entry) → only (only es) ≡ only es
+  only-only [] = refl
+  only-only (e ∷ es) = ap (λ x. x ∷ only (only es)) (again e) ∙ ap (λ l. with_only q e ∷ l) (only-only es)
+
   -- What is kept of a client already is kept again.
   pub only-set : (i : ℕ) (d : Entry) (es : List Entry) → i < length es → only (slice_set es i (with_only q (get_or es i d))) ≡ only es
   only-set i d [] h = absurd (omega arith)
@@ -60,7 +64,7 @@ module _ (q : ObjId → Bool) where
       let a = sum_by-cons object_count (with_only q e) (only es) in let b = sum_by-cons object_count e es in omega arith
 
   -- Where nothing is to go, all is as it is to be.
-  pub only-none : (es : List Entry) → objects_in (only es) ≡ objects_in es → only es ≡ es
+  pub only-none : (es : List Entry) → objects_in es ≤ objects_in (only es) → only es ≡ es
   only-none [] h = refl
   only-none (e ∷ es) h =
       let one = filter-fewer (λ (x : ObjectEntry). q x.object) e.objects in let rest = only-fewer es in
@@ -69,16 +73,16 @@ module _ (q : ObjId → Bool) where
       ap (λ x. x ∷ only es) own ∙ ap (λ l. e ∷ l) (only-none es (omega arith))
 
   -- What one client loses is among what is to go, and the rest is to go then.
-  pub one-within : (i : ℕ) (d : Entry) (es : List Entry) (left gone : ℕ) → i < length es → left + objects_in (only es) ≡ objects_in es →
-      gone + object_count (with_only q (get_or es i d)) ≡ object_count (get_or es i d) → gone ≤ left
-  one-within i d es left gone h k g =
+  pub one-within : (i : ℕ) (d : Entry) (es : List Entry) (to_go gone : ℕ) → i < length es → objects_in es ≤ to_go + objects_in (only es) →
+      gone + object_count (with_only q (get_or es i d)) ≡ object_count (get_or es i d) → gone ≤ to_go
+  one-within i d es to_go gone h k g =
       let x = with_only q (get_or es i d) in
       let same = ap objects_in (only-set i d es h) in let few = only-fewer (slice_set es i x) in let one = sum_by-set object_count es i x d h in omega arith
 
-  pub one-less : (i : ℕ) (d : Entry) (es : List Entry) (left gone rest : ℕ) → i < length es → left + objects_in (only es) ≡ objects_in es →
-      gone + object_count (with_only q (get_or es i d)) ≡ object_count (get_or es i d) → rest + gone ≡ left →
-      rest + objects_in (only (slice_set es i (with_only q (get_or es i d)))) ≡ objects_in (slice_set es i (with_only q (get_or es i d)))
-  one-less i d es left gone rest h k g l =
+  pub one-less : (i : ℕ) (d : Entry) (es : List Entry) (to_go gone rest : ℕ) → i < length es → objects_in es ≤ to_go + objects_in (only es) →
+      gone + object_count (with_only q (get_or es i d)) ≡ object_count (get_or es i d) → rest + gone ≡ to_go →
+      objects_in (slice_set es i (with_only q (get_or es i d))) ≤ rest + objects_in (only (slice_set es i (with_only q (get_or es i d))))
+  one-less i d es to_go gone rest h k g l =
       let x = with_only q (get_or es i d) in
       let same = ap objects_in (only-set i d es h) in let one = sum_by-set object_count es i x d h in omega arith
 

@@ -1,12 +1,14 @@
 -- The index of a lease table: for each object how many clients hold it and how many name it, and before which moment nothing is due.
-use Rattle.std.specs.Prelude.{◌≡◌, ℕ, ◌+◌, ◌≤◌, ◌<◌, Bool, true, not, ◌&&◌, ◌||◌, List, [], ◌∷◌, length, filter, sum_by, nat_lt, nat_le, is_some, unwrap_or, if◌then◌else◌}
+use Rattle.std.specs.Prelude.{◌≡◌, ℕ, ◌+◌, ◌≤◌, ◌<◌, ◌^◌, Bool, true, not, ◌&&◌, ◌||◌, List, [], ◌∷◌, length, filter, sum_by, nat_lt, nat_le, is_some, unwrap_or, if◌then◌else◌}
 use Rattle.std.specs.List.{AllByRecursion}
 use Rattle.object_ids.specs.declared.ids.ObjId.{ObjId}
 use Rattle.object_ids.specs.Same.{same_id, same_key}
 use Rattle.indexmap.specs.IndexMap.{IndexMap, get}
 use Rattle.dgc_server.specs.declared.holders.Count.{Count}
+use Rattle.dgc_server.specs.declared.holders.Place.{Place}
 use Rattle.dgc_server.specs.declared.holders.Share.{Share}
 use Rattle.dgc_server.specs.declared.numbers.Numbers.{Numbers}
+use Rattle.dgc_server.specs.declared.table.Noted.{Noted}
 use Rattle.dgc_server.specs.declared.table.Sums.{Sums}
 use Rattle.dgc_server.specs.Numbers.{is_dirty_highest}
 use Rattle.dgc_server.specs.Entry.{ObjectEntry, Entry, lapsed, is_entry_kept, has_time_left, remembered_of, has_object, numbers_of, dirty_in, dirty_objects}
@@ -17,9 +19,13 @@ pub data Way : Type 0 where
   Holding : Way
   Naming : Way
 
+-- The first place of all.
+abbrev pub no_place : Place
+no_place = record { chunk = 0; index = 0 }
+
 -- What is counted of an object that no client names.
 abbrev pub no_count : Count
-no_count = record { holders = 0; clients = 0; place = 0 }
+no_count = record { holders = 0; clients = 0; place = no_place }
 
 abbrev pub count_by : Way → Count → ℕ
 count_by Holding n = n.holders
@@ -117,3 +123,32 @@ sums_at t es = record { leased = length (filter (has_time_left t) es); pairs = r
 -- What one entry adds to them.
 abbrev pub entry_sums : ℕ → Entry → Sums
 entry_sums t e = record { leased = one_if (has_time_left t e); pairs = remembered_of t e }
+
+-- What is counted and summed over the clients: how many hold or name each object, how many have time left, and how many pairs are remembered.
+pub data Tally : Type 0 where
+  Counted : Way → ObjId → Tally
+  Leased : Tally
+  Pairs : Tally
+
+-- What one client adds to it at the moment t.
+abbrev pub tally_of : Tally → ℕ → Entry → ℕ
+tally_of (Counted w o) t e = one_if (is_counted w t o e)
+tally_of Leased t e = one_if (has_time_left t e)
+tally_of Pairs t e = remembered_of t e
+
+-- What these clients add to it.
+abbrev pub tally_in : Tally → ℕ → List Entry → ℕ
+tally_in k t es = sum_by (tally_of k t) es
+
+-- What counts and sums say of it.
+abbrev pub tally_at : {S : Type 0} → Tally → IndexMap ObjId Count S → Sums → ℕ
+tally_at (Counted w o) counts sums = counted_at w counts o
+tally_at Leased counts sums = sums.leased
+tally_at Pairs counts sums = sums.pairs
+
+-- What a noted call is answered with, where this was kept of the client and this is since.
+pub record IsNoted (t : ℕ) (own next : Entry) (noted : Noted) : Type 0 where
+  pub before : noted.before ≡ entry_sums t own
+  pub after : noted.after ≡ entry_sums t next
+  pub until : noted.until ≡ next.until
+  pub small : (noted.after.leased ≤ 1) × (noted.after.pairs < 2 ^ 64)

@@ -5,6 +5,7 @@ ghost use Rattle.dgc_server.specs.Entry.{object_entries, dirty_objects};
 ghost use Rattle.std.specs.List.{AllByRecursion};
 ghost use Rattle.dgc_server.specs.Index.{freed_of, IsSettled};
 
+use crate::clients::Clients;
 use crate::entry::ClientEntry;
 use crate::marks::Marks;
 use crate::packed::Packed;
@@ -46,7 +47,7 @@ fn append_of(
     Ok(())
 }
 
-/// Appends the objects that clients hold whose leases end as time passes from one moment to another.
+/// Appends the objects that clients of a chunk hold whose leases end as time passes from one moment to another.
 fn append_all(
     freed: &mut Vec<ObjId>,
     entries: &[ClientEntry],
@@ -65,19 +66,22 @@ fn append_all(
 /// and takes no memory.
 pub fn freed(
     alloc: Global,
-    entries: &[ClientEntry],
+    clients: &Clients,
     next: u64,
     from: u64,
     to: u64,
 ) -> Result<Vec<ObjId>, AllocError>
     requires later { from ≤ to }
-    requires settled { from < next → AllByRecursion (IsSettled from next) entries.now }
-    ensures { IfOk result (λ os. os.items ≡ flat_map (freed_of from to) entries.now) }
+    requires settled { from < next → AllByRecursion (IsSettled from next) clients.now }
+    ensures { IfOk result (λ os. os.items ≡ flat_map (freed_of from to) clients.now) }
 {
     let mut freed = Vec::new(alloc);
     if to < next {
         return Ok(freed);
     }
-    append_all(&mut freed, entries, from, to)?;
+    let chunks = clients.chunks();
+    for chunk in chunks {
+        append_all(&mut freed, &chunk.entries, from, to)?;
+    }
     Ok(freed)
 }

@@ -8,7 +8,7 @@ ghost use Rattle.dgc_server.specs.Stands.{each_once, entry_after};
 ghost use Rattle.dgc_server.specs.Table.{no_entry};
 ghost use Rattle.dgc_server.specs.Index.{Way, counted_at, has_count, one_if, is_counted, is_named, with_only};
 
-use crate::holders::Counts;
+use crate::holders::{Counts, Place};
 use crate::marks::{self, Marks};
 use crate::numbers::Numbers;
 use history::CallKind;
@@ -114,14 +114,14 @@ impl ClientEntry {
     pub fn numbers_of(&self, object: &ObjId) -> Numbers
         ensures { result ≡ numbers_of self.now.objects object.now }
     {
-        marks::numbers_in(&self.kept.objects, object)
+        self.kept.objects.numbers_of(object)
     }
 
     /// Whether the client names an object: numbers of it are kept.
     pub fn names(&self, object: &ObjId) -> bool
         ensures { result ≡ has_object self.now.objects object.now }
     {
-        marks::is_there(&self.kept.objects, object)
+        self.kept.objects.names(object)
     }
 
     /// Whether the client holds an object at this moment.
@@ -156,7 +156,7 @@ impl ClientEntry {
         call: &LeaseCall<'_>,
         lease: u64,
         from: u64,
-        place: u32,
+        place: Place,
     ) -> Result<(), AllocError>
         requires later { from ≤ call.now.at }
         requires early { call.now.at < 2 ^ 62 }
@@ -173,7 +173,7 @@ impl ClientEntry {
         ensures same { OnErr result (counts.new ≡ counts.old) }
     {
         let kept = &mut *self.kept;
-        marks::make_room(&mut kept.objects, call.objects.len())?;
+        kept.objects.make_room(call.objects.len())?;
         let left = call.at < self.until;
         let held = from < self.until;
         let until = until_after(call.kind, call.at + lease, self.until);
@@ -203,7 +203,7 @@ impl ClientEntry {
     pub fn drop_object(&mut self, object: &ObjId)
         ensures { self.new ≡ entry_without object.now self.old }
     {
-        marks::forget_object(&mut self.kept.objects, object);
+        self.kept.objects.forget_object(object);
     }
 
     /// Keeps the objects that some client names, as the counts say, and answers how many went.

@@ -1,12 +1,10 @@
 //! For each object how many clients hold it and how many name it.
-ghost use Rattle.std.specs.Prelude.{◌≡◌, ◌+◌, ◌<◌, ◌≤◌, ◌^◌, ◌||◌, length, filter, map, IsTrue, OnOk, true, if◌then◌else◌};
-ghost use Rattle.std.specs.List.{list_all};
+ghost use Rattle.std.specs.Prelude.{◌≡◌, ◌+◌, ◌<◌, ◌≤◌, ◌^◌, ◌||◌, IsTrue, OnOk, true, if◌then◌else◌};
 ghost use Rattle.object_ids.specs.declared.ids.ObjId.{ObjId};
 ghost use Rattle.object_ids.specs.Same.{same_id};
 ghost use Rattle.dgc_server.specs.Entry.{object_entries, each_has_number, is_in, has_time_left, remembered_of, lapsed};
-ghost use Rattle.dgc_server.specs.Table.{after_lapse};
 ghost use Rattle.dgc_server.specs.Stands.{each_once};
-ghost use Rattle.dgc_server.specs.Index.{Way, Naming, no_count, count_by, count_at, counted_at, has_count, one_if, share_by, lost_share, loses, has_with, is_counted, is_named, total_of, ends_later, IsIndexed, sums_at};
+ghost use Rattle.dgc_server.specs.Index.{Way, Naming, no_count, count_by, count_at, counted_at, has_count, one_if, share_by, lost_share, loses, has_with, is_counted, is_named, total_of};
 
 use crate::entry::ClientEntry;
 use crate::marks::Marks;
@@ -16,13 +14,37 @@ use indexmap::IndexMap;
 use object_ids::ObjId;
 use std::alloc::AllocError;
 
-/// What is counted of an object: how many clients hold it, how many name it (some number of it is kept of them), and at which place in the
-/// list of clients one that names it stood when a call of it was noted last. The place is a hint: where to look first.
+/// Where a client stands: in the chunk of this number, behind so many others of it. What keeps a place keeps it as a hint where to look first.
+#[derive(Clone, Copy)]
+pub struct Place {
+    pub chunk: u16,
+    pub index: u16,
+}
+
+impl Place {
+    /// A place, if its numbers are not too great, and the first of all, if they are.
+    pub fn hint(chunk: usize, index: usize) -> Place {
+        if chunk <= u16::MAX as usize && index <= u16::MAX as usize {
+            Place {
+                chunk: chunk as u16,
+                index: index as u16,
+            }
+        } else {
+            FIRST
+        }
+    }
+}
+
+/// The first place of all.
+const FIRST: Place = Place { chunk: 0, index: 0 };
+
+/// What is counted of an object: how many clients hold it, how many name it (some number of it is kept of them), and at which place one
+/// that names it stood when a call of it was noted last.
 #[derive(Clone, Copy)]
 pub struct Count {
     pub holders: u32,
     pub clients: u32,
-    pub place: u32,
+    pub place: Place,
 }
 
 /// What a client counts for: whether it holds an object, and whether it names it.
@@ -49,7 +71,7 @@ fn no_count() -> Count
     Count {
         holders: 0,
         clients: 0,
-        place: 0,
+        place: FIRST,
     }
 }
 
@@ -115,7 +137,7 @@ fn lowered(count: Count, share: Share) -> Count
 }
 
 /// A count with the share of a client at this place.
-fn raised(count: Count, share: Share, place: u32) -> Count
+fn raised(count: Count, share: Share, place: Place) -> Count
     requires { (w : Way) → count_by w count ≤ 2 ^ 31 }
     ensures { (w : Way) → count_by w result ≡ count_by w count + one_if (share_by w share) }
 {
@@ -149,7 +171,7 @@ pub fn lower(counts: &mut Counts, object: &ObjId, share: Share)
 }
 
 /// Counts a client, at this place, for another share in an object.
-pub fn shift(counts: &mut Counts, object: &ObjId, before: Share, after: Share, place: u32)
+pub fn shift(counts: &mut Counts, object: &ObjId, before: Share, after: Share, place: Place)
     requires has { has_count counts.old object.now ≡ true }
     requires enough { (w : Way) → one_if (share_by w before) ≤ counted_at w counts.old object.now }
     requires few { (w : Way) → counted_at w counts.old object.now ≤ 2 ^ 31 }
@@ -225,7 +247,13 @@ fn release_over(counts: &mut Counts, entry: &ClientEntry, from: u64, to: u64)
 
 /// As time passes from one moment to another, forgets the tenure of a client whose lease is over, and answers the sums since. It takes no
 /// memory.
-fn end_tenure(entry: &mut ClientEntry, counts: &mut Counts, sums: Sums, from: u64, to: u64) -> Sums
+pub fn end_tenure(
+    entry: &mut ClientEntry,
+    counts: &mut Counts,
+    sums: Sums,
+    from: u64,
+    to: u64,
+) -> Sums
     requires later { from ≤ to }
     requires once { IsTrue (each_once entry.old.objects) }
     requires numbered { IsTrue (each_has_number entry.old.objects) }
@@ -245,76 +273,12 @@ fn end_tenure(entry: &mut ClientEntry, counts: &mut Counts, sums: Sums, from: u6
     table::sums_with(sums, before, table::sums_of(entry, to))
 }
 
-/// As time passes from one moment to another, forgets the tenures whose leases are over. A client whose lease goes on costs a look at its end; one
-/// whose lease is over, some at each of its objects. It takes no memory.
-fn pass_each(
-    entries: &mut [ClientEntry],
-    counts: &mut Counts,
-    sums: Sums,
-    from: u64,
-    to: u64,
-) -> Passed
-    requires later { from ≤ to }
-    requires early { to < 2 ^ 62 }
-    requires once { IsTrue (list_all (λ e. each_once e.objects) entries.old) }
-    requires numbered { IsTrue (list_all (λ e. each_has_number e.objects) entries.old) }
-    requires counted { (w : Way) (o : ObjId) → counted_at w counts.old o ≡ length (filter (is_counted w from o) entries.old) }
-    requires sums { sums ≡ sums_at from entries.old }
-    requires few { (sums.leased ≤ 2 ^ 17) × (sums.pairs ≤ 2 ^ 65) }
-    ensures entries { entries.new ≡ map (lapsed to) entries.old }
-    ensures counted { (w : Way) (o : ObjId) → counted_at w counts.new o ≡ length (filter (is_counted w to o) (map (lapsed to) entries.old)) }
-    ensures ends { IsTrue (list_all (ends_later to result.next) entries.old) }
-    ensures later { to < result.next }
-    ensures sums { result.sums ≡ sums_at to (map (lapsed to) entries.old) }
-{
-    let mut next = u64::MAX;
-    let mut left = sums;
-    for entry in entries.iter_mut() {
-        if entry.has_time_left(to) {
-            next = next.min(entry.until());
-            continue;
-        }
-        left = end_tenure(entry, counts, left, from, to);
-    }
-    Passed { next, sums: left }
-}
-
-/// As time passes from one moment to another, forgets what ended, and answers a moment before which no more does, and the sums since. Where
-/// nothing is due it looks at no client. It takes no memory.
-pub fn pass(
-    entries: &mut Vec<ClientEntry>,
-    counts: &mut Counts,
-    sums: Sums,
-    next: u64,
-    from: u64,
-    to: u64,
-) -> Passed
-    requires later { from ≤ to }
-    requires early { to < 2 ^ 62 }
-    requires once { IsTrue (list_all (λ e. each_once e.objects) entries.old.items) }
-    requires numbered { IsTrue (list_all (λ e. each_has_number e.objects) entries.old.items) }
-    requires indexed { IsIndexed from next counts.old entries.old.items }
-    requires sums { sums ≡ sums_at from entries.old.items }
-    requires few { (sums.leased ≤ 2 ^ 17) × (sums.pairs ≤ 2 ^ 65) }
-    ensures entries { entries.new.items ≡ after_lapse to entries.old.items }
-    ensures indexed { IsIndexed to result.next counts.new entries.new.items }
-    ensures later { to < result.next }
-    ensures sums { result.sums ≡ sums_at to entries.new.items }
-{
-    if to < next {
-        return Passed { next, sums };
-    }
-    let passed = pass_each(entries, counts, sums, from, to);
-    table::keep(entries, to);
-    passed
-}
-
-/// What went as objects were forgotten: so many pairs of a client and an object, and, where there were some, at which place in the list of clients
+/// What went as objects were forgotten: so many pairs of a client and an object, and, where there were some, at which place
 /// one that names such an object stood, as its count noted. The place is a hint.
 #[derive(Clone, Copy)]
 pub struct Gone {
     pub pairs: u128,
-    pub place: u32,
+    pub place: Place,
 }
 
 /// Nobody holds or names these objects any more. Answers how many pairs went. It takes no memory.
@@ -323,7 +287,7 @@ pub fn forget_all(counts: &mut Counts, objects: &[ObjId]) -> Gone
     ensures pairs { result.pairs ≡ total_of (counted_at Naming counts.old) objects.now }
 {
     let mut pairs: u128 = 0;
-    let mut place = 0;
+    let mut place = FIRST;
     for object in objects {
         let count = take_out(counts, object);
         place = first_place(pairs, place, &count);
@@ -333,7 +297,7 @@ pub fn forget_all(counts: &mut Counts, objects: &[ObjId]) -> Gone
 }
 
 /// The place that a count notes, where no pairs were met before, and the one that was noted then, where some were.
-fn first_place(pairs: u128, place: u32, count: &Count) -> u32 {
+fn first_place(pairs: u128, place: Place, count: &Count) -> Place {
     if pairs == 0 { count.place } else { place }
 }
 

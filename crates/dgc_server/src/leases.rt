@@ -11,11 +11,11 @@ ghost use Rattle.dgc_server.specs.Stands.{IsSound, IsTrimmed, StandsFor, ForEach
 ghost use Rattle.dgc_server.specs.Index.{sums_at};
 ghost use Rattle.dgc_server.specs.Table.{clients_after, pairs_after};
 
-use crate::ended;
-use crate::entry::{ClientEntry, LeaseCall};
-use crate::holders::{Counts, count_of, forget, forget_all, pass, touch_all};
+use crate::clients::Clients;
+use crate::entry::LeaseCall;
+use crate::holders::{Counts, count_of, forget, forget_all, touch_all};
 use crate::table::{self, Sums};
-use history::limits::{MAX_CLIENTS, MAX_PAIRS};
+use crate::{ended, scans};
 use history::{CallKind, LeaseList};
 use object_ids::{ObjId, ObjIds, Vmid};
 use std::alloc::{AllocError, Global};
@@ -52,7 +52,7 @@ pub struct Leases {
     alloc: Global,
     lease: u64,
     moment: u64,
-    entries: Vec<ClientEntry>,
+    entries: Clients,
     /// No lease that has time left at the moment ends before this one, which is later.
     next: u64,
     /// How many clients hold each object at the moment, and how many name it.
@@ -81,7 +81,7 @@ impl Drop for Leases {
 impl fmt::Debug for Leases {
     fn fmt<W: fmt::Write>(&self, f: &mut fmt::Formatter<W>) -> fmt::Result {
         f.debug_struct("Leases")
-            .field("clients", &self.entries.len())
+            .field("kept", &scans::len(&self.entries))
             .finish_non_exhaustive()
     }
 }
@@ -93,10 +93,10 @@ impl Model for Leases {
 
     ghost Value = { LeaseTable };
 
-    ghost view = { λ a. record { lease = a.lease; moment = a.moment; entries = a.entries.items } };
+    ghost view = { λ a. record { lease = a.lease; moment = a.moment; entries = a.entries } };
 
-    ghost invariant = { λ a. IsSound a.lease a.moment a.entries.items × IsIndexed a.moment a.next a.counts a.entries.items
-        × (a.sums ≡ sums_at a.moment a.entries.items) × (a.moment < a.next) };
+    ghost invariant = { λ a. IsSound a.lease a.moment a.entries × IsIndexed a.moment a.next a.counts a.entries
+        × (a.sums ≡ sums_at a.moment a.entries) × (a.moment < a.next) };
 }
 
 impl Leases {
@@ -110,7 +110,7 @@ impl Leases {
             alloc,
             lease: lease_ms,
             moment: 0,
-            entries: Vec::new(alloc),
+            entries: Clients::new(alloc),
             next: u64::MAX,
             counts: Counts::new(alloc),
             sums: Sums {
@@ -128,14 +128,9 @@ impl Leases {
         ensures stands { ForEachLog self.old (λ lease moment calls. StandsFor lease self.new (max now moment) calls) }
     {
         let at = now.max(self.moment);
-        let passed = pass(
-            &mut self.entries,
-            &mut self.counts,
-            self.sums,
-            self.next,
-            self.moment,
-            at,
-        );
+        let passed = self
+            .entries
+            .pass(&mut self.counts, self.sums, self.next, self.moment, at);
         self.next = passed.next;
         self.sums = passed.sums;
         self.moment = at;
@@ -168,7 +163,7 @@ impl Leases {
     {
         let at = self.at(now);
         let sums = self.sums_by(at);
-        if table::clients_after(&self.entries, client, at, sums.leased) as u64 > MAX_CLIENTS {
+        if scans::is_past_clients(&self.entries, client, at, sums.leased) {
             return Err(LeaseFault::Clients);
         }
         self.note(client, &number, objects, CallKind::Dirty, at)?;
@@ -208,7 +203,7 @@ impl Leases {
         if at < self.next {
             count_of(&self.counts, &object).holders > 0
         } else {
-            table::is_held(&self.entries, &object, at)
+            scans::is_held(&self.entries, &object, at)
         }
     }
 
@@ -246,7 +241,7 @@ impl Leases {
         if at < self.next {
             count_of(&self.counts, &object).holders
         } else {
-            table::holders(&self.entries, &object, at) as u32
+            scans::holders(&self.entries, &object, at) as u32
         }
     }
 
@@ -258,13 +253,8 @@ impl Leases {
             StandsFor lease self.new moment (map (without object) calls)) }
     {
         let count = count_of(&self.counts, &object);
-        table::drop_object(
-            &mut self.entries,
-            &object,
-            count.clients,
-            count.place,
-            self.moment,
-        );
+        self.entries
+            .drop_object(&object, count.clients, count.place, self.moment);
         forget(&mut self.counts, &object);
         self.sums = table::sums_without(self.sums, count.clients as u128);
     }
@@ -289,7 +279,7 @@ impl Leases {
         ensures { ForEachLog self.now (λ lease moment calls.
             result ≡ length (pairs lease (max now moment) calls)) }
     {
-        table::remembered_pairs(&self.entries, self.at(now)) as u32
+        scans::remembered_pairs(&self.entries, self.at(now)) as u32
     }
 
     /// The clients that have time left at this moment, in the order of clients, with the ends of their
@@ -298,7 +288,7 @@ impl Leases {
         ensures { IfOk result (λ rows. ForEachLog self.now (λ lease moment calls.
             rows ≡ lease_rows lease (max now moment) calls)) }
     {
-        table::rows(alloc, &self.entries, self.at(now))
+        scans::rows(alloc, &self.entries, self.at(now))
     }
 
     /// Forgets that calls named these objects, one after another.
@@ -319,13 +309,8 @@ impl Leases {
             StandsFor lease self.new moment (map (without_all objects.now) calls)) }
     {
         let gone = forget_all(&mut self.counts, objects);
-        table::drop_objects(
-            &mut self.entries,
-            &self.counts,
-            gone.pairs,
-            gone.place,
-            self.moment,
-        );
+        self.entries
+            .drop_objects(&self.counts, gone.pairs, gone.place, self.moment);
         self.sums = table::sums_without(self.sums, gone.pairs);
     }
 
@@ -348,7 +333,7 @@ impl Leases {
         if at < self.next {
             self.sums
         } else {
-            table::sums_at(&self.entries, at)
+            scans::sums_at(&self.entries, at)
         }
     }
 
@@ -374,9 +359,7 @@ impl Leases {
     {
         let named = objects.as_slice();
         let pairs = self.sums_by(at).pairs;
-        if table::pairs_after(self.alloc, &self.entries, client, kind, named, at, pairs)
-            > MAX_PAIRS as u128
-        {
+        if scans::is_past_pairs(self.alloc, &self.entries, client, kind, named, at, pairs) {
             return Err(LeaseFault::Pairs);
         }
         touch_all(&mut self.counts, named)?;
@@ -386,9 +369,8 @@ impl Leases {
             objects: named,
             at,
         };
-        let noted = table::note(
+        let noted = self.entries.note(
             self.alloc,
-            &mut self.entries,
             &mut self.counts,
             client,
             &call,
@@ -397,14 +379,9 @@ impl Leases {
         )?;
         let with = table::sums_with(self.sums, noted.before, noted.after);
         let bound = table::bound_with(self.next, noted.until, at);
-        let passed = pass(
-            &mut self.entries,
-            &mut self.counts,
-            with,
-            bound,
-            self.moment,
-            at,
-        );
+        let passed = self
+            .entries
+            .pass(&mut self.counts, with, bound, self.moment, at);
         self.next = passed.next;
         self.sums = passed.sums;
         self.moment = at;

@@ -2,13 +2,20 @@
 //! which object, and until when.
 #![tactic(auto)]
 
+mod clients;
+mod drops;
 mod ended;
 mod entry;
+mod few_marks;
 mod holders;
+mod lapses;
 mod leases;
+mod many_marks;
+mod mark_list;
 mod marks;
 mod numbers;
 mod packed;
+mod scans;
 mod table;
 
 pub use history::{LeaseList, LeaseRow};

@@ -1,70 +1,23 @@
 //! The numbers that count for each object that a client named.
-ghost use Rattle.std.specs.Prelude.{◌≡◌, ◌+◌, ◌<◌, ◌≤◌, ◌^◌, length, filter, not, ◌&&◌, is_some, cond, true, false, IsTrue, OnOk, IfOk, unwrap_or, if◌then◌else◌};
-ghost use Rattle.std.specs.Option.{option_copied};
-ghost use Rattle.indexmap.specs.IndexMap.{spare, values};
+ghost use Rattle.std.specs.Prelude.{◌≡◌, ◌+◌, ◌<◌, ◌≤◌, ◌^◌, length, filter, not, ◌&&◌, cond, true, IsTrue, OnOk, IfOk, if◌then◌else◌};
 ghost use Rattle.indexmap.specs.IndexSet.{contains};
 ghost use Rattle.object_ids.specs.declared.ids.ObjId.{ObjId};
-ghost use Rattle.object_ids.specs.Same.{same_id, same_key};
-ghost use Rattle.dgc_server.specs.Numbers.{no_numbers, strong_part, is_dirty_highest, is_remembered};
-ghost use Rattle.dgc_server.specs.Entry.{object_entries, each_has_number, numbers_of, has_object, is_in, fresh_in, with_numbers, object_noted, objects_noted, objects_after, tenure_forgotten, call_counts};
+ghost use Rattle.object_ids.specs.Same.{same_key};
+ghost use Rattle.dgc_server.specs.Numbers.{is_remembered};
+ghost use Rattle.dgc_server.specs.Entry.{object_entries, each_has_number, numbers_of, is_in, fresh_in, object_noted, objects_noted, objects_after, tenure_forgotten, call_counts};
 ghost use Rattle.dgc_server.specs.Stands.{each_once};
 ghost use Rattle.dgc_server.specs.Index.{Way, counted_at, has_count, one_if, counts_in, is_named};
 
-use crate::holders::{self, Counts, Share};
-use crate::numbers::Numbers;
-use crate::packed::Packed;
+use crate::few_marks::equal;
+use crate::holders::{self, Counts, Place, Share};
+pub use crate::mark_list::Marks;
 use history::CallKind;
-use indexmap::{IndexMap, IndexSet};
-use mod_utf::list::Same;
+use indexmap::IndexSet;
 use object_ids::ObjId;
 use std::alloc::{AllocError, Global};
 
-/// For each object that a client named the numbers of the calls that count for it.
-pub type Marks = IndexMap<ObjId, Packed>;
-
 /// So many objects are counted without memory.
-const FEW: usize = 16;
-
-/// The numbers of an object, none where it is not there.
-pub fn numbers_in(objects: &Marks, object: &ObjId) -> Numbers
-    ensures { result ≡ numbers_of (object_entries objects.now.entries) object.now }
-{
-    numbers_or_none(objects.get(object))
-}
-
-/// Makes room for so many more objects, and for few beyond: an eighth of those that are kept.
-pub fn make_room(objects: &mut Marks, more: usize) -> Result<(), AllocError>
-    ensures entries { objects.new.entries ≡ objects.old.entries }
-    ensures room { OnOk result (more ≤ spare objects.new) }
-{
-    let long = objects.len();
-    if more <= objects.capacity() - long {
-        return Ok(());
-    }
-    objects.reserve(more)?;
-    let room = objects.capacity();
-    let least = long + more;
-    let few = (room - least).min(long / 8);
-    objects.shrink_to(least + few);
-    Ok(())
-}
-
-/// Whether numbers of an object are kept.
-pub fn is_there(objects: &Marks, object: &ObjId) -> bool
-    ensures { result ≡ has_object (object_entries objects.now.entries) object.now }
-{
-    objects.contains_key(object)
-}
-
-/// The numbers that were found, or none.
-fn numbers_or_none(found: Option<&Packed>) -> Numbers
-    ensures { result ≡ unwrap_or (option_copied found.entry) no_numbers }
-{
-    match found {
-        Some(packed) => packed.numbers(),
-        None => Numbers::none(),
-    }
-}
+const COUNTED_WITHOUT_MEMORY: usize = 16;
 
 /// How many objects make a remembered pair, where the client has time left or has not: if it has, all.
 pub fn remembered_in(objects: &Marks, left: bool) -> usize
@@ -74,18 +27,8 @@ pub fn remembered_in(objects: &Marks, left: bool) -> usize
     if left {
         objects.len()
     } else {
-        remembered_for_good(objects)
+        objects.remembered_for_good()
     }
-}
-
-/// How many objects make a remembered pair without time left.
-fn remembered_for_good(objects: &Marks) -> usize
-    ensures { result ≡ length (filter (is_remembered false) (values objects.now)) }
-{
-    objects
-        .values()
-        .filter(|numbers| numbers.is_remembered(false))
-        .count()
 }
 
 /// How many of the named objects make no remembered pair, each counted once. Many are counted with memory, and where there is
@@ -93,7 +36,7 @@ fn remembered_for_good(objects: &Marks) -> usize
 pub fn fresh_count(alloc: Global, objects: &Marks, named: &[ObjId], left: bool) -> usize
     ensures { result ≡ fresh_in left (object_entries objects.now.entries) named.now }
 {
-    if named.len() > FEW {
+    if named.len() > COUNTED_WITHOUT_MEMORY {
         match fresh_with_memory(alloc, objects, named, left) {
             Ok(count) => count,
             Err(_refused) => fresh_one_by_one(objects, named, left),
@@ -121,7 +64,7 @@ fn is_fresh(objects: &Marks, object: &ObjId, following: &[ObjId], left: bool) ->
     ensures { let numbers = numbers_of (object_entries objects.now.entries) object.now in
         result ≡ (not (is_in object.now following.now) && not (is_remembered left numbers)) }
 {
-    !is_among(following, object) && !numbers_in(objects, object).is_remembered(left)
+    !is_among(following, object) && !objects.numbers_of(object).is_remembered(left)
 }
 
 /// Whether an object is among these.
@@ -164,19 +107,7 @@ fn is_first(
     ensures seen { OnOk result ((o : ObjId) → contains same_key seen.new o ≡ cond (same_key object.now o) true (contains same_key seen.old o)) }
 {
     let is_new = seen.insert(*object)?;
-    Ok(is_new && !numbers_in(objects, object).is_remembered(left))
-}
-
-/// Forgets the numbers of a tenure, and the objects that have no others.
-fn forget_tenure(objects: &mut Marks)
-    ensures objects { object_entries objects.new.entries ≡ tenure_forgotten (object_entries objects.old.entries) }
-    ensures room { spare objects.old ≤ spare objects.new }
-{
-    objects.retain(
-        |_object: &ObjId, numbers: &mut Packed| -> bool
-            ensures { (result ≡ is_some numbers.old.strong) × (numbers.new ≡ strong_part numbers.old) }
-        { numbers.end_tenure() },
-    );
+    Ok(is_new && !objects.numbers_of(object).is_remembered(left))
 }
 
 /// Forgets the numbers of a tenure that is over, if this is so. It takes no memory.
@@ -184,28 +115,8 @@ pub fn lapse(objects: &mut Marks, is_over: bool)
     ensures { object_entries objects.new.entries ≡ (if is_over then tenure_forgotten (object_entries objects.old.entries) else object_entries objects.old.entries) }
 {
     if is_over {
-        forget_tenure(objects);
+        objects.forget_tenure();
     }
-}
-
-/// Forgets the numbers of an object. It takes no memory.
-pub fn forget_object(objects: &mut Marks, object: &ObjId)
-    ensures { object_entries objects.new.entries ≡ filter (λ x. not (same_id x.object object.now)) (object_entries objects.old.entries) }
-{
-    if is_there(objects, object) {
-        keep_others(objects, object);
-    }
-}
-
-/// Keeps the objects but this one.
-fn keep_others(objects: &mut Marks, object: &ObjId)
-    ensures { objects.new.entries ≡ filter (λ e. not (same_id e.0 object.now)) objects.old.entries }
-{
-    objects.retain(
-        |other: &ObjId, numbers: &mut Packed| -> bool
-            ensures { (result ≡ not (same_id other.now object.entry.now)) × (numbers.new ≡ numbers.old) }
-        { !equal(other, object) },
-    );
 }
 
 /// Keeps the objects that some client names, as the counts say, and answers how many went. It takes no memory.
@@ -214,19 +125,8 @@ pub fn keep_named(objects: &mut Marks, counts: &Counts) -> usize
     ensures gone { result + length (object_entries objects.new.entries) ≡ length (object_entries objects.old.entries) }
 {
     let before = objects.len();
-    retain_named(objects, counts);
+    objects.keep_named(counts);
     before - objects.len()
-}
-
-/// Keeps the objects that some client names.
-fn retain_named(objects: &mut Marks, counts: &Counts)
-    ensures { objects.new.entries ≡ filter (λ e. is_named counts.now e.0) objects.old.entries }
-{
-    objects.retain(
-        |object: &ObjId, numbers: &mut Packed| -> bool
-            ensures { (result ≡ is_named counts.entry.now object.now) × (numbers.new ≡ numbers.old) }
-        { holders::is_named(counts, object) },
-    );
 }
 
 /// Notes a call of this kind and number that names these objects, for which there is room. Where `left` says that the client has no
@@ -240,9 +140,9 @@ pub fn note(
     number: &i64,
     left: bool,
     held: bool,
-    place: u32,
+    place: Place,
 )
-    requires room { length named.now ≤ spare objects.old }
+    requires room { length named.now ≤ objects.old.room }
     requires once { IsTrue (each_once (object_entries objects.old.entries)) }
     requires has { (o : ObjId) → is_in o named.now ≡ true → has_count counts.old o ≡ true }
     requires enough { (w : Way) (o : ObjId) → one_if (counts_in w held (object_entries objects.old.entries) o) ≤ counted_at w counts.old o }
@@ -278,11 +178,11 @@ fn settle(objects: &mut Marks, counts: &mut Counts, left: bool, held: bool)
     ensures counts { (w : Way) (o : ObjId) → counted_at w counts.new o + one_if (counts_in w held (object_entries objects.old.entries) o)
         ≡ counted_at w counts.old o + one_if (counts_in w true (object_entries objects.new.entries) o) }
     ensures kept { (o : ObjId) → has_count counts.old o ≡ true → has_count counts.new o ≡ true }
-    ensures room { spare objects.old ≤ spare objects.new }
+    ensures room { objects.old.room ≤ objects.new.room }
 {
     if !left {
         holders::release(counts, objects, held);
-        forget_tenure(objects);
+        objects.forget_tenure();
     }
 }
 
@@ -293,9 +193,9 @@ fn note_all(
     named: &[ObjId],
     kind: CallKind,
     number: &i64,
-    place: u32,
+    place: Place,
 )
-    requires room { length named.now ≤ spare objects.old }
+    requires room { length named.now ≤ objects.old.room }
     requires has { (o : ObjId) → is_in o named.now ≡ true → has_count counts.old o ≡ true }
     requires enough { (w : Way) (o : ObjId) → one_if (counts_in w true (object_entries objects.old.entries) o) ≤ counted_at w counts.old o }
     requires few { (w : Way) (o : ObjId) → counted_at w counts.old o < 2 ^ 31 }
@@ -315,9 +215,9 @@ fn note_one(
     object: &ObjId,
     kind: CallKind,
     number: &i64,
-    place: u32,
+    place: Place,
 )
-    requires room { 0 < spare objects.old }
+    requires room { 0 < objects.old.room }
     requires has { has_count counts.old object.now ≡ true }
     requires enough { (w : Way) → one_if (counts_in w true (object_entries objects.old.entries) object.now) ≤ counted_at w counts.old object.now }
     requires few { (w : Way) → counted_at w counts.old object.now ≤ 2 ^ 31 }
@@ -325,12 +225,12 @@ fn note_one(
     ensures counts { (w : Way) (o : ObjId) → counted_at w counts.new o + one_if (counts_in w true (object_entries objects.old.entries) o)
         ≡ counted_at w counts.old o + one_if (counts_in w true (object_entries objects.new.entries) o) }
     ensures kept { (o : ObjId) → has_count counts.old o ≡ true → has_count counts.new o ≡ true }
-    ensures room { spare objects.old ≤ spare objects.new + 1 }
+    ensures room { objects.old.room ≤ objects.new.room + 1 }
 {
-    let names = is_there(objects, object);
-    let before = numbers_in(objects, object);
+    let names = objects.names(object);
+    let before = objects.numbers_of(object);
     let after = before.noted(kind, number);
-    put(objects, object, after);
+    objects.put(object, &after);
     let share = Share {
         holds: before.is_dirty_highest(),
         names,
@@ -340,24 +240,4 @@ fn note_one(
         names: true,
     };
     holders::shift(counts, object, share, next, place);
-}
-
-/// Sets the numbers of an object, for which there is room.
-fn put(objects: &mut Marks, object: &ObjId, numbers: Numbers)
-    requires { 0 < spare objects.old }
-    ensures objects { object_entries objects.new.entries ≡ with_numbers object.now numbers (object_entries objects.old.entries) }
-    ensures room { spare objects.old ≤ spare objects.new + 1 }
-{
-    let packed = Packed::of(&numbers);
-    match objects.insert(*object, packed) {
-        Ok(_was) => {}
-        Err(_refused) => {}
-    }
-}
-
-/// Whether two objects are the same.
-fn equal(a: &ObjId, b: &ObjId) -> bool
-    ensures { result ≡ same_id a.now b.now }
-{
-    a.is_same(b)
 }

@@ -5,7 +5,7 @@ ghost use Rattle.dgc_server.specs.Numbers.{number_if, strong_part, is_dirty_high
 use crate::numbers::Numbers;
 use std::marker::Model;
 
-/// The numbers of an object as a client's map keeps them: in 32 bytes, where three options take 48. Contracts see them as `Numbers`.
+/// The numbers of an object as a client's list or map keeps them: in 32 bytes, where three options take 48. Contracts see them as `Numbers`.
 #[derive(Drop)]
 pub struct Packed {
     dirty: i64,
@@ -55,6 +55,20 @@ impl Packed {
             dirty: number_if(self.has_dirty, self.dirty),
             clean: number_if(self.has_clean, self.clean),
             strong: number_if(self.has_strong, self.strong),
+        }
+    }
+
+    /// The same numbers once more.
+    pub fn copy(&self) -> Packed
+        ensures { result ≡ self.now }
+    {
+        Packed {
+            dirty: self.dirty,
+            clean: self.clean,
+            strong: self.strong,
+            has_dirty: self.has_dirty,
+            has_clean: self.has_clean,
+            has_strong: self.has_strong,
         }
     }
 

@@ -1,19 +1,16 @@
-//! Lists of clients, in the order of clients.
-ghost use Rattle.std.specs.Prelude.{◌≡◌, true, ◌+◌, ◌<◌, ◌≤◌, ◌^◌, length, filter, map, sum_by, nat_lt, min, insert, remove, slice_set, OnOk, OnErr, IfOk, IsTrue, unwrap_or, MatchResult, vec_len, vec_capacity, slice_index_or, if◌then◌else◌};
+//! Lists of clients, in the order of clients: those of one chunk.
+ghost use Rattle.std.specs.Prelude.{◌≡◌, true, ◌++◌, ◌+◌, ◌<◌, ◌≤◌, ◌^◌, length, filter, map, nat_lt, min, insert, remove, slice_set, OnOk, OnErr, IfOk, IsTrue, unwrap_or, MatchResult, vec_len, vec_capacity, slice_index_or, if◌then◌else◌};
 ghost use Rattle.std.specs.List.{list_any, list_all};
 ghost use Rattle.std.specs.Option.{option_copied};
 ghost use Rattle.object_ids.specs.declared.ids.ObjId.{ObjId};
-ghost use Rattle.object_ids.specs.Client.{Client};
-ghost use Rattle.dgc_server.specs.Entry.{Entry, each_has_number, is_in, entry_without, is_entry_kept, has_time_left, entry_holds, remembered_of, row_of};
+ghost use Rattle.dgc_server.specs.Entry.{Entry, each_has_number, is_in, entry_without, is_entry_kept, has_time_left, entry_holds, row_of};
 ghost use Rattle.dgc_server.specs.Stands.{each_once, is_in_order, entry_after};
-ghost use Rattle.dgc_server.specs.Index.{Way, counted_at, has_count, is_counted, is_named, with_only, object_count, objects_in, one_if, entry_names, sums_at, entry_sums};
-ghost use Rattle.dgc_server.specs.Table.{remembered as remembered_at};
-ghost use Rattle.dgc_server.specs.Table.{entry_of, no_entry, IsPlaceOf, with_entry, remembered, clients_after, fresh_pairs, pairs_after};
+ghost use Rattle.dgc_server.specs.Index.{Way, counted_at, has_count, is_counted, is_named, with_only, object_count, objects_in, one_if, entry_names, entry_sums, IsNoted};
+ghost use Rattle.dgc_server.specs.Table.{entry_of, no_entry, IsPlaceOf, with_entry, remembered};
 
 use crate::entry::{ClientEntry, LeaseCall};
-use crate::holders::Counts;
-use crate::marks::{Marks, counts_for, fresh_count};
-use history::{CallKind, LeaseList, LeaseRow};
+use crate::holders::{Counts, Place};
+use history::{LeaseList, LeaseRow};
 use object_ids::{ObjId, Vmid};
 use std::alloc::{AllocError, Global};
 use std::cmp::Ordering;
@@ -34,7 +31,7 @@ pub struct Noted {
 }
 
 /// The entry of a client, if it has one.
-fn find<'a>(entries: &'a [ClientEntry], client: &Vmid) -> Option<&'a ClientEntry>
+pub fn find<'a>(entries: &'a [ClientEntry], client: &Vmid) -> Option<&'a ClientEntry>
     requires { IsTrue (is_in_order entries.now) }
     ensures { let other = no_entry client.now in
         entry_of entries.now client.now ≡ unwrap_or (option_copied result) other }
@@ -66,8 +63,8 @@ fn place_of(entries: &[ClientEntry], client: &Vmid) -> Result<usize, usize>
     Err(low)
 }
 
-/// Notes a call of a client, by which a lease of this duration begins if it is a dirty, and answers what it changed. The counts and sums are
-/// those of the moment `from`. It is refused only for want of memory, and then all is as it was.
+/// Notes a call of a client in the chunk of this number, by which a lease of this duration begins if it is a dirty, and answers what it changed.
+/// The counts and sums are those of the moment `from`. It is refused only for want of memory, and then all is as it was.
 pub fn note(
     alloc: Global,
     entries: &mut Vec<ClientEntry>,
@@ -76,6 +73,7 @@ pub fn note(
     call: &LeaseCall<'_>,
     lease: u64,
     from: u64,
+    number: usize,
 ) -> Result<Noted, AllocError>
     requires later { from ≤ call.now.at }
     requires early { call.now.at < 2 ^ 62 }
@@ -84,27 +82,40 @@ pub fn note(
     requires numbered { IsTrue (list_all (λ e. each_has_number e.objects) entries.old.items) }
     requires ordered { IsTrue (is_in_order entries.old.items) }
     requires once { IsTrue (list_all (λ e. each_once e.objects) entries.old.items) }
-    requires few { (w : Way) (o : ObjId) → length (filter (is_counted w from o) entries.old.items) ≤ 262144 }
     requires has { (o : ObjId) → is_in o call.now.objects.now ≡ true → has_count counts.old o ≡ true }
-    requires counted { (w : Way) (o : ObjId) → counted_at w counts.old o ≡ length (filter (is_counted w from o) entries.old.items) }
+    requires enough { (w : Way) (o : ObjId) → one_if (is_counted w from o (entry_of entries.old.items client.now)) ≤ counted_at w counts.old o }
+    requires few { (w : Way) (o : ObjId) → counted_at w counts.old o + 1 < 2 ^ 31 }
     ensures ok { OnOk result (entries.new.items ≡ with_entry
         (entry_after lease call.now.kind call.now.number.now call.now.objects.now call.now.at (entry_of entries.old.items client.now)) entries.old.items) }
-    ensures counted { OnOk result ((w : Way) (o : ObjId) → counted_at w counts.new o ≡ length (filter (is_counted w from o) entries.new.items)) }
-    ensures before { IfOk result (λ noted. noted.before ≡ entry_sums from (entry_of entries.old.items client.now)) }
-    ensures after { IfOk result (λ noted. let own = entry_of entries.old.items client.now in
-        noted.after ≡ entry_sums from (entry_after lease call.now.kind call.now.number.now call.now.objects.now call.now.at own)) }
-    ensures until { IfOk result (λ noted. let own = entry_of entries.old.items client.now in
-        noted.until ≡ (entry_after lease call.now.kind call.now.number.now call.now.objects.now call.now.at own).until) }
-    ensures small { IfOk result (λ noted. (noted.after.leased ≤ 1) × (noted.after.pairs < 2 ^ 64)) }
+    ensures counts { OnOk result ((w : Way) (o : ObjId) → let own = entry_of entries.old.items client.now in
+        counted_at w counts.new o + one_if (is_counted w from o own)
+        ≡ counted_at w counts.old o
+        + one_if (is_counted w from o (entry_after lease call.now.kind call.now.number.now call.now.objects.now call.now.at own))) }
+    ensures noted { IfOk result (λ noted. let own = entry_of entries.old.items client.now in
+        IsNoted from own (entry_after lease call.now.kind call.now.number.now call.now.objects.now call.now.at own) noted) }
     ensures err { OnErr result (entries.new.items ≡ entries.old.items) }
     ensures same { OnErr result (counts.new ≡ counts.old) }
 {
     match place_of(entries, client) {
-        Ok(place) => note_entry(&mut entries[place], counts, call, lease, from, hint(place)),
+        Ok(place) => note_entry(
+            &mut entries[place],
+            counts,
+            call,
+            lease,
+            from,
+            Place::hint(number, place),
+        ),
         Err(place) => {
             entries.reserve(1)?;
             let mut entry = ClientEntry::fresh(alloc, client)?;
-            let noted = note_entry(&mut entry, counts, call, lease, from, hint(place))?;
+            let noted = note_entry(
+                &mut entry,
+                counts,
+                call,
+                lease,
+                from,
+                Place::hint(number, place),
+            )?;
             insert_within(entries, place, entry);
             Ok(noted)
         }
@@ -118,7 +129,7 @@ fn note_entry(
     call: &LeaseCall<'_>,
     lease: u64,
     from: u64,
-    place: u32,
+    place: Place,
 ) -> Result<Noted, AllocError>
     requires later { from ≤ call.now.at }
     requires early { call.now.at < 2 ^ 62 }
@@ -132,10 +143,7 @@ fn note_entry(
     ensures ok { OnOk result (entry.new ≡ entry_after lease call.now.kind call.now.number.now call.now.objects.now call.now.at entry.old) }
     ensures counts { OnOk result ((w : Way) (o : ObjId) → counted_at w counts.new o + one_if (is_counted w from o entry.old)
         ≡ counted_at w counts.old o + one_if (is_counted w from o entry.new)) }
-    ensures before { IfOk result (λ noted. noted.before ≡ entry_sums from entry.old) }
-    ensures after { IfOk result (λ noted. noted.after ≡ entry_sums from entry.new) }
-    ensures until { IfOk result (λ noted. noted.until ≡ entry.new.until) }
-    ensures small { IfOk result (λ noted. (noted.after.leased ≤ 1) × (noted.after.pairs < 2 ^ 64)) }
+    ensures noted { IfOk result (λ noted. IsNoted from entry.old entry.new noted) }
     ensures err { OnErr result (entry.new ≡ entry.old) }
     ensures same { OnErr result (counts.new ≡ counts.old) }
 {
@@ -146,15 +154,6 @@ fn note_entry(
         after: sums_of(entry, from),
         until: entry.until(),
     })
-}
-
-/// A place as a count notes it: the first, if it is too great a number.
-fn hint(place: usize) -> u32 {
-    if place <= u32::MAX as usize {
-        place as u32
-    } else {
-        0
-    }
 }
 
 /// Inserts an entry, for which there is room.
@@ -176,95 +175,65 @@ pub fn bound_with(bound: u64, until: u64, at: u64) -> u64
     if at < until { bound.min(until) } else { 0 }
 }
 
-/// Forgets what is kept of an object that so many clients name, and a client of which nothing is left then. It begins to look at this place,
-/// and stops as soon as all that name the object were met. It takes no memory.
-pub fn drop_object(
+/// From a place on forgets what is kept of an object that at most so many clients name, and answers how many are left of that number.
+pub fn walk(
     entries: &mut Vec<ClientEntry>,
     object: &ObjId,
     clients: u32,
-    place: u32,
+    from: usize,
     at: u64,
-)
+) -> u32
     requires kept { IsTrue (list_all (is_entry_kept at) entries.old.items) }
-    requires counted { clients ≡ length (filter (entry_names object.now) entries.old.items) }
-    ensures { entries.new.items ≡ filter (is_entry_kept at) (map (entry_without object.now) entries.old.items) }
-{
-    let left = walk(entries, object, clients, place as usize, at);
-    walk(entries, object, left, 0, at);
-}
-
-/// From a place on forgets what is kept of an object that so many clients name, and answers how many are left that name it.
-fn walk(entries: &mut Vec<ClientEntry>, object: &ObjId, clients: u32, from: usize, at: u64) -> u32
-    requires kept { IsTrue (list_all (is_entry_kept at) entries.old.items) }
-    requires counted { clients ≡ length (filter (entry_names object.now) entries.old.items) }
+    requires enough { length (filter (entry_names object.now) entries.old.items) ≤ clients }
     ensures same { filter (is_entry_kept at) (map (entry_without object.now) entries.new.items)
         ≡ filter (is_entry_kept at) (map (entry_without object.now) entries.old.items) }
     ensures kept { IsTrue (list_all (is_entry_kept at) entries.new.items) }
-    ensures counted { result ≡ length (filter (entry_names object.now) entries.new.items) }
-    ensures all { from ≡ 0 → result ≡ 0 }
+    ensures counted { result + length (filter (entry_names object.now) entries.old.items)
+        ≡ clients + length (filter (entry_names object.now) entries.new.items) }
+    ensures all { from ≡ 0 → length (filter (entry_names object.now) entries.new.items) ≡ 0 }
 {
-    let mut left = clients;
+    let mut to_go = clients;
     let mut i = from;
     while i < entries.len() {
-        if left == 0 {
+        if to_go == 0 {
             return 0;
         }
         if entries[i].names(object) {
             drop_at(entries, object, i, at);
-            left -= 1;
+            to_go -= 1;
             continue;
         }
         i += 1;
     }
-    left
+    to_go
 }
 
-/// Forgets what is kept of the objects that have no count any more, and the clients of which nothing is left then. So many pairs go. It looks at
-/// all objects of the clients from this place on, and then from the first on, until as many went, and then once at each client's end. Where no pair
-/// goes it looks at no client. It takes no memory.
-pub fn drop_objects(
-    entries: &mut Vec<ClientEntry>,
-    counts: &Counts,
-    pairs: u128,
-    place: u32,
-    at: u64,
-)
-    requires kept { IsTrue (list_all (is_entry_kept at) entries.old.items) }
-    requires pairs { pairs + objects_in (map (with_only (is_named counts.now)) entries.old.items) ≡ objects_in entries.old.items }
-    ensures { entries.new.items ≡ filter (is_entry_kept at) (map (with_only (is_named counts.now)) entries.old.items) }
+/// From a place on keeps of each client the objects that are named, where at most so many pairs are to go, and answers how many are left of that
+/// number.
+pub fn keep_named(entries: &mut Vec<ClientEntry>, counts: &Counts, pairs: u128, from: usize) -> u128
+    requires { objects_in entries.old.items ≤ pairs + objects_in (map (with_only (is_named counts.now)) entries.old.items) }
+    ensures same { map (with_only (is_named counts.now)) entries.new.items ≡ map (with_only (is_named counts.now)) entries.old.items }
+    ensures to_go { result + objects_in entries.old.items ≡ pairs + objects_in entries.new.items }
+    ensures all { from ≡ 0 → entries.new.items ≡ map (with_only (is_named counts.now)) entries.old.items }
 {
-    if pairs == 0 {
-        return;
-    }
-    let left = keep_named(entries, counts, pairs, place as usize);
-    keep_named(entries, counts, left, 0);
-    keep(entries, at);
-}
-
-/// From a place on keeps of each client the objects that are named, where so many pairs are to go, and answers how many are left to go.
-fn keep_named(entries: &mut [ClientEntry], counts: &Counts, pairs: u128, from: usize) -> u128
-    requires { pairs + objects_in (map (with_only (is_named counts.now)) entries.old) ≡ objects_in entries.old }
-    ensures same { map (with_only (is_named counts.now)) entries.new ≡ map (with_only (is_named counts.now)) entries.old }
-    ensures left { result + objects_in (map (with_only (is_named counts.now)) entries.new) ≡ objects_in entries.new }
-    ensures all { from ≡ 0 → entries.new ≡ map (with_only (is_named counts.now)) entries.old }
-{
-    let mut left = pairs;
+    let mut to_go = pairs;
     let mut i = from;
     while i < entries.len() {
-        if left == 0 {
+        if to_go == 0 {
             return 0;
         }
-        left -= keep_at(entries, counts, i);
+        to_go -= keep_at(entries, counts, i);
         i += 1;
     }
-    left
+    to_go
 }
 
 /// Keeps of one client the objects that are named, and answers how many went.
-fn keep_at(entries: &mut [ClientEntry], counts: &Counts, i: usize) -> u128
-    requires { i < length entries.old }
-    ensures entries { (d : Entry) → entries.new ≡ slice_set entries.old i (with_only (is_named counts.now) (slice_index_or entries.old i d)) }
-    ensures gone { (d : Entry) → result + object_count (with_only (is_named counts.now) (slice_index_or entries.old i d)) ≡ object_count (slice_index_or entries.old i d) }
+fn keep_at(entries: &mut Vec<ClientEntry>, counts: &Counts, i: usize) -> u128
+    requires { i < vec_len entries.old }
+    ensures entries { (d : Entry) → entries.new.items ≡ slice_set entries.old.items i (with_only (is_named counts.now) (slice_index_or entries.old.items i d)) }
+    ensures gone { (d : Entry) → result + object_count (with_only (is_named counts.now) (slice_index_or entries.old.items i d))
+        ≡ object_count (slice_index_or entries.old.items i d) }
 {
     entries[i].keep_named(counts) as u128
 }
@@ -306,7 +275,7 @@ pub fn holders(entries: &[ClientEntry], object: &ObjId, at: u64) -> usize
 }
 
 /// How many clients have time left.
-fn clients_with_time_left(entries: &[ClientEntry], at: u64) -> usize
+pub fn with_time_left(entries: &[ClientEntry], at: u64) -> usize
     ensures value { result ≡ length (filter (has_time_left at) entries.now) }
     ensures within { result ≤ length entries.now }
 {
@@ -314,42 +283,6 @@ fn clients_with_time_left(entries: &[ClientEntry], at: u64) -> usize
         .iter()
         .filter(|entry| entry.has_time_left(at))
         .count()
-}
-
-/// Whether a client has time left.
-pub fn is_leased(entries: &[ClientEntry], client: &Vmid, at: u64) -> bool
-    requires { IsTrue (is_in_order entries.now) }
-    ensures { result ≡ has_time_left at (entry_of entries.now client.now) }
-{
-    match find(entries, client) {
-        Some(entry) => entry.has_time_left(at),
-        None => false,
-    }
-}
-
-/// How many clients have time left after a dirty of this one, where so many have now.
-pub fn clients_after(entries: &[ClientEntry], client: &Vmid, at: u64, leased: usize) -> usize
-    requires ordered { IsTrue (is_in_order entries.now) }
-    requires counted { leased ≡ length (filter (has_time_left at) entries.now) }
-    requires few { leased ≤ 65536 }
-    ensures { result ≡ clients_after entries.now client.now at }
-{
-    if is_leased(entries, client, at) {
-        leased
-    } else {
-        leased + 1
-    }
-}
-
-/// The sums over all entries at a moment.
-pub fn sums_at(entries: &[ClientEntry], at: u64) -> Sums
-    requires { IsTrue (list_all (λ e. each_has_number e.objects) entries.now) }
-    ensures { result ≡ sums_at at entries.now }
-{
-    Sums {
-        leased: clients_with_time_left(entries, at),
-        pairs: remembered_pairs(entries, at),
-    }
 }
 
 /// What a client's entry adds to the sums.
@@ -393,28 +326,6 @@ pub fn remembered_pairs(entries: &[ClientEntry], at: u64) -> u128
     sum
 }
 
-/// How many pairs a call of this kind brings that were not remembered.
-fn fresh_pairs(
-    alloc: Global,
-    entries: &[ClientEntry],
-    client: &Vmid,
-    kind: CallKind,
-    named: &[ObjId],
-    at: u64,
-) -> usize
-    requires { IsTrue (is_in_order entries.now) }
-    ensures { result ≡ fresh_pairs at entries.now client.now kind named.now }
-{
-    match find(entries, client) {
-        Some(entry) if counts_for(kind, entry.has_time_left(at)) => {
-            entry.fresh_among(alloc, named, at)
-        }
-        Some(_) => 0,
-        None if counts_for(kind, false) => fresh_count(alloc, &Marks::new(alloc), named, false),
-        None => 0,
-    }
-}
-
 /// The sums without so many pairs.
 pub fn sums_without(sums: Sums, pairs: u128) -> Sums
     requires { pairs ≤ sums.pairs }
@@ -427,29 +338,15 @@ pub fn sums_without(sums: Sums, pairs: u128) -> Sums
     }
 }
 
-/// How many pairs are remembered after a call of this kind, where so many are now.
-pub fn pairs_after(
+/// Appends the clients with time left, in order, with the ends of their leases.
+pub fn append_rows(
     alloc: Global,
+    rows: &mut LeaseList,
     entries: &[ClientEntry],
-    client: &Vmid,
-    kind: CallKind,
-    named: &[ObjId],
     at: u64,
-    remembered: u128,
-) -> u128
-    requires ordered { IsTrue (is_in_order entries.now) }
-    requires counted { remembered ≡ remembered_at at entries.now }
-    requires few { remembered ≤ 262144 }
-    ensures { result ≡ pairs_after at entries.now client.now kind named.now }
+) -> Result<(), AllocError>
+    ensures { OnOk result (rows.new ≡ rows.old ++ map row_of (filter (has_time_left at) entries.now)) }
 {
-    remembered + fresh_pairs(alloc, entries, client, kind, named, at) as u128
-}
-
-/// The clients with time left, in order, with the ends of their leases.
-pub fn rows(alloc: Global, entries: &[ClientEntry], at: u64) -> Result<LeaseList, AllocError>
-    ensures { IfOk result (λ rows. rows ≡ map row_of (filter (has_time_left at) entries.now)) }
-{
-    let mut rows = LeaseList::new(alloc);
     for entry in entries {
         if entry.has_time_left(at) {
             rows.push(LeaseRow {
@@ -458,5 +355,5 @@ pub fn rows(alloc: Global, entries: &[ClientEntry], at: u64) -> Result<LeaseList
             })?;
         }
     }
-    Ok(rows)
+    Ok(())
 }

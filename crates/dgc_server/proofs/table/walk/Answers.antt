@@ -20,6 +20,7 @@ loop-i-preserved-then-names c =
     rw new record {
       same = changed-same o m i d es within ∙ inv.same;
       kept = changed-kept o m i d es within inv.kept;
-      counted = (let fewer = changed-names o m i d es within in let one = ap one_if named in let left = inv.counted in omega arith);
+      counted = (let fewer = changed-names o m i d es within in let one = ap one_if named in let counted = inv.counted in let enough = inv.enough in omega arith);
+      enough = (let fewer = changed-names o m i d es within in let one = ap one_if named in let enough = inv.enough in omega arith);
       front = λ z. ap (λ l. length (filter (entry_names o) l)) (changed-front o m i d es within) ∙ inv.front z;
     }

@@ -1,4 +1,4 @@
-use Rattle.std.proofs.Common.{◌≡◌, ℕ, ◌<◌, refl, ap, sym, subst, ◌∙◌, arith, w64, Err, max}
+use Rattle.std.proofs.Common.{◌≡◌, ℕ, ◌<◌, ◌≤◌, refl, ap, sym, subst, ◌∙◌, arith, w64, Err, max}
 use Rattle.std.specs.Prelude.{ℤ}
 use Rattle.std.proofs.lemmas.Int.{to_z-of_z}
 use Rattle.history.specs.declared.calls.CallKind.TheVariants.{Dirty}
@@ -8,43 +8,48 @@ use Rattle.dgc_server.specs.Counts.{dirty_call, clients_with_call, pairs_with_ca
 use Rattle.dgc_server.specs.Stands.{LeaseTable, table_after}
 use Rattle.dgc_server.specs.Table.{clients_after, pairs_after}
 use Rattle.dgc_server.proofs.Trimmed.{trimmed-noted}
-use Rattle.dgc_server.proofs.Told.{call-told, pairs-told, clients-told, error-is, error-same}
+use Rattle.dgc_server.proofs.Told.{no-more, call-told, pairs-told, clients-told, error-is, error-same}
 use Rattle.dgc_server.proofs.leases.Leases.dirty.Goals as goal
 
-pub returns-then-clients_after-gt-MAX_CLIENTS-clause-clients : goal.returns-then-clients_after-gt-MAX_CLIENTS-clause-clients
-returns-then-clients_after-gt-MAX_CLIENTS-clause-clients c lease moment calls s =
-    let counted : c.clients_after.result ≡ clients_with_call lease (max c.args.now moment) calls c.args.client.now =
-    c.clients_after.ensures ∙ ap (λ es. clients_after es c.args.client.now c.at-at.result) (c.deref.ensures.value ∙ ap (λ (t : LeaseTable). t.entries) c.self.view_is)
+pub returns-then-is_past_clients-clause-clients : goal.returns-then-is_past_clients-clause-clients
+returns-then-is_past_clients-clause-clients c lease moment calls s =
+    let counted : clients_after c.self.inside.entries c.args.client.now c.at-at.result ≡ clients_with_call lease (max c.args.now moment) calls c.args.client.now =
+    ap (λ es. clients_after es c.args.client.now c.at-at.result) (ap (λ (t : LeaseTable). t.entries) c.self.view_is)
     ∙ sym (clients-told lease moment c.args.now c.at-at.result c.args.client.now c.args.self.now calls c.at-at.ensures.sound.ordered c.at-at.ensures.value s) in
     let P : ℕ → Type 0 = λ n. MAX_CLIENTS < n in
-    (λ h. subst P counted c.if-clients_after-gt-MAX_CLIENTS.true, λ h. refl)
+    (λ h. subst P counted (c.is_past_clients.ensures.0 c.if-is_past_clients.true), λ h. refl)
 
-pub returns-then-clients_after-gt-MAX_CLIENTS-clause-pairs : goal.returns-then-clients_after-gt-MAX_CLIENTS-clause-pairs
-returns-then-clients_after-gt-MAX_CLIENTS-clause-pairs c lease moment calls s =
-    let counted : c.clients_after.result ≡ clients_with_call lease (max c.args.now moment) calls c.args.client.now =
-    c.clients_after.ensures ∙ ap (λ es. clients_after es c.args.client.now c.at-at.result) (c.deref.ensures.value ∙ ap (λ (t : LeaseTable). t.entries) c.self.view_is)
+pub returns-then-is_past_clients-clause-pairs : goal.returns-then-is_past_clients-clause-pairs
+returns-then-is_past_clients-clause-pairs c lease moment calls s =
+    let counted : clients_after c.self.inside.entries c.args.client.now c.at-at.result ≡ clients_with_call lease (max c.args.now moment) calls c.args.client.now =
+    ap (λ es. clients_after es c.args.client.now c.at-at.result) (ap (λ (t : LeaseTable). t.entries) c.self.view_is)
     ∙ sym (clients-told lease moment c.args.now c.at-at.result c.args.client.now c.args.self.now calls c.at-at.ensures.sound.ordered c.at-at.ensures.value s) in
-    let many = c.if-clients_after-gt-MAX_CLIENTS.true in
+    let P : ℕ → Type 0 = λ n. MAX_CLIENTS < n in
+    let many : MAX_CLIENTS < clients_with_call lease (max c.args.now moment) calls c.args.client.now = subst P counted (c.is_past_clients.ensures.0 c.if-is_past_clients.true) in
     (λ h. absurd (cc), λ h. (let few = h.0 in absurd (omega arith)))
 
 pub returns-in_err-note-clause-clients : goal.returns-in_err-note-clause-clients
 returns-in_err-note-clause-clients c lease moment calls s =
-    let counted : c.clients_after.result ≡ clients_with_call lease (max c.args.now moment) calls c.args.client.now =
-    c.clients_after.ensures ∙ ap (λ es. clients_after es c.args.client.now c.at-at.result) (c.deref.ensures.value ∙ ap (λ (t : LeaseTable). t.entries) c.self.view_is)
+    let counted : clients_after c.self.inside.entries c.args.client.now c.at-at.result ≡ clients_with_call lease (max c.args.now moment) calls c.args.client.now =
+    ap (λ es. clients_after es c.args.client.now c.at-at.result) (ap (λ (t : LeaseTable). t.entries) c.self.view_is)
     ∙ sym (clients-told lease moment c.args.now c.at-at.result c.args.client.now c.args.self.now calls c.at-at.ensures.sound.ordered c.at-at.ensures.value s) in
-    let few = c.if-clients_after-gt-MAX_CLIENTS.false in
+    let Q : ℕ → Type 0 = λ n. MAX_CLIENTS < n in
+    let few : clients_with_call lease (max c.args.now moment) calls c.args.client.now ≤ MAX_CLIENTS =
+    no-more MAX_CLIENTS _ (λ h. (let past = c.is_past_clients.ensures.1 (subst Q (sym counted) h) in let none = c.if-is_past_clients.false in absurd (cc))) in
     let error : c.from_residual.result ≡ Err c.in_err-note.field-0.0 = error-is c.from_residual.result c.in_err-note.field-0.0 c.from_residual.ensures.1 in
     (λ h. absurd (c.in_err-note.ensures.clients (ap (λ f. Err f) (error-same c.in_err-note.field-0.0 Clients (sym error ∙ h)))), λ h. absurd (omega arith))
 
 pub returns-in_err-note-clause-pairs : goal.returns-in_err-note-clause-pairs
 returns-in_err-note-clause-pairs c lease moment calls s =
-    let counted : c.clients_after.result ≡ clients_with_call lease (max c.args.now moment) calls c.args.client.now =
-    c.clients_after.ensures ∙ ap (λ es. clients_after es c.args.client.now c.at-at.result) (c.deref.ensures.value ∙ ap (λ (t : LeaseTable). t.entries) c.self.view_is)
+    let counted : clients_after c.self.inside.entries c.args.client.now c.at-at.result ≡ clients_with_call lease (max c.args.now moment) calls c.args.client.now =
+    ap (λ es. clients_after es c.args.client.now c.at-at.result) (ap (λ (t : LeaseTable). t.entries) c.self.view_is)
     ∙ sym (clients-told lease moment c.args.now c.at-at.result c.args.client.now c.args.self.now calls c.at-at.ensures.sound.ordered c.at-at.ensures.value s) in
     let pairs : pairs_with_call lease calls (dirty_call (max c.args.now moment) c.args.client.now c.args.number c.args.objects.now) ≡ pairs_after c.at-at.result c.args.self.now.entries c.args.client.now Dirty c.args.objects.now =
     pairs-told lease moment c.args.now c.at-at.result Dirty c.args.client.now c.args.number c.args.objects.now c.args.self.now calls c.at-at.ensures.sound.ordered c.at-at.ensures.value s in
     let P : ℕ → Type 0 = λ n. MAX_PAIRS < n in
-    let few = c.if-clients_after-gt-MAX_CLIENTS.false in
+    let Q : ℕ → Type 0 = λ n. MAX_CLIENTS < n in
+    let few : clients_with_call lease (max c.args.now moment) calls c.args.client.now ≤ MAX_CLIENTS =
+    no-more MAX_CLIENTS _ (λ h. (let past = c.is_past_clients.ensures.1 (subst Q (sym counted) h) in let none = c.if-is_past_clients.false in absurd (cc))) in
     let error : c.from_residual.result ≡ Err c.in_err-note.field-0.0 = error-is c.from_residual.result c.in_err-note.field-0.0 c.from_residual.ensures.1 in (
       λ h. (omega arith, subst P (sym pairs) (c.in_err-note.ensures.pairs.0 (ap (λ f. Err f) (error-same c.in_err-note.field-0.0 Pairs (sym error ∙ h))))),
       λ h. error ∙ ap (λ f. Err f) (error-same c.in_err-note.field-0.0 Pairs (c.in_err-note.ensures.pairs.1 (subst P pairs h.1))),
@@ -57,10 +62,12 @@ returns-clause-ok c lease moment calls s =
 
 pub returns-clause-clients : goal.returns-clause-clients
 returns-clause-clients c lease moment calls s =
-    let counted : c.clients_after.result ≡ clients_with_call lease (max c.args.now moment) calls c.args.client.now =
-    c.clients_after.ensures ∙ ap (λ es. clients_after es c.args.client.now c.at-at.result) (c.deref.ensures.value ∙ ap (λ (t : LeaseTable). t.entries) c.self.view_is)
+    let counted : clients_after c.self.inside.entries c.args.client.now c.at-at.result ≡ clients_with_call lease (max c.args.now moment) calls c.args.client.now =
+    ap (λ es. clients_after es c.args.client.now c.at-at.result) (ap (λ (t : LeaseTable). t.entries) c.self.view_is)
     ∙ sym (clients-told lease moment c.args.now c.at-at.result c.args.client.now c.args.self.now calls c.at-at.ensures.sound.ordered c.at-at.ensures.value s) in
-    let few = c.if-clients_after-gt-MAX_CLIENTS.false in
+    let Q : ℕ → Type 0 = λ n. MAX_CLIENTS < n in
+    let few : clients_with_call lease (max c.args.now moment) calls c.args.client.now ≤ MAX_CLIENTS =
+    no-more MAX_CLIENTS _ (λ h. (let past = c.is_past_clients.ensures.1 (subst Q (sym counted) h) in let none = c.if-is_past_clients.false in absurd (cc))) in
     (λ h. absurd (cc), λ h. absurd (omega arith))
 
 pub returns-clause-pairs : goal.returns-clause-pairs

@@ -17,7 +17,7 @@ pub invariant_of-self : goal.invariant_of-self
 invariant_of-self c =
     let m = c.self.inside.moment in
     let o = c.args.object in
-    let es = c.self.inside.entries.items in
+    let es = c.self.inside.entries in
     let rest = map (entry_without o) es in
     let settled = c.self.invariant.1.settled c.self.invariant.3 in
     let named : c.count_of-count.result.clients ≡ length (filter (entry_names o) es) = ap (λ (n : Count). n.clients) c.count_of-count.ensures ∙ c.self.invariant.1.counted Naming o in
@@ -43,8 +43,8 @@ returns-clause-stands c lease moment calls s =
     let m : c.self.inside.moment ≡ moment = ap (λ (t : LeaseTable). t.moment) c.self.view_is ∙ s.is_moment in
     table-dropped c.args.object lease moment c.args.self.now _ calls s (subst P c.self.view_is c.self.invariant.0.ordered)
     (ap (λ (t : LeaseTable). t.lease) c.self.view_is) (ap (λ (t : LeaseTable). t.moment) c.self.view_is)
-    (c.drop_object.ensures ∙ dropped-lapses c.self.inside.moment c.self.inside.next c.args.object c.self.inside.entries.items (c.self.invariant.1.settled c.self.invariant.3)
-    ∙ ap (λ k. after_lapse k (map (entry_without c.args.object) c.self.inside.entries.items)) m
+    (c.drop_object.ensures ∙ dropped-lapses c.self.inside.moment c.self.inside.next c.args.object c.self.inside.entries (c.self.invariant.1.settled c.self.invariant.3)
+    ∙ ap (λ k. after_lapse k (map (entry_without c.args.object) c.self.inside.entries)) m
     ∙ ap (λ (t : LeaseTable). after_lapse moment (map (entry_without c.args.object) t.entries)) c.self.view_is)
 
 pub returns-clause-fewer : goal.returns-clause-fewer
@@ -53,7 +53,7 @@ returns-clause-fewer c =
     let long = ap length same in let fewer = fewer-dropped c.self.inside.moment c.args.object c.args.self.now.entries in omega arith
 
 pub drop_object-requires-clause-kept : goal.drop_object-requires-clause-kept
-drop_object-requires-clause-kept c = all-kept c.self.inside.moment c.self.inside.next c.self.inside.entries.items (c.self.invariant.1.settled c.self.invariant.3)
+drop_object-requires-clause-kept c = all-kept c.self.inside.moment c.self.inside.next c.self.inside.entries (c.self.invariant.1.settled c.self.invariant.3)
 
 pub drop_object-requires-clause-counted : goal.drop_object-requires-clause-counted
 drop_object-requires-clause-counted c = ap (λ (n : Count). n.clients) c.count_of-count.ensures ∙ c.self.invariant.1.counted Naming c.args.object
@@ -61,7 +61,7 @@ drop_object-requires-clause-counted c = ap (λ (n : Count). n.clients) c.count_o
 pub sums_without-self-inside-requires : goal.sums_without-self-inside-requires
 sums_without-self-inside-requires c =
     let m = c.self.inside.moment in
-    let es = c.self.inside.entries.items in
+    let es = c.self.inside.entries in
     let named : c.count_of-count.result.clients ≡ length (filter (entry_names c.args.object) es) = ap (λ (n : Count). n.clients) c.count_of-count.ensures ∙ c.self.invariant.1.counted Naming c.args.object in
     let all = pairs-dropped c.args.object m c.self.inside.next es (c.self.invariant.1.settled c.self.invariant.3) c.self.invariant.0.noted c.self.invariant.0.once in
     let pairs : c.self.inside.sums.pairs ≡ remembered m es = ap (λ (s : Sums). s.pairs) c.self.invariant.2 in omega arith

@@ -16,10 +16,10 @@ invariant_of-self c =
     let m = c.self.inside.moment in
     let n = c.self.inside.next in
     let os = c.args.objects.now in
-    let es = c.self.inside.entries.items in
+    let es = c.self.inside.entries in
     let f : ObjId → ℕ = λ o. counted_at Naming c.self.inside.counts o in
     let settled = c.self.invariant.1.settled c.self.invariant.3 in
-    let left : c.drop_objects.new.entries.items ≡ each_dropped m os es =
+    let left : c.drop_objects.new.self ≡ each_dropped m os es =
     c.drop_objects.ensures ∙ together-left m c.forget_all-gone.new.counts n os es f (c.forget_all-gone.ensures.counts Naming) (c.self.invariant.1.counted Naming) settled in
     let pairs : c.sums_without-self-inside.result.pairs ≡ remembered m (each_dropped m os es) =
     (let all = each-pairs m n c.self.inside.lease os es f (c.self.invariant.1.counted Naming) settled c.self.invariant.0 in
@@ -44,7 +44,7 @@ returns-clause-stands c lease moment calls s =
     let m = c.self.inside.moment in
     let n = c.self.inside.next in
     let os = c.args.objects.now in
-    let es = c.self.inside.entries.items in
+    let es = c.self.inside.entries in
     let f : ObjId → ℕ = λ o. counted_at Naming c.self.inside.counts o in
     let settled = c.self.invariant.1.settled c.self.invariant.3 in
     table-together m n c.self.inside.lease es os c.args.self.now _ calls lease moment s (ap (λ (t : LeaseTable). t.moment) c.self.view_is ∙ s.is_moment) c.self.view_is c.self.invariant.0 settled refl refl
@@ -55,20 +55,20 @@ returns-clause-fewer c =
     let m = c.self.inside.moment in
     let n = c.self.inside.next in
     let os = c.args.objects.now in
-    let es = c.self.inside.entries.items in
+    let es = c.self.inside.entries in
     let f : ObjId → ℕ = λ o. counted_at Naming c.self.inside.counts o in
     let settled = c.self.invariant.1.settled c.self.invariant.3 in
     let left = c.drop_objects.ensures ∙ together-left m c.forget_all-gone.new.counts n os es f (c.forget_all-gone.ensures.counts Naming) (c.self.invariant.1.counted Naming) settled in
     let long = ap length left in let before = ap (λ (t : LeaseTable). length t.entries) c.self.view_is in let fewer = each-fewer m os es in omega arith
 
 pub drop_objects-requires-clause-kept : goal.drop_objects-requires-clause-kept
-drop_objects-requires-clause-kept c = all-kept c.self.inside.moment c.self.inside.next c.self.inside.entries.items (c.self.invariant.1.settled c.self.invariant.3)
+drop_objects-requires-clause-kept c = all-kept c.self.inside.moment c.self.inside.next c.self.inside.entries (c.self.invariant.1.settled c.self.invariant.3)
 
 pub drop_objects-requires-clause-pairs : goal.drop_objects-requires-clause-pairs
 drop_objects-requires-clause-pairs c =
     let m = c.self.inside.moment in
     let os = c.args.objects.now in
-    let es = c.self.inside.entries.items in
+    let es = c.self.inside.entries in
     let f : ObjId → ℕ = λ o. counted_at Naming c.self.inside.counts o in
     let settled = c.self.invariant.1.settled c.self.invariant.3 in
     ap (λ k. k + objects_in (map (with_only (is_named c.forget_all-gone.new.counts)) es)) c.forget_all-gone.ensures.pairs
@@ -78,7 +78,7 @@ pub sums_without-self-inside-requires : goal.sums_without-self-inside-requires
 sums_without-self-inside-requires c =
     let m = c.self.inside.moment in
     let os = c.args.objects.now in
-    let es = c.self.inside.entries.items in
+    let es = c.self.inside.entries in
     let f : ObjId → ℕ = λ o. counted_at Naming c.self.inside.counts o in
     let all = each-pairs m c.self.inside.next c.self.inside.lease os es f (c.self.invariant.1.counted Naming) (c.self.invariant.1.settled c.self.invariant.3) c.self.invariant.0 in
     let gone = c.forget_all-gone.ensures.pairs in

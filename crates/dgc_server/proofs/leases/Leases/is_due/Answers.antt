@@ -12,6 +12,6 @@ returns-then-at-self c none lease moment calls s o held =
     let before : c.self.inside.moment ≡ moment = ap (λ (t : LeaseTable). t.moment) c.self.view_is ∙ s.is_moment in
     let quiet = c.if-at-self.true in
     let P : LeaseTable → Type 0 = λ t. StandsFor lease t moment calls in
-    let S : ℕ → Type 0 = λ k. AllByRecursion (IsSettled k c.self.inside.next) c.self.inside.entries.items in
+    let S : ℕ → Type 0 = λ k. AllByRecursion (IsSettled k c.self.inside.next) c.self.inside.entries in
     held-still lease moment c.self.inside.next (max c.args.now moment) _ calls o (omega arith) (omega arith) (subst S before (c.self.invariant.1.settled (omega arith))) (subst P (sym c.self.view_is) s)
     c.self.invariant.0.ordered held

@@ -18,11 +18,11 @@ invariant_of-self c =
         some = c.self.invariant.0.some;
         short = c.self.invariant.0.short;
         early = omega arith;
-        ordered = order-lapse c.max-at.result c.self.inside.entries.items c.self.invariant.0.ordered;
-        few = few-lapse c.self.inside.moment c.max-at.result c.self.inside.entries.items _ (omega arith) c.self.invariant.0.few;
-        once = once-lapse c.max-at.result c.self.inside.entries.items c.self.invariant.0.once;
-        noted = numbered-lapse c.max-at.result c.self.inside.entries.items c.self.invariant.0.noted;
-        small = (let fewer = remembered-lapse c.self.inside.moment c.max-at.result c.self.inside.entries.items (omega arith) in let small = c.self.invariant.0.small in omega arith);
+        ordered = order-lapse c.max-at.result c.self.inside.entries c.self.invariant.0.ordered;
+        few = few-lapse c.self.inside.moment c.max-at.result c.self.inside.entries _ (omega arith) c.self.invariant.0.few;
+        once = once-lapse c.max-at.result c.self.inside.entries c.self.invariant.0.once;
+        noted = numbered-lapse c.max-at.result c.self.inside.entries c.self.invariant.0.noted;
+        small = (let fewer = remembered-lapse c.self.inside.moment c.max-at.result c.self.inside.entries (omega arith) in let small = c.self.invariant.0.small in omega arith);
       },
       c.pass-passed.ensures.indexed,
       c.pass-passed.ensures.sums,
@@ -31,7 +31,7 @@ invariant_of-self c =
 
 pub pass-passed-requires-clause-few : goal.pass-passed-requires-clause-few
 pass-passed-requires-clause-few c =
-    let es = c.self.inside.entries.items in
+    let es = c.self.inside.entries in
     let leased : c.self.inside.sums.leased ≡ length (filter (has_time_left c.self.inside.moment) es) = ap (λ (s : Sums). s.leased) c.self.invariant.2 in
     let pairs : c.self.inside.sums.pairs ≡ remembered c.self.inside.moment es = ap (λ (s : Sums). s.pairs) c.self.invariant.2 in
     let few : length (filter (has_time_left c.self.inside.moment) es) ≤ 65536 = c.self.invariant.0.few in
@@ -44,7 +44,7 @@ returns-clause-stands c lease moment calls s =
     let at : c.max-at.result ≡ max c.args.now moment = c.max-at.ensures ∙ ap (max c.args.now) m in
     table-lapsed lease moment (max c.args.now moment) c.args.self.now _ calls s (subst P c.self.view_is c.self.invariant.0.ordered) (omega arith)
     (ap (λ (t : LeaseTable). t.lease) c.self.view_is) at
-    (c.pass-passed.ensures.entries ∙ ap (λ k. after_lapse k c.self.inside.entries.items) at ∙ ap (λ (t : LeaseTable). after_lapse (max c.args.now moment) t.entries) c.self.view_is)
+    (c.pass-passed.ensures.entries ∙ ap (λ k. after_lapse k c.self.inside.entries) at ∙ ap (λ (t : LeaseTable). after_lapse (max c.args.now moment) t.entries) c.self.view_is)
 
 pub returns-clause-freed : goal.returns-clause-freed
-returns-clause-freed c = rw c.pass-passed.ensures.entries (trimmed-lapse c.max-at.result c.self.inside.entries.items)
+returns-clause-freed c = rw c.pass-passed.ensures.entries (trimmed-lapse c.max-at.result c.self.inside.entries)

@@ -1,0 +1,17 @@
+use Rattle.std.proofs.Common.{◌≡◌, length, refl, ap, sym, ◌∙◌}
+use Rattle.std.specs.Prelude.{filter}
+use Rattle.dgc_server.specs.Index.{entry_names}
+use Rattle.dgc_server.specs.Chunks.{all_of}
+use Rattle.dgc_server.proofs.Walking.{walked-all}
+use Rattle.dgc_server.proofs.Chunked.{filled-all, all-filled}
+use Rattle.dgc_server.proofs.drops.drop_object.Goals as goal
+
+pub returns-clause-entries : goal.returns-clause-entries
+returns-clause-entries c =
+    let cs = c.walk.new.chunks.items in
+    let none : length (filter (entry_names c.args.object.now) (all_of cs)) ≡ 0 = sym c.walk.ensures.counted ∙ c.walk.ensures.all refl refl in
+    ap all_of c.keep_filled.ensures ∙ filled-all cs ∙ sym (walked-all c.args.object.now c.args.at (all_of cs) none c.walk.ensures.kept)
+    ∙ c.walk.ensures.same ∙ c.walk-to_go.ensures.same
+
+pub returns-clause-filled : goal.returns-clause-filled
+returns-clause-filled c = rw (c.keep_filled.ensures) (all-filled c.walk.new.chunks.items)

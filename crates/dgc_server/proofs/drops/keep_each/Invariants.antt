@@ -1,0 +1,15 @@
+use Rattle.std.proofs.Common.{◌≡◌, ◌-◌, length, take, drop, filter}
+use Rattle.dgc_server.specs.Entry.{is_entry_kept}
+use Rattle.dgc_server.specs.Chunks.{all_of}
+use Rattle.dgc_server.proofs.drops.keep_each.Given as goal
+
+abbrev pub decreases-loop-i : goal.decreases-loop-i
+decreases-loop-i l = length l.chunks.items - l.i
+
+abbrev pub invariant-loop-i : goal.invariant-loop-i
+invariant-loop-i l =
+    record {
+      long : length l.chunks.items ≡ length l.initial.chunks.items;
+      rest : drop l.i l.chunks.items ≡ drop l.i l.initial.chunks.items;
+      done : all_of (take l.i l.chunks.items) ≡ filter (is_entry_kept l.now) (all_of (take l.i l.initial.chunks.items));
+    }

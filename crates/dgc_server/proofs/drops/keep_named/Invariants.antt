@@ -1,0 +1,16 @@
+use Rattle.std.proofs.Common.{◌≡◌, ◌+◌, ◌-◌, length, map, take}
+use Rattle.dgc_server.specs.Index.{is_named, with_only, objects_in}
+use Rattle.dgc_server.specs.Chunks.{all_of}
+use Rattle.dgc_server.proofs.drops.keep_named.Given as goal
+
+abbrev pub decreases-loop-i : goal.decreases-loop-i
+decreases-loop-i l = length l.chunks.items - l.i
+
+abbrev pub invariant-loop-i : goal.invariant-loop-i
+invariant-loop-i l =
+    record {
+      same : map (with_only (is_named l.counts)) (all_of l.chunks.items) ≡ map (with_only (is_named l.counts)) (all_of l.initial.chunks.items);
+      to_go : l.to_go + objects_in (map (with_only (is_named l.counts)) (all_of l.chunks.items)) ≡ objects_in (all_of l.chunks.items);
+      first : l.from ≡ 0 → l.first ≡ 0;
+      front : l.number ≡ 0 → l.from ≡ 0 → map (with_only (is_named l.counts)) (all_of (take l.i l.chunks.items)) ≡ all_of (take l.i l.chunks.items);
+    }

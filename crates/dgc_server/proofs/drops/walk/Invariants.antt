@@ -1,0 +1,20 @@
+use Rattle.std.proofs.Common.{◌≡◌, ◌-◌, length, filter, take, true}
+use Rattle.std.specs.List.{list_all}
+use Rattle.dgc_server.specs.Entry.{is_entry_kept}
+use Rattle.dgc_server.specs.Index.{entry_names}
+use Rattle.dgc_server.specs.Chunks.{all_of}
+use Rattle.dgc_server.proofs.Walking.{rest_of}
+use Rattle.dgc_server.proofs.drops.walk.Given as goal
+
+abbrev pub decreases-loop-i : goal.decreases-loop-i
+decreases-loop-i l = length l.chunks.items - l.i
+
+abbrev pub invariant-loop-i : goal.invariant-loop-i
+invariant-loop-i l =
+    record {
+      same : rest_of l.object l.at (all_of l.chunks.items) ≡ rest_of l.object l.at (all_of l.initial.chunks.items);
+      kept : list_all (is_entry_kept l.at) (all_of l.chunks.items) ≡ true;
+      counted : l.to_go ≡ length (filter (entry_names l.object) (all_of l.chunks.items));
+      first : l.from ≡ 0 → l.first ≡ 0;
+      front : l.number ≡ 0 → l.from ≡ 0 → length (filter (entry_names l.object) (all_of (take l.i l.chunks.items))) ≡ 0;
+    }

@@ -1,0 +1,404 @@
+//! The clients of a lease table, in the order of clients. They stand in chunks, so that a new client moves few others.
+ghost use Rattle.std.specs.Prelude.{◌≡◌, [], ◌∷◌, ◌+◌, ◌++◌, ◌<◌, ◌≤◌, ◌^◌, length, filter, map, IsTrue, IfOk, OnOk, OnErr, true, vec_len, vec_capacity, insert, slice_index_or, reverse as reversed, unwrap_or};
+ghost use Rattle.std.specs.List.{list_all};
+ghost use Rattle.std.specs.Option.{option_copied};
+ghost use Rattle.std.specs.Ordering.{is_lt};
+ghost use Rattle.object_ids.specs.declared.ids.ObjId.{ObjId};
+ghost use Rattle.object_ids.specs.Client.{client_cmp};
+ghost use Rattle.dgc_server.specs.Entry.{Entry, each_has_number, entry_without, is_entry_kept, is_in};
+ghost use Rattle.dgc_server.specs.Stands.{each_once, is_in_order, entry_after};
+ghost use Rattle.dgc_server.specs.Index.{Way, counted_at, has_count, is_counted, is_named, one_if, entry_names, with_only, objects_in, sums_at, IsIndexed, IsNoted};
+ghost use Rattle.dgc_server.specs.Table.{entry_of, no_entry, with_entry, after_lapse};
+ghost use Rattle.dgc_server.specs.Chunks.{all_of, is_filled, IsChunkOf};
+
+use crate::entry::{ClientEntry, LeaseCall};
+use crate::holders::{Counts, Passed, Place};
+use crate::table::{self, Noted, Sums};
+use crate::{drops, lapses};
+use object_ids::{ObjId, Vmid};
+use std::alloc::{AllocError, Global};
+use std::cmp::Ordering;
+use std::marker::Model;
+
+/// So many clients a chunk has at most.
+const CHUNK_LEN: usize = 256;
+
+/// So many stay in a chunk that is split.
+const HALF_LEN: usize = 128;
+
+/// Some clients that stand together in the list of clients.
+pub struct Chunk {
+    pub entries: Vec<ClientEntry>,
+}
+
+// Written out, so that whoever owns one has one call at each exit, and not the drop of each field.
+impl Drop for Chunk {
+    fn drop(self) {
+        let Chunk { entries } = self;
+        drop(entries);
+    }
+}
+
+/// What is kept of clients, in the order of clients. They stand in chunks of at most 256, so that a new client moves few others. Contracts
+/// see the one list.
+pub struct Clients {
+    chunks: Vec<Chunk>,
+}
+
+// Written out, so that whoever owns one has one call at each exit, and not the drop of each field.
+impl Drop for Clients {
+    fn drop(self) {
+        let Clients { chunks } = self;
+        drop(chunks);
+    }
+}
+
+impl Model for Clients {
+    ghost use Rattle.std.specs.Prelude.{List, IsTrue};
+    ghost use Rattle.std.specs.List.{list_all};
+    ghost use Rattle.dgc_server.specs.Entry.{Entry};
+    ghost use Rattle.dgc_server.specs.Chunks.{all_of, is_filled};
+
+    ghost Value = { List Entry };
+
+    ghost view = { λ a. all_of a.chunks.items };
+
+    ghost invariant = { λ a. IsTrue (list_all is_filled a.chunks.items) };
+}
+
+impl Clients {
+    /// No clients.
+    pub fn new(alloc: Global) -> Clients
+        ensures { result ≡ [] }
+    {
+        Clients {
+            chunks: Vec::new(alloc),
+        }
+    }
+
+    /// The chunks of clients.
+    pub fn chunks(&self) -> &[Chunk]
+        ensures all { all_of result.now ≡ self.now }
+        ensures filled { IsTrue (list_all is_filled result.now) }
+    {
+        &self.chunks
+    }
+
+    /// The entry of a client, if it has one.
+    pub fn find<'a>(&'a self, client: &Vmid) -> Option<&'a ClientEntry>
+        requires { IsTrue (is_in_order self.now) }
+        ensures { let other = no_entry client.now in
+            entry_of self.now client.now ≡ unwrap_or (option_copied result) other }
+    {
+        find_in(self.chunks(), client)
+    }
+
+    /// Notes a call of a client, by which a lease of this duration begins if it is a dirty, and answers what it changed. The counts and sums are
+    /// those of the moment `from`. It is refused only for want of memory, and then all is as it was.
+    pub fn note(
+        &mut self,
+        alloc: Global,
+        counts: &mut Counts,
+        client: &Vmid,
+        call: &LeaseCall<'_>,
+        lease: u64,
+        from: u64,
+    ) -> Result<Noted, AllocError>
+        requires later { from ≤ call.now.at }
+        requires early { call.now.at < 2 ^ 62 }
+        requires some { 1 ≤ lease }
+        requires short { lease ≤ 2 ^ 40 }
+        requires numbered { IsTrue (list_all (λ e. each_has_number e.objects) self.old) }
+        requires ordered { IsTrue (is_in_order self.old) }
+        requires once { IsTrue (list_all (λ e. each_once e.objects) self.old) }
+        requires few { (w : Way) (o : ObjId) → length (filter (is_counted w from o) self.old) ≤ 262144 }
+        requires has { (o : ObjId) → is_in o call.now.objects.now ≡ true → has_count counts.old o ≡ true }
+        requires counted { (w : Way) (o : ObjId) → counted_at w counts.old o ≡ length (filter (is_counted w from o) self.old) }
+        ensures ok { OnOk result (self.new ≡ with_entry
+            (entry_after lease call.now.kind call.now.number.now call.now.objects.now call.now.at (entry_of self.old client.now)) self.old) }
+        ensures counted { OnOk result ((w : Way) (o : ObjId) → counted_at w counts.new o ≡ length (filter (is_counted w from o) self.new)) }
+        ensures noted { IfOk result (λ noted. let own = entry_of self.old client.now in
+            IsNoted from own (entry_after lease call.now.kind call.now.number.now call.now.objects.now call.now.at own) noted) }
+        ensures err { OnErr result (self.new ≡ self.old) }
+        ensures same { OnErr result (counts.new ≡ counts.old) }
+    {
+        if self.chunks.is_empty() {
+            return note_first(alloc, &mut self.chunks, counts, client, call, lease, from);
+        }
+        split_full(alloc, &mut self.chunks, client)?;
+        note_own(alloc, &mut self.chunks, counts, client, call, lease, from)
+    }
+
+    /// As time passes from one moment to another, forgets what ended, and answers a moment before which no more does, and the sums since. Where
+    /// nothing is due it looks at no client. It takes no memory.
+    pub fn pass(&mut self, counts: &mut Counts, sums: Sums, next: u64, from: u64, to: u64) -> Passed
+        requires later { from ≤ to }
+        requires early { to < 2 ^ 62 }
+        requires once { IsTrue (list_all (λ e. each_once e.objects) self.old) }
+        requires numbered { IsTrue (list_all (λ e. each_has_number e.objects) self.old) }
+        requires indexed { IsIndexed from next counts.old self.old }
+        requires sums { sums ≡ sums_at from self.old }
+        requires few { (sums.leased ≤ 2 ^ 17) × (sums.pairs ≤ 2 ^ 65) }
+        ensures entries { self.new ≡ after_lapse to self.old }
+        ensures indexed { IsIndexed to result.next counts.new self.new }
+        ensures later { to < result.next }
+        ensures sums { result.sums ≡ sums_at to self.new }
+    {
+        if to < next {
+            return Passed { next, sums };
+        }
+        let passed = lapses::pass_all(&mut self.chunks, counts, sums, from, to);
+        drops::keep(&mut self.chunks, to);
+        passed
+    }
+
+    /// Forgets what is kept of an object that so many clients name, and a client of which nothing is left then. It begins to look at this place,
+    /// as a count notes it, and stops as soon as all that name the object were met. It takes no memory.
+    pub fn drop_object(&mut self, object: &ObjId, clients: u32, place: Place, at: u64)
+        requires kept { IsTrue (list_all (is_entry_kept at) self.old) }
+        requires counted { clients ≡ length (filter (entry_names object.now) self.old) }
+        ensures { self.new ≡ filter (is_entry_kept at) (map (entry_without object.now) self.old) }
+    {
+        drops::drop_object(&mut self.chunks, object, clients, place, at);
+    }
+
+    /// Forgets what is kept of the objects that have no count any more, and the clients of which nothing is left then. So many pairs go. It looks
+    /// at all objects of the clients from this place on, as a count notes it, and then from the first on, until as many went, and then once at each
+    /// client's end. Where no pair goes it looks at no client. It takes no memory.
+    pub fn drop_objects(&mut self, counts: &Counts, pairs: u128, place: Place, at: u64)
+        requires kept { IsTrue (list_all (is_entry_kept at) self.old) }
+        requires pairs { pairs + objects_in (map (with_only (is_named counts.now)) self.old) ≡ objects_in self.old }
+        ensures { self.new ≡ filter (is_entry_kept at) (map (with_only (is_named counts.now)) self.old) }
+    {
+        if pairs == 0 {
+            return;
+        }
+        drops::drop_objects(&mut self.chunks, counts, pairs, place, at);
+    }
+}
+
+// ---- the search
+
+/// Whether a client comes before the first of a chunk.
+fn is_before(client: &Vmid, chunk: &Chunk) -> bool
+    requires { IsTrue (is_filled chunk.now) }
+    ensures { (d : Entry) → result ≡ is_lt (client_cmp client.now (slice_index_or chunk.now.entries.items 0 d).client) }
+{
+    match client.compare(chunk.entries[0].client()) {
+        Ordering::Less => true,
+        Ordering::Equal | Ordering::Greater => false,
+    }
+}
+
+/// The number of the chunk in which a client stands, or is to be inserted.
+fn chunk_of(chunks: &[Chunk], client: &Vmid) -> usize
+    requires some { 0 < length chunks.now }
+    requires ordered { IsTrue (is_in_order (all_of chunks.now)) }
+    requires filled { IsTrue (list_all is_filled chunks.now) }
+    ensures bound { result < length chunks.now }
+    ensures place { IsChunkOf chunks.now client.now result }
+    ensures entry { (d : Chunk) → entry_of (all_of chunks.now) client.now ≡ entry_of (slice_index_or chunks.now result d).entries.items client.now }
+{
+    let mut low: usize = 0;
+    let mut high: usize = chunks.len();
+    while low < high {
+        let middle = low + (high - low) / 2;
+        if is_before(client, &chunks[middle]) {
+            high = middle;
+            continue;
+        }
+        low = middle + 1;
+    }
+    if low == 0 {
+        return 0;
+    }
+    low - 1
+}
+
+/// The entry of a client in these chunks, if it has one.
+fn find_in<'a>(chunks: &'a [Chunk], client: &Vmid) -> Option<&'a ClientEntry>
+    requires ordered { IsTrue (is_in_order (all_of chunks.now)) }
+    requires filled { IsTrue (list_all is_filled chunks.now) }
+    ensures { let other = no_entry client.now in
+        entry_of (all_of chunks.now) client.now ≡ unwrap_or (option_copied result) other }
+{
+    if chunks.is_empty() {
+        return None;
+    }
+    let i = chunk_of(chunks, client);
+    table::find(&chunks[i].entries, client)
+}
+
+// ---- a call
+
+/// Moves the back half of a full list into a list that has room for it.
+fn split_into(entries: &mut Vec<ClientEntry>, back: &mut Vec<ClientEntry>)
+    requires long { 256 ≤ vec_len entries.old }
+    requires none { back.old.items ≡ [] }
+    requires empty { vec_len back.old ≡ 0 }
+    requires room { vec_len entries.old ≤ vec_capacity back.old }
+    ensures parts { entries.old.items ≡ entries.new.items ++ back.new.items }
+    ensures front { 0 < length entries.new.items }
+    ensures back { 0 < length back.new.items }
+{
+    move_back(entries, back);
+    back.reverse();
+}
+
+/// Moves what stands behind the first half into a list that has room for it, the last first.
+fn move_back(entries: &mut Vec<ClientEntry>, back: &mut Vec<ClientEntry>)
+    requires long { 256 ≤ vec_len entries.old }
+    requires none { back.old.items ≡ [] }
+    requires empty { vec_len back.old ≡ 0 }
+    requires room { vec_len entries.old ≤ vec_capacity back.old }
+    ensures parts { entries.old.items ≡ entries.new.items ++ reversed back.new.items }
+    ensures front { 0 < vec_len entries.new }
+    ensures back { 0 < vec_len back.new }
+{
+    while entries.len() > HALF_LEN {
+        match entries.pop() {
+            Some(entry) => push_within(back, entry),
+            None => return,
+        }
+    }
+}
+
+/// Appends an entry, for which there is room.
+fn push_within(entries: &mut Vec<ClientEntry>, entry: ClientEntry)
+    requires { vec_len entries.old < vec_capacity entries.old }
+    ensures items { entries.new.items ≡ entries.old.items ++ entry ∷ [] }
+    ensures len { vec_len entries.new ≡ vec_len entries.old + 1 }
+    ensures capacity { vec_capacity entries.old ≤ vec_capacity entries.new }
+{
+    match entries.push(entry) {
+        Ok(()) => {}
+        Err(_refused) => {}
+    }
+}
+
+/// Splits the chunk of a client, if it is full, so that there is a place for one more. It is refused only for want of memory.
+fn split_full(alloc: Global, chunks: &mut Vec<Chunk>, client: &Vmid) -> Result<(), AllocError>
+    requires some { 0 < length chunks.old.items }
+    requires ordered { IsTrue (is_in_order (all_of chunks.old.items)) }
+    requires filled { IsTrue (list_all is_filled chunks.old.items) }
+    ensures same { all_of chunks.new.items ≡ all_of chunks.old.items }
+    ensures some { 0 < length chunks.new.items }
+    ensures filled { IsTrue (list_all is_filled chunks.new.items) }
+{
+    let place = chunk_of(chunks, client);
+    let len = chunks[place].entries.len();
+    if len < CHUNK_LEN {
+        return Ok(());
+    }
+    chunks.reserve(1)?;
+    let mut entries = Vec::with_capacity(alloc, len)?;
+    split_into(&mut chunks[place].entries, &mut entries);
+    insert_within(chunks, place + 1, Chunk { entries });
+    Ok(())
+}
+
+/// Inserts a chunk, for which there is room.
+fn insert_within(chunks: &mut Vec<Chunk>, place: usize, chunk: Chunk)
+    requires room { vec_len chunks.old < vec_capacity chunks.old }
+    requires within { place ≤ vec_len chunks.old }
+    ensures { chunks.new.items ≡ insert chunks.old.items place chunk }
+{
+    match chunks.insert(place, chunk) {
+        Ok(()) => {}
+        Err(_refused) => {}
+    }
+}
+
+/// Notes a call in the first chunk of all. It is refused only for want of memory, and then all is as it was.
+fn note_first(
+    alloc: Global,
+    chunks: &mut Vec<Chunk>,
+    counts: &mut Counts,
+    client: &Vmid,
+    call: &LeaseCall<'_>,
+    lease: u64,
+    from: u64,
+) -> Result<Noted, AllocError>
+    requires none { chunks.old.items ≡ [] }
+    requires later { from ≤ call.now.at }
+    requires early { call.now.at < 2 ^ 62 }
+    requires some { 1 ≤ lease }
+    requires short { lease ≤ 2 ^ 40 }
+    requires has { (o : ObjId) → is_in o call.now.objects.now ≡ true → has_count counts.old o ≡ true }
+    requires few { (w : Way) (o : ObjId) → counted_at w counts.old o + 1 < 2 ^ 31 }
+    ensures ok { OnOk result (all_of chunks.new.items ≡ with_entry
+        (entry_after lease call.now.kind call.now.number.now call.now.objects.now call.now.at (entry_of (all_of chunks.old.items) client.now)) (all_of chunks.old.items)) }
+    ensures counts { OnOk result ((w : Way) (o : ObjId) → let own = entry_of (all_of chunks.old.items) client.now in
+        counted_at w counts.new o + one_if (is_counted w from o own)
+        ≡ counted_at w counts.old o
+        + one_if (is_counted w from o (entry_after lease call.now.kind call.now.number.now call.now.objects.now call.now.at own))) }
+    ensures noted { IfOk result (λ noted. let own = entry_of (all_of chunks.old.items) client.now in
+        IsNoted from own (entry_after lease call.now.kind call.now.number.now call.now.objects.now call.now.at own) noted) }
+    ensures filled { IsTrue (list_all is_filled chunks.new.items) }
+    ensures err { OnErr result (chunks.new.items ≡ chunks.old.items) }
+    ensures same { OnErr result (counts.new ≡ counts.old) }
+{
+    chunks.reserve(1)?;
+    let mut chunk = Chunk {
+        entries: Vec::new(alloc),
+    };
+    let noted = table::note(
+        alloc,
+        &mut chunk.entries,
+        counts,
+        client,
+        call,
+        lease,
+        from,
+        0,
+    )?;
+    insert_within(chunks, 0, chunk);
+    Ok(noted)
+}
+
+/// Notes a call in the chunk of the client. It is refused only for want of memory, and then all is as it was.
+fn note_own(
+    alloc: Global,
+    chunks: &mut Vec<Chunk>,
+    counts: &mut Counts,
+    client: &Vmid,
+    call: &LeaseCall<'_>,
+    lease: u64,
+    from: u64,
+) -> Result<Noted, AllocError>
+    requires some_chunk { 0 < length chunks.old.items }
+    requires later { from ≤ call.now.at }
+    requires early { call.now.at < 2 ^ 62 }
+    requires some { 1 ≤ lease }
+    requires short { lease ≤ 2 ^ 40 }
+    requires numbered { IsTrue (list_all (λ e. each_has_number e.objects) (all_of chunks.old.items)) }
+    requires ordered { IsTrue (is_in_order (all_of chunks.old.items)) }
+    requires once { IsTrue (list_all (λ e. each_once e.objects) (all_of chunks.old.items)) }
+    requires has { (o : ObjId) → is_in o call.now.objects.now ≡ true → has_count counts.old o ≡ true }
+    requires enough { (w : Way) (o : ObjId) → one_if (is_counted w from o (entry_of (all_of chunks.old.items) client.now)) ≤ counted_at w counts.old o }
+    requires few { (w : Way) (o : ObjId) → counted_at w counts.old o + 1 < 2 ^ 31 }
+    requires filled { IsTrue (list_all is_filled chunks.old.items) }
+    ensures ok { OnOk result (all_of chunks.new.items ≡ with_entry
+        (entry_after lease call.now.kind call.now.number.now call.now.objects.now call.now.at (entry_of (all_of chunks.old.items) client.now)) (all_of chunks.old.items)) }
+    ensures counts { OnOk result ((w : Way) (o : ObjId) → let own = entry_of (all_of chunks.old.items) client.now in
+        counted_at w counts.new o + one_if (is_counted w from o own)
+        ≡ counted_at w counts.old o
+        + one_if (is_counted w from o (entry_after lease call.now.kind call.now.number.now call.now.objects.now call.now.at own))) }
+    ensures noted { IfOk result (λ noted. let own = entry_of (all_of chunks.old.items) client.now in
+        IsNoted from own (entry_after lease call.now.kind call.now.number.now call.now.objects.now call.now.at own) noted) }
+    ensures filled { IsTrue (list_all is_filled chunks.new.items) }
+    ensures err { OnErr result (all_of chunks.new.items ≡ all_of chunks.old.items) }
+    ensures same { OnErr result (counts.new ≡ counts.old) }
+{
+    let number = chunk_of(chunks, client);
+    table::note(
+        alloc,
+        &mut chunks[number].entries,
+        counts,
+        client,
+        call,
+        lease,
+        from,
+        number,
+    )
+}

@@ -1,0 +1,126 @@
+//! Objects that are forgotten, and clients of which nothing is left, chunk by chunk.
+ghost use Rattle.std.specs.Prelude.{◌≡◌, ◌+◌, ◌<◌, length, filter, map, IsTrue};
+ghost use Rattle.std.specs.List.{list_all};
+ghost use Rattle.dgc_server.specs.Entry.{entry_without, is_entry_kept};
+ghost use Rattle.dgc_server.specs.Index.{entry_names, is_named, with_only, objects_in};
+ghost use Rattle.dgc_server.specs.Chunks.{all_of, is_filled};
+
+use crate::clients::Chunk;
+use crate::holders::{Counts, Place};
+use crate::table;
+use object_ids::ObjId;
+
+/// Keeps the clients of which something is left.
+pub fn keep(chunks: &mut Vec<Chunk>, now: u64)
+    ensures entries { all_of chunks.new.items ≡ filter (is_entry_kept now) (all_of chunks.old.items) }
+    ensures filled { IsTrue (list_all is_filled chunks.new.items) }
+{
+    keep_each(chunks, now);
+    keep_filled(chunks);
+}
+
+/// Keeps in each chunk the clients of which something is left.
+fn keep_each(chunks: &mut Vec<Chunk>, now: u64)
+    ensures { all_of chunks.new.items ≡ filter (is_entry_kept now) (all_of chunks.old.items) }
+{
+    let mut i: usize = 0;
+    while i < chunks.len() {
+        table::keep(&mut chunks[i].entries, now);
+        i += 1;
+    }
+}
+
+/// Keeps the chunks in which there is a client.
+fn keep_filled(chunks: &mut Vec<Chunk>)
+    ensures { chunks.new.items ≡ filter is_filled chunks.old.items }
+{
+    chunks.retain(|chunk| !chunk.entries.is_empty());
+}
+
+/// Forgets what is kept of an object that so many clients name, and a client of which nothing is left then. It begins to look at this place,
+/// as a count notes it, and stops as soon as all that name the object were met. It takes no memory.
+pub fn drop_object(chunks: &mut Vec<Chunk>, object: &ObjId, clients: u32, place: Place, at: u64)
+    requires kept { IsTrue (list_all (is_entry_kept at) (all_of chunks.old.items)) }
+    requires counted { clients ≡ length (filter (entry_names object.now) (all_of chunks.old.items)) }
+    ensures entries { all_of chunks.new.items ≡ filter (is_entry_kept at) (map (entry_without object.now) (all_of chunks.old.items)) }
+    ensures filled { IsTrue (list_all is_filled chunks.new.items) }
+{
+    let number = place.chunk as usize;
+    let to_go = walk(chunks, object, clients, number, place.index as usize, at);
+    walk(chunks, object, to_go, 0, 0, at);
+    keep_filled(chunks);
+}
+
+/// From a place in the chunk of this number on forgets what is kept of an object that so many clients name, and answers how many are left that
+/// name it.
+fn walk(
+    chunks: &mut Vec<Chunk>,
+    object: &ObjId,
+    clients: u32,
+    number: usize,
+    from: usize,
+    at: u64,
+) -> u32
+    requires kept { IsTrue (list_all (is_entry_kept at) (all_of chunks.old.items)) }
+    requires counted { clients ≡ length (filter (entry_names object.now) (all_of chunks.old.items)) }
+    ensures same { filter (is_entry_kept at) (map (entry_without object.now) (all_of chunks.new.items))
+        ≡ filter (is_entry_kept at) (map (entry_without object.now) (all_of chunks.old.items)) }
+    ensures kept { IsTrue (list_all (is_entry_kept at) (all_of chunks.new.items)) }
+    ensures counted { result ≡ length (filter (entry_names object.now) (all_of chunks.new.items)) }
+    ensures all { number ≡ 0 → from ≡ 0 → result ≡ 0 }
+{
+    let mut to_go = clients;
+    let mut first = from;
+    let mut i = number;
+    while i < chunks.len() {
+        if to_go == 0 {
+            return 0;
+        }
+        to_go = table::walk(&mut chunks[i].entries, object, to_go, first, at);
+        first = 0;
+        i += 1;
+    }
+    to_go
+}
+
+/// Forgets what is kept of the objects that have no count any more, and the clients of which nothing is left then. So many pairs go. It looks at
+/// all objects of the clients from this place on, as a count notes it, and then from the first on, until as many went, and then once at each
+/// client's end. It takes no memory.
+pub fn drop_objects(chunks: &mut Vec<Chunk>, counts: &Counts, pairs: u128, place: Place, at: u64)
+    requires { pairs + objects_in (map (with_only (is_named counts.now)) (all_of chunks.old.items)) ≡ objects_in (all_of chunks.old.items) }
+    ensures entries { all_of chunks.new.items ≡ filter (is_entry_kept at) (map (with_only (is_named counts.now)) (all_of chunks.old.items)) }
+    ensures filled { IsTrue (list_all is_filled chunks.new.items) }
+{
+    let number = place.chunk as usize;
+    let to_go = keep_named(chunks, counts, pairs, number, place.index as usize);
+    keep_named(chunks, counts, to_go, 0, 0);
+    keep(chunks, at);
+}
+
+/// From a place in the chunk of this number on keeps of each client the objects that are named, where so many pairs are to go, and answers how
+/// many are left to go.
+fn keep_named(
+    chunks: &mut Vec<Chunk>,
+    counts: &Counts,
+    pairs: u128,
+    number: usize,
+    from: usize,
+) -> u128
+    requires { pairs + objects_in (map (with_only (is_named counts.now)) (all_of chunks.old.items)) ≡ objects_in (all_of chunks.old.items) }
+    ensures same { map (with_only (is_named counts.now)) (all_of chunks.new.items) ≡ map (with_only (is_named counts.now)) (all_of chunks.old.items) }
+    ensures to_go { result + objects_in (map (with_only (is_named counts.now)) (all_of chunks.new.items)) ≡ objects_in (all_of chunks.new.items) }
+    ensures all { number ≡ 0 → from ≡ 0 → all_of chunks.new.items ≡ map (with_only (is_named counts.now)) (all_of chunks.old.items) }
+{
+    let mut to_go = pairs;
+    let mut first = from;
+    let mut i = number;
+    while i < chunks.len() {
+        if to_go == 0 {
+            return 0;
+        }
+        to_go = table::keep_named(&mut chunks[i].entries, counts, to_go, first);
+        first = 0;
+        i += 1;
+    }
+    to_go
+}

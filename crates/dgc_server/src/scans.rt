@@ -1,0 +1,204 @@
+//! What is asked of the clients, chunk by chunk where it is asked of all.
+ghost use Rattle.std.specs.Prelude.{◌≡◌, ◌+◌, ◌<◌, ◌≤◌, ◌↔◌, length, filter, map, IfOk, IsTrue};
+ghost use Rattle.std.specs.List.{list_any, list_all};
+ghost use Rattle.history.specs.declared.limits.TheConstants.{MAX_CLIENTS, MAX_PAIRS};
+ghost use Rattle.dgc_server.specs.Entry.{each_has_number, entry_holds, has_time_left, row_of};
+ghost use Rattle.dgc_server.specs.Stands.{is_in_order};
+ghost use Rattle.dgc_server.specs.Index.{sums_at};
+ghost use Rattle.dgc_server.specs.Table.{entry_of, clients_after, fresh_pairs, pairs_after};
+ghost use Rattle.dgc_server.specs.Table.{remembered as remembered_at};
+
+use crate::clients::Clients;
+use crate::marks::{Marks, counts_for, fresh_count};
+use crate::table::{self, Sums};
+use history::limits::{MAX_CLIENTS, MAX_PAIRS};
+use history::{CallKind, LeaseList};
+use object_ids::{ObjId, Vmid};
+use std::alloc::{AllocError, Global};
+
+/// How many clients something is kept of.
+pub fn len(clients: &Clients) -> u128
+    ensures { result ≡ length clients.now }
+{
+    let chunks = clients.chunks();
+    let mut sum: u128 = 0;
+    for chunk in chunks {
+        sum += chunk.entries.len() as u128;
+    }
+    sum
+}
+
+/// Whether some client holds an object.
+pub fn is_held(clients: &Clients, object: &ObjId, at: u64) -> bool
+    ensures { result ≡ list_any (entry_holds at object.now) clients.now }
+{
+    let chunks = clients.chunks();
+    for chunk in chunks {
+        if table::is_held(&chunk.entries, object, at) {
+            return true;
+        }
+    }
+    false
+}
+
+/// How many clients hold an object.
+pub fn holders(clients: &Clients, object: &ObjId, at: u64) -> u128
+    ensures { result ≡ length (filter (entry_holds at object.now) clients.now) }
+{
+    let chunks = clients.chunks();
+    let mut sum: u128 = 0;
+    for chunk in chunks {
+        sum += table::holders(&chunk.entries, object, at) as u128;
+    }
+    sum
+}
+
+/// How many clients have time left.
+fn with_time_left(clients: &Clients, at: u64) -> u128
+    ensures { result ≡ length (filter (has_time_left at) clients.now) }
+{
+    let chunks = clients.chunks();
+    let mut sum: u128 = 0;
+    for chunk in chunks {
+        sum += table::with_time_left(&chunk.entries, at) as u128;
+    }
+    sum
+}
+
+/// How many pairs of a client and an object are remembered.
+pub fn remembered_pairs(clients: &Clients, at: u64) -> u128
+    requires numbered { IsTrue (list_all (λ e. each_has_number e.objects) clients.now) }
+    requires few { remembered_at at clients.now ≤ 262144 }
+    ensures { result ≡ remembered_at at clients.now }
+{
+    let chunks = clients.chunks();
+    let mut sum: u128 = 0;
+    for chunk in chunks {
+        sum += table::remembered_pairs(&chunk.entries, at);
+    }
+    sum
+}
+
+/// The sums over all clients at a moment.
+pub fn sums_at(clients: &Clients, at: u64) -> Sums
+    requires numbered { IsTrue (list_all (λ e. each_has_number e.objects) clients.now) }
+    requires few { length (filter (has_time_left at) clients.now) ≤ 65536 }
+    requires small { remembered_at at clients.now ≤ 262144 }
+    ensures { result ≡ sums_at at clients.now }
+{
+    Sums {
+        leased: with_time_left(clients, at) as usize,
+        pairs: remembered_pairs(clients, at),
+    }
+}
+
+/// The clients with time left, in order, with the ends of their leases.
+pub fn rows(alloc: Global, clients: &Clients, at: u64) -> Result<LeaseList, AllocError>
+    ensures { IfOk result (λ rows. rows ≡ map row_of (filter (has_time_left at) clients.now)) }
+{
+    let chunks = clients.chunks();
+    let mut rows = LeaseList::new(alloc);
+    for chunk in chunks {
+        table::append_rows(alloc, &mut rows, &chunk.entries, at)?;
+    }
+    Ok(rows)
+}
+
+// ---- one client
+
+/// Whether a client has time left.
+fn is_leased(clients: &Clients, client: &Vmid, at: u64) -> bool
+    requires { IsTrue (is_in_order clients.now) }
+    ensures { result ≡ has_time_left at (entry_of clients.now client.now) }
+{
+    match clients.find(client) {
+        Some(entry) => entry.has_time_left(at),
+        None => false,
+    }
+}
+
+/// How many clients have time left after a dirty of this one, where so many have now.
+fn clients_after(clients: &Clients, client: &Vmid, at: u64, leased: usize) -> usize
+    requires ordered { IsTrue (is_in_order clients.now) }
+    requires counted { leased ≡ length (filter (has_time_left at) clients.now) }
+    requires few { leased ≤ 65536 }
+    ensures { result ≡ clients_after clients.now client.now at }
+{
+    if is_leased(clients, client, at) {
+        leased
+    } else {
+        leased + 1
+    }
+}
+
+/// Whether more clients have time left after a dirty of this one than can be, where so many have now. It looks for the client only where as
+/// many have as can be.
+pub fn is_past_clients(clients: &Clients, client: &Vmid, at: u64, leased: usize) -> bool
+    requires ordered { IsTrue (is_in_order clients.now) }
+    requires counted { leased ≡ length (filter (has_time_left at) clients.now) }
+    requires few { leased ≤ 65536 }
+    ensures { IsTrue result ↔ (MAX_CLIENTS < clients_after clients.now client.now at) }
+{
+    leased as u64 >= MAX_CLIENTS && clients_after(clients, client, at, leased) as u64 > MAX_CLIENTS
+}
+
+/// How many pairs a call of this kind brings that were not remembered.
+fn fresh_pairs(
+    alloc: Global,
+    clients: &Clients,
+    client: &Vmid,
+    kind: CallKind,
+    named: &[ObjId],
+    at: u64,
+) -> usize
+    requires { IsTrue (is_in_order clients.now) }
+    ensures { result ≡ fresh_pairs at clients.now client.now kind named.now }
+{
+    match clients.find(client) {
+        Some(entry) if counts_for(kind, entry.has_time_left(at)) => {
+            entry.fresh_among(alloc, named, at)
+        }
+        Some(_) => 0,
+        None if counts_for(kind, false) => fresh_count(alloc, &Marks::new(alloc), named, false),
+        None => 0,
+    }
+}
+
+/// How many pairs are remembered after a call of this kind, where so many are now.
+fn pairs_after(
+    alloc: Global,
+    clients: &Clients,
+    client: &Vmid,
+    kind: CallKind,
+    named: &[ObjId],
+    at: u64,
+    remembered: u128,
+) -> u128
+    requires ordered { IsTrue (is_in_order clients.now) }
+    requires counted { remembered ≡ remembered_at at clients.now }
+    requires few { remembered ≤ 262144 }
+    ensures { result ≡ pairs_after at clients.now client.now kind named.now }
+{
+    remembered + fresh_pairs(alloc, clients, client, kind, named, at) as u128
+}
+
+/// Whether more pairs are remembered after a call of this kind than can be, where so many are now. It looks for the client only where there would
+/// be more if it named none of these objects before.
+pub fn is_past_pairs(
+    alloc: Global,
+    clients: &Clients,
+    client: &Vmid,
+    kind: CallKind,
+    named: &[ObjId],
+    at: u64,
+    remembered: u128,
+) -> bool
+    requires ordered { IsTrue (is_in_order clients.now) }
+    requires counted { remembered ≡ remembered_at at clients.now }
+    requires few { remembered ≤ 262144 }
+    ensures { IsTrue result ↔ (MAX_PAIRS < pairs_after at clients.now client.now kind named.now) }
+{
+    let most = MAX_PAIRS as u128;
+    remembered + named.len() as u128 > most
+        && pairs_after(alloc, clients, client, kind, named, at, remembered) > most
+}
