@@ -1,6 +1,6 @@
 -- An entry more that is kept whole changes no entry of a row.
 use Rattle.std.proofs.Common.{◌≡◌, ◌<◌, ℕ, List, [], ◌∷◌, ◌++◌, length, refl, ap, sym, ◌∙◌, arith}
-use Rattle.std.specs.Prelude.{map, get_or, slice_get, unwrap_or}
+use Rattle.std.specs.Prelude.{map, get_or, unwrap_or}
 use Rattle.std.specs.List.{AllByRecursion}
 use Rattle.std.proofs.lemmas.List.{get_or_append_left, length-append}
 use Rattle.std.proofs.lemmas.List.Elements.{All-from_recursion}

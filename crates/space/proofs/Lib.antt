@@ -13,7 +13,6 @@ pub mod Doubting
 pub mod EndLaws
 pub mod FewGone
 pub mod Found
-pub mod FirstLaws
 pub mod Fresh
 pub mod Holding
 pub mod Keeping

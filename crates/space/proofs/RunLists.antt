@@ -1,20 +1,29 @@
--- Lists that hold the same calls, and the calls in lists, each connection's in the one at its place.
-use Rattle.std.proofs.Common.{◌≡◌, ◌≢◌, ℕ, zero, suc, ◌+◌, ◌<◌, ◌≤◌, ◌⊎◌, inl, inr, List, [], ◌∷◌, ◌++◌, length, refl, ap, sym, subst, ◌∙◌, cond, arith, length-append, append-nil, Some, slice_get, map}
-use Rattle.std.specs.Prelude.{Bool, true, false, ◌==◌, filter, nat_lt, slice_set, slice_index_or, if◌then◌else◌}
-use Rattle.std.specs.List.{list_any, AllByRecursion}
-use Rattle.std.proofs.lemmas.Bool.{and_parts}
+-- Lists that hold the same calls, and what the counts of calls stand for.
+use Rattle.std.proofs.Common.{◌≡◌, ℕ, zero, suc, ◌+◌, ◌-◌, ◌<◌, ◌≤◌, List, [], ◌∷◌, ◌++◌, length, refl, ap, sym, subst, ◌∙◌, cond, arith, length-append, Option, Some, None, is_some, slice_get, get_or, position, replicate, swap_remove, sum_by}
+use Rattle.std.specs.Prelude.{Bool, true, false, ◌==◌, ◌&&◌, filter, nat_lt, unwrap_or, flat_map, if◌then◌else◌}
+use Rattle.std.specs.List.{list_any, IsDistinct, AllByRecursion}
+use Rattle.std.specs.Option.{option_map}
+use Rattle.std.specs.Map.{keys_of, values_of, lookup}
+use Rattle.std.proofs.lemmas.Bool.{and_parts, and_from, lt-ltb}
 use Rattle.std.proofs.lemmas.Bool.Decides.{Decides-eqb}
+use Rattle.std.proofs.lemmas.List.{length-replicate}
 use Rattle.std.proofs.lemmas.List.Elements.{filter-append}
-use Rattle.std.proofs.lemmas.Option.{none-some, same_Some}
+use Rattle.std.proofs.lemmas.List.Sums.{sum_by-cons, sum_by-swap_remove}
+use Rattle.std.proofs.lemmas.Map.{NonePasses}
+use Rattle.std.proofs.lemmas.Map.Made.{lookup_key_passes}
+use Rattle.std.proofs.lemmas.Option.{get_or_from_slice_get, none-some, same_Some, slice_get_within, slice_get-get_or, slice_get-map}
 use Rattle.object_ids.specs.declared.ids.ObjId.{ObjId}
-use Rattle.object_ids.specs.Same.{same_id}
-use Rattle.object_ids.proofs.Exact.{same_id-equal}
+use Rattle.object_ids.specs.Same.{same_id, same_key}
+use Rattle.object_ids.proofs.Exact.{same_id-equal, same_id-self, same_key-same}
+use Rattle.indexmap.specs.IndexMap.{insert_entry, set_value_at}
+use Rattle.indexmap.proofs.MapLemmas.{Found-position}
 use Rattle.history.specs.declared.places.Place.{Place}
 use Rattle.history.proofs.ListLemmas.{list_any-length}
+use Rattle.history.proofs.Partitions.{one_if}
 use Rattle.space.specs.declared.runs.Run.{Run}
-use Rattle.space.specs.RunTable.{list_at, spread, AreSame, ArePlaced, SetsOne}
+use Rattle.space.specs.RunTable.{AreSame, calls_of, LacksOneOf}
 use Rattle.space.specs.Runs.{is_run, is_run_on, without_first, RunsStand, caller_of, object_of}
-use Rattle.space.proofs.RunSteps.{count-last, count-without, length-without, without-none}
+use Rattle.space.proofs.RunSteps.{count-last, count-without, without-none}
 
 -- ---- the same calls
 
@@ -33,8 +42,14 @@ stand-same h xs ys same r = record {
   all = as-many xs ys same ∙ r.all;
 }
 
+-- ---- one call
+
+-- Two calls that are equal field by field, as keys are compared.
+abbrev pub same_run : Run → Run → Bool
+same_run a b = a.by == b.by && same_key a.object b.object
+
 -- The call that a connection runs of an object.
-abbrev pub run_of : ℕ → ObjId → Run
+abbrev run_of : ℕ → ObjId → Run
 run_of by o = record { by = by; object = o }
 
 is-run-equal : (by : ℕ) (o : ObjId) (r : Run) → is_run by o r ≡ true → r ≡ run_of by o
@@ -44,192 +59,215 @@ is-run-equal by o r h =
     let x : r.object ≡ o = same_id-equal r.object o two.1 in
     ap (λ (y : ℕ). record r { by = y }) n ∙ ap (λ (y : ObjId). run_of by y) x
 
-run-at : (by : ℕ) (o : ObjId) (r : Run) → is_run by o r ≡ true → list_at r.by ≡ list_at by
-run-at by o r h = ap list_at ((Decides-eqb r.by by).0 (and_parts (r.by == by) (same_id r.object o) h).0)
+is-run-self : (r : Run) → is_run r.by r.object r ≡ true
+is-run-self r = and_from (r.by == r.by) (same_id r.object r.object) ((Decides-eqb r.by r.by).1 refl) (same_id-self r.object)
 
--- ---- counts
+same-run-is : (a b : Run) → same_run a b ≡ is_run b.by b.object a
+same-run-is a b = ap (λ x. a.by == b.by && x) (same_key-same a.object b.object)
 
-counted : (test : Run → Bool) (xs ys : List Run) → length (filter test (xs ++ ys)) ≡ length (filter test xs) + length (filter test ys)
-counted test xs ys = ap length (filter-append test xs ys) ∙ length-append (filter test xs) (filter test ys)
+pub same-run-equal : (a b : Run) → same_run a b ≡ true → a ≡ b
+same-run-equal a b h = is-run-equal b.by b.object a (sym (same-run-is a b) ∙ h)
 
--- What a change of one list does to a count.
-count-set : {V : Type 0} (calls : V → List Run) (test : Run → Bool) (vs : List V) (at : ℕ) (v w : V) → slice_get vs at ≡ Some v →
-    length (filter test (spread calls (slice_set vs at w))) + length (filter test (calls v)) ≡ length (filter test (spread calls vs)) + length (filter test (calls w))
-count-set calls test [] at v w h = absurd (none-some v h)
-count-set calls test (x ∷ vs) zero v w h =
-    let e = ap (λ y. length (filter test (calls y))) (same_Some x v h) in
-    omega (arith, counted test (calls w) (spread calls vs), counted test (calls x) (spread calls vs), e)
-count-set calls test (x ∷ vs) (suc at) v w h =
-    omega (arith, counted test (calls x) (spread calls (slice_set vs at w)), counted test (calls x) (spread calls vs), count-set calls test vs at v w h)
-
--- Calls that can stand at one place alone are counted at no other.
-elsewhere : (test : Run → Bool) (at k : ℕ) → ((r : Run) → test r ≡ true → list_at r.by ≡ at) → (rs : List Run) → AllByRecursion (λ r. list_at r.by ≡ k) rs → k ≢ at → length (filter test rs) ≡ 0
-elsewhere test at k only [] h ne = refl
-elsewhere test at k only (r ∷ rs) h ne = go (test r) refl (elsewhere test at k only rs h.1 ne)
+-- The calls that one counts are those with its key.
+pub is-run-key : (run r : Run) → is_run run.by run.object r ≡ same_run run r
+is-run-key run r = alike (is_run run.by run.object r) (same_run run r) there back
   where
-    go : (b : Bool) → test r ≡ b → length (filter test rs) ≡ 0 → length (cond b (r ∷ filter test rs) (filter test rs)) ≡ 0
-    go true e rest = absurd (ne (sym h.0 ∙ only r e))
-    go false e rest = rest
+    alike : (a b : Bool) → (a ≡ true → b ≡ true) → (b ≡ true → a ≡ true) → a ≡ b
+    alike true b f g = sym (f refl)
+    alike false true f g = g refl
+    alike false false f g = refl
 
-count-none : {V : Type 0} (calls : V → List Run) (test : Run → Bool) (at : ℕ) → ((r : Run) → test r ≡ true → list_at r.by ≡ at) → (k : ℕ) (vs : List V) → ArePlaced calls k vs → (at < k) ⊎ (k + length vs ≤ at) → length (filter test (spread calls vs)) ≡ 0
-count-none calls test at only k [] h out = refl
-count-none calls test at only k (v ∷ vs) h (inl low) =
-    omega (arith, counted test (calls v) (spread calls vs), elsewhere test at k only (calls v) h.0 (λ e. absurd (omega (arith, e, low))), count-none calls test at only (k + 1) vs h.1 (inl (omega (arith, low))))
-count-none calls test at only k (v ∷ vs) h (inr high) =
-    omega (arith, counted test (calls v) (spread calls vs), elsewhere test at k only (calls v) h.0 (λ e. absurd (omega (arith, e, high))), count-none calls test at only (k + 1) vs h.1 (inr (omega (arith, high))))
+    there : is_run run.by run.object r ≡ true → same_run run r ≡ true
+    there h = same-run-is run r ∙ (let P : Run → Type 0 = λ x. is_run x.by x.object run ≡ true in subst P (sym (is-run-equal run.by run.object r h)) (is-run-self run))
 
-count-here : {V : Type 0} (calls : V → List Run) (test : Run → Bool) (at : ℕ) → ((r : Run) → test r ≡ true → list_at r.by ≡ at) → (k j : ℕ) (vs : List V) (v : V) → ArePlaced calls k vs → at ≡ k + j → slice_get vs j ≡ Some v → length (filter test (spread calls vs)) ≡ length (filter test (calls v))
-count-here calls test at only k j [] v h e s = absurd (none-some v s)
-count-here calls test at only k zero (x ∷ vs) v h e s =
-    let same = ap (λ y. length (filter test (calls y))) (same_Some x v s) in
-    omega (arith, counted test (calls x) (spread calls vs), count-none calls test at only (k + 1) vs h.1 (inl (omega (arith, e))), same)
-count-here calls test at only k (suc j) (x ∷ vs) v h e s =
-    omega (arith, counted test (calls x) (spread calls vs), elsewhere test at k only (calls x) h.0 (λ f. absurd (omega (arith, e, f))), count-here calls test at only (k + 1) j vs v h.1 (omega (arith, e)) s)
+    back : same_run run r ≡ true → is_run run.by run.object r ≡ true
+    back h = let P : Run → Type 0 = λ x. is_run run.by run.object x ≡ true in subst P (same-run-equal run r h) (is-run-self run)
 
--- A connection's calls of an object are those of its list.
-pub runs-here : {V : Type 0} (calls : V → List Run) (by : ℕ) (o : ObjId) (vs : List V) (v : V) → ArePlaced calls 0 vs → slice_get vs (list_at by) ≡ Some v → length (filter (is_run by o) (spread calls vs)) ≡ length (filter (is_run by o) (calls v))
-runs-here calls by o vs v h s = count-here calls (is_run by o) (list_at by) (run-at by o) 0 (list_at by) vs v h (omega arith) s
+-- ---- how many calls the entries of the counts stand for
 
-pub any-here : {V : Type 0} (calls : V → List Run) (by : ℕ) (o : ObjId) (vs : List V) (v : V) → ArePlaced calls 0 vs → slice_get vs (list_at by) ≡ Some v → list_any (is_run by o) (spread calls vs) ≡ list_any (is_run by o) (calls v)
-any-here calls by o vs v h s = list_any-length (is_run by o) (spread calls vs) ∙ ap (nat_lt 0) (runs-here calls by o vs v h s) ∙ sym (list_any-length (is_run by o) (calls v))
+-- How many calls that pass a test a count of a call stands for.
+abbrev share : (Run → Bool) → Run → ℕ → ℕ
+share test r n = if test r then n else 0
 
--- Where it has no list it runs none.
-pub runs-none-here : {V : Type 0} (calls : V → List Run) (by : ℕ) (o : ObjId) (vs : List V) → ArePlaced calls 0 vs → length vs ≤ list_at by → length (filter (is_run by o) (spread calls vs)) ≡ 0
-runs-none-here calls by o vs h s = count-none calls (is_run by o) (list_at by) (run-at by o) 0 vs h (inr (omega (arith, s)))
+abbrev shares : (Run → Bool) → Run × ℕ → ℕ
+shares test e = share test e.0 e.1
 
-pub any-none-here : {V : Type 0} (calls : V → List Run) (by : ℕ) (o : ObjId) (vs : List V) → ArePlaced calls 0 vs → length vs ≤ list_at by → list_any (is_run by o) (spread calls vs) ≡ false
-any-none-here calls by o vs h s = list_any-length (is_run by o) (spread calls vs) ∙ ap (nat_lt 0) (runs-none-here calls by o vs h s)
-
-shorter : (test : Run → Bool) (rs : List Run) → length (filter test rs) ≤ length rs
-shorter test [] = omega arith
-shorter test (r ∷ rs) = go (test r) (shorter test rs)
+share-none : (test : Run → Bool) (r : Run) → share test r 0 ≡ 0
+share-none test r = either (test r) 0
   where
-    go : (b : Bool) → length (filter test rs) ≤ length rs → length (cond b (r ∷ filter test rs) (filter test rs)) ≤ length (r ∷ rs)
-    go true h = omega arith
-    go false h = omega arith
+    either : (b : Bool) (n : ℕ) → (if b then n else n) ≡ n
+    either true n = refl
+    either false n = refl
 
-pub runs-few : {V : Type 0} (calls : V → List Run) (by : ℕ) (o : ObjId) (vs : List V) → length (filter (is_run by o) (spread calls vs)) ≤ length (spread calls vs)
-runs-few calls by o vs = shorter (is_run by o) (spread calls vs)
-
--- ---- places
-
-all-last : (P : Run → Type 0) (rs : List Run) (r : Run) → AllByRecursion P rs → P r → AllByRecursion P (rs ++ r ∷ [])
-all-last P [] r h p = (p, tt)
-all-last P (x ∷ rs) r h p = (h.0, all-last P rs r h.1 p)
-
-all-without : (P : Run → Type 0) (test : Run → Bool) (rs : List Run) → AllByRecursion P rs → AllByRecursion P (without_first test rs)
-all-without P test [] h = tt
-all-without P test (r ∷ rs) h = go (test r) (all-without P test rs h.1)
+counted-one : (test : Run → Bool) (r : Run) (n : ℕ) → length (filter test (replicate n r)) ≡ share test r n
+counted-one test r zero = sym (share-none test r)
+counted-one test r (suc n) = go (test r) (counted-one test r n)
   where
-    go : (b : Bool) → AllByRecursion P (without_first test rs) → AllByRecursion P (if b then rs else r ∷ without_first test rs)
-    go true rest = h.1
-    go false rest = (h.0, rest)
+    go : (b : Bool) → length (filter test (replicate n r)) ≡ (if b then n else 0) → length (cond b (r ∷ filter test (replicate n r)) (filter test (replicate n r))) ≡ (if b then suc n else 0)
+    go true h = ap suc h
+    go false h = h
 
-placed-at : {V : Type 0} (calls : V → List Run) (at k j : ℕ) (vs : List V) (v : V) → ArePlaced calls k vs → at ≡ k + j → slice_get vs j ≡ Some v → AllByRecursion (λ r. list_at r.by ≡ at) (calls v)
-placed-at calls at k j [] v h e s = absurd (none-some v s)
-placed-at calls at k zero (x ∷ vs) v h e s =
-    let P : _ → Type 0 = λ y. AllByRecursion (λ r. list_at r.by ≡ at) (calls y) in
-    let Q : ℕ → Type 0 = λ n. AllByRecursion (λ r. list_at r.by ≡ n) (calls x) in
-    let same : k ≡ at = omega (arith, e) in
-    subst P (same_Some x v s) (subst Q same h.0)
-placed-at calls at k (suc j) (x ∷ vs) v h e s = placed-at calls at (k + 1) j vs v h.1 (omega (arith, e)) s
+counted : (test : Run → Bool) (es : List (Run × ℕ)) → length (filter test (flat_map calls_of es)) ≡ sum_by (shares test) es
+counted test [] = refl
+counted test (e ∷ es) =
+    ap length (filter-append test (calls_of e) (flat_map calls_of es)) ∙ length-append (filter test (calls_of e)) (filter test (flat_map calls_of es))
+    ∙ omega (arith, counted-one test e.0 e.1, counted test es, sum_by-cons (shares test) e es)
 
-placed-set : {V : Type 0} (calls : V → List Run) (at k j : ℕ) (vs : List V) (w : V) → ArePlaced calls k vs → at ≡ k + j → AllByRecursion (λ r. list_at r.by ≡ at) (calls w) → ArePlaced calls k (slice_set vs j w)
-placed-set calls at k j [] w h e s = tt
-placed-set calls at k zero (x ∷ vs) w h e s =
-    let Q : ℕ → Type 0 = λ n. AllByRecursion (λ r. list_at r.by ≡ n) (calls w) in
-    let same : at ≡ k = omega (arith, e) in
-    (subst Q same s, h.1)
-placed-set calls at k (suc j) (x ∷ vs) w h e s = (h.0, placed-set calls at (k + 1) j vs w h.1 (omega (arith, e)) s)
+-- ---- how many of one
 
--- A list more, which has no call.
-pub placed-last : {V : Type 0} (calls : V → List Run) (k : ℕ) (vs : List V) (w : V) → ArePlaced calls k vs → calls w ≡ [] → ArePlaced calls k (vs ++ w ∷ [])
-placed-last calls k [] w h e = let Q : List Run → Type 0 = λ rs. AllByRecursion (λ r. list_at r.by ≡ k) rs in (subst Q (sym e) tt, tt)
-placed-last calls k (x ∷ vs) w h e = (h.0, placed-last calls (k + 1) vs w h.1 e)
+-- No later entry counts the same calls.
+none-shared : (run : Run) (es : List (Run × ℕ)) → NonePasses (same_run run) es → sum_by (shares (is_run run.by run.object)) es ≡ 0
+none-shared run [] h = refl
+none-shared run (e ∷ es) h =
+    let none : share (is_run run.by run.object) e.0 e.1 ≡ 0 = ap (λ b. if b then e.1 else 0) (is-run-key run e.0 ∙ h.0) in
+    omega (arith, none, none-shared run es h.1, sum_by-cons (shares (is_run run.by run.object)) e es)
 
-pub spread-last : {V : Type 0} (calls : V → List Run) (vs : List V) (w : V) → calls w ≡ [] → spread calls (vs ++ w ∷ []) ≡ spread calls vs
-spread-last calls [] w e = append-nil (calls w) ∙ e
-spread-last calls (x ∷ vs) w e = ap (λ l. calls x ++ l) (spread-last calls vs w e)
+passes : (run : Run) (es : List (Run × ℕ)) → AllByRecursion (λ y. same_run run y ≡ false) (keys_of es) → NonePasses (same_run run) es
+passes run [] h = tt
+passes run (e ∷ es) h = (h.0, passes run es h.1)
 
--- ---- one list is set
-
-sets-placed : {V : Type 0} (calls : V → List Run) (at : ℕ) (vs ws : List V) (become : List Run → List Run) → SetsOne calls vs ws at become →
-    ((rs : List Run) → AllByRecursion (λ r. list_at r.by ≡ at) rs → AllByRecursion (λ r. list_at r.by ≡ at) (become rs)) → ArePlaced calls 0 vs → ArePlaced calls 0 ws
-sets-placed calls at vs ws become s stays h =
-    let here = placed-at calls at 0 at vs s.before h (omega arith) s.read in
-    let Q : List Run → Type 0 = λ rs. AllByRecursion (λ r. list_at r.by ≡ at) rs in
-    let P : List _ → Type 0 = λ l. ArePlaced calls 0 l in
-    subst P (sym s.written) (placed-set calls at 0 at vs s.after h (omega arith) (subst Q (sym s.becomes) (stays (calls s.before) here)))
-
-sets-count : {V : Type 0} (calls : V → List Run) (test : Run → Bool) (at : ℕ) (vs ws : List V) (become : List Run → List Run) (s : SetsOne calls vs ws at become) →
-    length (filter test (spread calls ws)) + length (filter test (calls s.before)) ≡ length (filter test (spread calls vs)) + length (filter test (become (calls s.before)))
-sets-count calls test at vs ws become s =
-    let written = ap (λ l. length (filter test (spread calls l))) s.written in
-    let becomes = ap (λ l. length (filter test l)) s.becomes in
-    omega (arith, written, becomes, count-set calls test vs at s.before s.after s.read)
-
--- Nothing changes.
-pub same-set : {V : Type 0} (calls : V → List Run) (at : ℕ) (vs ws : List V) → SetsOne calls vs ws at (λ rs. rs) → spread calls ws ≡ spread calls vs
-same-set calls at vs ws s = ap (spread calls) s.written ∙ go vs at s.read
+-- A call is counted in one place.
+pub one-counted : (run : Run) (es : List (Run × ℕ)) → IsDistinct same_run (keys_of es) → length (filter (is_run run.by run.object) (flat_map calls_of es)) ≡ unwrap_or (lookup (same_run run) es) 0
+unfolding IsDistinct
+one-counted run es distinct = counted (is_run run.by run.object) es ∙ all es distinct
   where
-    go : (xs : List _) (j : ℕ) → slice_get xs j ≡ Some s.before → spread calls (slice_set xs j s.after) ≡ spread calls xs
-    go [] j h = absurd (none-some s.before h)
-    go (x ∷ xs) zero h = ap (λ l. l ++ spread calls xs) (s.becomes ∙ sym (ap calls (same_Some x s.before h)))
-    go (x ∷ xs) (suc j) h = ap (λ l. calls x ++ l) (go xs j h)
+    all : (fs : List (Run × ℕ)) → IsDistinct same_run (keys_of fs) → sum_by (shares (is_run run.by run.object)) fs ≡ unwrap_or (lookup (same_run run) fs) 0
+    all [] d = refl
+    all (e ∷ fs) d = go (same_run run e.0) refl (all fs d.1)
+      where
+        here : (b : Bool) → same_run run e.0 ≡ b → share (is_run run.by run.object) e.0 e.1 ≡ (if b then e.1 else 0)
+        here b k = ap (λ x. if x then e.1 else 0) (is-run-key run e.0 ∙ k)
 
-pub same-placed : {V : Type 0} (calls : V → List Run) (at : ℕ) (vs ws : List V) → SetsOne calls vs ws at (λ rs. rs) → ArePlaced calls 0 vs → ArePlaced calls 0 ws
-same-placed calls at vs ws s = sets-placed calls at vs ws (λ rs. rs) s (λ rs h. h)
+        go : (b : Bool) → same_run run e.0 ≡ b → sum_by (shares (is_run run.by run.object)) fs ≡ unwrap_or (lookup (same_run run) fs) 0 →
+            sum_by (shares (is_run run.by run.object)) (e ∷ fs) ≡ unwrap_or (cond b (Some e.1) (lookup (same_run run) fs)) 0
+        go true k rest =
+            let P : Run → Type 0 = λ x. AllByRecursion (λ y. same_run x y ≡ false) (keys_of fs) in
+            let apart = subst P (sym (same-run-equal run e.0 k)) d.0 in
+            omega (arith, here true k, none-shared run fs (passes run fs apart), sum_by-cons (shares (is_run run.by run.object)) e fs)
+        go false k rest = omega (arith, here false k, rest, sum_by-cons (shares (is_run run.by run.object)) e fs)
 
--- A call is put.
-pub put-same : {V : Type 0} (calls : V → List Run) (at : ℕ) (run : Run) (vs ws : List V) → SetsOne calls vs ws at (λ rs. rs ++ run ∷ []) → AreSame (spread calls ws) (spread calls vs ++ run ∷ [])
-put-same calls at run vs ws s test =
-    omega (arith, sets-count calls test at vs ws (λ rs. rs ++ run ∷ []) s, count-last test (calls s.before) run, count-last test (spread calls vs) run)
-
-pub put-placed : {V : Type 0} (calls : V → List Run) (run : Run) (vs ws : List V) → SetsOne calls vs ws (list_at run.by) (λ rs. rs ++ run ∷ []) → ArePlaced calls 0 vs → ArePlaced calls 0 ws
-put-placed calls run vs ws s = sets-placed calls (list_at run.by) vs ws (λ rs. rs ++ run ∷ []) s (λ rs h. all-last (λ r. list_at r.by ≡ list_at run.by) rs run h refl)
-
--- A call is ended, if there is one.
-pub end-placed : {V : Type 0} (calls : V → List Run) (by : ℕ) (o : ObjId) (vs ws : List V) → SetsOne calls vs ws (list_at by) (without_first (is_run by o)) → ArePlaced calls 0 vs → ArePlaced calls 0 ws
-end-placed calls by o vs ws s = sets-placed calls (list_at by) vs ws (without_first (is_run by o)) s (λ rs h. all-without (λ r. list_at r.by ≡ list_at by) (is_run by o) rs h)
-
-pub end-same : {V : Type 0} (calls : V → List Run) (by : ℕ) (o : ObjId) (vs ws : List V) → SetsOne calls vs ws (list_at by) (without_first (is_run by o)) → ArePlaced calls 0 vs → AreSame (spread calls ws) (without_first (is_run by o) (spread calls vs))
-end-same calls by o vs ws s h test =
-    go (list_any (is_run by o) (calls s.before)) refl (any-here calls by o vs s.before h s.read) (sets-count calls test (list_at by) vs ws (without_first (is_run by o)) s)
+-- It is counted nowhere.
+pub none-counted : (run : Run) (es : List (Run × ℕ)) → IsDistinct same_run (keys_of es) → is_some (lookup (same_run run) es) ≡ false → length (filter (is_run run.by run.object) (flat_map calls_of es)) ≡ 0
+none-counted run es distinct none = one-counted run es distinct ∙ looked (lookup (same_run run) es) none
   where
-    go : (b : Bool) → list_any (is_run by o) (calls s.before) ≡ b → list_any (is_run by o) (spread calls vs) ≡ list_any (is_run by o) (calls s.before) →
-        length (filter test (spread calls ws)) + length (filter test (calls s.before)) ≡ length (filter test (spread calls vs)) + length (filter test (without_first (is_run by o) (calls s.before))) →
-        length (filter test (spread calls ws)) ≡ length (filter test (without_first (is_run by o) (spread calls vs)))
-    go true here all sets =
-        let passes = λ (r : Run) (e : is_run by o r ≡ true). ap test (is-run-equal by o r e) in
-        let one = count-without (is_run by o) test (test (run_of by o)) passes (calls s.before) here in
-        let other = count-without (is_run by o) test (test (run_of by o)) passes (spread calls vs) (all ∙ here) in
-        omega (arith, one, other, sets)
-    go false here all sets =
-        let one = ap (λ l. length (filter test l)) (without-none (is_run by o) (calls s.before) here) in
-        let other = ap (λ l. length (filter test l)) (without-none (is_run by o) (spread calls vs) (all ∙ here)) in
-        omega (arith, one, other, sets)
+    looked : (o : Option ℕ) → is_some o ≡ false → unwrap_or o 0 ≡ 0
+    looked None h = refl
+    looked (Some n) h = absurd (cc)
 
--- One call fewer, where there is one.
-pub end-fewer : (by : ℕ) (o : ObjId) (xs ys : List Run) → AreSame ys (without_first (is_run by o) xs) → list_any (is_run by o) xs ≡ true → length xs ≡ length ys + 1
-end-fewer by o xs ys same some =
-    omega (arith, as-many ys (without_first (is_run by o) xs) same, fewer xs some)
+pub none-run : (run : Run) (es : List (Run × ℕ)) → IsDistinct same_run (keys_of es) → is_some (lookup (same_run run) es) ≡ false → list_any (is_run run.by run.object) (flat_map calls_of es) ≡ false
+none-run run es distinct none =
+    list_any-length (is_run run.by run.object) (flat_map calls_of es) ∙ ap (nat_lt 0) (none-counted run es distinct none)
+
+-- The entry of a call at its place: it has the call, and how many of it there are.
+pub record IsEntryOf (run : Run) (es : List (Run × ℕ)) (i : ℕ) : Type 0 where
+  pub entry : Run × ℕ
+  pub there : slice_get es i ≡ Some entry
+  pub key : run ≡ entry.0
+  pub count : length (filter (is_run run.by run.object) (flat_map calls_of es)) ≡ entry.1
+
+pub found : (run : Run) (es : List (Run × ℕ)) (i : ℕ) → IsDistinct same_run (keys_of es) → position (same_run run) (keys_of es) ≡ Some i → IsEntryOf run es i
+found run es i distinct p =
+    let f = Found-position (same_run run) es i p in
+    let there = slice_get-get_or es i (run, 0) f.within in
+    let key = f.key ∙ slice_get-map (λ (e : Run × ℕ). e.0) es i ∙ ap (option_map (λ (e : Run × ℕ). e.0)) there in
+    let value = f.value ∙ slice_get-map (λ (e : Run × ℕ). e.1) es i ∙ ap (option_map (λ (e : Run × ℕ). e.1)) there in
+    record {
+      entry = get_or es i (run, 0);
+      there = there;
+      key = same-run-equal run _ (lookup_key_passes (same_run run) es _ key);
+      count = one-counted run es distinct ∙ ap (λ v. unwrap_or v 0) value;
+    }
+
+-- It is counted no more often than there are calls.
+pub few-counted : (run : Run) (es : List (Run × ℕ)) → unwrap_or (lookup (same_run run) es) 0 ≤ length (flat_map calls_of es)
+few-counted run [] = omega arith
+few-counted run (e ∷ es) = go (same_run run e.0) (few-counted run es)
   where
-    fewer : (rs : List Run) → list_any (is_run by o) rs ≡ true → length (without_first (is_run by o) rs) + 1 ≡ length rs
-    fewer = length-without (is_run by o)
+    both : length (flat_map calls_of (e ∷ es)) ≡ e.1 + length (flat_map calls_of es)
+    both = length-append (calls_of e) (flat_map calls_of es) ∙ ap (λ n. n + length (flat_map calls_of es)) (length-replicate e.1 e.0)
 
--- None fewer, where there is none.
-pub end-none : (by : ℕ) (o : ObjId) (rs : List Run) → list_any (is_run by o) rs ≡ false → AreSame rs (without_first (is_run by o) rs)
-end-none by o rs none test = ap (λ l. length (filter test l)) (sym (without-none (is_run by o) rs none))
+    go : (b : Bool) → unwrap_or (lookup (same_run run) es) 0 ≤ length (flat_map calls_of es) → unwrap_or (cond b (Some e.1) (lookup (same_run run) es)) 0 ≤ length (flat_map calls_of (e ∷ es))
+    go true h = omega (arith, both)
+    go false h = omega (arith, both, h)
 
--- ---- room
+-- ---- one more
 
--- Where there is room for one more in the list at a place, there is that list.
-pub roomy-there : {V : Type 0} (roomy : V → Bool) (vs : List V) (at : ℕ) → slice_index_or (map roomy vs) at false ≡ true → (v : V) × (slice_get vs at ≡ Some v) × (roomy v ≡ true)
-roomy-there roomy [] at h = absurd (cc)
-roomy-there roomy (v ∷ vs) zero h = (v, refl, h)
-roomy-there roomy (v ∷ vs) (suc at) h = roomy-there roomy vs at h
+inserted : (test : Run → Bool) (es : List (Run × ℕ)) (run : Run) (n : ℕ) →
+    sum_by (shares test) (insert_entry same_run es run n) + share test run (unwrap_or (lookup (same_run run) es) 0) ≡ sum_by (shares test) es + share test run n
+inserted test [] run n = omega (arith, share-none test run)
+inserted test (e ∷ es) run n = go (same_run run e.0) refl (inserted test es run n)
+  where
+    go : (b : Bool) → same_run run e.0 ≡ b → sum_by (shares test) (insert_entry same_run es run n) + share test run (unwrap_or (lookup (same_run run) es) 0) ≡ sum_by (shares test) es + share test run n →
+        sum_by (shares test) (if b then (e.0, n) ∷ es else e ∷ insert_entry same_run es run n) + share test run (unwrap_or (cond b (Some e.1) (lookup (same_run run) es)) 0) ≡ sum_by (shares test) (e ∷ es) + share test run n
+    go true k rest =
+        let here = ap (λ r. share test r n) (same-run-equal run e.0 k) in
+        let before = ap (λ r. share test r e.1) (same-run-equal run e.0 k) in
+        omega (arith, here, before, sum_by-cons (shares test) (e.0, n) es, sum_by-cons (shares test) e es)
+    go false k rest = omega (arith, rest, sum_by-cons (shares test) e (insert_entry same_run es run n), sum_by-cons (shares test) e es)
 
-pub roomy-set : {V : Type 0} (roomy : V → Bool) (vs : List V) (at : ℕ) (w : V) → at < length vs → roomy w ≡ true → slice_index_or (map roomy (slice_set vs at w)) at false ≡ true
-roomy-set roomy [] at w h r = absurd (omega (arith, h))
-roomy-set roomy (v ∷ vs) zero w h r = r
-roomy-set roomy (v ∷ vs) (suc at) w h r = roomy-set roomy vs at w (omega (arith, h)) r
+pub raised : (run : Run) (n : ℕ) (es fs : List (Run × ℕ)) → n ≡ unwrap_or (lookup (same_run run) es) 0 → fs ≡ insert_entry same_run es run (n + 1) → AreSame (flat_map calls_of fs) (flat_map calls_of es ++ run ∷ [])
+unfolding one_if
+raised run n es fs was now test =
+    let new = ap (λ l. length (filter test (flat_map calls_of l))) now ∙ counted test (insert_entry same_run es run (n + 1)) in
+    let old = ap (share test run) was in
+    omega (arith, new, old, inserted test es run (n + 1), more (test run), counted test es, count-last test (flat_map calls_of es) run)
+  where
+    more : (b : Bool) → (if b then n + 1 else 0) ≡ (if b then n else 0) + one_if b
+    more true = refl
+    more false = refl
+
+-- ---- one fewer
+
+-- The entry at a place is set, or taken out.
+set-shares : (test : Run → Bool) (es : List (Run × ℕ)) (i : ℕ) (e : Run × ℕ) (n : ℕ) → slice_get es i ≡ Some e → sum_by (shares test) (set_value_at es i n) + shares test e ≡ sum_by (shares test) es + share test e.0 n
+set-shares test [] i e n h = absurd (none-some e h)
+set-shares test (x ∷ es) zero e n h =
+    let same = same_Some x e h in
+    let here = ap (shares test) same in let there = ap (λ (y : Run × ℕ). share test y.0 n) same in
+    omega (arith, here, there, sum_by-cons (shares test) (x.0, n) es, sum_by-cons (shares test) x es)
+set-shares test (x ∷ es) (suc i) e n h = omega (arith, set-shares test es i e n h, sum_by-cons (shares test) x (set_value_at es i n), sum_by-cons (shares test) x es)
+
+pub value-there : (es : List (Run × ℕ)) (i : ℕ) (e : Run × ℕ) (n : ℕ) → slice_get es i ≡ Some e → slice_get (values_of es) i ≡ Some n → n ≡ e.1
+value-there es i e n there value = same_Some n e.1 (sym value ∙ slice_get-map (λ (x : Run × ℕ). x.1) es i ∙ ap (option_map (λ (x : Run × ℕ). x.1)) there)
+
+pub set-lower : (es : List (Run × ℕ)) (i : ℕ) (e : Run × ℕ) (n : ℕ) → slice_get es i ≡ Some e → n ≡ e.1 → 1 < n → LacksOneOf e es (set_value_at es i (n - 1))
+set-lower es i e n there count some test =
+    omega (arith, set-shares test es i e (n - 1) there, less (nat_lt 0 e.1) (lt-ltb 0 e.1 (omega (arith, some, count))) (test e.0), counted test es, counted test (set_value_at es i (n - 1)))
+  where
+    less : (a : Bool) → a ≡ true → (b : Bool) → (if b then n - 1 else 0) + (if a && b then 1 else 0) ≡ (if b then e.1 else 0)
+    less true k true = omega (arith, some, count)
+    less true k false = refl
+    less false k b = absurd (cc)
+
+pub gone-lower : (es fs : List (Run × ℕ)) (i : ℕ) (e : Run × ℕ) → slice_get es i ≡ Some e → e.1 ≤ 1 → fs ≡ swap_remove es i e → LacksOneOf e es fs
+gone-lower es fs i e h few gone test =
+    let new = ap (λ l. length (filter test (flat_map calls_of l))) gone ∙ counted test (swap_remove es i e) in
+    let out = sum_by-swap_remove (shares test) es i e (slice_get_within es i e h) in
+    let it = ap (shares test) (get_or_from_slice_get es i e e h) in
+    omega (arith, new, out, it, less e.1 few (test e.0), counted test es)
+  where
+    less : (n : ℕ) → n ≤ 1 → (b : Bool) → (if nat_lt 0 n && b then 1 else 0) ≡ (if b then n else 0)
+    less zero k true = refl
+    less zero k false = refl
+    less (suc zero) k b = refl
+    less (suc (suc n)) k b = absurd (omega (arith, k))
+
+-- What it leaves, of a list in which the calls stand.
+pub lowered : (run : Run) (e : Run × ℕ) (es fs : List (Run × ℕ)) → run ≡ e.0 → length (filter (is_run run.by run.object) (flat_map calls_of es)) ≡ e.1 → LacksOneOf e es fs → AreSame (flat_map calls_of fs) (without_first (is_run run.by run.object) (flat_map calls_of es))
+unfolding one_if
+lowered run e es fs key all lower test = go (nat_lt 0 e.1) (any ∙ ap (nat_lt 0) all) (lower test)
+  where
+    rs : List Run
+    rs = flat_map calls_of es
+
+    any : list_any (is_run run.by run.object) rs ≡ nat_lt 0 (length (filter (is_run run.by run.object) rs))
+    any = list_any-length (is_run run.by run.object) rs
+
+    ones : (b : Bool) → (if b then 1 else 0) ≡ one_if b
+    ones true = refl
+    ones false = refl
+
+    go : (b : Bool) → list_any (is_run run.by run.object) rs ≡ b → length (filter test (flat_map calls_of fs)) + (if b && test e.0 then 1 else 0) ≡ length (filter test rs) →
+        length (filter test (flat_map calls_of fs)) ≡ length (filter test (without_first (is_run run.by run.object) rs))
+    go true some less = omega (arith, less, ones (test e.0), ap (λ r. one_if (test r)) key, count-without (is_run run.by run.object) test (test run) (λ r e. ap test (is-run-equal run.by run.object r e)) rs some)
+    go false none less = omega (arith, less, ap (λ l. length (filter test l)) (without-none (is_run run.by run.object) rs none))

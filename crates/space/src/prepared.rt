@@ -15,20 +15,71 @@ use history::{Ask, Refused, Reply, Turn};
 use object_ids::{ObjId, ObjIds};
 use std::alloc::{AllocError, Global};
 
+/// The objects that a turn is about.
+pub(crate) struct Listed {
+    /// The objects to which it returns references.
+    pub references: Vec<ObjId>,
+    /// The objects from which it, or the time that passed, may take what keeps them.
+    pub doubtful: Vec<ObjId>,
+}
+
+/// Written out, as that of `Prepared` is.
+impl Drop for Listed {
+    fn drop(self) {
+        let Listed {
+            references,
+            doubtful,
+        } = self;
+        drop(references);
+        drop(doubtful);
+    }
+}
+
+/// What a turn tells as gone.
+pub(crate) struct Untold {
+    /// The objects of the withdrawals that are still to be told, with room for those in doubt.
+    pub gone: Vec<ObjId>,
+    /// Room for a copy of them all, where one is asked for.
+    pub spare: Vec<ObjId>,
+}
+
+/// Written out, as that of `Prepared` is.
+impl Drop for Untold {
+    fn drop(self) {
+        let Untold { gone, spare } = self;
+        drop(gone);
+        drop(spare);
+    }
+}
+
+impl Untold {
+    /// The list of the objects that a turn tells as gone, and a copy of it, where one is asked for: there is room for it.
+    fn into_lists(self, alloc: Global, noted: bool) -> (ObjIds, ObjIds)
+        requires { noted ≡ true → length self.gone.items ≤ vec_capacity self.spare }
+        ensures gone { result.0 ≡ self.gone.items }
+        ensures copy { noted ≡ true → result.1 ≡ result.0 }
+    {
+        let Untold { gone, spare } = self;
+        let gone = gone_ids(alloc, gone);
+        let copy = if noted {
+            fitting(alloc, spare, &gone)
+        } else {
+            ObjIds::new(alloc)
+        };
+        (gone, copy)
+    }
+}
+
 /// What a turn answers and adds.
 pub(crate) struct Prepared {
     /// How many objects it exports.
     pub opened: u64,
     /// How many are exported then, before any is withdrawn.
     pub objects: usize,
-    /// The objects to which it returns references.
-    pub references: Vec<ObjId>,
-    /// The objects from which it, or the time that passed, may take what keeps them.
-    pub doubtful: Vec<ObjId>,
-    /// The objects of the withdrawals that are still to be told, with room for the doubtful ones.
-    pub gone: Vec<ObjId>,
-    /// Room for a copy of them all, where one is asked for.
-    pub spare: Vec<ObjId>,
+    /// The objects that it is about.
+    pub listed: Listed,
+    /// What it tells as gone.
+    pub untold: Untold,
     /// What it is answered.
     pub reply: Reply,
 }
@@ -39,16 +90,12 @@ impl Drop for Prepared {
         let Prepared {
             opened: _,
             objects: _,
-            references,
-            doubtful,
-            gone,
-            spare,
+            listed,
+            untold,
             reply,
         } = self;
-        drop(references);
-        drop(doubtful);
-        drop(gone);
-        drop(spare);
+        drop(listed);
+        drop(untold);
         drop(reply);
     }
 }
@@ -56,27 +103,19 @@ impl Drop for Prepared {
 impl Prepared {
     /// The turn at a place, and a copy of the objects that it tells as gone, where one is asked for: there is room for it.
     pub(crate) fn into_turn(self, alloc: Global, place: u64, noted: bool) -> (Turn, ObjIds)
-        requires { noted ≡ true → length self.gone.items ≤ vec_capacity self.spare }
-        ensures turn { result.0 ≡ record { place = place; reply = self.reply; gone = self.gone.items } }
+        requires { noted ≡ true → length self.untold.gone.items ≤ vec_capacity self.untold.spare }
+        ensures turn { result.0 ≡ record { place = place; reply = self.reply; gone = self.untold.gone.items } }
         ensures copy { noted ≡ true → result.1 ≡ result.0.gone }
     {
         let Prepared {
             opened: _,
             objects: _,
-            references,
-            doubtful,
-            gone,
-            spare,
+            listed,
+            untold,
             reply,
         } = self;
-        drop(references);
-        drop(doubtful);
-        let gone = gone_ids(alloc, gone);
-        let copy = if noted {
-            fitting(alloc, spare, &gone)
-        } else {
-            ObjIds::new(alloc)
-        };
+        drop(listed);
+        let (gone, copy) = untold.into_lists(alloc, noted);
         (Turn { place, reply, gone }, copy)
     }
 }
@@ -95,19 +134,79 @@ pub(crate) fn prepare(
     requires told { tables.now.told ≤ length tables.now.withdrawn.items }
     ensures opened { IfOk result (λ p. p.opened ≡ opens effective ask.now) }
     ensures objects { IfOk result (λ p. p.objects ≡ length tables.now.exports.rows + opens effective ask.now) }
-    ensures references { IfOk result (λ p. p.references.items ≡ returned_by tables.now.config.uid tables.now.added tables.now.exports.rows stood effective ask.now) }
+    ensures references { IfOk result (λ p. p.listed.references.items ≡ returned_by tables.now.config.uid tables.now.added tables.now.exports.rows stood effective ask.now) }
     ensures doubtful { IfOk result (λ p. AreInDoubt tables.now.leases now tables.now.exports.waits
-        (taken_by tables.now.exports.waits (id_at tables.now.config.uid tables.now.added) stood p.references.items ask.now) p.doubtful.items) }
-    ensures gone { IfOk result (λ p. p.gone.items ≡ map (λ w. w.object) (drop tables.now.told tables.now.withdrawn.items)) }
-    ensures room { IfOk result (λ p. vec_len p.gone + length p.doubtful.items ≤ vec_capacity p.gone) }
-    ensures spare { IfOk result (λ p. noted ≡ true → vec_len p.gone + length p.doubtful.items ≤ vec_capacity p.spare) }
+        (taken_by tables.now.exports.waits (id_at tables.now.config.uid tables.now.added) stood p.listed.references.items ask.now) p.listed.doubtful.items) }
+    ensures gone { IfOk result (λ p. p.untold.gone.items ≡ map (λ w. w.object) (drop tables.now.told tables.now.withdrawn.items)) }
+    ensures room { IfOk result (λ p. vec_len p.untold.gone + length p.listed.doubtful.items ≤ vec_capacity p.untold.gone) }
+    ensures spare { IfOk result (λ p. noted ≡ true → vec_len p.untold.gone + length p.listed.doubtful.items ≤ vec_capacity p.untold.spare) }
     ensures reply { IfOk result (λ p. p.reply ≡ reply_at tables.now.config tables.now.added tables.now.exports.rows (names_in tables.now.names) stood effective ask.now) }
+    ensures refusal { Agrees (await_refusal now tables.now.exports.rows tables.now.exports.waits stood effective ask.now) result }
+{
+    let opened = opens(effective, ask);
+    let objects = tables.exports.count() as usize + opened as usize;
+    let (listed, untold) = listed_and_untold(tables, stood, effective, now, noted, ask)?;
+    let reply = reply_at(
+        tables.alloc,
+        &tables.config,
+        tables.added,
+        &tables.exports,
+        &tables.names,
+        stood,
+        effective,
+        ask,
+    )?;
+    Ok(Prepared {
+        opened,
+        objects,
+        listed,
+        untold,
+        reply,
+    })
+}
+
+/// The objects that a turn at a moment is about, where the ask's name stands for `stood`, and those that it tells as gone. It is refused where the
+/// references that it returns would pass the limit of those that await.
+fn listed_and_untold(
+    tables: &Tables,
+    stood: Option<ObjId>,
+    effective: bool,
+    now: u64,
+    noted: bool,
+    ask: &Ask,
+) -> Result<(Listed, Untold), Refused>
+    requires countable { tables.now.added + opens effective ask.now < 2 ^ 62 }
+    requires told { tables.now.told ≤ length tables.now.withdrawn.items }
+    ensures references { IfOk result (λ x. x.0.references.items ≡ returned_by tables.now.config.uid tables.now.added tables.now.exports.rows stood effective ask.now) }
+    ensures doubtful { IfOk result (λ x. AreInDoubt tables.now.leases now tables.now.exports.waits
+        (taken_by tables.now.exports.waits (id_at tables.now.config.uid tables.now.added) stood x.0.references.items ask.now) x.0.doubtful.items) }
+    ensures gone { IfOk result (λ x. x.1.gone.items ≡ map (λ w. w.object) (drop tables.now.told tables.now.withdrawn.items)) }
+    ensures room { IfOk result (λ x. vec_len x.1.gone + length x.0.doubtful.items ≤ vec_capacity x.1.gone) }
+    ensures spare { IfOk result (λ x. noted ≡ true → vec_len x.1.gone + length x.0.doubtful.items ≤ vec_capacity x.1.spare) }
+    ensures refusal { Agrees (await_refusal now tables.now.exports.rows tables.now.exports.waits stood effective ask.now) result }
+{
+    let listed = listed_by(tables, stood, effective, now, ask)?;
+    let untold = untold_with(tables, noted, listed.doubtful.len())?;
+    Ok((listed, untold))
+}
+
+/// The objects that a turn at a moment is about, where the ask's name stands for `stood`. It is refused where the references that it returns would pass
+/// the limit of those that await.
+fn listed_by(
+    tables: &Tables,
+    stood: Option<ObjId>,
+    effective: bool,
+    now: u64,
+    ask: &Ask,
+) -> Result<Listed, Refused>
+    requires countable { tables.now.added + opens effective ask.now < 2 ^ 62 }
+    ensures references { IfOk result (λ l. l.references.items ≡ returned_by tables.now.config.uid tables.now.added tables.now.exports.rows stood effective ask.now) }
+    ensures doubtful { IfOk result (λ l. AreInDoubt tables.now.leases now tables.now.exports.waits
+        (taken_by tables.now.exports.waits (id_at tables.now.config.uid tables.now.added) stood l.references.items ask.now) l.doubtful.items) }
     ensures refusal { Agrees (await_refusal now tables.now.exports.rows tables.now.exports.waits stood effective ask.now) result }
 {
     let alloc = tables.alloc;
     let exports = &tables.exports;
-    let opened = opens(effective, ask);
-    let objects = exports.count() as usize + opened as usize;
     let uid = tables.config.uid;
     let references = returned(
         alloc,
@@ -130,28 +229,24 @@ pub(crate) fn prepare(
         &references,
         ask,
     )?;
-    let most = doubtful.len();
-    let gone = tables.withdrawn.still_to_tell(alloc, tables.told, most)?;
-    let spare = room_for_copy(alloc, noted, gone.len() + most)?;
-    let reply = reply_at(
-        alloc,
-        &tables.config,
-        tables.added,
-        exports,
-        &tables.names,
-        stood,
-        effective,
-        ask,
-    )?;
-    Ok(Prepared {
-        opened,
-        objects,
+    Ok(Listed {
         references,
         doubtful,
-        gone,
-        spare,
-        reply,
     })
+}
+
+/// The objects that are still to be told as gone, with room for so many more, and for a copy of them all, where one is asked for.
+fn untold_with(tables: &Tables, noted: bool, most: usize) -> Result<Untold, AllocError>
+    requires { tables.now.told ≤ length tables.now.withdrawn.items }
+    ensures gone { IfOk result (λ u. u.gone.items ≡ map (λ w. w.object) (drop tables.now.told tables.now.withdrawn.items)) }
+    ensures room { IfOk result (λ u. vec_len u.gone + most ≤ vec_capacity u.gone) }
+    ensures spare { IfOk result (λ u. noted ≡ true → vec_len u.gone + most ≤ vec_capacity u.spare) }
+{
+    let gone = tables
+        .withdrawn
+        .still_to_tell(tables.alloc, tables.told, most)?;
+    let spare = room_for_copy(tables.alloc, noted, gone.len() + most)?;
+    Ok(Untold { gone, spare })
 }
 
 /// Room for so many objects, where a copy is asked for.

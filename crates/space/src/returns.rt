@@ -1,5 +1,5 @@
 //! The references that an ask returns.
-ghost use Rattle.std.specs.Prelude.{◌≡◌, ◌+◌, ◌<◌, ◌≤◌, ◌^◌, ◌++◌, ◌&&◌, length, filter, not, nat_lt, option_to_list, cond, true, IfOk, OnOk};
+ghost use Rattle.std.specs.Prelude.{◌≡◌, ◌+◌, ◌<◌, ◌≤◌, ◌^◌, ◌++◌, ◌&&◌, length, filter, not, nat_lt, option_to_list, cond, true, false, IfOk, OnOk};
 ghost use Rattle.std.specs.List.{list_any};
 ghost use Rattle.indexmap.specs.IndexSet.{contains};
 ghost use Rattle.history.specs.declared.limits.TheConstants.{MAX_AWAITING};
@@ -188,7 +188,7 @@ fn counted_one_by_one(exports: &Exports, now: u64, uid: &Uid, live: &[ObjId]) ->
     count
 }
 
-/// How many of these objects, each counted once, do not wait at a moment as listed in a return, from the last to the first.
+/// How many of these objects, each counted once, do not wait at a moment as listed in a return, with a list of those that were met.
 fn counted_with_memory(
     alloc: Global,
     exports: &Exports,
@@ -200,11 +200,26 @@ fn counted_with_memory(
     ensures bound { IfOk result (λ count. count ≤ length live.now) }
 {
     let mut seen = IndexSet::new(alloc);
+    counted_from_last(&mut seen, exports, now, uid, live)
+}
+
+/// How many of these objects, each counted once, do not wait at a moment as listed in a return, from the last to the first. None was seen before.
+fn counted_from_last(
+    seen: &mut IndexSet<ObjId>,
+    exports: &Exports,
+    now: u64,
+    uid: &Uid,
+    live: &[ObjId],
+) -> Result<usize, AllocError>
+    requires { (o : ObjId) → contains same_key seen.old o ≡ false }
+    ensures value { IfOk result (λ count. count ≡ length (filter (λ o. not (is_waiting now o uid.now exports.now.waits)) (distinct same_id live.now))) }
+    ensures bound { IfOk result (λ count. count ≤ length live.now) }
+{
     let mut count = 0;
     let mut i = live.len();
     while i > 0 {
         i -= 1;
-        if is_first_new_wait(&mut seen, exports, now, uid, &live[i])? {
+        if is_first_new_wait(seen, exports, now, uid, &live[i])? {
             count += 1;
         }
     }

@@ -1,18 +1,20 @@
 //! Calls that connections run.
-ghost use Rattle.std.specs.Prelude.{◌≡◌, ◌<◌, ◌≤◌, ◌^◌, ◌++◌, ◌∷◌, [], true, false, length, filter, map, slice_get, slice_index_or, vec_len, Some, OnOk};
+ghost use Rattle.std.specs.Prelude.{◌≡◌, ◌<◌, ◌≤◌, ◌^◌, ◌++◌, ◌∷◌, [], ℕ, length, filter, nat_lt, slice_get, Some, OnOk};
 ghost use Rattle.std.specs.List.{list_any};
+ghost use Rattle.indexmap.specs.IndexMap.{index_map_len, spare};
 ghost use Rattle.space.specs.Acts.{acted_runs};
-ghost use Rattle.space.specs.RunTable.{AreSame, ArePlaced, SetsOne, calls_in, has_room, is_roomy, list_at, spread};
+ghost use Rattle.space.specs.RunTable.{AreSame, LacksOneOf, all_calls};
+ghost use Rattle.space.specs.declared.runs.Run.{Run};
 ghost use Rattle.space.specs.Runs.{is_run, without_first};
 
 use history::Ask;
-use mod_utf::list::Same;
+use indexmap::IndexMap;
 use object_ids::ObjId;
 use std::alloc::{AllocError, Global};
 use std::marker::Model;
 
 /// A call that a connection runs.
-#[derive(Clone, Copy)]
+#[derive(Clone, Copy, PartialEq, Eq, Hash)]
 pub struct Run {
     /// The number of the connection.
     pub by: u32,
@@ -20,40 +22,34 @@ pub struct Run {
     pub object: ObjId,
 }
 
-impl Run {
-    ghost use Rattle.space.specs.Runs.{is_run};
-
-    fn is_of(&self, by: u32, object: &ObjId) -> bool
-        ensures { result ≡ is_run by object.now self.now }
-    {
-        self.by == by && self.object.is_same(object)
-    }
-}
+/// For each connection and object how many calls of the object it runs, if it runs one.
+type Counts = IndexMap<Run, u32>;
 
 /// The calls that connections run. Contracts see them as a `RunTable`, whose list is in no order that matters.
 pub struct Runs {
-    /// A connection's calls stand in the list at its number modulo 256. A list is made when a connection first needs it.
-    lists: Vec<Vec<Run>>,
-    /// How many calls there are.
+    /// How many there are of each.
+    counts: Counts,
+    /// How many there are.
     total: usize,
 }
 
 impl Drop for Runs {
     fn drop(self) {
-        let Runs { lists, total: _ } = self;
-        drop(lists);
+        let Runs { counts, total: _ } = self;
+        drop(counts);
     }
 }
 
 impl Model for Runs {
-    ghost use Rattle.std.specs.Prelude.{map};
-    ghost use Rattle.space.specs.RunTable.{RunTable, calls_in, is_roomy, spread, IsKept};
+    ghost use Rattle.std.specs.Prelude.{◌≡◌, length};
+    ghost use Rattle.indexmap.specs.IndexMap.{spare};
+    ghost use Rattle.space.specs.RunTable.{RunTable, all_calls};
 
     ghost Value = { RunTable };
 
-    ghost view = { λ r. record { items = spread calls_in r.lists.items; rooms = map is_roomy r.lists.items } };
+    ghost view = { λ r. record { items = all_calls r.counts; room = spare r.counts } };
 
-    ghost invariant = { λ r. IsKept calls_in r.lists.items r.total };
+    ghost invariant = { λ r. r.total ≡ length (all_calls r.counts) };
 }
 
 impl Runs {
@@ -62,7 +58,7 @@ impl Runs {
         ensures items { result.items ≡ [] }
     {
         Runs {
-            lists: Vec::new(alloc),
+            counts: IndexMap::new(alloc),
             total: 0,
         }
     }
@@ -74,26 +70,19 @@ impl Runs {
         self.total
     }
 
-    /// Makes room for one more call of a connection.
-    pub fn reserve(&mut self, by: u32) -> Result<(), AllocError>
-        ensures ok { OnOk result (has_room self.new.rooms by ≡ true) }
+    /// Makes room for one more call.
+    pub fn reserve(&mut self) -> Result<(), AllocError>
+        ensures ok { OnOk result (0 < self.new.room) }
         ensures items { self.new.items ≡ self.old.items }
     {
-        let at = place(by);
-        make_lists(&mut self.lists, at)?;
-        reserve_in(&mut self.lists, at)
+        self.counts.reserve(1)
     }
 
     /// Whether a connection runs a call of an object.
     pub fn is_running(&self, by: u32, object: &ObjId) -> bool
         ensures { result ≡ list_any (is_run by object.now) self.now.items }
     {
-        let at = place(by);
-        if at < self.lists.len() {
-            is_running(&self.lists[at], by, object)
-        } else {
-            false
-        }
+        self.count(by, object) > 0
     }
 
     /// How many calls of an object a connection runs.
@@ -101,21 +90,20 @@ impl Runs {
         ensures value { result ≡ length (filter (is_run by object.now) self.now.items) }
         ensures within { result ≤ length self.now.items }
     {
-        let at = place(by);
-        if at < self.lists.len() {
-            count(&self.lists[at], by, object)
-        } else {
-            0
-        }
+        let run = Run {
+            by,
+            object: *object,
+        };
+        count_of(&self.counts, &run) as usize
     }
 
     /// Begins a call, for which there is room.
     pub fn put(&mut self, run: Run)
-        requires room { has_room self.old.rooms run.by ≡ true }
+        requires room { 0 < self.old.room }
         requires few { length self.old.items < 2 ^ 31 }
         ensures { AreSame self.new.items (self.old.items ++ run ∷ []) }
     {
-        put_in(&mut self.lists, place(run.by), run);
+        raise(&mut self.counts, run);
         self.total += 1;
     }
 
@@ -123,11 +111,11 @@ impl Runs {
     pub fn end_one(&mut self, by: u32, object: &ObjId)
         ensures { AreSame self.new.items (without_first (is_run by object.now) self.old.items) }
     {
-        let at = place(by);
-        if self.lists.len() <= at {
-            return;
-        }
-        if end_in(&mut self.lists, at, by, object) {
+        let run = Run {
+            by,
+            object: *object,
+        };
+        if lower(&mut self.counts, &run) {
             self.total -= 1;
         }
     }
@@ -135,7 +123,7 @@ impl Runs {
 
 /// Does what an ask of a connection does to the running calls. There is room for one more.
 pub(crate) fn act_on_runs(runs: &mut Runs, effective: bool, by: u32, ask: &Ask)
-    requires room { has_room runs.old.rooms by ≡ true }
+    requires room { 0 < runs.old.room }
     requires few { length runs.old.items < 2 ^ 31 }
     ensures { AreSame runs.new.items (acted_runs effective by ask.now runs.old.items) }
 {
@@ -157,77 +145,51 @@ pub(crate) fn act_on_runs(runs: &mut Runs, effective: bool, by: u32, ask: &Ask)
     }
 }
 
-/// The place of the list in which a connection's calls stand.
-fn place(by: u32) -> usize
-    ensures { result ≡ list_at by }
+/// How many calls of an object a connection runs, by the counts.
+fn count_of(counts: &Counts, run: &Run) -> u32
+    ensures { result ≡ length (filter (is_run run.now.by run.now.object) (all_calls counts.now)) }
 {
-    (by % 256) as usize
-}
-
-/// Whether a connection runs a call of an object, by the list in which its calls stand.
-fn is_running(calls: &[Run], by: u32, object: &ObjId) -> bool
-    ensures { result ≡ list_any (is_run by object.now) calls.now }
-{
-    calls.iter().any(|run| run.is_of(by, object))
-}
-
-/// How many calls of an object a connection runs, by that list.
-fn count(calls: &[Run], by: u32, object: &ObjId) -> usize
-    ensures value { result ≡ length (filter (is_run by object.now) calls.now) }
-    ensures within { result ≤ length calls.now }
-{
-    calls.iter().filter(|run| run.is_of(by, object)).count()
-}
-
-/// Makes lists up to the one at a place.
-fn make_lists(lists: &mut Vec<Vec<Run>>, at: usize) -> Result<(), AllocError>
-    ensures made { OnOk result (at < vec_len lists.new) }
-    ensures calls { spread calls_in lists.new.items ≡ spread calls_in lists.old.items }
-    ensures placed { ArePlaced calls_in 0 lists.old.items → ArePlaced calls_in 0 lists.new.items }
-{
-    let alloc = *lists.allocator();
-    while lists.len() <= at {
-        lists.push(Vec::new(alloc))?;
+    match counts.get_index_of(run) {
+        Some(at) => counts[at],
+        None => 0,
     }
-    Ok(())
 }
 
-/// Makes room for one more call in the list at a place.
-fn reserve_in(lists: &mut Vec<Vec<Run>>, at: usize) -> Result<(), AllocError>
-    requires { at < vec_len lists.old }
-    ensures room { OnOk result (slice_index_or (map is_roomy lists.new.items) at false ≡ true) }
-    ensures same { SetsOne calls_in lists.old.items lists.new.items at (λ calls. calls) }
+/// Counts one call more, for which there is room.
+fn raise(counts: &mut Counts, run: Run)
+    requires room { 0 < spare counts.old }
+    requires few { length (all_calls counts.old) < 2 ^ 31 }
+    ensures { AreSame (all_calls counts.new) (all_calls counts.old ++ run ∷ []) }
 {
-    lists[at].reserve(1)
-}
-
-/// Puts a call at the end of the list at a place, where there is room for it.
-fn put_in(lists: &mut Vec<Vec<Run>>, at: usize, run: Run)
-    requires { slice_index_or (map is_roomy lists.old.items) at false ≡ true }
-    ensures { SetsOne calls_in lists.old.items lists.new.items at (λ calls. calls ++ run ∷ []) }
-{
-    lists[at].push_reserved(run);
-}
-
-/// Ends a call of an object that a connection runs, by the list at a place, and says whether there was one.
-fn end_in(lists: &mut Vec<Vec<Run>>, at: usize, by: u32, object: &ObjId) -> bool
-    requires { at < vec_len lists.old }
-    ensures ended { (v : _) × (slice_get lists.old.items at ≡ Some v) × (result ≡ list_any (is_run by object.now) (calls_in v)) }
-    ensures rest { SetsOne calls_in lists.old.items lists.new.items at (without_first (is_run by object.now)) }
-{
-    drop_first(&mut lists[at], by, object)
-}
-
-/// Drops the first call of an object that a connection runs, and says whether there was one.
-fn drop_first(calls: &mut Vec<Run>, by: u32, object: &ObjId) -> bool
-    ensures ended { result ≡ list_any (is_run by object.now) calls.old.items }
-    ensures rest { calls.new.items ≡ without_first (is_run by object.now) calls.old.items }
-{
-    for i in 0..calls.len() {
-        if calls[i].is_of(by, object) {
-            let _ended = calls.remove(i);
-            return true;
-        }
+    match counts.entry(run) {
+        Ok(entry) => *entry.or_insert(0) += 1,
+        Err(_refused) => {}
     }
-    false
+}
+
+/// Counts one call fewer, if there is one, and says whether there was. It takes no memory.
+fn lower(counts: &mut Counts, run: &Run) -> bool
+    ensures ended { result ≡ list_any (is_run run.now.by run.now.object) (all_calls counts.old) }
+    ensures rest { AreSame (all_calls counts.new) (without_first (is_run run.now.by run.now.object) (all_calls counts.old)) }
+{
+    match counts.get_index_of(run) {
+        Some(at) => lower_at(counts, at),
+        None => false,
+    }
+}
+
+/// Counts one call fewer at a place, if there is one, and says whether there was. A place without calls goes. It takes no memory.
+fn lower_at(counts: &mut Counts, at: usize) -> bool
+    requires { at < index_map_len counts.old }
+    ensures ended { (e : Run × ℕ) → slice_get counts.old.entries at ≡ Some e → result ≡ nat_lt 0 e.1 }
+    ensures rest { (e : Run × ℕ) → slice_get counts.old.entries at ≡ Some e → LacksOneOf e counts.old.entries counts.new.entries }
+{
+    let count = counts[at];
+    if count > 1 {
+        counts[at] = count - 1;
+        true
+    } else {
+        counts.swap_remove_index(at);
+        count > 0
+    }
 }

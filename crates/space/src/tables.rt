@@ -9,7 +9,7 @@ use crate::asks::{is_effective, room_refusal, stood_for, told_after};
 use crate::doubts::withdraw_few;
 use crate::names::settle;
 use crate::prepared::prepare;
-use crate::rooms::{room_for_event, room_for_gone, room_in_table};
+use crate::rooms::room_for_all;
 use crate::runs::{Runs, act_on_runs};
 use crate::withdrawals::Withdrawals;
 use dgc_server::Leases;
@@ -82,9 +82,15 @@ impl Tables {
         }
         let now = moment.max(self.moment);
         let mut ready = prepare(self, stood, effective, now, noted, ask)?;
-        room_for_event(&mut self.events, &mut self.runs, by)?;
-        room_for_gone(&mut self.withdrawn, ready.objects)?;
-        room_in_table(&mut self.exports, ready.opened, ready.references.len())?;
+        room_for_all(
+            &mut self.events,
+            &mut self.runs,
+            &mut self.withdrawn,
+            &mut self.exports,
+            ready.objects,
+            ready.opened,
+            ready.listed.references.len(),
+        )?;
         settle(
             self.alloc,
             &mut self.leases,
@@ -100,19 +106,19 @@ impl Tables {
             stood,
             effective,
             now,
-            &ready.references,
+            &ready.listed.references,
             ask,
         );
         act_on_runs(&mut self.runs, effective, by, ask);
-        let untold = ready.gone.len();
+        let untold = ready.untold.gone.len();
         withdraw_few(
             &mut self.exports,
             &mut self.leases,
             now,
-            &ready.doubtful,
-            &mut ready.gone,
+            &ready.listed.doubtful,
+            &mut ready.untold.gone,
         );
-        self.withdrawn.note(&ready.gone, untold, place);
+        self.withdrawn.note(&ready.untold.gone, untold, place);
         self.told = told_after(self.told, self.withdrawn.len(), ask);
         self.added += ready.opened;
         self.units += units_of(ask);

@@ -104,6 +104,9 @@ impl Withdrawals {
         ensures items { self.new.items ≡ self.old.items ++ map (withdrawal_at place) (drop from gone.now) }
         ensures room { self.old.room ≤ self.new.room }
     {
+        if gone.len() == from {
+            return;
+        }
         append(&mut self.objects, &gone[from..]);
         fill(&mut self.places, gone.len() - from, place);
     }

@@ -5,7 +5,7 @@ use Rattle.object_ids.specs.declared.ids.ObjId.{ObjId}
 use Rattle.object_ids.specs.Same.{same_key}
 use Rattle.export_table.specs.Waits.{is_waiting}
 use Rattle.dgc_server.proofs.MarkLaws.{counting-step, seen-step}
-use Rattle.space.proofs.returns.counted_with_memory.Goals as goal
+use Rattle.space.proofs.returns.counted_from_last.Goals as goal
 
 pub loop-i-preserved-then-branch : goal.loop-i-preserved-then-branch
 loop-i-preserved-then-branch c =

@@ -6,7 +6,7 @@ use Rattle.object_ids.specs.Same.{same_id, same_key}
 use Rattle.history.specs.Lists.{distinct}
 use Rattle.dgc_server.specs.Entry.{is_in}
 use Rattle.export_table.specs.Waits.{is_waiting}
-use Rattle.space.proofs.returns.counted_with_memory.Given as goal
+use Rattle.space.proofs.returns.counted_from_last.Given as goal
 
 abbrev pub decreases-loop-i : goal.decreases-loop-i
 decreases-loop-i l = l.i

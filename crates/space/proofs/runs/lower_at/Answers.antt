@@ -1,0 +1,19 @@
+use Rattle.std.proofs.Common.{◌≡◌, ℕ, Option, IfSome, swap_remove, ap, subst, ◌∙◌, arith}
+use Rattle.std.specs.Prelude.{nat_lt}
+use Rattle.space.specs.declared.runs.Run.{Run}
+use Rattle.space.proofs.RunLists.{value-there, set-lower, gone-lower}
+use Rattle.space.proofs.runs.lower_at.Goals as goal
+
+pub returns-then-count-gt1-clause-rest : goal.returns-then-count-gt1-clause-rest
+returns-then-count-gt1-clause-rest c e there =
+    let count = value-there c.args.counts.now.entries c.args.at e c.index-count.result.now there c.index-count.ensures in
+    set-lower c.args.counts.now.entries c.args.at e c.index-count.result.now there count c.if-count-gt1.true
+
+pub returns-else-count-gt1-clause-ended : goal.returns-else-count-gt1-clause-ended
+returns-else-count-gt1-clause-ended c e there = ap (nat_lt 0) (value-there c.args.counts.now.entries c.args.at e c.index-count.result.now there c.index-count.ensures)
+
+pub returns-else-count-gt1-clause-rest : goal.returns-else-count-gt1-clause-rest
+returns-else-count-gt1-clause-rest c e there =
+    let count = value-there c.args.counts.now.entries c.args.at e c.index-count.result.now there c.index-count.ensures in
+    let P : Option (Run × ℕ) → Type 0 = λ r. IfSome r (λ p. c.swap_remove_index.new.self.entries ≡ swap_remove c.args.counts.now.entries c.args.at p) in
+    gone-lower c.args.counts.now.entries c.swap_remove_index.new.self.entries c.args.at e there (omega (arith, count, c.if-count-gt1.false)) (subst P (c.swap_remove_index.ensures.entry ∙ there) c.swap_remove_index.ensures.entries)
