@@ -1,6 +1,7 @@
 -- How a run that served links ends.
 use Rattle.std.proofs.Common.{◌≡◌, ◌≢◌, ℕ, ◌≤◌, List, Option, Result, Ok, Err, refl, ap, sym, ◌∙◌, arith, inl, inr}
-use Rattle.wire_io.specs.Links.{Listens}
+use Rattle.std.specs.Prelude.{Bool, true, false, is_err}
+use Rattle.wire_io.specs.Links.{Listens, with_next}
 use Rattle.wire_io.specs.Wire.{Rose}
 use Rattle.conn_server.specs.declared.accepts.Stop.{Stop}
 use Rattle.conn_server.specs.declared.accepts.Stop.TheVariants as stops
@@ -43,3 +44,9 @@ accept_failed held held2 f f2 text stop end before heard after ends more rose is
 pub listened : {T E : Type 0} (ports ports2 : Option (List ℕ)) (faults faults2 port : ℕ) (result : Result T E) → Listens ports ports2 faults faults2 port result → faults ≤ faults2
 listened ports ports2 faults faults2 port (Ok done) is = is.1
 listened ports ports2 faults faults2 port (Err failed) is = is.1.0
+
+-- One that didn't fail adds its port to what is told.
+pub added : {T E : Type 0} (ports ports2 : Option (List ℕ)) (faults faults2 port : ℕ) (result : Result T E) → is_err result ≡ false → Listens ports ports2 faults faults2 port result →
+    ports2 ≡ with_next ports port
+added ports ports2 faults faults2 port (Ok done) well is = is.0
+added ports ports2 faults faults2 port (Err failed) well is = absurd (cc)

@@ -1,4 +1,5 @@
-use Rattle.rmi_cli.proofs.Linking.{accept_failed, is_known, listened, print_failed}
+use Rattle.std.proofs.Common.{◌∙◌, sym}
+use Rattle.rmi_cli.proofs.Linking.{accept_failed, added, is_known, listened, print_failed}
 use Rattle.rmi_cli.proofs.serve_input.serve_on.Goals as goal
 
 pub returns-clause-fault : goal.returns-clause-fault
@@ -13,3 +14,7 @@ returns-clause-known g c = is_known _ _ _ _ _ _ _ (_, c.print_outline-printed.en
 
 pub returns-clause-ends : goal.returns-clause-ends
 returns-clause-ends g c = (_, c.print_outline-printed.ensures, c.end_after.ensures)
+
+pub returns-clause-alone : goal.returns-clause-alone
+returns-clause-alone g c =
+    c.serve_links-report.ensures.ports ∙ added _ _ _ _ _ _ (sym c.is_err.ensures.value ∙ c.if-is_err.false) c.listen.ensures.listens
