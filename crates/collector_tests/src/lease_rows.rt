@@ -299,6 +299,58 @@ const DROPPED_AT_ONCE: &str = "1 10 dirty 01@3/4/5 1 1 16,17,18,19,20,21,22
 ";
 
 // Leases that end at 169, 170 and 171.
+// A client's objects are few, and more than eight from the second call on.
+const FEW_AND_MANY: &str = "1 10 dirty 01@3/4/5 1 1 16,17,18,19,20,21,22,23
+> granted 100
+? 10
+> pairs 8
+> 16 held by 1
+> 17 held by 1
+> lease 01@3/4/5 until 110
+1 20 dirty 01@3/4/5 2 1 24,17
+> granted 100
+? 20
+> pairs 9
+> 16 held by 1
+> 17 held by 1
+> lease 01@3/4/5 until 120
+1 30 clean 01@3/4/5 3 weak 16
+> done
+1 31 clean 01@3/4/5 1 strong 17
+> done
+? 31
+> pairs 9
+> 16 free of 0
+> 17 held by 1
+> lease 01@3/4/5 until 120
+! 18,24
+? 31
+> pairs 7
+> 16 free of 0
+> 17 held by 1
+> lease 01@3/4/5 until 120
+# 120
+> due
+> freed 17
+> freed 19
+> freed 20
+> freed 21
+> freed 22
+> freed 23
+1 120 tick
+? 120
+> pairs 1
+> 16 free of 0
+> 17 free of 0
+1 130 dirty 01@3/4/5 1 1 17,25
+> granted 100
+? 130
+> pairs 2
+> 16 free of 0
+> 17 free of 0
+> lease 01@3/4/5 until 230
+";
+
 const ENDS: &str = "# 4611686018427387903
 > none due
 1 69 dirty 01@3/4/5 1 1 18
@@ -437,6 +489,7 @@ fn lease_tables_are_told(rt: HostRuntime) {
         (1, STRONG_CLEAN),
         (100, LATE_DIRTY),
         (100, DROPPED_AT_ONCE),
+        (100, FEW_AND_MANY),
     ] {
         let text = told(&rt, rt.alloc(), lease, script);
         must_be(&rt, &text, script);

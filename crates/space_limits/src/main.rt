@@ -1,12 +1,14 @@
 //! Drives spaces by turns to their limits, and prints what they answer there. Each word of the command line names what is
 //! filled: `history`, `pairs`, `returns`, `twice`, `clients`, `exports`, by `many_pairs` the pairs, by calls that each name many objects, or by
-//! `many_calls` the running calls.
+//! `many_calls` the running calls, or by `many_clients` the clients, in no order.
 #![tactic(auto)]
 
 mod many_calls;
+mod many_clients;
 mod many_pairs;
 
 use crate::many_calls::many_calls;
+use crate::many_clients::many_clients;
 use crate::many_pairs::many_pairs;
 use history::{Ask, Refused, SpaceConfig};
 use mod_utf::list::{ByteList, Kinds};
@@ -299,6 +301,9 @@ fn try_word<W: Write>(alloc: Global, out: &mut W, word: &str) -> io::Result<()> 
     }
     if word == "many_calls" {
         return many_calls(alloc, out);
+    }
+    if word == "many_clients" {
+        return many_clients(alloc, out);
     }
     let mut space = fresh(alloc);
     show_limits(alloc, out, &mut space, word)
