@@ -13,7 +13,7 @@ use Rattle.dgc_server.specs.Index.{IsSettled}
 use Rattle.dgc_server.proofs.Tables.{order-without, table-lapsed}
 use Rattle.dgc_server.proofs.Without.{table-without}
 
-forgotten-filter : (q : ObjectEntry → Bool) → ((e : ObjectEntry) → q (strong_only e) ≡ q e) → (es : List ObjectEntry) → tenure_forgotten (filter q es) ≡ filter q (tenure_forgotten es)
+pub forgotten-filter : (q : ObjectEntry → Bool) → ((e : ObjectEntry) → q (strong_only e) ≡ q e) → (es : List ObjectEntry) → tenure_forgotten (filter q es) ≡ filter q (tenure_forgotten es)
 forgotten-filter q k [] = refl
 forgotten-filter q k (e ∷ es) = go (q e) (has_strong e) refl refl (forgotten-filter q k es)
   where

@@ -21,15 +21,15 @@ use Rattle.dgc_server.proofs.Outputs.{no_time}
 use Rattle.dgc_server.proofs.Steps.{earlier}
 
 -- A narrower test keeps fewer.
-pub fewer : (q r : Entry → Bool) → ((e : Entry) → q e ≡ true → r e ≡ true) → (es : List Entry) → length (filter q es) ≤ length (filter r es)
+pub fewer : {X : Type 0} (q r : X → Bool) → ((x : X) → q x ≡ true → r x ≡ true) → (xs : List X) → length (filter q xs) ≤ length (filter r xs)
 fewer q r f [] = omega arith
-fewer q r f (e ∷ es) = go (q e) (r e) refl refl (fewer q r f es)
+fewer q r f (x ∷ xs) = go (q x) (r x) refl refl (fewer q r f xs)
   where
-    go : (a b : Bool) → q e ≡ a → r e ≡ b → length (filter q es) ≤ length (filter r es) → length (cond a (e ∷ filter q es) (filter q es)) ≤ length (cond b (e ∷ filter r es) (filter r es))
-    go true true x y h = omega arith
-    go false true x y h = omega arith
-    go false false x y h = h
-    go true false x y h = absurd (let z = f e x in cc)
+    go : (a b : Bool) → q x ≡ a → r x ≡ b → length (filter q xs) ≤ length (filter r xs) → length (cond a (x ∷ filter q xs) (filter q xs)) ≤ length (cond b (x ∷ filter r xs) (filter r xs))
+    go true true y z h = omega arith
+    go false true y z h = omega arith
+    go false false y z h = h
+    go true false y z h = absurd (let w = f x y in cc)
 
 fewer-kept : (q p : Entry → Bool) (es : List Entry) → length (filter q (filter p es)) ≤ length (filter q es)
 fewer-kept q p [] = omega arith

@@ -68,7 +68,7 @@ same-lt m n t u le lt later = go (nat_lt t u) (nat_lt m u) refl refl
     go true false p q = absurd (let x = ltb-true t u p in let y = ltb-false m u q in omega arith)
     go false true p q = absurd (let x = ltb-false t u p in let y = later q in omega arith)
 
-settled-later : (m n t : ℕ) (e : Entry) → m ≤ t → t < n → IsSettled m n e → IsSettled t n e
+pub settled-later : (m n t : ℕ) (e : Entry) → m ≤ t → t < n → IsSettled m n e → IsSettled t n e
 settled-later m n t e le lt s =
     let same : nat_lt t e.until ≡ nat_lt m e.until = same-lt m n t e.until le lt s.later in record {
       forgotten = ap (λ b. if b then e else record e { objects = tenure_forgotten e.objects }) same ∙ s.forgotten;
@@ -259,7 +259,7 @@ bounds-last m es least n long inv = inv least (omega arith) (ap (list_all (ends_
 
 -- ---- an entry in place of another, where the lease has time left
 
-all-lower : (m n k : ℕ) (es : List Entry) → k ≤ n → AllByRecursion (IsSettled m n) es → AllByRecursion (IsSettled m k) es
+pub all-lower : (m n k : ℕ) (es : List Entry) → k ≤ n → AllByRecursion (IsSettled m n) es → AllByRecursion (IsSettled m k) es
 all-lower m n k [] le a = a
 all-lower m n k (e ∷ es) le a = (record { forgotten = a.0.forgotten; kept = a.0.kept; later = λ h. (let l = a.0.later h in omega arith) }, all-lower m n k es le a.1)
 

@@ -20,11 +20,13 @@ pub mod Search
 pub mod HolderLaws
 pub mod IndexLaws
 pub mod SumLaws
+pub mod Board
 pub mod Chunked
 pub mod Moving
 pub mod Passing
 pub mod MarkLaws
 pub mod MarkLists
+pub mod Room
 pub mod Freeing
 pub mod Dropping
 pub mod Shares

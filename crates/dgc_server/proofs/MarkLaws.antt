@@ -2,7 +2,7 @@
 use Rattle.std.proofs.Common.{◌≡◌, ℕ, ◌+◌, ◌-◌, ◌≤◌, ◌<◌, List, [], ◌∷◌, refl, ap, sym, subst, ◌∙◌, arith, cond, length, map, Some, drop, get_or, add-one, suc, zero}
 use Rattle.std.specs.Prelude.{ℤ, Bool, true, false, ◌&&◌, ◌||◌, not, ◌↔◌, IsTrue, is_some, unwrap_or, filter, nat_lt, if◌then◌else◌}
 use Rattle.std.specs.List.{list_all}
-use Rattle.std.specs.Map.{lookup, values_of}
+use Rattle.std.specs.Map.{lookup, set_value, values_of}
 use Rattle.std.specs.Map.Calls.{RetainsPairs}
 use Rattle.std.proofs.Math.Seq.{drop-cons}
 use Rattle.std.proofs.lemmas.Bool.{lt-ltb, and_parts}
@@ -57,6 +57,20 @@ entries-inserted (p ∷ ps) o numbers =
         ≡ (if b then record { object = p.0; numbers = numbers } ∷ object_entries ps else object_entry p ∷ with_numbers o numbers (object_entries ps))
     go true rest = refl
     go false rest = ap (λ l. object_entry p ∷ l) rest
+
+-- What is written where an object is found.
+pub entries-written : (ps : List (ObjId × Numbers)) (o : ObjId) (numbers : Numbers) → has_object (object_entries ps) o ≡ true →
+    object_entries (set_value (same_key o) ps numbers) ≡ with_numbers o numbers (object_entries ps)
+entries-written [] o numbers h = absurd (cc)
+entries-written (p ∷ ps) o numbers h =
+    ap (λ b. object_entries (cond b ((p.0, numbers) ∷ ps) (p ∷ set_value (same_key o) ps numbers))) (key-turned o p.0) ∙ go (same_id p.0 o) h (entries-written ps o numbers)
+  where
+    go : (b : Bool) → (b || has_object (object_entries ps) o) ≡ true →
+        (has_object (object_entries ps) o ≡ true → object_entries (set_value (same_key o) ps numbers) ≡ with_numbers o numbers (object_entries ps)) →
+        object_entries (cond b ((p.0, numbers) ∷ ps) (p ∷ set_value (same_key o) ps numbers))
+        ≡ (if b then record { object = p.0; numbers = numbers } ∷ object_entries ps else object_entry p ∷ with_numbers o numbers (object_entries ps))
+    go true f rest = refl
+    go false f rest = ap (λ l. object_entry p ∷ l) (rest f)
 
 -- ---- all objects
 

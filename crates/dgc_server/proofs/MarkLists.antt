@@ -42,6 +42,15 @@ none-at o (p ∷ ps) h = go (same_id p.0 o) h (none-at o ps)
     go true l rest = absurd (omega arith)
     go false l rest = rest (omega arith)
 
+-- An object that is there has a place in the list.
+pub within-there : (o : ObjId) (ps : List (ObjId × Numbers)) → has_object (object_entries ps) o ≡ true → place_of o ps < length ps
+within-there o [] h = absurd (cc)
+within-there o (p ∷ ps) h = go (same_id p.0 o) h (within-there o ps)
+  where
+    go : (b : Bool) → (b || has_object (object_entries ps) o) ≡ true → (has_object (object_entries ps) o ≡ true → place_of o ps < length ps) → cond (not b) (1 + place_of o ps) 0 < suc (length ps)
+    go true f rest = omega arith
+    go false f rest = (let l = rest f in omega arith)
+
 some-lt : (n : ℕ) → nat_lt 0 (suc n) ≡ true
 some-lt n = grind arith
 

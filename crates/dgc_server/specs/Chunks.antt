@@ -1,9 +1,11 @@
 -- The list of clients in chunks: some clients each, that stand together in it.
-use Rattle.std.specs.Prelude.{◌≡◌, ℕ, Bool, List, [], ◌∷◌, ◌++◌, length, nat_lt, slice_set, slice_index_or}
+use Rattle.std.specs.Prelude.{◌≡◌, ◌<◌, ◌≤◌, ℕ, Bool, IsTrue, List, [], ◌∷◌, ◌++◌, length, nat_lt, slice_set, slice_index_or}
+use Rattle.std.specs.List.{list_all, AllByRecursion}
 use Rattle.object_ids.specs.Client.{Client}
 use Rattle.dgc_server.specs.declared.clients.Chunk.{Chunk}
 use Rattle.dgc_server.specs.Entry.{Entry}
 use Rattle.dgc_server.specs.Table.{with_entry}
+use Rattle.dgc_server.specs.Index.{IsSettled, IsCalm}
 
 -- The clients of all chunks, those of one behind those of the other.
 abbrev pub all_of : List Chunk → List Entry
@@ -18,3 +20,19 @@ is_filled c = nat_lt 0 (length c.entries.items)
 abbrev pub IsChunkOf : List Chunk → Client → ℕ → Type 0
 IsChunkOf cs c i = (e : Entry) (x : Chunk) → e.client ≡ c → x.entries.items ≡ with_entry e (slice_index_or cs i x).entries.items →
     with_entry e (all_of cs) ≡ all_of (slice_set cs i x)
+
+-- A chunk of a table at the moment m, where no lease of the table that goes on ends before the moment n. If the chunk's own moment is later than m, what
+-- is kept of its clients is settled, and no lease of theirs that goes on ends before it; else something of them may be due, and nothing is said.
+pub record IsBounded (m n : ℕ) (c : Chunk) : Type 0 where
+  pub settled : m < c.least → AllByRecursion (IsSettled m c.least) c.entries.items
+  pub least : n ≤ c.least
+
+-- The same of a chunk in which there may be clients of whom nothing is left.
+pub record IsCalmChunk (m n : ℕ) (c : Chunk) : Type 0 where
+  pub calm : m < c.least → AllByRecursion (IsCalm m c.least) c.entries.items
+  pub least : n ≤ c.least
+
+-- The chunks of a table at the moment m, where no lease of the table that goes on ends before the moment n: in each is a client.
+pub record IsChunked (m n : ℕ) (cs : List Chunk) : Type 0 where
+  pub filled : IsTrue (list_all is_filled cs)
+  pub bounded : AllByRecursion (IsBounded m n) cs

@@ -1,5 +1,5 @@
 -- The index of a lease table: for each object how many clients hold it and how many name it, and before which moment nothing is due.
-use Rattle.std.specs.Prelude.{◌≡◌, ℕ, ◌+◌, ◌≤◌, ◌<◌, ◌^◌, Bool, true, not, ◌&&◌, ◌||◌, List, [], ◌∷◌, length, filter, sum_by, nat_lt, nat_le, is_some, unwrap_or, if◌then◌else◌}
+use Rattle.std.specs.Prelude.{◌≡◌, ℕ, ◌+◌, ◌≤◌, ◌<◌, ◌^◌, Bool, true, not, ◌&&◌, ◌||◌, List, [], ◌∷◌, length, filter, sum_by, nat_lt, nat_le, is_some, unwrap_or, min, if◌then◌else◌}
 use Rattle.std.specs.List.{AllByRecursion}
 use Rattle.object_ids.specs.declared.ids.ObjId.{ObjId}
 use Rattle.object_ids.specs.Same.{same_id, same_key}
@@ -110,6 +110,17 @@ pub record IsSettled (m n : ℕ) (e : Entry) : Type 0 where
   pub forgotten : lapsed m e ≡ e
   pub kept : is_entry_kept m e ≡ true
   pub later : nat_lt m e.until ≡ true → n ≤ e.until
+
+-- Nothing of what is kept of a client is to be forgotten at the moment m, and its lease, if it goes on, ends no earlier than the moment n. It is
+-- settled, or nothing is left of it.
+pub record IsCalm (m n : ℕ) (e : Entry) : Type 0 where
+  pub forgotten : lapsed m e ≡ e
+  pub later : nat_lt m e.until ≡ true → n ≤ e.until
+
+-- A moment before which no lease ends, where none ends before the moment n and one that ends at `until` was noted at the moment t; 0 where that one
+-- has no time left.
+abbrev pub bound_of : ℕ → ℕ → ℕ → ℕ
+bound_of t n until = if nat_lt t until then min n until else 0
 
 -- The index of a table at the moment m: so many clients hold or name each object, and no lease ends before the moment n, if that is later.
 pub record IsIndexed {S : Type 0} (m n : ℕ) (counts : IndexMap ObjId Count S) (es : List Entry) : Type 0 where

@@ -1,15 +1,15 @@
 //! The clients of a lease table, in the order of clients. They stand in chunks, so that a new client moves few others.
-ghost use Rattle.std.specs.Prelude.{◌≡◌, [], ◌∷◌, ◌+◌, ◌++◌, ◌<◌, ◌≤◌, ◌^◌, length, filter, map, IsTrue, IfOk, OnOk, OnErr, true, vec_len, vec_capacity, insert, slice_index_or, reverse as reversed, unwrap_or};
-ghost use Rattle.std.specs.List.{list_all};
+ghost use Rattle.std.specs.Prelude.{◌≡◌, ℕ, [], ◌∷◌, ◌+◌, ◌++◌, ◌<◌, ◌≤◌, ◌^◌, length, filter, map, IsTrue, IfOk, OnOk, OnErr, true, vec_len, vec_capacity, insert, slice_index_or, reverse as reversed, unwrap_or};
+ghost use Rattle.std.specs.List.{list_all, AllByRecursion};
 ghost use Rattle.std.specs.Option.{option_copied};
 ghost use Rattle.std.specs.Ordering.{is_lt};
 ghost use Rattle.object_ids.specs.declared.ids.ObjId.{ObjId};
 ghost use Rattle.object_ids.specs.Client.{client_cmp};
 ghost use Rattle.dgc_server.specs.Entry.{Entry, each_has_number, entry_without, is_entry_kept, is_in};
 ghost use Rattle.dgc_server.specs.Stands.{each_once, is_in_order, entry_after};
-ghost use Rattle.dgc_server.specs.Index.{Way, counted_at, has_count, is_counted, is_named, one_if, entry_names, with_only, objects_in, sums_at, IsIndexed, IsNoted};
+ghost use Rattle.dgc_server.specs.Index.{Way, counted_at, has_count, is_counted, is_named, one_if, entry_names, with_only, objects_in, sums_at, bound_of, IsIndexed, IsNoted};
 ghost use Rattle.dgc_server.specs.Table.{entry_of, no_entry, with_entry, after_lapse};
-ghost use Rattle.dgc_server.specs.Chunks.{all_of, is_filled, IsChunkOf};
+ghost use Rattle.dgc_server.specs.Chunks.{all_of, is_filled, IsChunkOf, IsBounded, IsChunked};
 
 use crate::entry::{ClientEntry, LeaseCall};
 use crate::holders::{Counts, Passed, Place};
@@ -29,72 +29,98 @@ const HALF_LEN: usize = 128;
 /// Some clients that stand together in the list of clients.
 pub struct Chunk {
     pub entries: Vec<ClientEntry>,
+    /// No lease of them that goes on ends before this moment; 0 where something of them may have to be forgotten at once.
+    pub least: u64,
 }
 
 // Written out, so that whoever owns one has one call at each exit, and not the drop of each field.
 impl Drop for Chunk {
     fn drop(self) {
-        let Chunk { entries } = self;
+        let Chunk { entries, least: _ } = self;
         drop(entries);
     }
 }
 
-/// What is kept of clients, in the order of clients. They stand in chunks of at most 256, so that a new client moves few others. Contracts
-/// see the one list.
+/// What is kept of clients at a moment, in the order of clients. They stand in chunks of at most 256, so that a new client moves few others, and
+/// so that a lease that ends is found by a look at each chunk and at the clients of its own chunk. Contracts see a `ClientTable`, which has the one list.
 pub struct Clients {
     chunks: Vec<Chunk>,
+    /// The moment as of which the clients are kept.
+    moment: u64,
+    /// No lease that goes on ends before this moment; 0 where something may have to be forgotten at once.
+    next: u64,
 }
 
 // Written out, so that whoever owns one has one call at each exit, and not the drop of each field.
 impl Drop for Clients {
     fn drop(self) {
-        let Clients { chunks } = self;
+        let Clients {
+            chunks,
+            moment: _,
+            next: _,
+        } = self;
         drop(chunks);
     }
 }
 
 impl Model for Clients {
-    ghost use Rattle.std.specs.Prelude.{List, IsTrue};
-    ghost use Rattle.std.specs.List.{list_all};
-    ghost use Rattle.dgc_server.specs.Entry.{Entry};
-    ghost use Rattle.dgc_server.specs.Chunks.{all_of, is_filled};
+    ghost use Rattle.dgc_server.specs.Table.{ClientTable};
+    ghost use Rattle.dgc_server.specs.Chunks.{all_of, IsChunked};
 
-    ghost Value = { List Entry };
+    ghost Value = { ClientTable };
 
-    ghost view = { λ a. all_of a.chunks.items };
+    ghost view = { λ a. record { moment = a.moment; next = a.next; entries = all_of a.chunks.items } };
 
-    ghost invariant = { λ a. IsTrue (list_all is_filled a.chunks.items) };
+    ghost invariant = { λ a. IsChunked a.moment a.next a.chunks.items };
 }
 
 impl Clients {
-    /// No clients.
+    /// No clients, at the moment 0.
     pub fn new(alloc: Global) -> Clients
-        ensures { result ≡ [] }
+        ensures entries { result.entries ≡ [] }
+        ensures moment { result.moment ≡ 0 }
+        ensures next { 0 < result.next }
     {
         Clients {
             chunks: Vec::new(alloc),
+            moment: 0,
+            next: u64::MAX,
         }
+    }
+
+    /// The moment as of which the clients are kept.
+    pub fn moment(&self) -> u64
+        ensures { result ≡ self.now.moment }
+    {
+        self.moment
+    }
+
+    /// A moment before which no lease that goes on ends.
+    pub fn next(&self) -> u64
+        ensures { result ≡ self.now.next }
+    {
+        self.next
     }
 
     /// The chunks of clients.
     pub fn chunks(&self) -> &[Chunk]
-        ensures all { all_of result.now ≡ self.now }
-        ensures filled { IsTrue (list_all is_filled result.now) }
+        ensures all { all_of result.now ≡ self.now.entries }
+        ensures chunked { IsChunked self.now.moment self.now.next result.now }
     {
         &self.chunks
     }
 
     /// The entry of a client, if it has one.
     pub fn find<'a>(&'a self, client: &Vmid) -> Option<&'a ClientEntry>
-        requires { IsTrue (is_in_order self.now) }
+        requires { IsTrue (is_in_order self.now.entries) }
         ensures { let other = no_entry client.now in
-            entry_of self.now client.now ≡ unwrap_or (option_copied result) other }
+            entry_of self.now.entries client.now ≡ unwrap_or (option_copied result) other }
     {
         find_in(self.chunks(), client)
     }
 
     /// Notes a call of a client, by which a lease of this duration begins if it is a dirty, and answers what it changed. The counts and sums are
-    /// those of the moment `from`. It is refused only for want of memory, and then all is as it was.
+    /// those of the clients' moment. It is refused only for want of memory, and then all is as it was.
     pub fn note(
         &mut self,
         alloc: Global,
@@ -102,77 +128,92 @@ impl Clients {
         client: &Vmid,
         call: &LeaseCall<'_>,
         lease: u64,
-        from: u64,
     ) -> Result<Noted, AllocError>
-        requires later { from ≤ call.now.at }
+        requires later { self.old.moment ≤ call.now.at }
         requires early { call.now.at < 2 ^ 62 }
         requires some { 1 ≤ lease }
         requires short { lease ≤ 2 ^ 40 }
-        requires numbered { IsTrue (list_all (λ e. each_has_number e.objects) self.old) }
-        requires ordered { IsTrue (is_in_order self.old) }
-        requires once { IsTrue (list_all (λ e. each_once e.objects) self.old) }
-        requires few { (w : Way) (o : ObjId) → length (filter (is_counted w from o) self.old) ≤ 262144 }
+        requires numbered { IsTrue (list_all (λ e. each_has_number e.objects) self.old.entries) }
+        requires ordered { IsTrue (is_in_order self.old.entries) }
+        requires once { IsTrue (list_all (λ e. each_once e.objects) self.old.entries) }
+        requires few { (w : Way) (o : ObjId) → length (filter (is_counted w self.old.moment o) self.old.entries) ≤ 262144 }
         requires has { (o : ObjId) → is_in o call.now.objects.now ≡ true → has_count counts.old o ≡ true }
-        requires counted { (w : Way) (o : ObjId) → counted_at w counts.old o ≡ length (filter (is_counted w from o) self.old) }
-        ensures ok { OnOk result (self.new ≡ with_entry
-            (entry_after lease call.now.kind call.now.number.now call.now.objects.now call.now.at (entry_of self.old client.now)) self.old) }
-        ensures counted { OnOk result ((w : Way) (o : ObjId) → counted_at w counts.new o ≡ length (filter (is_counted w from o) self.new)) }
-        ensures noted { IfOk result (λ noted. let own = entry_of self.old client.now in
-            IsNoted from own (entry_after lease call.now.kind call.now.number.now call.now.objects.now call.now.at own) noted) }
+        requires counted { (w : Way) (o : ObjId) → counted_at w counts.old o ≡ length (filter (is_counted w self.old.moment o) self.old.entries) }
+        ensures ok { OnOk result (self.new.entries ≡ with_entry
+            (entry_after lease call.now.kind call.now.number.now call.now.objects.now call.now.at (entry_of self.old.entries client.now)) self.old.entries) }
+        ensures moment { OnOk result (self.new.moment ≡ self.old.moment) }
+        ensures next { IfOk result (λ noted. self.new.next ≡ bound_of call.now.at self.old.next noted.until) }
+        ensures counted { OnOk result ((w : Way) (o : ObjId) →
+            counted_at w counts.new o ≡ length (filter (is_counted w self.old.moment o) self.new.entries)) }
+        ensures noted { IfOk result (λ noted. let own = entry_of self.old.entries client.now in
+            IsNoted self.old.moment own (entry_after lease call.now.kind call.now.number.now call.now.objects.now call.now.at own) noted) }
         ensures err { OnErr result (self.new ≡ self.old) }
         ensures same { OnErr result (counts.new ≡ counts.old) }
     {
-        if self.chunks.is_empty() {
-            return note_first(alloc, &mut self.chunks, counts, client, call, lease, from);
-        }
-        split_full(alloc, &mut self.chunks, client)?;
-        note_own(alloc, &mut self.chunks, counts, client, call, lease, from)
+        let from = self.moment;
+        let noted = note_call(alloc, &mut self.chunks, counts, client, call, lease, from)?;
+        self.next = table::bound_with(self.next, noted.until, call.at);
+        Ok(noted)
     }
 
-    /// As time passes from one moment to another, forgets what ended, and answers a moment before which no more does, and the sums since. Where
-    /// nothing is due it looks at no client. It takes no memory.
-    pub fn pass(&mut self, counts: &mut Counts, sums: Sums, next: u64, from: u64, to: u64) -> Passed
-        requires later { from ≤ to }
+    /// As time passes to a moment, forgets what ended, and answers the sums since. Where nothing is due it looks at no client, and else at the
+    /// clients of the chunks in which something may be. It takes no memory.
+    pub fn pass(&mut self, counts: &mut Counts, sums: Sums, to: u64) -> Sums
+        requires later { self.old.moment ≤ to }
         requires early { to < 2 ^ 62 }
-        requires once { IsTrue (list_all (λ e. each_once e.objects) self.old) }
-        requires numbered { IsTrue (list_all (λ e. each_has_number e.objects) self.old) }
-        requires indexed { IsIndexed from next counts.old self.old }
-        requires sums { sums ≡ sums_at from self.old }
+        requires once { IsTrue (list_all (λ e. each_once e.objects) self.old.entries) }
+        requires numbered { IsTrue (list_all (λ e. each_has_number e.objects) self.old.entries) }
+        requires indexed { IsIndexed self.old.moment self.old.next counts.old self.old.entries }
+        requires sums { sums ≡ sums_at self.old.moment self.old.entries }
         requires few { (sums.leased ≤ 2 ^ 17) × (sums.pairs ≤ 2 ^ 65) }
-        ensures entries { self.new ≡ after_lapse to self.old }
-        ensures indexed { IsIndexed to result.next counts.new self.new }
-        ensures later { to < result.next }
-        ensures sums { result.sums ≡ sums_at to self.new }
+        ensures entries { self.new.entries ≡ after_lapse to self.old.entries }
+        ensures moment { self.new.moment ≡ to }
+        ensures indexed { IsIndexed to self.new.next counts.new self.new.entries }
+        ensures later { to < self.new.next }
+        ensures sums { result ≡ sums_at to self.new.entries }
     {
-        if to < next {
-            return Passed { next, sums };
+        if to < self.next {
+            self.moment = to;
+            return sums;
         }
+        let from = self.moment;
         let passed = lapses::pass_all(&mut self.chunks, counts, sums, from, to);
-        drops::keep(&mut self.chunks, to);
-        passed
+        drops::keep_filled(&mut self.chunks);
+        self.moment = to;
+        self.next = passed.next;
+        passed.sums
     }
 
     /// Forgets what is kept of an object that so many clients name, and a client of which nothing is left then. It begins to look at this place,
-    /// as a count notes it, and stops as soon as all that name the object were met. It takes no memory.
-    pub fn drop_object(&mut self, object: &ObjId, clients: u32, place: Place, at: u64)
-        requires kept { IsTrue (list_all (is_entry_kept at) self.old) }
-        requires counted { clients ≡ length (filter (entry_names object.now) self.old) }
-        ensures { self.new ≡ filter (is_entry_kept at) (map (entry_without object.now) self.old) }
+    /// as a count notes it, and stops as soon as all that name the object were met; where none names it, it looks at none. It takes no memory.
+    pub fn drop_object(&mut self, object: &ObjId, clients: u32, place: Place)
+        requires kept { IsTrue (list_all (is_entry_kept self.old.moment) self.old.entries) }
+        requires counted { clients ≡ length (filter (entry_names object.now) self.old.entries) }
+        ensures entries { self.new.entries ≡ filter (is_entry_kept self.old.moment) (map (entry_without object.now) self.old.entries) }
+        ensures moment { self.new.moment ≡ self.old.moment }
+        ensures next { self.new.next ≡ self.old.next }
     {
+        if clients == 0 {
+            return;
+        }
+        let at = self.moment;
         drops::drop_object(&mut self.chunks, object, clients, place, at);
     }
 
     /// Forgets what is kept of the objects that have no count any more, and the clients of which nothing is left then. So many pairs go. It looks
     /// at all objects of the clients from this place on, as a count notes it, and then from the first on, until as many went, and then once at each
     /// client's end. Where no pair goes it looks at no client. It takes no memory.
-    pub fn drop_objects(&mut self, counts: &Counts, pairs: u128, place: Place, at: u64)
-        requires kept { IsTrue (list_all (is_entry_kept at) self.old) }
-        requires pairs { pairs + objects_in (map (with_only (is_named counts.now)) self.old) ≡ objects_in self.old }
-        ensures { self.new ≡ filter (is_entry_kept at) (map (with_only (is_named counts.now)) self.old) }
+    pub fn drop_objects(&mut self, counts: &Counts, pairs: u128, place: Place)
+        requires kept { IsTrue (list_all (is_entry_kept self.old.moment) self.old.entries) }
+        requires pairs { pairs + objects_in (map (with_only (is_named counts.now)) self.old.entries) ≡ objects_in self.old.entries }
+        ensures entries { self.new.entries ≡ filter (is_entry_kept self.old.moment) (map (with_only (is_named counts.now)) self.old.entries) }
+        ensures moment { self.new.moment ≡ self.old.moment }
+        ensures next { self.new.next ≡ self.old.next }
     {
         if pairs == 0 {
             return;
         }
+        let at = self.moment;
         drops::drop_objects(&mut self.chunks, counts, pairs, place, at);
     }
 }
@@ -190,7 +231,7 @@ fn is_before(client: &Vmid, chunk: &Chunk) -> bool
     }
 }
 
-/// The number of the chunk in which a client stands, or is to be inserted.
+/// The index of the chunk in which a client stands, or is to be inserted.
 fn chunk_of(chunks: &[Chunk], client: &Vmid) -> usize
     requires some { 0 < length chunks.now }
     requires ordered { IsTrue (is_in_order (all_of chunks.now)) }
@@ -276,7 +317,8 @@ fn push_within(entries: &mut Vec<ClientEntry>, entry: ClientEntry)
     }
 }
 
-/// Splits the chunk of a client, if it is full, so that there is a place for one more. It is refused only for want of memory.
+/// Splits the chunk of a client, if it is full, so that there is a place for one more, also where the client is in it. It is refused only for want
+/// of memory.
 fn split_full(alloc: Global, chunks: &mut Vec<Chunk>, client: &Vmid) -> Result<(), AllocError>
     requires some { 0 < length chunks.old.items }
     requires ordered { IsTrue (is_in_order (all_of chunks.old.items)) }
@@ -284,29 +326,60 @@ fn split_full(alloc: Global, chunks: &mut Vec<Chunk>, client: &Vmid) -> Result<(
     ensures same { all_of chunks.new.items ≡ all_of chunks.old.items }
     ensures some { 0 < length chunks.new.items }
     ensures filled { IsTrue (list_all is_filled chunks.new.items) }
+    ensures bounded { (m n : ℕ) → AllByRecursion (IsBounded m n) chunks.old.items → AllByRecursion (IsBounded m n) chunks.new.items }
 {
-    let place = chunk_of(chunks, client);
-    let len = chunks[place].entries.len();
+    let at_chunk = chunk_of(chunks, client);
+    let len = chunks[at_chunk].entries.len();
     if len < CHUNK_LEN {
         return Ok(());
     }
     chunks.reserve(1)?;
     let mut entries = Vec::with_capacity(alloc, len)?;
-    split_into(&mut chunks[place].entries, &mut entries);
-    insert_within(chunks, place + 1, Chunk { entries });
+    let chunk = &mut chunks[at_chunk];
+    split_into(&mut chunk.entries, &mut entries);
+    let least = chunk.least;
+    table::insert_within(chunks, at_chunk + 1, Chunk { entries, least });
     Ok(())
 }
 
-/// Inserts a chunk, for which there is room.
-fn insert_within(chunks: &mut Vec<Chunk>, place: usize, chunk: Chunk)
-    requires room { vec_len chunks.old < vec_capacity chunks.old }
-    requires within { place ≤ vec_len chunks.old }
-    ensures { chunks.new.items ≡ insert chunks.old.items place chunk }
+/// Notes a call of a client in its chunk, which is split first if it is full. It is refused only for want of memory, and then the list is as it was.
+fn note_call(
+    alloc: Global,
+    chunks: &mut Vec<Chunk>,
+    counts: &mut Counts,
+    client: &Vmid,
+    call: &LeaseCall<'_>,
+    lease: u64,
+    from: u64,
+) -> Result<Noted, AllocError>
+    requires later { from ≤ call.now.at }
+    requires early { call.now.at < 2 ^ 62 }
+    requires some { 1 ≤ lease }
+    requires short { lease ≤ 2 ^ 40 }
+    requires numbered { IsTrue (list_all (λ e. each_has_number e.objects) (all_of chunks.old.items)) }
+    requires ordered { IsTrue (is_in_order (all_of chunks.old.items)) }
+    requires once { IsTrue (list_all (λ e. each_once e.objects) (all_of chunks.old.items)) }
+    requires few { (w : Way) (o : ObjId) → length (filter (is_counted w from o) (all_of chunks.old.items)) ≤ 262144 }
+    requires has { (o : ObjId) → is_in o call.now.objects.now ≡ true → has_count counts.old o ≡ true }
+    requires counted { (w : Way) (o : ObjId) → counted_at w counts.old o ≡ length (filter (is_counted w from o) (all_of chunks.old.items)) }
+    requires filled { IsTrue (list_all is_filled chunks.old.items) }
+    ensures ok { OnOk result (all_of chunks.new.items ≡ with_entry
+        (entry_after lease call.now.kind call.now.number.now call.now.objects.now call.now.at (entry_of (all_of chunks.old.items) client.now)) (all_of chunks.old.items)) }
+    ensures counted { OnOk result ((w : Way) (o : ObjId) → counted_at w counts.new o ≡ length (filter (is_counted w from o) (all_of chunks.new.items))) }
+    ensures noted { IfOk result (λ noted. let own = entry_of (all_of chunks.old.items) client.now in
+        IsNoted from own (entry_after lease call.now.kind call.now.number.now call.now.objects.now call.now.at own) noted) }
+    ensures filled { IsTrue (list_all is_filled chunks.new.items) }
+    ensures bounded { IfOk result (λ noted. (n : ℕ) → n < 2 ^ 64 → AllByRecursion (IsBounded from n) chunks.old.items →
+        AllByRecursion (IsBounded from (bound_of call.now.at n noted.until)) chunks.new.items) }
+    ensures err { OnErr result (all_of chunks.new.items ≡ all_of chunks.old.items) }
+    ensures still { OnErr result ((n : ℕ) → AllByRecursion (IsBounded from n) chunks.old.items → AllByRecursion (IsBounded from n) chunks.new.items) }
+    ensures same { OnErr result (counts.new ≡ counts.old) }
 {
-    match chunks.insert(place, chunk) {
-        Ok(()) => {}
-        Err(_refused) => {}
+    if chunks.is_empty() {
+        return note_first(alloc, chunks, counts, client, call, lease, from);
     }
+    split_full(alloc, chunks, client)?;
+    note_own(alloc, chunks, counts, client, call, lease, from)
 }
 
 /// Notes a call in the first chunk of all. It is refused only for want of memory, and then all is as it was.
@@ -335,24 +408,17 @@ fn note_first(
     ensures noted { IfOk result (λ noted. let own = entry_of (all_of chunks.old.items) client.now in
         IsNoted from own (entry_after lease call.now.kind call.now.number.now call.now.objects.now call.now.at own) noted) }
     ensures filled { IsTrue (list_all is_filled chunks.new.items) }
+    ensures bounded { IfOk result (λ noted. (n : ℕ) → n < 2 ^ 64 → AllByRecursion (IsBounded from (bound_of call.now.at n noted.until)) chunks.new.items) }
     ensures err { OnErr result (chunks.new.items ≡ chunks.old.items) }
     ensures same { OnErr result (counts.new ≡ counts.old) }
 {
     chunks.reserve(1)?;
     let mut chunk = Chunk {
         entries: Vec::new(alloc),
+        least: u64::MAX,
     };
-    let noted = table::note(
-        alloc,
-        &mut chunk.entries,
-        counts,
-        client,
-        call,
-        lease,
-        from,
-        0,
-    )?;
-    insert_within(chunks, 0, chunk);
+    let noted = note_in(alloc, &mut chunk, counts, client, call, lease, from, 0)?;
+    table::insert_within(chunks, 0, chunk);
     Ok(noted)
 }
 
@@ -387,18 +453,69 @@ fn note_own(
     ensures noted { IfOk result (λ noted. let own = entry_of (all_of chunks.old.items) client.now in
         IsNoted from own (entry_after lease call.now.kind call.now.number.now call.now.objects.now call.now.at own) noted) }
     ensures filled { IsTrue (list_all is_filled chunks.new.items) }
+    ensures bounded { IfOk result (λ noted. (n : ℕ) → AllByRecursion (IsBounded from n) chunks.old.items →
+        AllByRecursion (IsBounded from (bound_of call.now.at n noted.until)) chunks.new.items) }
     ensures err { OnErr result (all_of chunks.new.items ≡ all_of chunks.old.items) }
+    ensures still { OnErr result ((n : ℕ) → AllByRecursion (IsBounded from n) chunks.old.items → AllByRecursion (IsBounded from n) chunks.new.items) }
     ensures same { OnErr result (counts.new ≡ counts.old) }
 {
-    let number = chunk_of(chunks, client);
-    table::note(
+    let at_chunk = chunk_of(chunks, client);
+    note_in(
         alloc,
-        &mut chunks[number].entries,
+        &mut chunks[at_chunk],
         counts,
         client,
         call,
         lease,
         from,
-        number,
+        at_chunk,
     )
+}
+
+/// Notes a call of a client in the chunk of this index. It is refused only for want of memory, and then all is as it was.
+fn note_in(
+    alloc: Global,
+    chunk: &mut Chunk,
+    counts: &mut Counts,
+    client: &Vmid,
+    call: &LeaseCall<'_>,
+    lease: u64,
+    from: u64,
+    at_chunk: usize,
+) -> Result<Noted, AllocError>
+    requires later { from ≤ call.now.at }
+    requires early { call.now.at < 2 ^ 62 }
+    requires some { 1 ≤ lease }
+    requires short { lease ≤ 2 ^ 40 }
+    requires numbered { IsTrue (list_all (λ e. each_has_number e.objects) chunk.old.entries.items) }
+    requires ordered { IsTrue (is_in_order chunk.old.entries.items) }
+    requires once { IsTrue (list_all (λ e. each_once e.objects) chunk.old.entries.items) }
+    requires has { (o : ObjId) → is_in o call.now.objects.now ≡ true → has_count counts.old o ≡ true }
+    requires enough { (w : Way) (o : ObjId) → one_if (is_counted w from o (entry_of chunk.old.entries.items client.now)) ≤ counted_at w counts.old o }
+    requires few { (w : Way) (o : ObjId) → counted_at w counts.old o + 1 < 2 ^ 31 }
+    ensures ok { OnOk result (chunk.new.entries.items ≡ with_entry
+        (entry_after lease call.now.kind call.now.number.now call.now.objects.now call.now.at (entry_of chunk.old.entries.items client.now)) chunk.old.entries.items) }
+    ensures counts { OnOk result ((w : Way) (o : ObjId) → let own = entry_of chunk.old.entries.items client.now in
+        counted_at w counts.new o + one_if (is_counted w from o own)
+        ≡ counted_at w counts.old o
+        + one_if (is_counted w from o (entry_after lease call.now.kind call.now.number.now call.now.objects.now call.now.at own))) }
+    ensures noted { IfOk result (λ noted. let own = entry_of chunk.old.entries.items client.now in
+        IsNoted from own (entry_after lease call.now.kind call.now.number.now call.now.objects.now call.now.at own) noted) }
+    ensures least { IfOk result (λ noted. chunk.new.least ≡ bound_of call.now.at chunk.old.least noted.until) }
+    ensures err { OnErr result (chunk.new.entries.items ≡ chunk.old.entries.items) }
+    ensures still { OnErr result (chunk.new.least ≡ chunk.old.least) }
+    ensures same { OnErr result (counts.new ≡ counts.old) }
+{
+    let noted = table::note(
+        alloc,
+        &mut chunk.entries,
+        counts,
+        client,
+        call,
+        lease,
+        from,
+        at_chunk,
+    )?;
+    chunk.least = table::bound_with(chunk.least, noted.until, call.at);
+    Ok(noted)
 }

@@ -1,9 +1,9 @@
 //! Objects that are forgotten, and clients of which nothing is left, chunk by chunk.
-ghost use Rattle.std.specs.Prelude.{◌≡◌, ◌+◌, ◌<◌, length, filter, map, IsTrue};
-ghost use Rattle.std.specs.List.{list_all};
+ghost use Rattle.std.specs.Prelude.{◌≡◌, ℕ, ◌+◌, ◌<◌, length, filter, map, IsTrue};
+ghost use Rattle.std.specs.List.{list_all, AllByRecursion};
 ghost use Rattle.dgc_server.specs.Entry.{entry_without, is_entry_kept};
 ghost use Rattle.dgc_server.specs.Index.{entry_names, is_named, with_only, objects_in};
-ghost use Rattle.dgc_server.specs.Chunks.{all_of, is_filled};
+ghost use Rattle.dgc_server.specs.Chunks.{all_of, is_filled, IsBounded, IsCalmChunk};
 
 use crate::clients::Chunk;
 use crate::holders::{Counts, Place};
@@ -11,9 +11,10 @@ use crate::table;
 use object_ids::ObjId;
 
 /// Keeps the clients of which something is left.
-pub fn keep(chunks: &mut Vec<Chunk>, now: u64)
+fn keep(chunks: &mut Vec<Chunk>, now: u64)
     ensures entries { all_of chunks.new.items ≡ filter (is_entry_kept now) (all_of chunks.old.items) }
     ensures filled { IsTrue (list_all is_filled chunks.new.items) }
+    ensures bounded { (n : ℕ) → AllByRecursion (IsCalmChunk now n) chunks.old.items → AllByRecursion (IsBounded now n) chunks.new.items }
 {
     keep_each(chunks, now);
     keep_filled(chunks);
@@ -21,7 +22,8 @@ pub fn keep(chunks: &mut Vec<Chunk>, now: u64)
 
 /// Keeps in each chunk the clients of which something is left.
 fn keep_each(chunks: &mut Vec<Chunk>, now: u64)
-    ensures { all_of chunks.new.items ≡ filter (is_entry_kept now) (all_of chunks.old.items) }
+    ensures entries { all_of chunks.new.items ≡ filter (is_entry_kept now) (all_of chunks.old.items) }
+    ensures bounded { (n : ℕ) → AllByRecursion (IsCalmChunk now n) chunks.old.items → AllByRecursion (IsBounded now n) chunks.new.items }
 {
     let mut i: usize = 0;
     while i < chunks.len() {
@@ -31,7 +33,7 @@ fn keep_each(chunks: &mut Vec<Chunk>, now: u64)
 }
 
 /// Keeps the chunks in which there is a client.
-fn keep_filled(chunks: &mut Vec<Chunk>)
+pub fn keep_filled(chunks: &mut Vec<Chunk>)
     ensures { chunks.new.items ≡ filter is_filled chunks.old.items }
 {
     chunks.retain(|chunk| !chunk.entries.is_empty());
@@ -44,21 +46,22 @@ pub fn drop_object(chunks: &mut Vec<Chunk>, object: &ObjId, clients: u32, place:
     requires counted { clients ≡ length (filter (entry_names object.now) (all_of chunks.old.items)) }
     ensures entries { all_of chunks.new.items ≡ filter (is_entry_kept at) (map (entry_without object.now) (all_of chunks.old.items)) }
     ensures filled { IsTrue (list_all is_filled chunks.new.items) }
+    ensures bounded { (n : ℕ) → AllByRecursion (IsBounded at n) chunks.old.items → AllByRecursion (IsBounded at n) chunks.new.items }
 {
-    let number = place.chunk as usize;
-    let to_go = walk(chunks, object, clients, number, place.index as usize, at);
+    let chunk = place.chunk as usize;
+    let to_go = walk(chunks, object, clients, chunk, place.index as usize, at);
     walk(chunks, object, to_go, 0, 0, at);
     keep_filled(chunks);
 }
 
-/// From a place in the chunk of this number on forgets what is kept of an object that so many clients name, and answers how many are left that
+/// From the client of this index in the chunk of this index on forgets what is kept of an object that so many clients name, and answers how many are left that
 /// name it.
 fn walk(
     chunks: &mut Vec<Chunk>,
     object: &ObjId,
     clients: u32,
-    number: usize,
-    from: usize,
+    chunk: usize,
+    client: usize,
     at: u64,
 ) -> u32
     requires kept { IsTrue (list_all (is_entry_kept at) (all_of chunks.old.items)) }
@@ -67,11 +70,12 @@ fn walk(
         ≡ filter (is_entry_kept at) (map (entry_without object.now) (all_of chunks.old.items)) }
     ensures kept { IsTrue (list_all (is_entry_kept at) (all_of chunks.new.items)) }
     ensures counted { result ≡ length (filter (entry_names object.now) (all_of chunks.new.items)) }
-    ensures all { number ≡ 0 → from ≡ 0 → result ≡ 0 }
+    ensures all { chunk ≡ 0 → client ≡ 0 → result ≡ 0 }
+    ensures bounded { (n : ℕ) → AllByRecursion (IsBounded at n) chunks.old.items → AllByRecursion (IsBounded at n) chunks.new.items }
 {
     let mut to_go = clients;
-    let mut first = from;
-    let mut i = number;
+    let mut first = client;
+    let mut i = chunk;
     while i < chunks.len() {
         if to_go == 0 {
             return 0;
@@ -90,30 +94,32 @@ pub fn drop_objects(chunks: &mut Vec<Chunk>, counts: &Counts, pairs: u128, place
     requires { pairs + objects_in (map (with_only (is_named counts.now)) (all_of chunks.old.items)) ≡ objects_in (all_of chunks.old.items) }
     ensures entries { all_of chunks.new.items ≡ filter (is_entry_kept at) (map (with_only (is_named counts.now)) (all_of chunks.old.items)) }
     ensures filled { IsTrue (list_all is_filled chunks.new.items) }
+    ensures bounded { (n : ℕ) → AllByRecursion (IsBounded at n) chunks.old.items → AllByRecursion (IsBounded at n) chunks.new.items }
 {
-    let number = place.chunk as usize;
-    let to_go = keep_named(chunks, counts, pairs, number, place.index as usize);
+    let chunk = place.chunk as usize;
+    let to_go = keep_named(chunks, counts, pairs, chunk, place.index as usize);
     keep_named(chunks, counts, to_go, 0, 0);
     keep(chunks, at);
 }
 
-/// From a place in the chunk of this number on keeps of each client the objects that are named, where so many pairs are to go, and answers how
+/// From the client of this index in the chunk of this index on keeps of each client the objects that are named, where so many pairs are to go, and answers how
 /// many are left to go.
 fn keep_named(
     chunks: &mut Vec<Chunk>,
     counts: &Counts,
     pairs: u128,
-    number: usize,
-    from: usize,
+    chunk: usize,
+    client: usize,
 ) -> u128
     requires { pairs + objects_in (map (with_only (is_named counts.now)) (all_of chunks.old.items)) ≡ objects_in (all_of chunks.old.items) }
     ensures same { map (with_only (is_named counts.now)) (all_of chunks.new.items) ≡ map (with_only (is_named counts.now)) (all_of chunks.old.items) }
     ensures to_go { result + objects_in (map (with_only (is_named counts.now)) (all_of chunks.new.items)) ≡ objects_in (all_of chunks.new.items) }
-    ensures all { number ≡ 0 → from ≡ 0 → all_of chunks.new.items ≡ map (with_only (is_named counts.now)) (all_of chunks.old.items) }
+    ensures all { chunk ≡ 0 → client ≡ 0 → all_of chunks.new.items ≡ map (with_only (is_named counts.now)) (all_of chunks.old.items) }
+    ensures calm { (m n : ℕ) → AllByRecursion (IsCalmChunk m n) chunks.old.items → AllByRecursion (IsCalmChunk m n) chunks.new.items }
 {
     let mut to_go = pairs;
-    let mut first = from;
-    let mut i = number;
+    let mut first = client;
+    let mut i = chunk;
     while i < chunks.len() {
         if to_go == 0 {
             return 0;

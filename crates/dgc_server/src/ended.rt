@@ -3,9 +3,10 @@ ghost use Rattle.std.specs.Prelude.{◌≡◌, ◌++◌, ◌∷◌, [], ◌<◌,
 ghost use Rattle.dgc_server.specs.Numbers.{is_dirty_highest};
 ghost use Rattle.dgc_server.specs.Entry.{object_entries, dirty_objects};
 ghost use Rattle.std.specs.List.{AllByRecursion};
-ghost use Rattle.dgc_server.specs.Index.{freed_of, IsSettled};
+ghost use Rattle.dgc_server.specs.Index.{freed_of};
+ghost use Rattle.dgc_server.specs.Chunks.{all_of, IsBounded};
 
-use crate::clients::Clients;
+use crate::clients::{Chunk, Clients};
 use crate::entry::ClientEntry;
 use crate::marks::Marks;
 use crate::packed::Packed;
@@ -62,25 +63,41 @@ fn append_all(
     Ok(())
 }
 
-/// The objects that clients hold whose leases end as time passes from one moment to another. Where nothing is due it looks at no client
-/// and takes no memory.
-pub fn freed(
+/// The objects that clients hold whose leases end as time passes from the clients' moment to another one. It looks at the clients of the chunks in
+/// which a lease may end by then; where nothing is due it looks at no client and takes no memory.
+pub fn freed(alloc: Global, clients: &Clients, to: u64) -> Result<Vec<ObjId>, AllocError>
+    requires { clients.now.moment ≤ to }
+    ensures { IfOk result (λ os. os.items ≡ flat_map (freed_of clients.now.moment to) clients.now.entries) }
+{
+    freed_in(
+        alloc,
+        clients.chunks(),
+        clients.next(),
+        clients.moment(),
+        to,
+    )
+}
+
+/// The objects that clients of these chunks hold whose leases end as time passes from one moment to another.
+fn freed_in(
     alloc: Global,
-    clients: &Clients,
+    chunks: &[Chunk],
     next: u64,
     from: u64,
     to: u64,
 ) -> Result<Vec<ObjId>, AllocError>
     requires later { from ≤ to }
-    requires settled { from < next → AllByRecursion (IsSettled from next) clients.now }
-    ensures { IfOk result (λ os. os.items ≡ flat_map (freed_of from to) clients.now) }
+    requires bounded { AllByRecursion (IsBounded from next) chunks.now }
+    ensures { IfOk result (λ os. os.items ≡ flat_map (freed_of from to) (all_of chunks.now)) }
 {
     let mut freed = Vec::new(alloc);
     if to < next {
         return Ok(freed);
     }
-    let chunks = clients.chunks();
     for chunk in chunks {
+        if to < chunk.least {
+            continue;
+        }
         append_all(&mut freed, &chunk.entries, from, to)?;
     }
     Ok(freed)

@@ -173,8 +173,8 @@ impl ClientEntry {
         ensures same { OnErr result (counts.new ≡ counts.old) }
     {
         let kept = &mut *self.kept;
-        kept.objects.make_room(call.objects.len())?;
         let left = call.at < self.until;
+        marks::make_room(&mut kept.objects, call.objects, left)?;
         let held = from < self.until;
         let until = until_after(call.kind, call.at + lease, self.until);
         marks::note(

@@ -1,5 +1,5 @@
 //! Few objects with their numbers, in a list that is searched from front to back.
-ghost use Rattle.std.specs.Prelude.{◌≡◌, ◌<◌, ◌≤◌, ◌+◌, ◌-◌, length, filter, not, false, vec_capacity, is_some};
+ghost use Rattle.std.specs.Prelude.{◌≡◌, ◌<◌, ◌≤◌, ◌+◌, ◌-◌, length, filter, not, true, false, vec_capacity, is_some};
 ghost use Rattle.std.specs.List.{position_or_len};
 ghost use Rattle.object_ids.specs.Same.{same_id};
 ghost use Rattle.dgc_server.specs.Numbers.{strong_part, is_remembered};
@@ -55,17 +55,23 @@ pub fn remembered_for_good(marks: &[Mark]) -> usize
         .count()
 }
 
-/// Sets the numbers of an object, for which there is room.
-pub fn put(marks: &mut Vec<Mark>, object: &ObjId, numbers: Packed)
-    requires { length marks.old.items < vec_capacity marks.old }
+/// Sets the numbers of an object that is there. It takes no room.
+pub fn replace(marks: &mut Vec<Mark>, object: &ObjId, numbers: Packed)
+    requires { has_object (object_entries marks.old.items) object.now ≡ true }
+    ensures objects { object_entries marks.new.items ≡ with_numbers object.now numbers (object_entries marks.old.items) }
+    ensures room { vec_capacity marks.old - length marks.old.items ≤ vec_capacity marks.new - length marks.new.items }
+{
+    let place = place_of(marks, object);
+    marks[place] = (*object, numbers);
+}
+
+/// Adds an object that is not there, and for which there is room, with its numbers.
+pub fn add(marks: &mut Vec<Mark>, object: &ObjId, numbers: Packed)
+    requires absent { has_object (object_entries marks.old.items) object.now ≡ false }
+    requires room { length marks.old.items < vec_capacity marks.old }
     ensures objects { object_entries marks.new.items ≡ with_numbers object.now numbers (object_entries marks.old.items) }
     ensures room { vec_capacity marks.old - length marks.old.items ≤ vec_capacity marks.new - length marks.new.items + 1 }
 {
-    let place = place_of(marks, object);
-    if place < marks.len() {
-        marks[place] = (*object, numbers);
-        return;
-    }
     match marks.push((*object, numbers)) {
         Ok(()) => {}
         Err(_refused) => {}

@@ -51,13 +51,11 @@ impl From<AllocError> for LeaseFault {
 pub struct Leases {
     alloc: Global,
     lease: u64,
-    moment: u64,
-    entries: Clients,
-    /// No lease that has time left at the moment ends before this one, which is later.
-    next: u64,
-    /// How many clients hold each object at the moment, and how many name it.
+    /// The clients at the greatest moment so far.
+    clients: Clients,
+    /// How many clients hold each object at that moment, and how many name it.
     counts: Counts,
-    /// How many clients have time left at the moment, and how many pairs are remembered.
+    /// How many clients have time left at that moment, and how many pairs are remembered.
     sums: Sums,
 }
 
@@ -67,13 +65,11 @@ impl Drop for Leases {
         let Leases {
             alloc: _,
             lease: _,
-            moment: _,
-            entries,
-            next: _,
+            clients,
             counts,
             sums: _,
         } = self;
-        drop(entries);
+        drop(clients);
         drop(counts);
     }
 }
@@ -81,7 +77,7 @@ impl Drop for Leases {
 impl fmt::Debug for Leases {
     fn fmt<W: fmt::Write>(&self, f: &mut fmt::Formatter<W>) -> fmt::Result {
         f.debug_struct("Leases")
-            .field("kept", &scans::len(&self.entries))
+            .field("kept", &scans::len(&self.clients))
             .finish_non_exhaustive()
     }
 }
@@ -93,10 +89,10 @@ impl Model for Leases {
 
     ghost Value = { LeaseTable };
 
-    ghost view = { λ a. record { lease = a.lease; moment = a.moment; entries = a.entries } };
+    ghost view = { λ a. record { lease = a.lease; moment = a.clients.moment; entries = a.clients.entries } };
 
-    ghost invariant = { λ a. IsSound a.lease a.moment a.entries × IsIndexed a.moment a.next a.counts a.entries
-        × (a.sums ≡ sums_at a.moment a.entries) × (a.moment < a.next) };
+    ghost invariant = { λ a. IsSound a.lease a.clients.moment a.clients.entries × IsIndexed a.clients.moment a.clients.next a.counts a.clients.entries
+        × (a.sums ≡ sums_at a.clients.moment a.clients.entries) × (a.clients.moment < a.clients.next) };
 }
 
 impl Leases {
@@ -109,9 +105,7 @@ impl Leases {
         Leases {
             alloc,
             lease: lease_ms,
-            moment: 0,
-            entries: Clients::new(alloc),
-            next: u64::MAX,
+            clients: Clients::new(alloc),
             counts: Counts::new(alloc),
             sums: Sums {
                 leased: 0,
@@ -127,13 +121,10 @@ impl Leases {
         ensures freed { IsTrimmed self.new }
         ensures stands { ForEachLog self.old (λ lease moment calls. StandsFor lease self.new (max now moment) calls) }
     {
-        let at = now.max(self.moment);
-        let passed = self
-            .entries
-            .pass(&mut self.counts, self.sums, self.next, self.moment, at);
-        self.next = passed.next;
-        self.sums = passed.sums;
-        self.moment = at;
+        let moment = self.clients.moment();
+        let at = now.max(moment);
+        let sums = self.clients.pass(&mut self.counts, self.sums, at);
+        self.sums = sums;
     }
 
     /// Notes a dirty call (Java RMI Specification, chapter 9: `DGC.dirty`), and answers the duration of the
@@ -163,7 +154,7 @@ impl Leases {
     {
         let at = self.at(now);
         let sums = self.sums_by(at);
-        if scans::is_past_clients(&self.entries, client, at, sums.leased) {
+        if scans::is_past_clients(&self.clients, client, at, sums.leased) {
             return Err(LeaseFault::Clients);
         }
         self.note(client, &number, objects, CallKind::Dirty, at)?;
@@ -200,10 +191,10 @@ impl Leases {
         ensures { ForEachLog self.now (λ lease moment calls. result ≡ is_held lease (max now moment) calls object) }
     {
         let at = self.at(now);
-        if at < self.next {
+        if at < self.clients.next() {
             count_of(&self.counts, &object).holders > 0
         } else {
-            scans::is_held(&self.entries, &object, at)
+            scans::is_held(&self.clients, &object, at)
         }
     }
 
@@ -215,7 +206,7 @@ impl Leases {
         ensures held { IfOk result (λ os. ForEachLog self.now (λ lease moment calls. (o : ObjId) → list_any (same_id o) os.items ≡ true
             → is_held lease moment calls o ≡ true)) }
     {
-        ended::freed(alloc, &self.entries, self.next, self.moment, self.at(now))
+        ended::freed(alloc, &self.clients, self.at(now))
     }
 
     /// Whether a lease may end as time passes to `now`. Where none may, each object that a client holds at the greatest moment so far is held then, too.
@@ -225,7 +216,7 @@ impl Leases {
             → is_held lease (max now moment) calls o ≡ true) }
     {
         let at = self.at(now);
-        if at < self.next {
+        if at < self.clients.next() {
             return false;
         }
         true
@@ -238,10 +229,10 @@ impl Leases {
             result ≡ length (holders lease (max now moment) calls object)) }
     {
         let at = self.at(now);
-        if at < self.next {
+        if at < self.clients.next() {
             count_of(&self.counts, &object).holders
         } else {
-            scans::holders(&self.entries, &object, at) as u32
+            scans::holders(&self.clients, &object, at) as u32
         }
     }
 
@@ -253,14 +244,15 @@ impl Leases {
             StandsFor lease self.new moment (map (without object) calls)) }
     {
         let count = count_of(&self.counts, &object);
-        self.entries
-            .drop_object(&object, count.clients, count.place, self.moment);
+        self.clients
+            .drop_object(&object, count.clients, count.place);
         forget(&mut self.counts, &object);
         self.sums = table::sums_without(self.sums, count.clients as u128);
     }
 
     /// Forgets that calls named these objects, as `drop_object` does of each: it is as if no call so far had. Of more than a few, those that clients
-    /// name cost one look at each object of the clients from the first that named one to the last, and one at each client. It takes no memory.
+    /// name cost one look at each object of the clients from the place that a count of one notes on, and then from the first client on, until all
+    /// pairs were met, and one at each client's end. It takes no memory.
     pub fn drop_objects(&mut self, objects: &[ObjId])
         ensures fewer { length self.new.entries ≤ length self.old.entries }
         ensures stands { ForEachLog self.old (λ lease moment calls.
@@ -279,7 +271,7 @@ impl Leases {
         ensures { ForEachLog self.now (λ lease moment calls.
             result ≡ length (pairs lease (max now moment) calls)) }
     {
-        scans::remembered_pairs(&self.entries, self.at(now)) as u32
+        self.sums_by(self.at(now)).pairs as u32
     }
 
     /// The clients that have time left at this moment, in the order of clients, with the ends of their
@@ -288,7 +280,7 @@ impl Leases {
         ensures { IfOk result (λ rows. ForEachLog self.now (λ lease moment calls.
             rows ≡ lease_rows lease (max now moment) calls)) }
     {
-        scans::rows(alloc, &self.entries, self.at(now))
+        scans::rows(alloc, &self.clients, self.at(now))
     }
 
     /// Forgets that calls named these objects, one after another.
@@ -309,8 +301,8 @@ impl Leases {
             StandsFor lease self.new moment (map (without_all objects.now) calls)) }
     {
         let gone = forget_all(&mut self.counts, objects);
-        self.entries
-            .drop_objects(&self.counts, gone.pairs, gone.place, self.moment);
+        self.clients
+            .drop_objects(&self.counts, gone.pairs, gone.place);
         self.sums = table::sums_without(self.sums, gone.pairs);
     }
 
@@ -320,7 +312,7 @@ impl Leases {
         ensures early { now < 2 ^ 62 → result < 2 ^ 62 }
         ensures sound { IsSound self.now.lease self.now.moment self.now.entries }
     {
-        now.max(self.moment)
+        now.max(self.clients.moment())
     }
 
     /// How many clients have time left at a moment that is no earlier than the greatest one, and how many pairs
@@ -330,11 +322,7 @@ impl Leases {
         ensures value { result ≡ sums_at at self.now.entries }
         ensures few { (result.leased ≤ 65536) × (result.pairs ≤ 262144) }
     {
-        if at < self.next {
-            self.sums
-        } else {
-            scans::sums_at(&self.entries, at)
-        }
+        scans::sums_by(&self.clients, self.sums, at)
     }
 
     /// Notes a call at a moment, if the pairs that it brings can be remembered.
@@ -359,7 +347,7 @@ impl Leases {
     {
         let named = objects.as_slice();
         let pairs = self.sums_by(at).pairs;
-        if scans::is_past_pairs(self.alloc, &self.entries, client, kind, named, at, pairs) {
+        if scans::is_past_pairs(self.alloc, &self.clients, client, kind, named, at, pairs) {
             return Err(LeaseFault::Pairs);
         }
         touch_all(&mut self.counts, named)?;
@@ -369,22 +357,12 @@ impl Leases {
             objects: named,
             at,
         };
-        let noted = self.entries.note(
-            self.alloc,
-            &mut self.counts,
-            client,
-            &call,
-            self.lease,
-            self.moment,
-        )?;
+        let noted = self
+            .clients
+            .note(self.alloc, &mut self.counts, client, &call, self.lease)?;
         let with = table::sums_with(self.sums, noted.before, noted.after);
-        let bound = table::bound_with(self.next, noted.until, at);
-        let passed = self
-            .entries
-            .pass(&mut self.counts, with, bound, self.moment, at);
-        self.next = passed.next;
-        self.sums = passed.sums;
-        self.moment = at;
+        let sums = self.clients.pass(&mut self.counts, with, at);
+        self.sums = sums;
         Ok(())
     }
 }

@@ -1,5 +1,5 @@
 //! Many objects with their numbers, in a map in which each is quickly found.
-ghost use Rattle.std.specs.Prelude.{◌≡◌, ◌<◌, ◌≤◌, ◌+◌, [], length, filter, not, false, is_some, IsTrue, OnOk, IfOk, unwrap_or};
+ghost use Rattle.std.specs.Prelude.{◌≡◌, ◌<◌, ◌≤◌, ◌+◌, [], length, filter, not, true, false, is_some, IsTrue, OnOk, IfOk, unwrap_or};
 ghost use Rattle.std.specs.Option.{option_copied};
 ghost use Rattle.indexmap.specs.IndexMap.{spare, values, insert_entry};
 ghost use Rattle.object_ids.specs.Same.{same_id, same_key};
@@ -53,7 +53,7 @@ pub fn remembered_for_good(marks: &MarkMap) -> usize
         .count()
 }
 
-/// Makes room for so many more objects, and for few beyond: an eighth of those that are kept.
+/// Makes room for so many more objects, and for few beyond: at most an eighth of those that are kept.
 pub fn make_room(marks: &mut MarkMap, more: usize) -> Result<(), AllocError>
     ensures entries { marks.new.entries ≡ marks.old.entries }
     ensures room { OnOk result (more ≤ spare marks.new) }
@@ -111,6 +111,17 @@ pub fn put(marks: &mut MarkMap, object: &ObjId, numbers: Packed)
     }
 }
 
+/// Sets the numbers of an object that is there. It takes no room.
+pub fn replace(marks: &mut MarkMap, object: &ObjId, numbers: Packed)
+    requires { has_object (object_entries marks.old.entries) object.now ≡ true }
+    ensures objects { object_entries marks.new.entries ≡ with_numbers object.now numbers (object_entries marks.old.entries) }
+    ensures room { spare marks.old ≤ spare marks.new }
+{
+    if let Some(kept) = marks.get_mut(object) {
+        *kept = numbers;
+    }
+}
+
 /// Forgets the numbers of a tenure, and the objects that have no others.
 pub fn forget_tenure(marks: &mut MarkMap)
     ensures objects { object_entries marks.new.entries ≡ tenure_forgotten (object_entries marks.old.entries) }
@@ -123,7 +134,8 @@ pub fn forget_tenure(marks: &mut MarkMap)
     );
 }
 
-/// Forgets the numbers of an object. Those behind it move to the front by one place, and none is looked up.
+/// Forgets the numbers of an object, which is looked up. Those behind it move to the front by one place, and the map's table notes the new
+/// place of each where it keeps the old one: none of them is looked up.
 pub fn forget_object(marks: &mut MarkMap, object: &ObjId)
     ensures { object_entries marks.new.entries ≡ filter (λ x. not (same_id x.object object.now)) (object_entries marks.old.entries) }
 {

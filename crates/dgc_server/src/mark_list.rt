@@ -1,5 +1,5 @@
 //! The objects that a client named, in the order in which they came: few in a list, many in a map.
-ghost use Rattle.std.specs.Prelude.{◌≡◌, ◌<◌, ◌≤◌, ◌+◌, [], length, filter, not, false, IsTrue, OnOk};
+ghost use Rattle.std.specs.Prelude.{◌≡◌, ◌<◌, ◌≤◌, ◌+◌, [], length, filter, not, true, false, IsTrue, IsOk, OnOk};
 ghost use Rattle.std.specs.Iterator.{at_most};
 ghost use Rattle.std.specs.Map.Iter.{TakesFirst, deref_pair};
 ghost use Rattle.object_ids.specs.Same.{same_id};
@@ -129,13 +129,28 @@ impl Marks {
         }
     }
 
-    /// Makes room for so many more objects, and where there are many, for few beyond: an eighth of those that are kept. It is refused only for want of memory,
-    /// and then all is as it was.
+    /// For how many more objects there is room.
+    pub fn room(&self) -> usize
+        ensures { result ≡ self.now.room }
+    {
+        match &self.held {
+            Held::Few(list) => list.capacity() - list.len(),
+            Held::Many(map) => map.capacity() - map.len(),
+        }
+    }
+
+    /// Makes room for so many more objects, and where there are many, for few beyond: at most an eighth of those that are kept. Where there is room, all
+    /// stays as it is. It is refused only for want of memory, and then all is as it was.
     pub fn make_room(&mut self, more: usize) -> Result<(), AllocError>
         requires { IsTrue (each_once (object_entries self.old.entries)) }
         ensures entries { self.new.entries ≡ self.old.entries }
         ensures room { OnOk result (more ≤ self.new.room) }
+        ensures fits { more ≤ self.old.room → IsOk result }
+        ensures same { more ≤ self.old.room → self.new ≡ self.old }
     {
+        if more <= self.room() {
+            return Ok(());
+        }
         match &mut self.held {
             Held::Few(list) if fits_list(list.len(), more) => list.reserve_exact(more),
             Held::Few(list) => {
@@ -147,15 +162,29 @@ impl Marks {
         }
     }
 
-    /// Sets the numbers of an object, for which there is room.
-    pub fn put(&mut self, object: &ObjId, numbers: &Numbers)
-        requires { 0 < self.old.room }
+    /// Sets the numbers of an object that is there. It takes no room.
+    pub fn replace(&mut self, object: &ObjId, numbers: &Numbers)
+        requires { has_object (object_entries self.old.entries) object.now ≡ true }
+        ensures objects { object_entries self.new.entries ≡ with_numbers object.now numbers.now (object_entries self.old.entries) }
+        ensures room { self.old.room ≤ self.new.room }
+    {
+        let packed = Packed::of(numbers);
+        match &mut self.held {
+            Held::Few(list) => few_marks::replace(list, object, packed),
+            Held::Many(map) => many_marks::replace(map, object, packed),
+        }
+    }
+
+    /// Adds an object that is not there, and for which there is room, with its numbers.
+    pub fn add(&mut self, object: &ObjId, numbers: &Numbers)
+        requires absent { has_object (object_entries self.old.entries) object.now ≡ false }
+        requires room { 0 < self.old.room }
         ensures objects { object_entries self.new.entries ≡ with_numbers object.now numbers.now (object_entries self.old.entries) }
         ensures room { self.old.room ≤ self.new.room + 1 }
     {
         let packed = Packed::of(numbers);
         match &mut self.held {
-            Held::Few(list) => few_marks::put(list, object, packed),
+            Held::Few(list) => few_marks::add(list, object, packed),
             Held::Many(map) => many_marks::put(map, object, packed),
         }
     }

@@ -1,16 +1,17 @@
 //! The numbers that count for each object that a client named.
-ghost use Rattle.std.specs.Prelude.{◌≡◌, ◌+◌, ◌<◌, ◌≤◌, ◌^◌, length, filter, not, ◌&&◌, cond, true, IsTrue, OnOk, IfOk, if◌then◌else◌};
+ghost use Rattle.std.specs.Prelude.{◌≡◌, ◌+◌, ◌<◌, ◌≤◌, ◌^◌, length, filter, not, ◌&&◌, cond, true, false, IsTrue, IsOk, OnOk, IfOk, if◌then◌else◌};
 ghost use Rattle.indexmap.specs.IndexSet.{contains};
 ghost use Rattle.object_ids.specs.declared.ids.ObjId.{ObjId};
 ghost use Rattle.object_ids.specs.Same.{same_key};
 ghost use Rattle.dgc_server.specs.Numbers.{is_remembered};
-ghost use Rattle.dgc_server.specs.Entry.{object_entries, each_has_number, numbers_of, is_in, fresh_in, object_noted, objects_noted, objects_after, tenure_forgotten, call_counts};
+ghost use Rattle.dgc_server.specs.Entry.{object_entries, each_has_number, numbers_of, is_in, has_object, fresh_in, absent_in, room_for, object_noted, objects_noted, objects_after, with_numbers, tenure_forgotten, call_counts};
 ghost use Rattle.dgc_server.specs.Stands.{each_once};
 ghost use Rattle.dgc_server.specs.Index.{Way, counted_at, has_count, one_if, counts_in, is_named};
 
 use crate::few_marks::equal;
 use crate::holders::{self, Counts, Place, Share};
 pub use crate::mark_list::Marks;
+use crate::numbers::Numbers;
 use history::CallKind;
 use indexmap::IndexSet;
 use object_ids::ObjId;
@@ -129,8 +130,43 @@ pub fn keep_named(objects: &mut Marks, counts: &Counts) -> usize
     before - objects.len()
 }
 
-/// Notes a call of this kind and number that names these objects, for which there is room. Where `left` says that the client has no
-/// time left, its tenure is forgotten first. The counts change with what the client holds and names: what it held before the call counts if
+/// Makes room for a call that names these objects: for those that are not there, and where the client has no time left for all, since those
+/// that are there may go before the call is noted. Where there is room, all stays as it is. It is refused only for want of memory, and then
+/// all is as it was.
+pub fn make_room(objects: &mut Marks, named: &[ObjId], left: bool) -> Result<(), AllocError>
+    requires { IsTrue (each_once (object_entries objects.old.entries)) }
+    ensures entries { objects.new.entries ≡ objects.old.entries }
+    ensures room { OnOk result (room_for left (object_entries objects.new.entries) named.now ≤ objects.new.room) }
+    ensures fits { room_for left (object_entries objects.old.entries) named.now ≤ objects.old.room → IsOk result }
+    ensures same { room_for left (object_entries objects.old.entries) named.now ≤ objects.old.room → objects.new ≡ objects.old }
+{
+    if named.len() <= objects.room() {
+        return Ok(());
+    }
+    let more = room_wanted(objects, named, left);
+    objects.make_room(more)
+}
+
+/// For how many objects a call that names these wants room, where the client has time left or has not.
+fn room_wanted(objects: &Marks, named: &[ObjId], left: bool) -> usize
+    ensures { result ≡ room_for left (object_entries objects.now.entries) named.now }
+{
+    if left {
+        absent_count(objects, named)
+    } else {
+        named.len()
+    }
+}
+
+/// How many of these objects are not there, each as often as it is named.
+fn absent_count(objects: &Marks, named: &[ObjId]) -> usize
+    ensures { result ≡ absent_in (object_entries objects.now.entries) named.now }
+{
+    named.iter().filter(|object| !objects.names(object)).count()
+}
+
+/// Notes a call of this kind and number that names these objects, for which `make_room` made room. Where `left` is false, the client has no
+/// time left, and its tenure is forgotten first. The counts change with what the client holds and names: what it held before the call counts if
 /// `held` says so. They note its place in the list of clients.
 pub fn note(
     objects: &mut Marks,
@@ -142,7 +178,7 @@ pub fn note(
     held: bool,
     place: Place,
 )
-    requires room { length named.now ≤ objects.old.room }
+    requires room { room_for left (object_entries objects.old.entries) named.now ≤ objects.old.room }
     requires once { IsTrue (each_once (object_entries objects.old.entries)) }
     requires has { (o : ObjId) → is_in o named.now ≡ true → has_count counts.old o ≡ true }
     requires enough { (w : Way) (o : ObjId) → one_if (counts_in w held (object_entries objects.old.entries) o) ≤ counted_at w counts.old o }
@@ -186,7 +222,7 @@ fn settle(objects: &mut Marks, counts: &mut Counts, left: bool, held: bool)
     }
 }
 
-/// Notes a call of this kind and number at each of these objects, for which there is room.
+/// Notes a call of this kind and number at each of these objects. For those that are not there, there is room.
 fn note_all(
     objects: &mut Marks,
     counts: &mut Counts,
@@ -195,7 +231,7 @@ fn note_all(
     number: &i64,
     place: Place,
 )
-    requires room { length named.now ≤ objects.old.room }
+    requires room { absent_in (object_entries objects.old.entries) named.now ≤ objects.old.room }
     requires has { (o : ObjId) → is_in o named.now ≡ true → has_count counts.old o ≡ true }
     requires enough { (w : Way) (o : ObjId) → one_if (counts_in w true (object_entries objects.old.entries) o) ≤ counted_at w counts.old o }
     requires few { (w : Way) (o : ObjId) → counted_at w counts.old o < 2 ^ 31 }
@@ -208,7 +244,7 @@ fn note_all(
     }
 }
 
-/// Notes a call of this kind and number at an object, for which there is room.
+/// Notes a call of this kind and number at an object, for which there is room if it is not there.
 fn note_one(
     objects: &mut Marks,
     counts: &mut Counts,
@@ -217,7 +253,7 @@ fn note_one(
     number: &i64,
     place: Place,
 )
-    requires room { 0 < objects.old.room }
+    requires room { has_object (object_entries objects.old.entries) object.now ≡ false → 0 < objects.old.room }
     requires has { has_count counts.old object.now ≡ true }
     requires enough { (w : Way) → one_if (counts_in w true (object_entries objects.old.entries) object.now) ≤ counted_at w counts.old object.now }
     requires few { (w : Way) → counted_at w counts.old object.now ≤ 2 ^ 31 }
@@ -225,12 +261,12 @@ fn note_one(
     ensures counts { (w : Way) (o : ObjId) → counted_at w counts.new o + one_if (counts_in w true (object_entries objects.old.entries) o)
         ≡ counted_at w counts.old o + one_if (counts_in w true (object_entries objects.new.entries) o) }
     ensures kept { (o : ObjId) → has_count counts.old o ≡ true → has_count counts.new o ≡ true }
-    ensures room { objects.old.room ≤ objects.new.room + 1 }
+    ensures room { objects.old.room ≤ objects.new.room + (if has_object (object_entries objects.old.entries) object.now then 0 else 1) }
 {
     let names = objects.names(object);
     let before = objects.numbers_of(object);
     let after = before.noted(kind, number);
-    objects.put(object, &after);
+    put(objects, object, &after, names);
     let share = Share {
         holds: before.is_dirty_highest(),
         names,
@@ -240,4 +276,18 @@ fn note_one(
         names: true,
     };
     holders::shift(counts, object, share, next, place);
+}
+
+/// Sets the numbers of an object, which is there if `is_there` says so. If it is not, there is room.
+fn put(objects: &mut Marks, object: &ObjId, numbers: &Numbers, is_there: bool)
+    requires there { is_there ≡ has_object (object_entries objects.old.entries) object.now }
+    requires room { is_there ≡ false → 0 < objects.old.room }
+    ensures objects { object_entries objects.new.entries ≡ with_numbers object.now numbers.now (object_entries objects.old.entries) }
+    ensures room { objects.old.room ≤ objects.new.room + (if is_there then 0 else 1) }
+{
+    if is_there {
+        objects.replace(object, numbers);
+    } else {
+        objects.add(object, numbers);
+    }
 }

@@ -1,14 +1,15 @@
 //! What is asked of the clients, chunk by chunk where it is asked of all.
 ghost use Rattle.std.specs.Prelude.{◌≡◌, ◌+◌, ◌<◌, ◌≤◌, ◌↔◌, length, filter, map, IfOk, IsTrue};
-ghost use Rattle.std.specs.List.{list_any, list_all};
+ghost use Rattle.std.specs.List.{list_any, list_all, AllByRecursion};
 ghost use Rattle.history.specs.declared.limits.TheConstants.{MAX_CLIENTS, MAX_PAIRS};
 ghost use Rattle.dgc_server.specs.Entry.{each_has_number, entry_holds, has_time_left, row_of};
 ghost use Rattle.dgc_server.specs.Stands.{is_in_order};
 ghost use Rattle.dgc_server.specs.Index.{sums_at};
+ghost use Rattle.dgc_server.specs.Chunks.{all_of, IsBounded};
 ghost use Rattle.dgc_server.specs.Table.{entry_of, clients_after, fresh_pairs, pairs_after};
 ghost use Rattle.dgc_server.specs.Table.{remembered as remembered_at};
 
-use crate::clients::Clients;
+use crate::clients::{Chunk, Clients};
 use crate::marks::{Marks, counts_for, fresh_count};
 use crate::table::{self, Sums};
 use history::limits::{MAX_CLIENTS, MAX_PAIRS};
@@ -18,7 +19,7 @@ use std::alloc::{AllocError, Global};
 
 /// How many clients something is kept of.
 pub fn len(clients: &Clients) -> u128
-    ensures { result ≡ length clients.now }
+    ensures { result ≡ length clients.now.entries }
 {
     let chunks = clients.chunks();
     let mut sum: u128 = 0;
@@ -30,7 +31,7 @@ pub fn len(clients: &Clients) -> u128
 
 /// Whether some client holds an object.
 pub fn is_held(clients: &Clients, object: &ObjId, at: u64) -> bool
-    ensures { result ≡ list_any (entry_holds at object.now) clients.now }
+    ensures { result ≡ list_any (entry_holds at object.now) clients.now.entries }
 {
     let chunks = clients.chunks();
     for chunk in chunks {
@@ -43,7 +44,7 @@ pub fn is_held(clients: &Clients, object: &ObjId, at: u64) -> bool
 
 /// How many clients hold an object.
 pub fn holders(clients: &Clients, object: &ObjId, at: u64) -> u128
-    ensures { result ≡ length (filter (entry_holds at object.now) clients.now) }
+    ensures { result ≡ length (filter (entry_holds at object.now) clients.now.entries) }
 {
     let chunks = clients.chunks();
     let mut sum: u128 = 0;
@@ -53,48 +54,41 @@ pub fn holders(clients: &Clients, object: &ObjId, at: u64) -> u128
     sum
 }
 
-/// How many clients have time left.
-fn with_time_left(clients: &Clients, at: u64) -> u128
-    ensures { result ≡ length (filter (has_time_left at) clients.now) }
+/// The sums over all clients at a moment that is no earlier than their own, where `sums` are those at their own. It looks at the clients of the
+/// chunks in which a lease may end by then.
+pub fn sums_by(clients: &Clients, sums: Sums, at: u64) -> Sums
+    requires later { clients.now.moment ≤ at }
+    requires numbered { IsTrue (list_all (λ e. each_has_number e.objects) clients.now.entries) }
+    requires sums { sums ≡ sums_at clients.now.moment clients.now.entries }
+    ensures { result ≡ sums_at at clients.now.entries }
 {
-    let chunks = clients.chunks();
-    let mut sum: u128 = 0;
-    for chunk in chunks {
-        sum += table::with_time_left(&chunk.entries, at) as u128;
-    }
-    sum
+    sums_in(clients.chunks(), sums, clients.next(), clients.moment(), at)
 }
 
-/// How many pairs of a client and an object are remembered.
-pub fn remembered_pairs(clients: &Clients, at: u64) -> u128
-    requires numbered { IsTrue (list_all (λ e. each_has_number e.objects) clients.now) }
-    requires few { remembered_at at clients.now ≤ 262144 }
-    ensures { result ≡ remembered_at at clients.now }
+/// The sums over the clients of these chunks at the moment `to`, where `sums` are those at `from`. It passes over chunks in which nothing is due.
+fn sums_in(chunks: &[Chunk], sums: Sums, next: u64, from: u64, to: u64) -> Sums
+    requires later { from ≤ to }
+    requires numbered { IsTrue (list_all (λ e. each_has_number e.objects) (all_of chunks.now)) }
+    requires sums { sums ≡ sums_at from (all_of chunks.now) }
+    requires bounded { AllByRecursion (IsBounded from next) chunks.now }
+    ensures { result ≡ sums_at to (all_of chunks.now) }
 {
-    let chunks = clients.chunks();
-    let mut sum: u128 = 0;
+    if to < next {
+        return sums;
+    }
+    let mut so_far = sums;
     for chunk in chunks {
-        sum += table::remembered_pairs(&chunk.entries, at);
+        if to < chunk.least {
+            continue;
+        }
+        so_far = table::sums_after(so_far, &chunk.entries, from, to);
     }
-    sum
-}
-
-/// The sums over all clients at a moment.
-pub fn sums_at(clients: &Clients, at: u64) -> Sums
-    requires numbered { IsTrue (list_all (λ e. each_has_number e.objects) clients.now) }
-    requires few { length (filter (has_time_left at) clients.now) ≤ 65536 }
-    requires small { remembered_at at clients.now ≤ 262144 }
-    ensures { result ≡ sums_at at clients.now }
-{
-    Sums {
-        leased: with_time_left(clients, at) as usize,
-        pairs: remembered_pairs(clients, at),
-    }
+    so_far
 }
 
 /// The clients with time left, in order, with the ends of their leases.
 pub fn rows(alloc: Global, clients: &Clients, at: u64) -> Result<LeaseList, AllocError>
-    ensures { IfOk result (λ rows. rows ≡ map row_of (filter (has_time_left at) clients.now)) }
+    ensures { IfOk result (λ rows. rows ≡ map row_of (filter (has_time_left at) clients.now.entries)) }
 {
     let chunks = clients.chunks();
     let mut rows = LeaseList::new(alloc);
@@ -108,8 +102,8 @@ pub fn rows(alloc: Global, clients: &Clients, at: u64) -> Result<LeaseList, Allo
 
 /// Whether a client has time left.
 fn is_leased(clients: &Clients, client: &Vmid, at: u64) -> bool
-    requires { IsTrue (is_in_order clients.now) }
-    ensures { result ≡ has_time_left at (entry_of clients.now client.now) }
+    requires { IsTrue (is_in_order clients.now.entries) }
+    ensures { result ≡ has_time_left at (entry_of clients.now.entries client.now) }
 {
     match clients.find(client) {
         Some(entry) => entry.has_time_left(at),
@@ -119,10 +113,10 @@ fn is_leased(clients: &Clients, client: &Vmid, at: u64) -> bool
 
 /// How many clients have time left after a dirty of this one, where so many have now.
 fn clients_after(clients: &Clients, client: &Vmid, at: u64, leased: usize) -> usize
-    requires ordered { IsTrue (is_in_order clients.now) }
-    requires counted { leased ≡ length (filter (has_time_left at) clients.now) }
+    requires ordered { IsTrue (is_in_order clients.now.entries) }
+    requires counted { leased ≡ length (filter (has_time_left at) clients.now.entries) }
     requires few { leased ≤ 65536 }
-    ensures { result ≡ clients_after clients.now client.now at }
+    ensures { result ≡ clients_after clients.now.entries client.now at }
 {
     if is_leased(clients, client, at) {
         leased
@@ -134,10 +128,10 @@ fn clients_after(clients: &Clients, client: &Vmid, at: u64, leased: usize) -> us
 /// Whether more clients have time left after a dirty of this one than can be, where so many have now. It looks for the client only where as
 /// many have as can be.
 pub fn is_past_clients(clients: &Clients, client: &Vmid, at: u64, leased: usize) -> bool
-    requires ordered { IsTrue (is_in_order clients.now) }
-    requires counted { leased ≡ length (filter (has_time_left at) clients.now) }
+    requires ordered { IsTrue (is_in_order clients.now.entries) }
+    requires counted { leased ≡ length (filter (has_time_left at) clients.now.entries) }
     requires few { leased ≤ 65536 }
-    ensures { IsTrue result ↔ (MAX_CLIENTS < clients_after clients.now client.now at) }
+    ensures { IsTrue result ↔ (MAX_CLIENTS < clients_after clients.now.entries client.now at) }
 {
     leased as u64 >= MAX_CLIENTS && clients_after(clients, client, at, leased) as u64 > MAX_CLIENTS
 }
@@ -151,8 +145,8 @@ fn fresh_pairs(
     named: &[ObjId],
     at: u64,
 ) -> usize
-    requires { IsTrue (is_in_order clients.now) }
-    ensures { result ≡ fresh_pairs at clients.now client.now kind named.now }
+    requires { IsTrue (is_in_order clients.now.entries) }
+    ensures { result ≡ fresh_pairs at clients.now.entries client.now kind named.now }
 {
     match clients.find(client) {
         Some(entry) if counts_for(kind, entry.has_time_left(at)) => {
@@ -174,10 +168,10 @@ fn pairs_after(
     at: u64,
     remembered: u128,
 ) -> u128
-    requires ordered { IsTrue (is_in_order clients.now) }
-    requires counted { remembered ≡ remembered_at at clients.now }
+    requires ordered { IsTrue (is_in_order clients.now.entries) }
+    requires counted { remembered ≡ remembered_at at clients.now.entries }
     requires few { remembered ≤ 262144 }
-    ensures { result ≡ pairs_after at clients.now client.now kind named.now }
+    ensures { result ≡ pairs_after at clients.now.entries client.now kind named.now }
 {
     remembered + fresh_pairs(alloc, clients, client, kind, named, at) as u128
 }
@@ -193,10 +187,10 @@ pub fn is_past_pairs(
     at: u64,
     remembered: u128,
 ) -> bool
-    requires ordered { IsTrue (is_in_order clients.now) }
-    requires counted { remembered ≡ remembered_at at clients.now }
+    requires ordered { IsTrue (is_in_order clients.now.entries) }
+    requires counted { remembered ≡ remembered_at at clients.now.entries }
     requires few { remembered ≤ 262144 }
-    ensures { IsTrue result ↔ (MAX_PAIRS < pairs_after at clients.now client.now kind named.now) }
+    ensures { IsTrue result ↔ (MAX_PAIRS < pairs_after at clients.now.entries client.now kind named.now) }
 {
     let most = MAX_PAIRS as u128;
     remembered + named.len() as u128 > most

@@ -1,11 +1,11 @@
 //! Lists of clients, in the order of clients: those of one chunk.
-ghost use Rattle.std.specs.Prelude.{◌≡◌, true, ◌++◌, ◌+◌, ◌<◌, ◌≤◌, ◌^◌, length, filter, map, nat_lt, min, insert, remove, slice_set, OnOk, OnErr, IfOk, IsTrue, unwrap_or, MatchResult, vec_len, vec_capacity, slice_index_or, if◌then◌else◌};
-ghost use Rattle.std.specs.List.{list_any, list_all};
+ghost use Rattle.std.specs.Prelude.{◌≡◌, ℕ, true, ◌++◌, ◌+◌, ◌<◌, ◌≤◌, ◌^◌, length, filter, map, nat_lt, min, insert, remove, slice_set, OnOk, OnErr, IfOk, IsTrue, unwrap_or, MatchResult, vec_len, vec_capacity, slice_index_or, if◌then◌else◌};
+ghost use Rattle.std.specs.List.{list_any, list_all, AllByRecursion};
 ghost use Rattle.std.specs.Option.{option_copied};
 ghost use Rattle.object_ids.specs.declared.ids.ObjId.{ObjId};
 ghost use Rattle.dgc_server.specs.Entry.{Entry, each_has_number, is_in, entry_without, is_entry_kept, has_time_left, entry_holds, row_of};
 ghost use Rattle.dgc_server.specs.Stands.{each_once, is_in_order, entry_after};
-ghost use Rattle.dgc_server.specs.Index.{Way, counted_at, has_count, is_counted, is_named, with_only, object_count, objects_in, one_if, entry_names, entry_sums, IsNoted};
+ghost use Rattle.dgc_server.specs.Index.{Way, counted_at, has_count, is_counted, is_named, with_only, object_count, objects_in, one_if, entry_names, entry_sums, bound_of, IsSettled, IsCalm, IsNoted};
 ghost use Rattle.dgc_server.specs.Table.{entry_of, no_entry, IsPlaceOf, with_entry, remembered};
 
 use crate::entry::{ClientEntry, LeaseCall};
@@ -63,7 +63,7 @@ fn place_of(entries: &[ClientEntry], client: &Vmid) -> Result<usize, usize>
     Err(low)
 }
 
-/// Notes a call of a client in the chunk of this number, by which a lease of this duration begins if it is a dirty, and answers what it changed.
+/// Notes a call of a client in the chunk of this index, by which a lease of this duration begins if it is a dirty, and answers what it changed.
 /// The counts and sums are those of the moment `from`. It is refused only for want of memory, and then all is as it was.
 pub fn note(
     alloc: Global,
@@ -73,7 +73,7 @@ pub fn note(
     call: &LeaseCall<'_>,
     lease: u64,
     from: u64,
-    number: usize,
+    at_chunk: usize,
 ) -> Result<Noted, AllocError>
     requires later { from ≤ call.now.at }
     requires early { call.now.at < 2 ^ 62 }
@@ -103,7 +103,7 @@ pub fn note(
             call,
             lease,
             from,
-            Place::hint(number, place),
+            Place::hint(at_chunk, place),
         ),
         Err(place) => {
             entries.reserve(1)?;
@@ -114,7 +114,7 @@ pub fn note(
                 call,
                 lease,
                 from,
-                Place::hint(number, place),
+                Place::hint(at_chunk, place),
             )?;
             insert_within(entries, place, entry);
             Ok(noted)
@@ -156,21 +156,22 @@ fn note_entry(
     })
 }
 
-/// Inserts an entry, for which there is room.
-fn insert_within(entries: &mut Vec<ClientEntry>, place: usize, entry: ClientEntry)
-    requires room { vec_len entries.old < vec_capacity entries.old }
-    requires within { place ≤ vec_len entries.old }
-    ensures { entries.new.items ≡ insert entries.old.items place entry }
+/// Inserts an element, for which there is room.
+pub fn insert_within<T: Drop>(list: &mut Vec<T>, place: usize, element: T)
+    requires room { vec_len list.old < vec_capacity list.old }
+    requires within { place ≤ vec_len list.old }
+    ensures { list.new.items ≡ insert list.old.items place element }
 {
-    match entries.insert(place, entry) {
+    match list.insert(place, element) {
         Ok(()) => {}
         Err(_refused) => {}
     }
 }
 
-/// A moment before which no lease ends, where none ended before another one and one was noted since that ends then; 0 where nothing can be said.
+/// A moment before which no lease ends, where none ends before `bound` and one that ends at `until` was noted at the moment `at`; 0 where that one
+/// has no time left.
 pub fn bound_with(bound: u64, until: u64, at: u64) -> u64
-    ensures { result ≡ (if nat_lt at until then min bound until else 0) }
+    ensures { result ≡ bound_of at bound until }
 {
     if at < until { bound.min(until) } else { 0 }
 }
@@ -180,7 +181,7 @@ pub fn walk(
     entries: &mut Vec<ClientEntry>,
     object: &ObjId,
     clients: u32,
-    from: usize,
+    first: usize,
     at: u64,
 ) -> u32
     requires kept { IsTrue (list_all (is_entry_kept at) entries.old.items) }
@@ -190,10 +191,11 @@ pub fn walk(
     ensures kept { IsTrue (list_all (is_entry_kept at) entries.new.items) }
     ensures counted { result + length (filter (entry_names object.now) entries.old.items)
         ≡ clients + length (filter (entry_names object.now) entries.new.items) }
-    ensures all { from ≡ 0 → length (filter (entry_names object.now) entries.new.items) ≡ 0 }
+    ensures all { first ≡ 0 → length (filter (entry_names object.now) entries.new.items) ≡ 0 }
+    ensures settled { (n : ℕ) → AllByRecursion (IsSettled at n) entries.old.items → AllByRecursion (IsSettled at n) entries.new.items }
 {
     let mut to_go = clients;
-    let mut i = from;
+    let mut i = first;
     while i < entries.len() {
         if to_go == 0 {
             return 0;
@@ -210,14 +212,20 @@ pub fn walk(
 
 /// From a place on keeps of each client the objects that are named, where at most so many pairs are to go, and answers how many are left of that
 /// number.
-pub fn keep_named(entries: &mut Vec<ClientEntry>, counts: &Counts, pairs: u128, from: usize) -> u128
+pub fn keep_named(
+    entries: &mut Vec<ClientEntry>,
+    counts: &Counts,
+    pairs: u128,
+    first: usize,
+) -> u128
     requires { objects_in entries.old.items ≤ pairs + objects_in (map (with_only (is_named counts.now)) entries.old.items) }
     ensures same { map (with_only (is_named counts.now)) entries.new.items ≡ map (with_only (is_named counts.now)) entries.old.items }
     ensures to_go { result + objects_in entries.old.items ≡ pairs + objects_in entries.new.items }
-    ensures all { from ≡ 0 → entries.new.items ≡ map (with_only (is_named counts.now)) entries.old.items }
+    ensures all { first ≡ 0 → entries.new.items ≡ map (with_only (is_named counts.now)) entries.old.items }
+    ensures calm { (m n : ℕ) → AllByRecursion (IsCalm m n) entries.old.items → AllByRecursion (IsCalm m n) entries.new.items }
 {
     let mut to_go = pairs;
-    let mut i = from;
+    let mut i = first;
     while i < entries.len() {
         if to_go == 0 {
             return 0;
@@ -324,6 +332,25 @@ pub fn remembered_pairs(entries: &[ClientEntry], at: u64) -> u128
         sum += entry.remembered(at) as u128;
     }
     sum
+}
+
+/// The sums as time passes from one moment to another, where these are of the clients of a chunk and others.
+pub fn sums_after(sums: Sums, entries: &[ClientEntry], from: u64, to: u64) -> Sums
+    requires later { from ≤ to }
+    requires numbered { IsTrue (list_all (λ e. each_has_number e.objects) entries.now) }
+    requires leased { length (filter (has_time_left from) entries.now) ≤ sums.leased }
+    requires pairs { remembered from entries.now ≤ sums.pairs }
+    ensures leased { result.leased + length (filter (has_time_left from) entries.now) ≡ sums.leased + length (filter (has_time_left to) entries.now) }
+    ensures pairs { result.pairs + remembered from entries.now ≡ sums.pairs + remembered to entries.now }
+{
+    let before = with_time_left(entries, from);
+    let leased = with_time_left(entries, to);
+    let remembered = remembered_pairs(entries, from);
+    let pairs = remembered_pairs(entries, to);
+    Sums {
+        leased: sums.leased - before + leased,
+        pairs: sums.pairs - remembered + pairs,
+    }
 }
 
 /// The sums without so many pairs.

@@ -1,7 +1,9 @@
-use Rattle.std.proofs.Common.{◌≡◌, length, refl, ap, sym, ◌∙◌}
+use Rattle.std.proofs.Common.{◌≡◌, length, refl, ap, sym, subst, ◌∙◌}
 use Rattle.std.specs.Prelude.{filter}
+use Rattle.std.specs.List.{AllByRecursion}
+use Rattle.history.proofs.ListLemmas.{every-filter}
 use Rattle.dgc_server.specs.Index.{entry_names}
-use Rattle.dgc_server.specs.Chunks.{all_of}
+use Rattle.dgc_server.specs.Chunks.{all_of, is_filled, IsBounded}
 use Rattle.dgc_server.proofs.Walking.{walked-all}
 use Rattle.dgc_server.proofs.Chunked.{filled-all, all-filled}
 use Rattle.dgc_server.proofs.drops.drop_object.Goals as goal
@@ -15,3 +17,8 @@ returns-clause-entries c =
 
 pub returns-clause-filled : goal.returns-clause-filled
 returns-clause-filled c = rw (c.keep_filled.ensures) (all-filled c.walk.new.chunks.items)
+
+pub returns-clause-bounded : goal.returns-clause-bounded
+returns-clause-bounded c = λ n a.
+    subst (AllByRecursion (IsBounded c.args.at n)) (sym c.keep_filled.ensures)
+    (every-filter (IsBounded c.args.at n) is_filled c.walk.new.chunks.items (c.walk.ensures.bounded n (c.walk-to_go.ensures.bounded n a)))

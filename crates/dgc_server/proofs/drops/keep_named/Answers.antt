@@ -1,16 +1,17 @@
-use Rattle.std.proofs.Common.{rules, ◌≡◌, ◌+◌, ◌<◌, ◌++◌, ◌∷◌, [], length, map, take, get_or, refl, ap, sym, ◌∙◌, arith}
+use Rattle.std.proofs.Common.{rules, ◌≡◌, ◌+◌, ◌<◌, ◌++◌, ◌∷◌, [], length, map, take, get_or, refl, ap, sym, subst, ◌∙◌, arith}
 use Rattle.std.specs.Prelude.{slice_set, vec_len}
 use Rattle.std.proofs.lemmas.List.{append-nil, map-append}
 use Rattle.dgc_server.specs.declared.clients.Chunk.{Chunk}
 use Rattle.dgc_server.specs.Index.{is_named, with_only, objects_in}
-use Rattle.dgc_server.specs.Chunks.{all_of}
+use Rattle.dgc_server.specs.Chunks.{all_of, IsCalmChunk}
 use Rattle.dgc_server.proofs.Chunked.{all-append, set-same, set-counts}
 use Rattle.dgc_server.proofs.Moving.{objects-append, only-part, take-set-next, take-end}
 use Rattle.dgc_server.proofs.Purging.{only-none, only-only}
+use Rattle.dgc_server.proofs.Board.{every-at, every-set}
 use Rattle.dgc_server.proofs.drops.keep_named.Goals as goal
 
 pub loop-i-init : goal.loop-i-init
-loop-i-init c = record { same = refl; to_go = c.requires; first = λ z. z; front = λ z y. rw z refl }
+loop-i-init c = record { same = refl; to_go = c.requires; calm = λ m n a. a; first = λ z. z; front = λ z y. rw z refl }
 
 pub keep_named-to_go-requires : goal.keep_named-to_go-requires
 keep_named-to_go-requires c =
@@ -28,7 +29,7 @@ loop-i-preserved c =
     let cs = c.loop-i.chunks.items in
     let i = c.loop-i.i in
     let x = c.index_mut.result.now in
-    let y : Chunk = record { entries = c.keep_named-to_go.new.entries } in
+    let y : Chunk = record { entries = c.keep_named-to_go.new.entries; least = x.least } in
     let q = is_named c.args.counts.now in
     let inv = c.loop-i.invariant in
     let wide : vec_len c.loop-i.chunks ≡ length cs = search rules in let test = c.loop-i-test.true in let len = c.len.ensures in
@@ -44,6 +45,9 @@ loop-i-preserved c =
     let objects = ap objects_in whole in record {
       same = whole ∙ inv.same;
       to_go = omega arith;
+      calm = λ m n a. (let all = inv.calm m n a in
+          let own : IsCalmChunk m n x = subst (IsCalmChunk m n) (sym c.index_mut.ensures.value) (every-at (IsCalmChunk m n) cs i x here all) in
+          every-set (IsCalmChunk m n) cs i y all (record { calm = λ h. c.keep_named-to_go.ensures.calm m x.least (own.calm h); least = own.least }));
       first = λ z. refl;
       front = λ z y0.
           let done : y.entries.items ≡ map (with_only q) x.entries.items = c.keep_named-to_go.ensures.all (inv.first y0) in

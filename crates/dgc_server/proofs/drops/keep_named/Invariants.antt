@@ -1,6 +1,7 @@
-use Rattle.std.proofs.Common.{◌≡◌, ◌+◌, ◌-◌, length, map, take}
+use Rattle.std.proofs.Common.{◌≡◌, ℕ, ◌+◌, ◌-◌, length, map, take}
+use Rattle.std.specs.List.{AllByRecursion}
 use Rattle.dgc_server.specs.Index.{is_named, with_only, objects_in}
-use Rattle.dgc_server.specs.Chunks.{all_of}
+use Rattle.dgc_server.specs.Chunks.{all_of, IsCalmChunk}
 use Rattle.dgc_server.proofs.drops.keep_named.Given as goal
 
 abbrev pub decreases-loop-i : goal.decreases-loop-i
@@ -11,6 +12,7 @@ invariant-loop-i l =
     record {
       same : map (with_only (is_named l.counts)) (all_of l.chunks.items) ≡ map (with_only (is_named l.counts)) (all_of l.initial.chunks.items);
       to_go : l.to_go + objects_in (map (with_only (is_named l.counts)) (all_of l.chunks.items)) ≡ objects_in (all_of l.chunks.items);
-      first : l.from ≡ 0 → l.first ≡ 0;
-      front : l.number ≡ 0 → l.from ≡ 0 → map (with_only (is_named l.counts)) (all_of (take l.i l.chunks.items)) ≡ all_of (take l.i l.chunks.items);
+      calm : (m n : ℕ) → AllByRecursion (IsCalmChunk m n) l.initial.chunks.items → AllByRecursion (IsCalmChunk m n) l.chunks.items;
+      first : l.client ≡ 0 → l.first ≡ 0;
+      front : l.chunk ≡ 0 → l.client ≡ 0 → map (with_only (is_named l.counts)) (all_of (take l.i l.chunks.items)) ≡ all_of (take l.i l.chunks.items);
     }

@@ -1,18 +1,19 @@
-use Rattle.std.proofs.Common.{rules, ◌≡◌, ◌+◌, ◌<◌, ◌++◌, ◌∷◌, [], length, filter, take, ap, sym, ◌∙◌, arith, refl}
+use Rattle.std.proofs.Common.{rules, ◌≡◌, ◌+◌, ◌<◌, ◌++◌, ◌∷◌, [], length, filter, take, ap, sym, subst, ◌∙◌, arith, refl}
 use Rattle.std.specs.Prelude.{vec_len, slice_set}
 use Rattle.std.specs.List.{list_all}
 use Rattle.dgc_server.specs.declared.clients.Chunk.{Chunk}
 use Rattle.dgc_server.specs.Entry.{is_entry_kept}
 use Rattle.dgc_server.specs.Index.{entry_names}
-use Rattle.dgc_server.specs.Chunks.{all_of}
+use Rattle.dgc_server.specs.Chunks.{all_of, IsBounded}
 use Rattle.dgc_server.proofs.Walking.{rest_of}
 use Rattle.dgc_server.proofs.Chunked.{all-append, all-part, set-same, set-counts, set-all, part-fewer}
 use Rattle.dgc_server.proofs.Moving.{many-append, rest-append, take-set-next, take-end}
 use Rattle.std.proofs.lemmas.List.{append-nil}
+use Rattle.dgc_server.proofs.Board.{every-at, every-set, part-bounded}
 use Rattle.dgc_server.proofs.drops.walk.Goals as goal
 
 pub loop-i-init : goal.loop-i-init
-loop-i-init c = record { same = refl; kept = c.requires.kept; counted = c.requires.counted; first = λ z. z; front = λ z y. rw z refl }
+loop-i-init c = record { same = refl; kept = c.requires.kept; counted = c.requires.counted; bounded = λ n a. a; first = λ z. z; front = λ z y. rw z refl }
 
 pub walk-to_go-requires-clause-kept : goal.walk-to_go-requires-clause-kept
 walk-to_go-requires-clause-kept c =
@@ -34,7 +35,7 @@ loop-i-preserved c =
     let i = c.loop-i.i in
     let names = entry_names c.args.object.now in
     let x = c.index_mut.result.now in
-    let y : Chunk = record { entries = c.walk-to_go.new.entries } in
+    let y : Chunk = record { entries = c.walk-to_go.new.entries; least = x.least } in
     let here : i < length cs = omega arith in
     let set = set-counts (λ es. length (filter names es)) (many-append names) cs i y x here in
     let same = ap (λ (z : Chunk). length (filter names z.entries.items)) c.index_mut.ensures.value in
@@ -47,6 +48,9 @@ loop-i-preserved c =
           (c.walk-to_go.ensures.same ∙ ap (λ (z : Chunk). rest_of c.args.object.now c.args.at z.entries.items) c.index_mut.ensures.value) ∙ c.loop-i.invariant.same;
       kept = set-all (is_entry_kept c.args.at) cs i y here c.loop-i.invariant.kept c.walk-to_go.ensures.kept;
       counted = omega (arith, set, same, counted, walked);
+      bounded = λ n a. (let all = c.loop-i.invariant.bounded n a in
+          let own : IsBounded c.args.at n x = subst (IsBounded c.args.at n) (sym c.index_mut.ensures.value) (every-at (IsBounded c.args.at n) cs i x here all) in
+          every-set (IsBounded c.args.at n) cs i y all (part-bounded c.args.at n x y (λ s. c.walk-to_go.ensures.settled x.least s) refl own));
       first = λ z. refl;
       front = λ z y0. (let none : length (filter names y.entries.items) ≡ 0 = c.walk-to_go.ensures.all (c.loop-i.invariant.first y0) in
           let front = c.loop-i.invariant.front z y0 in omega (arith, parted, none, front));

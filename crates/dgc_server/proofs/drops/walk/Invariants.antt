@@ -1,8 +1,8 @@
-use Rattle.std.proofs.Common.{◌≡◌, ◌-◌, length, filter, take, true}
-use Rattle.std.specs.List.{list_all}
+use Rattle.std.proofs.Common.{◌≡◌, ℕ, ◌-◌, length, filter, take, true}
+use Rattle.std.specs.List.{list_all, AllByRecursion}
 use Rattle.dgc_server.specs.Entry.{is_entry_kept}
 use Rattle.dgc_server.specs.Index.{entry_names}
-use Rattle.dgc_server.specs.Chunks.{all_of}
+use Rattle.dgc_server.specs.Chunks.{all_of, IsBounded}
 use Rattle.dgc_server.proofs.Walking.{rest_of}
 use Rattle.dgc_server.proofs.drops.walk.Given as goal
 
@@ -15,6 +15,7 @@ invariant-loop-i l =
       same : rest_of l.object l.at (all_of l.chunks.items) ≡ rest_of l.object l.at (all_of l.initial.chunks.items);
       kept : list_all (is_entry_kept l.at) (all_of l.chunks.items) ≡ true;
       counted : l.to_go ≡ length (filter (entry_names l.object) (all_of l.chunks.items));
-      first : l.from ≡ 0 → l.first ≡ 0;
-      front : l.number ≡ 0 → l.from ≡ 0 → length (filter (entry_names l.object) (all_of (take l.i l.chunks.items))) ≡ 0;
+      bounded : (n : ℕ) → AllByRecursion (IsBounded l.at n) l.initial.chunks.items → AllByRecursion (IsBounded l.at n) l.chunks.items;
+      first : l.client ≡ 0 → l.first ≡ 0;
+      front : l.chunk ≡ 0 → l.client ≡ 0 → length (filter (entry_names l.object) (all_of (take l.i l.chunks.items))) ≡ 0;
     }

@@ -1,7 +1,8 @@
-use Rattle.std.proofs.Common.{◌≡◌, ◌-◌, length, map, take, drop}
-use Rattle.dgc_server.specs.Entry.{lapsed}
+use Rattle.std.proofs.Common.{◌≡◌, ◌-◌, length, take, drop}
+use Rattle.std.specs.List.{AllByRecursion}
+use Rattle.dgc_server.specs.Table.{after_lapse}
 use Rattle.dgc_server.specs.Index.{tally_at}
-use Rattle.dgc_server.specs.Chunks.{all_of}
+use Rattle.dgc_server.specs.Chunks.{all_of, IsBounded}
 use Rattle.dgc_server.proofs.Passing.{Passing}
 use Rattle.dgc_server.proofs.lapses.pass_all.Given as goal
 
@@ -13,6 +14,7 @@ invariant-loop-i l =
     record {
       long : length l.chunks.items ≡ length l.initial.chunks.items;
       rest : drop l.i l.chunks.items ≡ drop l.i l.initial.chunks.items;
-      done : all_of (take l.i l.chunks.items) ≡ map (lapsed l.to) (all_of (take l.i l.initial.chunks.items));
+      done : all_of (take l.i l.chunks.items) ≡ after_lapse l.to (all_of (take l.i l.initial.chunks.items));
+      bounded : AllByRecursion (IsBounded l.to l.passed.next) (take l.i l.chunks.items);
       passing : Passing l.from l.to (all_of l.initial.chunks.items) (λ k. tally_at k l.initial.counts l.initial.passed.sums) (λ k. tally_at k l.counts l.passed.sums) l.passed.next (all_of (drop l.i l.initial.chunks.items));
     }

@@ -10,8 +10,7 @@ use Rattle.dgc_server.proofs.lapses.pass_each.Goals as goal
 pub loop-entry-init : goal.loop-entry-init
 loop-entry-init c = record {
   entries = refl;
-  passing = passing-first c.args.from c.args.to c.args.entries.now (λ k. tally_at k c.args.counts.now c.args.sums) c.args.next c.requires.few c.requires.early;
-  earlier = omega arith;
+  passing = passing-first c.args.from c.args.to c.args.entries.now (λ k. tally_at k c.args.counts.now c.args.sums) _ c.requires.few (let early = c.requires.early in omega arith);
 }
 
 pub loop-entry-preserved-then-has_time_left : goal.loop-entry-preserved-then-has_time_left
@@ -27,11 +26,9 @@ loop-entry-preserved-then-has_time_left c =
     let now : nat_lt c.args.to (get_or ys i d).until ≡ true = sym c.has_time_left.ensures ∙ c.if-has_time_left.true in
     let left : nat_lt c.args.to (get_or es i d).until ≡ true = ap (has_time_left c.args.to) (sym at) ∙ now in
     let least : c.min-least.result ≡ min c.loop-entry.least (get_or es i d).until = c.min-least.ensures ∙ ap (min c.loop-entry.least) (c.until.ensures ∙ ap (λ (e : Entry). e.until) at) in
-    let before = inv.earlier in
     let P : ℕ → Type 0 = λ n. Passing c.args.from c.args.to es first tally n (drop (i + 1) es) in record {
       entries = over_more (lapsed c.args.to) es ys i d (get_or ys i d) c.loop-entry-test.true c.loop-entry.auto.entries inv.entries (sym (still-same c.args.to (get_or ys i d) now));
       passing = subst P (sym least) (passing-goes-on c.args.from c.args.to es first tally c.loop-entry.least i d c.loop-entry-test.true c.requires.later inv.passing left);
-      earlier = omega arith;
     }
 
 pub end_tenure-so_far-requires-clause-enough : goal.end_tenure-so_far-requires-clause-enough
@@ -93,7 +90,6 @@ loop-entry-preserved c =
     each-tally (λ k. result k + tally_of k c.args.from (get_or ys i d) ≡ tally k + passed_of c.args.to k (get_or ys i d)) c.end_tenure-so_far.ensures.counts c.end_tenure-so_far.ensures.leased c.end_tenure-so_far.ensures.pairs in record {
       entries = over_more (lapsed c.args.to) es ys i d c.end_tenure-so_far.new.entry c.loop-entry-test.true c.loop-entry.auto.entries inv.entries c.end_tenure-so_far.ensures.entry;
       passing = passing-over c.args.from c.args.to es first tally c.loop-entry.least i d c.loop-entry-test.true c.requires.later inv.passing over result (subst P at moved);
-      earlier = inv.earlier;
     }
 
 pub returns-clause-tallies : goal.returns-clause-tallies

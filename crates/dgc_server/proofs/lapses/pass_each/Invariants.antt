@@ -1,4 +1,4 @@
-use Rattle.std.proofs.Common.{◌≡◌, ◌≤◌, ◌++◌, map, take, drop}
+use Rattle.std.proofs.Common.{◌≡◌, ◌++◌, map, take, drop}
 use Rattle.dgc_server.specs.Entry.{lapsed}
 use Rattle.dgc_server.specs.Index.{tally_at}
 use Rattle.dgc_server.proofs.Passing.{Passing}
@@ -9,5 +9,4 @@ invariant-loop-entry l =
     record {
       entries : l.entries ≡ map (lapsed l.to) (take l.entry-index l.initial.entries) ++ drop l.entry-index l.initial.entries;
       passing : Passing l.from l.to l.initial.entries (λ k. tally_at k l.initial.counts l.initial.so_far) (λ k. tally_at k l.counts l.so_far) l.least (drop l.entry-index l.initial.entries);
-      earlier : l.least ≤ l.next;
     }

@@ -1,12 +1,19 @@
-use Rattle.std.proofs.Common.{◌≡◌, ◌+◌, ap, sym, ◌∙◌, arith, length, length-drop, drop, get_or, true}
-use Rattle.dgc_server.specs.Entry.{object_entries, objects_noted}
+use Rattle.std.proofs.Common.{◌≡◌, ◌+◌, ◌≤◌, List, ap, sym, subst, ◌∙◌, arith, drop, get_or, true}
+use Rattle.object_ids.specs.declared.ids.ObjId.{ObjId}
+use Rattle.dgc_server.specs.Numbers.{noted}
+use Rattle.dgc_server.specs.Entry.{ObjectEntry, object_entries, objects_noted, numbers_of, absent_in}
 use Rattle.dgc_server.specs.Index.{counts_in}
 use Rattle.dgc_server.proofs.HolderLaws.{no_id, next-in, drop-at, at-most-one}
+use Rattle.dgc_server.proofs.Room.{absent-here, absent-next}
 use Rattle.dgc_server.proofs.marks.note_all.Goals as goal
 
 pub note_one-requires-clause-room : goal.note_one-requires-clause-room
 note_one-requires-clause-room c =
-    let room = c.loop-object.invariant.room in let long = length-drop c.loop-object.object-index c.args.named.now in let test = c.loop-object-test.true in omega arith
+    let i = c.loop-object.object-index in
+    let es = object_entries c.loop-object.objects.entries in
+    let P : List ObjId → Type 0 = λ os. absent_in es os ≤ c.loop-object.objects.room in
+    absent-here (get_or c.args.named.now i no_id) (drop (i + 1) c.args.named.now) es c.loop-object.objects.room
+    (subst P (drop-at c.args.named.now i no_id c.loop-object-test.true) c.loop-object.invariant.room)
 
 pub note_one-requires-clause-has : goal.note_one-requires-clause-has
 note_one-requires-clause-has c = c.loop-object.invariant.has _ (next-in c.args.named.now c.loop-object.object-index no_id c.loop-object-test.true)
@@ -24,11 +31,17 @@ note_one-requires-clause-few c = λ w.
 pub loop-object-preserved : goal.loop-object-preserved
 loop-object-preserved c =
     let i = c.loop-object.object-index in
+    let x = get_or c.args.named.now i no_id in
+    let es = object_entries c.loop-object.objects.entries in
+    let P : List ObjId → Type 0 = λ os. absent_in es os ≤ c.loop-object.objects.room in
+    let Q : List ObjectEntry → Type 0 = λ l. absent_in l (drop (i + 1) c.args.named.now) ≤ c.note_one.new.objects.room in
     let parted : drop i c.args.named.now ≡ _ = drop-at c.args.named.now i no_id c.loop-object-test.true in record {
       objects = c.loop-object.invariant.objects
           ∙ ap (λ os. objects_noted c.args.kind c.args.number.now os (object_entries c.loop-object.objects.entries)) parted
           ∙ ap (objects_noted c.args.kind c.args.number.now (drop (i + 1) c.args.named.now)) (sym c.note_one.ensures.objects);
       counts = λ w o. (let so_far = c.loop-object.invariant.counts w o in let step = c.note_one.ensures.counts w o in omega arith);
       has = λ o h. c.note_one.ensures.kept o (c.loop-object.invariant.has o h);
-      room = (let room = c.loop-object.invariant.room in let step = c.note_one.ensures.room in let long = ap length parted in omega arith);
+      room = subst Q (sym c.note_one.ensures.objects)
+          (absent-next x (noted c.args.kind c.args.number.now (numbers_of es x)) (drop (i + 1) c.args.named.now) es c.loop-object.objects.room c.note_one.new.objects.room
+          (subst P parted c.loop-object.invariant.room) c.note_one.ensures.room);
     }

@@ -26,7 +26,7 @@ returns-clause-counts c =
     let old = c.args.counts.now in
     let next = c.shift.new.counts in
     let before : c.is_dirty_highest.result ≡ dirty_in es o = c.is_dirty_highest.ensures ∙ ap is_dirty_highest c.numbers_of-before.ensures in
-    each-way (λ w. (p : ObjId) → counted_at w next p + one_if (counts_in w true es p) ≡ counted_at w old p + one_if (counts_in w true (object_entries c.put.new.self.entries) p))
+    each-way (λ w. (p : ObjId) → counted_at w next p + one_if (counts_in w true es p) ≡ counted_at w old p + one_if (counts_in w true (object_entries c.put.new.objects.entries) p))
     (λ p. shifted o c.noted-after.result es (counted_at Holding old) (counted_at Holding next)
     (λ q. ap (λ b. counted_at Holding next q + (if b then one_if (same_id o q) else 0)) (sym before) ∙ c.shift.ensures.counts Holding q
     ∙ ap (λ b. counted_at Holding old q + (if b then one_if (same_id o q) else 0)) c.is_dirty_highest-2.ensures) p

@@ -3,13 +3,14 @@ use Rattle.std.specs.Prelude.{slice_set, vec_len}
 use Rattle.std.proofs.lemmas.List.{length-set}
 use Rattle.std.proofs.lemmas.List.Sums.{sum_by-set}
 use Rattle.dgc_server.specs.Entry.{Entry}
-use Rattle.dgc_server.specs.Index.{is_named, with_only, object_count}
+use Rattle.dgc_server.specs.Index.{is_named, with_only, object_count, IsCalm}
 use Rattle.dgc_server.proofs.Over.{over_more}
 use Rattle.dgc_server.proofs.Purging.{any_entry, only-set, only-none, one-within, one-less}
+use Rattle.dgc_server.proofs.Board.{every-at, every-set, calm-only}
 use Rattle.dgc_server.proofs.table.keep_named.Goals as goal
 
 pub loop-i-init : goal.loop-i-init
-loop-i-init c = record { same = refl; to_go = refl; enough = c.requires; front = λ z. rw z refl; long = refl }
+loop-i-init c = record { same = refl; to_go = refl; enough = c.requires; front = λ z. rw z refl; calm = λ m n a. a; long = refl }
 
 pub loop-i-preserved : goal.loop-i-preserved
 loop-i-preserved c =
@@ -29,6 +30,7 @@ loop-i-preserved c =
       to_go = (let all = inv.to_go in omega arith);
       enough = one-less q i d es c.loop-i.to_go c.keep_at-to_go.result (c.loop-i.to_go - c.keep_at-to_go.result) within inv.enough gone (omega arith);
       front = λ z. over_more (with_only q) c.args.entries.now.items es i d (with_only q (get_or es i d)) (let long = inv.long in omega arith) inv.long (inv.front z) refl;
+      calm = λ m n a. (let all = inv.calm m n a in every-set (IsCalm m n) es i (with_only q (get_or es i d)) all (calm-only q m n (get_or es i d) (every-at (IsCalm m n) es i d within all)));
       long = length-set es i (with_only q (get_or es i d)) ∙ inv.long;
     }
 

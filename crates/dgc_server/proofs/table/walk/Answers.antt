@@ -2,6 +2,7 @@ use Rattle.std.proofs.Common.{◌≡◌, ◌<◌, rules, ap, sym, ◌∙◌, ari
 use Rattle.std.specs.Prelude.{vec_len}
 use Rattle.dgc_server.specs.Index.{entry_names, one_if}
 use Rattle.dgc_server.proofs.Walking.{changed, changed-same, changed-kept, changed-names, changed-front}
+use Rattle.dgc_server.proofs.Board.{settled-at}
 use Rattle.dgc_server.proofs.table.walk.Goals as goal
 
 pub loop-i-preserved-then-names : goal.loop-i-preserved-then-names
@@ -22,5 +23,6 @@ loop-i-preserved-then-names c =
       kept = changed-kept o m i d es within inv.kept;
       counted = (let fewer = changed-names o m i d es within in let one = ap one_if named in let counted = inv.counted in let enough = inv.enough in omega arith);
       enough = (let fewer = changed-names o m i d es within in let one = ap one_if named in let enough = inv.enough in omega arith);
+      settled = λ n a. settled-at m n o es i d within (inv.settled n a);
       front = λ z. ap (λ l. length (filter (entry_names o) l)) (changed-front o m i d es within) ∙ inv.front z;
     }

@@ -1,7 +1,7 @@
-use Rattle.std.proofs.Common.{◌≡◌, ◌+◌, ◌-◌, ◌≤◌, length, filter, take, true}
-use Rattle.std.specs.List.{list_all}
+use Rattle.std.proofs.Common.{◌≡◌, ℕ, ◌+◌, ◌-◌, ◌≤◌, length, filter, take, true}
+use Rattle.std.specs.List.{list_all, AllByRecursion}
 use Rattle.dgc_server.specs.Entry.{is_entry_kept}
-use Rattle.dgc_server.specs.Index.{entry_names}
+use Rattle.dgc_server.specs.Index.{entry_names, IsSettled}
 use Rattle.dgc_server.proofs.Walking.{rest_of}
 use Rattle.dgc_server.proofs.table.walk.Given as goal
 
@@ -15,5 +15,6 @@ invariant-loop-i l =
       kept : list_all (is_entry_kept l.at) l.entries.items ≡ true;
       counted : l.to_go + length (filter (entry_names l.object) l.initial.entries.items) ≡ l.clients + length (filter (entry_names l.object) l.entries.items);
       enough : length (filter (entry_names l.object) l.entries.items) ≤ l.to_go;
-      front : l.from ≡ 0 → length (filter (entry_names l.object) (take l.i l.entries.items)) ≡ 0;
+      settled : (n : ℕ) → AllByRecursion (IsSettled l.at n) l.initial.entries.items → AllByRecursion (IsSettled l.at n) l.entries.items;
+      front : l.first ≡ 0 → length (filter (entry_names l.object) (take l.i l.entries.items)) ≡ 0;
     }

@@ -17,7 +17,7 @@ returns-clause-counts c = λ w o.
     let until = if is_dirty_kind call.kind then call.at + c.args.lease else c.self.inside.until in
     let after = objects_after (nat_lt call.at c.self.inside.until) call.kind call.number.now call.objects.now (object_entries (box_value c.self.inside.kept).objects.entries) in
     let P : Entry → Type 0 = λ x. each_once x.objects ≡ true in
-    let before : c.make_room.new.self.entries ≡ (box_value c.self.inside.kept).objects.entries = c.make_room.ensures.entries ∙ ap (λ (k : Kept). k.objects.entries) c.deref_mut-kept.ensures.value in
+    let before : c.make_room.new.objects.entries ≡ (box_value c.self.inside.kept).objects.entries = c.make_room.ensures.entries ∙ ap (λ (k : Kept). k.objects.entries) c.deref_mut-kept.ensures.value in
     let objects : object_entries c.note.new.objects.entries ≡ after =
     c.note.ensures.objects ∙ ap (λ l. objects_after (nat_lt call.at c.self.inside.until) call.kind call.number.now call.objects.now (object_entries l)) before in
     let holds : dirty_in (object_entries c.note.new.objects.entries) o ≡ (nat_lt c.args.from c.until_after-until.result && dirty_in (object_entries c.note.new.objects.entries) o) =

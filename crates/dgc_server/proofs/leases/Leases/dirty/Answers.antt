@@ -13,7 +13,7 @@ use Rattle.dgc_server.proofs.leases.Leases.dirty.Goals as goal
 
 pub returns-then-is_past_clients-clause-clients : goal.returns-then-is_past_clients-clause-clients
 returns-then-is_past_clients-clause-clients c lease moment calls s =
-    let counted : clients_after c.self.inside.entries c.args.client.now c.at-at.result ≡ clients_with_call lease (max c.args.now moment) calls c.args.client.now =
+    let counted : clients_after c.self.inside.clients.entries c.args.client.now c.at-at.result ≡ clients_with_call lease (max c.args.now moment) calls c.args.client.now =
     ap (λ es. clients_after es c.args.client.now c.at-at.result) (ap (λ (t : LeaseTable). t.entries) c.self.view_is)
     ∙ sym (clients-told lease moment c.args.now c.at-at.result c.args.client.now c.args.self.now calls c.at-at.ensures.sound.ordered c.at-at.ensures.value s) in
     let P : ℕ → Type 0 = λ n. MAX_CLIENTS < n in
@@ -21,7 +21,7 @@ returns-then-is_past_clients-clause-clients c lease moment calls s =
 
 pub returns-then-is_past_clients-clause-pairs : goal.returns-then-is_past_clients-clause-pairs
 returns-then-is_past_clients-clause-pairs c lease moment calls s =
-    let counted : clients_after c.self.inside.entries c.args.client.now c.at-at.result ≡ clients_with_call lease (max c.args.now moment) calls c.args.client.now =
+    let counted : clients_after c.self.inside.clients.entries c.args.client.now c.at-at.result ≡ clients_with_call lease (max c.args.now moment) calls c.args.client.now =
     ap (λ es. clients_after es c.args.client.now c.at-at.result) (ap (λ (t : LeaseTable). t.entries) c.self.view_is)
     ∙ sym (clients-told lease moment c.args.now c.at-at.result c.args.client.now c.args.self.now calls c.at-at.ensures.sound.ordered c.at-at.ensures.value s) in
     let P : ℕ → Type 0 = λ n. MAX_CLIENTS < n in
@@ -30,7 +30,7 @@ returns-then-is_past_clients-clause-pairs c lease moment calls s =
 
 pub returns-in_err-note-clause-clients : goal.returns-in_err-note-clause-clients
 returns-in_err-note-clause-clients c lease moment calls s =
-    let counted : clients_after c.self.inside.entries c.args.client.now c.at-at.result ≡ clients_with_call lease (max c.args.now moment) calls c.args.client.now =
+    let counted : clients_after c.self.inside.clients.entries c.args.client.now c.at-at.result ≡ clients_with_call lease (max c.args.now moment) calls c.args.client.now =
     ap (λ es. clients_after es c.args.client.now c.at-at.result) (ap (λ (t : LeaseTable). t.entries) c.self.view_is)
     ∙ sym (clients-told lease moment c.args.now c.at-at.result c.args.client.now c.args.self.now calls c.at-at.ensures.sound.ordered c.at-at.ensures.value s) in
     let Q : ℕ → Type 0 = λ n. MAX_CLIENTS < n in
@@ -41,7 +41,7 @@ returns-in_err-note-clause-clients c lease moment calls s =
 
 pub returns-in_err-note-clause-pairs : goal.returns-in_err-note-clause-pairs
 returns-in_err-note-clause-pairs c lease moment calls s =
-    let counted : clients_after c.self.inside.entries c.args.client.now c.at-at.result ≡ clients_with_call lease (max c.args.now moment) calls c.args.client.now =
+    let counted : clients_after c.self.inside.clients.entries c.args.client.now c.at-at.result ≡ clients_with_call lease (max c.args.now moment) calls c.args.client.now =
     ap (λ es. clients_after es c.args.client.now c.at-at.result) (ap (λ (t : LeaseTable). t.entries) c.self.view_is)
     ∙ sym (clients-told lease moment c.args.now c.at-at.result c.args.client.now c.args.self.now calls c.at-at.ensures.sound.ordered c.at-at.ensures.value s) in
     let pairs : pairs_with_call lease calls (dirty_call (max c.args.now moment) c.args.client.now c.args.number c.args.objects.now) ≡ pairs_after c.at-at.result c.args.self.now.entries c.args.client.now Dirty c.args.objects.now =
@@ -62,7 +62,7 @@ returns-clause-ok c lease moment calls s =
 
 pub returns-clause-clients : goal.returns-clause-clients
 returns-clause-clients c lease moment calls s =
-    let counted : clients_after c.self.inside.entries c.args.client.now c.at-at.result ≡ clients_with_call lease (max c.args.now moment) calls c.args.client.now =
+    let counted : clients_after c.self.inside.clients.entries c.args.client.now c.at-at.result ≡ clients_with_call lease (max c.args.now moment) calls c.args.client.now =
     ap (λ es. clients_after es c.args.client.now c.at-at.result) (ap (λ (t : LeaseTable). t.entries) c.self.view_is)
     ∙ sym (clients-told lease moment c.args.now c.at-at.result c.args.client.now c.args.self.now calls c.at-at.ensures.sound.ordered c.at-at.ensures.value s) in
     let Q : ℕ → Type 0 = λ n. MAX_CLIENTS < n in
