@@ -1,6 +1,6 @@
 -- How what is written is put together, and that it is spelled.
-use Rattle.std.proofs.Common.{◌≡◌, ℕ, zero, suc, ◌+◌, ◌-◌, ◌<◌, ◌≤◌, Bool, true, false, ltb, List, [], ◌∷◌, ◌++◌, map, length, drop, Some, Result, Ok, Err, slice_get, get_or, refl, sym, ap, ◌∙◌, ◌≢◌, append_assoc, arith}
-use Rattle.std.specs.Int.{w16, w32, w64, to_be_bytes, cast_unsigned, from_bool}
+use Rattle.std.proofs.Common.{◌≡◌, ℕ, zero, suc, ◌+◌, ◌-◌, ◌<◌, ◌≤◌, Bool, true, false, ltb, List, [], ◌∷◌, ◌++◌, map, length, drop, None, Some, Result, Ok, Err, slice_get, get_or, if◌then◌else◌, refl, sym, ap, ◌∙◌, ◌≢◌, append_assoc, arith}
+use Rattle.std.specs.Int.{w32, w64, to_be_bytes, cast_unsigned, from_bool}
 use Rattle.std.proofs.lemmas.Bool.{lt-ltb, le-ltb}
 use Rattle.std.proofs.lemmas.List.{append-nil}
 use Rattle.std.specs.List.{flat_map}
@@ -14,15 +14,15 @@ use Rattle.ser_values.specs.declared.value.Value.TheVariants as values
 use Rattle.ser_values.specs.declared.value.Values.{Values}
 use Rattle.ser_values.specs.declared.value.Values.TheVariants as kinds
 use Rattle.ser_values.specs.declared.node.Node.{Node}
-use Rattle.class_desc.specs.declared.desc.ClassDesc.{ClassDesc}
-use Rattle.class_desc.specs.declared.desc.ProxyDesc.{ProxyDesc}
+use Rattle.class_desc.specs.declared.field.FieldDesc.{FieldDesc}
 use Rattle.ser_values.specs.declared.value.Part.{Part}
-use Rattle.ser_values.specs.declared.node.Node.TheVariants.{Desc, Proxy}
+use Rattle.ser_values.specs.declared.node.Node.TheVariants.{Text, Desc, Proxy, Object, Array, Class, Enum}
 use Rattle.ser_values.specs.declared.node.Place.TheVariants as places
-use Rattle.ser_values.specs.Shape.{count_of}
-use Rattle.ser_values.specs.Spelled.{put_block, Token, raw, truth, want, note, short_text, field_tokens, value_token, element_tokens, part_tokens}
+use Rattle.ser_values.specs.Shape.{is_short, count_of}
+use Rattle.ser_values.specs.Spelled.{put_block, Token, raw, truth, want, note, reference, short_text, long_text, field_tokens, value_token, element_tokens, part_tokens}
 use Rattle.ser_write.proofs.Begins.{begins_on}
-use Rattle.ser_write.specs.Canonical.{Written, Writing, pieces_in, pieces, blocks, before_more, write_items, write_token, write_all, value_bytes, primitive_bytes, short_bytes, code_of, tokens_before, note_tokens, array_tokens, tokens_after, write_new, write_one, write_at, front_bytes, after_front, ending_tokens, handle_bytes, title_bytes, interface_bytes, Adds}
+use Rattle.ser_write.specs.Canonical.{Written, Writing, pieces_in, pieces, blocks, before_more, write_items, write_token, write_all, value_bytes, primitive_bytes, short_bytes, long_bytes, text_bytes, code_of, tokens_before, note_tokens, tokens_after, write_new, write_one, write_at, front_bytes, after_front, ending_tokens, handle_bytes, Adds}
+use Rattle.ser_write.specs.Nodes.{own_title, class_of, slots_of, head_bytes, rest_tokens}
 
 -- ---- one after the other
 
@@ -68,16 +68,21 @@ unfolding write_all
 write_all-truth one n [] = refl
 write_all-truth one n (x ∷ xs) = ap (λ (v : Written). (from_bool x ∷ v.0, v.1)) (write_all-truth one n xs)
 
-pub write_all-primitive : (one : Writing) (n : ℕ) (vs : Values) → ((ss : List Slot) → vs ≢ kinds.Refs ss) → write_all one n (element_tokens vs) ≡ (primitive_bytes vs, n)
-write_all-primitive one n (kinds.Bytes v) h = write_all-raw one n (λ x. x ∷ []) v ∙ ap (λ (l : List ℕ). (l, n)) (flat_map-one v)
-write_all-primitive one n (kinds.Chars v) h = write_all-raw one n _ v
-write_all-primitive one n (kinds.Doubles v) h = write_all-raw one n _ v
-write_all-primitive one n (kinds.Floats v) h = write_all-raw one n _ v
-write_all-primitive one n (kinds.Ints v) h = write_all-raw one n _ v
-write_all-primitive one n (kinds.Longs v) h = write_all-raw one n _ v
-write_all-primitive one n (kinds.Shorts v) h = write_all-raw one n _ v
-write_all-primitive one n (kinds.Bools v) h = write_all-truth one n v
-write_all-primitive one n (kinds.Refs v) h = absurd (h v refl)
+alone : {w : Written} (b : List ℕ) (n : ℕ) → w ≡ (b, n) → w ≡ before_more (b, n) (λ m. ([], m))
+alone b n e = e ∙ sym (nothing_more (b, n))
+
+-- the elements of an array: first the bytes of primitive ones, and then the references
+pub write_all-elements : (one : Writing) (n : ℕ) (vs : Values) → write_all one n (element_tokens vs) ≡ before_more (primitive_bytes vs, n) (λ m. write_all one m (map reference (slots_of vs)))
+unfolding write_all
+write_all-elements one n (kinds.Bytes v) = alone v n (write_all-raw one n (λ x. x ∷ []) v ∙ ap (λ (l : List ℕ). (l, n)) (flat_map-one v))
+write_all-elements one n (kinds.Chars v) = alone _ n (write_all-raw one n _ v)
+write_all-elements one n (kinds.Doubles v) = alone _ n (write_all-raw one n _ v)
+write_all-elements one n (kinds.Floats v) = alone _ n (write_all-raw one n _ v)
+write_all-elements one n (kinds.Ints v) = alone _ n (write_all-raw one n _ v)
+write_all-elements one n (kinds.Longs v) = alone _ n (write_all-raw one n _ v)
+write_all-elements one n (kinds.Shorts v) = alone _ n (write_all-raw one n _ v)
+write_all-elements one n (kinds.Bools v) = alone _ n (write_all-truth one n v)
+write_all-elements one n (kinds.Refs v) = refl
 
 pub write_token-primitive : (one : Writing) (n : ℕ) (v : Value) → ((s : Slot) → v ≢ values.Ref s) → write_token one n (value_token v) ≡ (value_bytes v, n)
 write_token-primitive one n (values.B v) h = refl
@@ -114,47 +119,94 @@ flat_adds old left nodes n k le z =
 
 -- ---- a node
 
-pub new_adds : (nodes : List Node) (inner : Writing) (n k : ℕ) (i : Node) (old o1 o2 new : List ℕ) (m : ℕ) (r : Result ℕ AllocError) → o1 ≡ old ++ code_of i ∷ [] → Adds o1 o2 (Ok m) (write_all inner n (tokens_before i)) → Adds o2 new r (write_all inner (k + 1) (tokens_after nodes i))
+title_before : (one : Writing) (n : ℕ) (i : Node) → class_of i ≡ None → (write_all one n (tokens_before i)).0 ≡ own_title i
+unfolding write_all tokens_before
+title_before one n (Text t) none = refl
+title_before one n (Desc d) none = ap (λ (l : List ℕ). short_bytes d.name ++ l) (append-nil (to_be_bytes w64 (cast_unsigned w64 d.suid)))
+title_before one n (Proxy p) none = refl
+title_before one n (Object c ps) none = absurd cc
+title_before one n (Array c vs) none = absurd cc
+title_before one n (Class c) none = absurd cc
+title_before one n (Enum c t) none = absurd cc
+
+-- no class stands before its handle
+pub alone_adds : (nodes : List Node) (inner : Writing) (n k : ℕ) (i : Node) (old mid new : List ℕ) (r : Result ℕ AllocError) → class_of i ≡ None → mid ≡ old ++ code_of i ∷ own_title i → Adds mid new r (write_all inner (k + 1) (tokens_after nodes i))
     → Adds old new r (write_new nodes inner n k (Some i))
-new_adds nodes inner n k i old o1 o2 new m r e a h =
-    let head : o2 ≡ old ++ (code_of i ∷ (write_all inner n (tokens_before i)).0) = a.0 ∙ (ap (λ (l : List ℕ). l ++ (write_all inner n (tokens_before i)).0) e ∙ append_assoc old (code_of i ∷ []) (write_all inner n (tokens_before i)).0) in
+alone_adds nodes inner n k i old mid new r none e h =
+    adds_more old mid new (k + 1) r (code_of i ∷ (write_all inner n (tokens_before i)).0, k + 1) (λ m. write_all inner m (tokens_after nodes i)) (rw (title_before inner n i none) (e, refl)) h
+
+class_one : (one : Writing) (n b c : ℕ) → b ≡ c → write_all one n (want (places.Class, slots.Node b) ∷ []) ≡ one n (slots.Node c)
+class_one one n b c same = write_all-one one n (want (places.Class, slots.Node b)) ∙ ap (λ k. one n (slots.Node k)) same
+
+class_before : (one : Writing) (n c : ℕ) (i : Node) → class_of i ≡ Some c → write_all one n (tokens_before i) ≡ one n (slots.Node c)
+unfolding write_all tokens_before
+class_before one n c (Text t) is = absurd cc
+class_before one n c (Desc d) is = absurd cc
+class_before one n c (Proxy p) is = absurd cc
+class_before one n c (Object b ps) is = class_one one n b c cc
+class_before one n c (Array b vs) is = class_one one n b c cc
+class_before one n c (Class b) is = class_one one n b c cc
+class_before one n c (Enum b t) is = class_one one n b c cc
+
+untitled : (i : Node) (c : ℕ) → class_of i ≡ Some c → own_title i ≡ []
+untitled (Text t) c is = refl
+untitled (Desc d) c is = absurd cc
+untitled (Proxy p) c is = refl
+untitled (Object b ps) c is = refl
+untitled (Array b vs) c is = refl
+untitled (Class b) c is = refl
+untitled (Enum b t) c is = refl
+
+-- its class stands before its handle
+pub classed_adds : (nodes : List Node) (inner : Writing) (n k c : ℕ) (i : Node) (old o1 o2 new : List ℕ) (m : ℕ) (r : Result ℕ AllocError) → class_of i ≡ Some c → o1 ≡ old ++ code_of i ∷ own_title i → Adds o1 o2 (Ok m) (inner n (slots.Node c))
+    → Adds o2 new r (write_all inner (k + 1) (tokens_after nodes i)) → Adds old new r (write_new nodes inner n k (Some i))
+classed_adds nodes inner n k c i old o1 o2 new m r is e a h =
+    let bare : o1 ≡ old ++ code_of i ∷ [] = e ∙ ap (λ (l : List ℕ). old ++ code_of i ∷ l) (untitled i c is) in
+    let before = class_before inner n c i is in
+    let head : o2 ≡ old ++ (code_of i ∷ (write_all inner n (tokens_before i)).0) = rw before (a.0 ∙ (ap (λ (l : List ℕ). l ++ (inner n (slots.Node c)).0) bare ∙ append_assoc old (code_of i ∷ []) (inner n (slots.Node c)).0)) in
     adds_more old o2 new (k + 1) r (code_of i ∷ (write_all inner n (tokens_before i)).0, k + 1) (λ m. write_all inner m (tokens_after nodes i)) (head, refl) h
 
-pub desc_before : (one : Writing) (n : ℕ) (d : ClassDesc) (old new : List ℕ) → new ≡ old ++ title_bytes d → Adds old new (Ok n) (write_all one n (tokens_before (Desc d)))
-unfolding write_all tokens_before
-desc_before one n d old new is = (is ∙ ap (λ (l : List ℕ). old ++ (short_bytes d.name ++ l)) (sym (append-nil (to_be_bytes w64 (cast_unsigned w64 d.suid)))), refl)
+pub note_adds : (one : Writing) (n m : ℕ) (is : List Item) (old mid new : List ℕ) → Adds old mid (Ok m) (write_items one n is) → new ≡ mid ++ 0x78 ∷ [] → Adds old new (Ok m) (write_all one n (note_tokens true is))
+note_adds one n m is old mid new a e = rw (write_all-one one n (note is)) (adds_more old mid new m (Ok m) (write_items one n is) (λ m. (0x78 ∷ [], m)) a (e, refl))
 
-pub closed_adds : (one : Writing) (n m : ℕ) (is : List Item) (old mid new : List ℕ) → Adds old mid (Ok m) (write_items one n is) → new ≡ mid ++ 0x78 ∷ [] → Adds old new (Ok m) (write_all one n (note is ∷ []))
-closed_adds one n m is old mid new a e = rw (write_all-one one n (note is)) (adds_more old mid new m (Ok m) (write_items one n is) (λ m. (0x78 ∷ [], m)) a (e, refl))
-
--- the end of a description: its annotation and its superclass
-pub ending_adds : (one : Writing) (n m : ℕ) (is : List Item) (s : Slot) (old mid new : List ℕ) (r : Result ℕ AllocError) → Adds old mid (Ok m) (write_all one n (note is ∷ [])) → Adds mid new r (one m s) → Adds old new r (write_all one n (ending_tokens is s))
-ending_adds one n m is s old mid new r a h =
+-- fields, and the end of a description: its annotation and its superclass
+pub class_adds : (one : Writing) (n m k : ℕ) (fs : List FieldDesc) (is : List Item) (s : Slot) (old o1 o2 new : List ℕ) (r : Result ℕ AllocError) → Adds old o1 (Ok m) (write_all one n (field_tokens fs)) → Adds o1 o2 (Ok k) (write_all one m (note_tokens true is)) → Adds o2 new r (one k s)
+    → Adds old new r (write_all one n (field_tokens fs ++ ending_tokens is s))
+class_adds one n m k fs is s old o1 o2 new r a b h =
     let parent : List Token = want (places.Parent, s) ∷ [] in
-    let e : write_all one n (ending_tokens is s) ≡ before_more (write_all one n (note is ∷ [])) (λ m. write_all one m parent) = write_all-append one n (note is ∷ []) parent in
-    rw e (adds_more old mid new m r (write_all one n (note is ∷ [])) (λ m. write_all one m parent) a (rw (write_all-one one m (want (places.Parent, s))) h))
+    let e : write_all one m (ending_tokens is s) ≡ before_more (write_all one m (note is ∷ [])) (λ m. write_all one m parent) = write_all-append one m (note is ∷ []) parent in
+    let ending : Adds o1 new r (write_all one m (ending_tokens is s)) = rw e (adds_more o1 o2 new k r (write_all one m (note is ∷ [])) (λ m. write_all one m parent) b (rw (write_all-one one k (want (places.Parent, s))) h)) in
+    rw (write_all-append one n (field_tokens fs) (ending_tokens is s)) (adds_more old o1 new m r (write_all one n (field_tokens fs)) (λ m. write_all one m (ending_tokens is s)) a ending)
 
-pub desc_after : (nodes : List Node) (one : Writing) (n m : ℕ) (d : ClassDesc) (old o1 o2 new : List ℕ) (r : Result ℕ AllocError) → o1 ≡ old ++ d.flags ∷ to_be_bytes w16 (length d.fields)
-    → Adds o1 o2 (Ok m) (write_all one n (field_tokens d.fields)) → Adds o2 new r (write_all one m (ending_tokens d.note d.parent)) → Adds old new r (write_all one n (tokens_after nodes (Desc d)))
-unfolding write_all tokens_after
-desc_after nodes one n m d old o1 o2 new r e a h =
-    adds_bytes old o1 new n r (d.flags ∷ to_be_bytes w16 (length d.fields)) (λ m. write_all one m (field_tokens d.fields ++ ending_tokens d.note d.parent)) e
-    (rw (write_all-append one n (field_tokens d.fields) (ending_tokens d.note d.parent))
-    (adds_more o1 o2 new m r (write_all one n (field_tokens d.fields)) (λ m. write_all one m (ending_tokens d.note d.parent)) a h))
+text_alone : (one : Writing) (n : ℕ) (short : Bool) (t : List ℕ) → write_all one n ((if short then short_text t else long_text t) ∷ []) ≡ (if short then short_bytes t else long_bytes t, n)
+text_alone one n true t = write_all-one one n (short_text t)
+text_alone one n false t = write_all-one one n (long_text t)
 
-pub proxy_after : (nodes : List Node) (one : Writing) (n : ℕ) (p : ProxyDesc) (old mid new : List ℕ) (r : Result ℕ AllocError) → mid ≡ old ++ interface_bytes p.names
-    → Adds mid new r (write_all one n (ending_tokens p.note p.parent)) → Adds old new r (write_all one n (tokens_after nodes (Proxy p)))
+-- behind a node's handle: first what is written in one piece
+after_head : (nodes : List Node) (one : Writing) (n : ℕ) (i : Node) → write_all one n (tokens_after nodes i) ≡ before_more (head_bytes i, n) (λ m. write_all one m (rest_tokens nodes i))
 unfolding write_all tokens_after
-proxy_after nodes one n p old mid new r e h =
+after_head nodes one n (Text t) = alone (text_bytes t) n (text_alone one n (is_short t) t)
+after_head nodes one n (Desc d) = refl
+after_head nodes one n (Proxy p) =
     let count = to_be_bytes w32 (length p.names) in
-    let names = flat_map short_bytes p.names in
-    adds_bytes old (old ++ count) new n r count (λ m. write_all one m (map short_text p.names ++ ending_tokens p.note p.parent)) refl
-    (rw (write_all-append one n (map short_text p.names) (ending_tokens p.note p.parent), write_all-raw one n short_bytes p.names)
-    (adds_bytes (old ++ count) mid new n r names (λ m. write_all one m (ending_tokens p.note p.parent)) (e ∙ sym (append_assoc old count names)) h))
+    let ending = ending_tokens p.note p.parent in
+    ap (λ (v : Written). (count ++ v.0, v.1)) (write_all-append one n (map short_text p.names) ending ∙ ap (λ (w : Written). before_more w (λ m. write_all one m ending)) (write_all-raw one n short_bytes p.names))
+    ∙ sym (more_assoc (count, n) (λ m. (flat_map short_bytes p.names, m)) (λ m. write_all one m ending))
+after_head nodes one n (Object c ps) = refl
+after_head nodes one n (Array c vs) =
+    let count = to_be_bytes w32 (count_of vs) in
+    ap (λ (v : Written). (count ++ v.0, v.1)) (write_all-elements one n vs)
+    ∙ sym (more_assoc (count, n) (λ m. (primitive_bytes vs, m)) (λ m. write_all one m (map reference (slots_of vs))))
+after_head nodes one n (Class c) = refl
+after_head nodes one n (Enum c t) = refl
 
-pub array_adds : (one : Writing) (n : ℕ) (vs : Values) (old o1 new : List ℕ) (r : Result ℕ AllocError) → o1 ≡ old ++ to_be_bytes w32 (count_of vs) → Adds o1 new r (write_all one n (element_tokens vs)) → Adds old new r (write_all one n (array_tokens vs))
+pub head_adds : (nodes : List Node) (one : Writing) (n : ℕ) (i : Node) (old mid new : List ℕ) (r : Result ℕ AllocError) → mid ≡ old ++ head_bytes i → Adds mid new r (write_all one n (rest_tokens nodes i)) → Adds old new r (write_all one n (tokens_after nodes i))
+head_adds nodes one n i old mid new r e h = rw (after_head nodes one n i) (adds_bytes old mid new n r (head_bytes i) (λ m. write_all one m (rest_tokens nodes i)) e h)
+
+-- nothing follows
+pub head_alone : (nodes : List Node) (one : Writing) (n : ℕ) (i : Node) (old new : List ℕ) → rest_tokens nodes i ≡ [] → new ≡ old ++ head_bytes i → Adds old new (Ok n) (write_all one n (tokens_after nodes i))
 unfolding write_all
-array_adds one n vs old o1 new r e h = adds_bytes old o1 new n r (to_be_bytes w32 (count_of vs)) (λ m. write_all one m (element_tokens vs)) e h
+head_alone nodes one n i old new none e = head_adds nodes one n i old new new (Ok n) e (rw none (sym (append-nil new), refl))
 
 -- ---- parts
 
@@ -225,5 +277,5 @@ front_joins one n (x ∷ front) (items.Bytes b ∷ is) = refl
 front_joins one n (x ∷ front) (items.Ref s ∷ is) = rw (append-nil front) refl
 
 pub front_adds : (one : Writing) (n : ℕ) (front run : List ℕ) (is : List Item) (old mid new : List ℕ) (r : Result ℕ AllocError) → run ≡ front ++ front_bytes is → mid ≡ old ++ blocks run → Adds mid new r (write_items one n (after_front is)) → Adds old new r (write_items one n (put_block front is))
-front_adds one n front run is old mid new r joins first then =
-    rw (front_joins one n front is, ← joins) (adds_bytes old mid new n r (blocks run) (λ m. write_items one m (after_front is)) first then)
+front_adds one n front run is old mid new r joins first later =
+    rw (front_joins one n front is, ← joins) (adds_bytes old mid new n r (blocks run) (λ m. write_items one m (after_front is)) first later)

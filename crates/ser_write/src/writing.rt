@@ -1,19 +1,18 @@
 //! Nodes are written where they are first wanted.
-ghost use Rattle.std.specs.Prelude.{◌≡◌, ◌∷◌, ◌++◌, [], IfOk, OnErr, OnOk, map, slice_get};
-ghost use Rattle.ser_values.specs.declared.node.Node.TheVariants as loose;
-ghost use Rattle.ser_values.specs.Spelled.{note, field_tokens, value_token, reference, part_tokens};
+ghost use Rattle.std.specs.Prelude.{◌≡◌, ◌++◌, IfOk, OnErr, OnOk, map, slice_get};
+ghost use Rattle.ser_values.specs.Spelled.{field_tokens, value_token, reference, part_tokens};
 ghost use Rattle.ser_values.specs.Spelled.{IsStream, put_block};
-ghost use Rattle.ser_write.specs.Canonical.{write_items, write_all, ending_tokens, tokens_before, object_tokens, note_tokens, array_tokens, tokens_after, write_new, write_at, contents, canonical, front_bytes, after_front, SpellContents, SpellFully, AreOfNoOther, Adds};
+ghost use Rattle.ser_write.specs.Canonical.{write_items, write_all, ending_tokens, object_tokens, note_tokens, tokens_after, write_new, write_at, contents, canonical, front_bytes, after_front, SpellContents, SpellFully, AreOfNoOther, Adds};
 
-use crate::numbers::{put_32, put_byte};
+use crate::heads::{class_of, put_front, put_head, slots_of};
+use crate::numbers::put_byte;
 use crate::pieces::{
-    code_of, is_external_class, node_at, put_blocks, put_counts, put_field, put_handle,
-    put_interfaces, put_primitive, put_primitives, put_text, put_title, writers_of,
+    is_external_class, node_at, put_blocks, put_field, put_handle, put_primitive, writers_of,
 };
-use class_desc::{ClassDesc, FieldDesc, Item, ProxyDesc, Slot, is_primitive};
+use class_desc::{FieldDesc, Item, Slot, is_primitive};
 use mod_utf::list::ByteList;
 use ser_values::limits::LEVELS;
-use ser_values::{Graph, Node, Part, Value, Values};
+use ser_values::{Graph, Node, Part, Value};
 use std::alloc::{AllocError, Global};
 
 /// Writes a reference, at most so many levels deep: null, a handle, or a node whole. `next` nodes have handles; the answer
@@ -63,43 +62,20 @@ fn put_new(
     match node_at(nodes, number) {
         None => Ok(next),
         Some(node) => {
-            put_byte(out, code_of(node))?;
-            let _before = put_before(alloc, out, nodes, next, node, left)?;
-            put_after(alloc, out, nodes, u64::from(number) + 1, node, left)
+            put_front(out, node)?;
+            match class_of(node) {
+                None => put_after(alloc, out, nodes, u64::from(number) + 1, node, left),
+                Some(class) => {
+                    let _before = put_slot(alloc, out, nodes, next, Slot::Node(class), left)?;
+                    put_after(alloc, out, nodes, u64::from(number) + 1, node, left)
+                }
+            }
         }
-    }
-}
-
-/// Writes what stands before a node's handle.
-#[cycle(writing)]
-#[tactic(auto, unfolding(crate::specs::Canonical::tokens_before, crate::specs::Canonical::write_all))]
-fn put_before(
-    alloc: Global,
-    out: &mut ByteList,
-    nodes: &[Node],
-    next: u64,
-    node: &Node,
-    left: u32,
-) -> Result<u64, AllocError>
-    ensures { Adds out.old out.new result (write_all (write_at left nodes.now) next (tokens_before node.now)) }
-{
-    match node {
-        Node::Text(_) => Ok(next),
-        Node::Proxy(_) => Ok(next),
-        Node::Desc(desc) => {
-            put_title(out, desc)?;
-            Ok(next)
-        }
-        Node::Object { class, .. } => put_slot(alloc, out, nodes, next, Slot::Node(*class), left),
-        Node::Array { class, .. } => put_slot(alloc, out, nodes, next, Slot::Node(*class), left),
-        Node::Class { class } => put_slot(alloc, out, nodes, next, Slot::Node(*class), left),
-        Node::Enum { class, .. } => put_slot(alloc, out, nodes, next, Slot::Node(*class), left),
     }
 }
 
 /// Writes what stands after a node's handle.
 #[cycle(writing)]
-#[tactic(auto, unfolding(crate::specs::Canonical::write_all, crate::specs::Canonical::tokens_after))]
 fn put_after(
     alloc: Global,
     out: &mut ByteList,
@@ -110,103 +86,44 @@ fn put_after(
 ) -> Result<u64, AllocError>
     ensures { Adds out.old out.new result (write_all (write_at left nodes.now) next (tokens_after nodes.now node.now)) }
 {
+    put_head(out, node)?;
     match node {
-        Node::Text(text) => {
-            put_text(out, text)?;
-            Ok(next)
+        Node::Text(_) => Ok(next),
+        Node::Desc(desc) => {
+            let fields = desc.fields.as_slice();
+            let note = desc.note.as_slice();
+            put_class(alloc, out, nodes, next, fields, note, desc.parent, left)
         }
-        Node::Desc(desc) => put_desc(alloc, out, nodes, next, desc, left),
-        Node::Proxy(proxy) => put_proxy(alloc, out, nodes, next, proxy, left),
+        Node::Proxy(proxy) => {
+            let note = proxy.note.as_slice();
+            put_class(alloc, out, nodes, next, &[], note, proxy.parent, left)
+        }
         Node::Object { class, parts } => {
             put_object(alloc, out, nodes, next, *class, parts.as_slice(), left)
         }
-        Node::Array { values, .. } => put_array(alloc, out, nodes, next, values, left),
+        Node::Array { values, .. } => { put_slots(alloc, out, nodes, next, slots_of(values), left) }
         Node::Class { .. } => Ok(next),
         Node::Enum { name, .. } => put_slot(alloc, out, nodes, next, Slot::Node(*name), left),
     }
 }
 
-/// Writes what stands after a description's handle.
+/// Writes fields, and what a description ends with: its annotation, and its superclass.
 #[cycle(writing)]
-fn put_desc(
+fn put_class(
     alloc: Global,
     out: &mut ByteList,
     nodes: &[Node],
     next: u64,
-    desc: &ClassDesc,
-    left: u32,
-) -> Result<u64, AllocError>
-    ensures { Adds out.old out.new result (write_all (write_at left nodes.now) next (tokens_after nodes.now (loose.Desc desc.now))) }
-{
-    put_counts(out, desc.flags, desc.fields.len())?;
-    let next = put_fields(alloc, out, nodes, next, desc.fields.as_slice(), left)?;
-    put_ending(
-        alloc,
-        out,
-        nodes,
-        next,
-        desc.note.as_slice(),
-        desc.parent,
-        left,
-    )
-}
-
-/// Writes what stands after a proxy class's handle.
-#[cycle(writing)]
-fn put_proxy(
-    alloc: Global,
-    out: &mut ByteList,
-    nodes: &[Node],
-    next: u64,
-    proxy: &ProxyDesc,
-    left: u32,
-) -> Result<u64, AllocError>
-    ensures { Adds out.old out.new result (write_all (write_at left nodes.now) next (tokens_after nodes.now (loose.Proxy proxy.now))) }
-{
-    put_interfaces(out, proxy.names.as_slice())?;
-    put_ending(
-        alloc,
-        out,
-        nodes,
-        next,
-        proxy.note.as_slice(),
-        proxy.parent,
-        left,
-    )
-}
-
-/// Writes what a description ends with: its annotation, and its superclass.
-#[cycle(writing)]
-fn put_ending(
-    alloc: Global,
-    out: &mut ByteList,
-    nodes: &[Node],
-    next: u64,
+    fields: &[FieldDesc],
     annotation: &[Item],
     parent: Slot,
     left: u32,
 ) -> Result<u64, AllocError>
-    ensures { Adds out.old out.new result (write_all (write_at left nodes.now) next (ending_tokens annotation.now parent)) }
+    ensures { Adds out.old out.new result (write_all (write_at left nodes.now) next (field_tokens fields.now ++ ending_tokens annotation.now parent)) }
 {
-    let next = put_closed(alloc, out, nodes, next, annotation, left)?;
+    let next = put_fields(alloc, out, nodes, next, fields, left)?;
+    let next = put_note(alloc, out, nodes, next, true, annotation, left)?;
     put_slot(alloc, out, nodes, next, parent, left)
-}
-
-/// Writes items, and the mark of their end.
-#[cycle(writing)]
-fn put_closed(
-    alloc: Global,
-    out: &mut ByteList,
-    nodes: &[Node],
-    next: u64,
-    items: &[Item],
-    left: u32,
-) -> Result<u64, AllocError>
-    ensures { Adds out.old out.new result (write_all (write_at left nodes.now) next (note items.now ∷ [])) }
-{
-    let next = put_items(alloc, out, nodes, next, items, left)?;
-    put_byte(out, 0x78)?;
-    Ok(next)
 }
 
 /// Writes an object's parts, or the note of an externalizable one.
@@ -226,7 +143,7 @@ fn put_object(
     if is_external_class(node_at(nodes, class)) {
         match parts {
             [] => Ok(next),
-            [part, ..] => put_closed(alloc, out, nodes, next, part.note.as_slice(), left),
+            [part, ..] => { put_note(alloc, out, nodes, next, true, part.note.as_slice(), left) }
         }
     } else {
         let writes = writers_of(alloc, nodes, Slot::Node(class), parts.len())?;
@@ -336,7 +253,7 @@ fn put_parts(
     Ok(next)
 }
 
-/// Writes the note of a part, where its class has a write method.
+/// Writes a note, where there is one: items, and the mark of their end.
 #[cycle(writing)]
 #[tactic(auto, unfolding(crate::specs::Canonical::write_all))]
 fn put_note(
@@ -351,31 +268,11 @@ fn put_note(
     ensures { Adds out.old out.new result (write_all (write_at left nodes.now) next (note_tokens writes note.now)) }
 {
     if writes {
-        put_closed(alloc, out, nodes, next, note, left)
+        let next = put_items(alloc, out, nodes, next, note, left)?;
+        put_byte(out, 0x78)?;
+        Ok(next)
     } else {
         Ok(next)
-    }
-}
-
-/// Writes an array's length and its elements.
-#[cycle(writing)]
-fn put_array(
-    alloc: Global,
-    out: &mut ByteList,
-    nodes: &[Node],
-    next: u64,
-    values: &Values,
-    left: u32,
-) -> Result<u64, AllocError>
-    ensures { Adds out.old out.new result (write_all (write_at left nodes.now) next (array_tokens values.now)) }
-{
-    put_32(out, values.len())?;
-    match values {
-        Values::Refs(slots) => put_slots(alloc, out, nodes, next, slots.as_slice(), left),
-        _ => {
-            put_primitives(out, values)?;
-            Ok(next)
-        }
     }
 }
 

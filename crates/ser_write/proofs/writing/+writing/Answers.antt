@@ -1,9 +1,13 @@
-use Rattle.std.proofs.Common.{◌<◌, ◌≤◌, ◌∙◌, sym, refl, arith, rules, false, drop, Ok}
+use Rattle.std.proofs.Common.{◌≡◌, ◌<◌, ◌≤◌, ◌∙◌, sym, refl, arith, rules, false, drop, slice_get, [], None, Some}
 use Rattle.std.proofs.lemmas.List.{append-nil}
 use Rattle.ser_values.proofs.Lists.{slice_get-or}
+use Rattle.class_desc.specs.declared.slot.Slot.TheVariants as slots
+use Rattle.ser_values.specs.declared.node.Place.TheVariants as places
+use Rattle.ser_values.specs.Spelled.{want}
 use Rattle.ser_write.specs.Canonical.{write_at}
+use Rattle.ser_write.specs.Nodes.{class_of, rest_tokens}
 use Rattle.ser_write.proofs.Begins.{begins_more}
-use Rattle.ser_write.proofs.Writes.{again_adds, flat_adds, desc_before, closed_adds, ending_adds, desc_after, proxy_after, array_adds, write_all-primitive, parts_stop, part_next, slice_get_within_or}
+use Rattle.ser_write.proofs.Writes.{again_adds, flat_adds, alone_adds, classed_adds, note_adds, class_adds, head_adds, head_alone, write_all-one, parts_stop, part_next, slice_get_within_or}
 use Rattle.ser_write.proofs.writing.+writing.Goals as goal
 
 pub put_slot-returns-in_ok-put_handle-in-Node : goal.put_slot-returns-in_ok-put_handle-in-Node
@@ -15,40 +19,6 @@ pub put_slot-returns-then-left-eq0 : goal.put_slot-returns-then-left-eq0
 put_slot-returns-then-left-eq0 t c =
     let le : c.args.next ≤ c.in-Node.number = search rules in
     rw c.in-Node.is (flat_adds c.args.out.now c.args.left c.args.nodes.now c.args.next c.in-Node.number le c.if-left-eq0.true)
-
-pub put_before-returns-in_ok-put_title-in-Desc : goal.put_before-returns-in_ok-put_title-in-Desc
-put_before-returns-in_ok-put_title-in-Desc t c =
-    rw c.in-Desc.is (desc_before (write_at c.args.left c.args.nodes.now) c.args.next c.in-Desc.desc c.args.out.now c.put_title.new.out c.in_ok-put_title-in-Desc.ensures.written)
-
-pub put_desc-returns : goal.put_desc-returns
-put_desc-returns t c =
-    desc_after c.args.nodes.now (write_at c.args.left c.args.nodes.now) c.args.next c.in_ok-next.next c.args.desc.now c.args.out.now c.put_counts.new.out c.put_fields.new.out c.put_ending.new.out c.put_ending.result
-    (rw c.len.ensures at c.in_ok-put_counts.ensures.written) (rw c.as_slice.ensures at c.in_ok-next.ensures) (rw c.as_slice-2.ensures at c.put_ending.ensures)
-
-pub put_proxy-returns : goal.put_proxy-returns
-put_proxy-returns t c =
-    proxy_after c.args.nodes.now (write_at c.args.left c.args.nodes.now) c.args.next c.args.proxy.now c.args.out.now c.put_interfaces.new.out c.put_ending.new.out c.put_ending.result
-    (rw c.as_slice.ensures at c.in_ok-put_interfaces.ensures.written) (rw c.as_slice-2.ensures at c.put_ending.ensures)
-
-pub put_ending-returns : goal.put_ending-returns
-put_ending-returns t c =
-    ending_adds (write_at c.args.left c.args.nodes.now) c.args.next c.in_ok-next.next c.args.annotation.now c.args.parent c.args.out.now c.put_closed.new.out c.put_slot.new.out c.put_slot.result c.in_ok-next.ensures c.put_slot.ensures
-
-pub put_closed-returns : goal.put_closed-returns
-put_closed-returns t c =
-    closed_adds (write_at c.args.left c.args.nodes.now) c.args.next c.in_ok-next.next c.args.items.now c.args.out.now c.put_items.new.out c.put_byte.new.out c.in_ok-next.ensures c.in_ok-put_byte.ensures.written
-
-pub put_array-returns-in-Refs : goal.put_array-returns-in-Refs
-put_array-returns-in-Refs t c =
-    let slots = rw c.as_slice.ensures at c.put_slots.ensures in
-    array_adds (write_at c.args.left c.args.nodes.now) c.args.next c.args.values.now c.args.out.now c.put_32.new.out c.put_slots.new.out c.put_slots.result
-    (rw c.len.ensures at c.in_ok-put_32.ensures.written) (rw c.in-Refs.is slots)
-
-pub put_array-returns-in_ok-put_primitives-in_default : goal.put_array-returns-in_ok-put_primitives-in_default
-put_array-returns-in_ok-put_primitives-in_default t c =
-    let e = write_all-primitive (write_at c.args.left c.args.nodes.now) c.args.next c.args.values.now c.in_default.not-Refs in
-    array_adds (write_at c.args.left c.args.nodes.now) c.args.next c.args.values.now c.args.out.now c.put_32.new.out c.put_primitives.new.out (Ok c.args.next)
-    (rw c.len.ensures at c.in_ok-put_32.ensures.written) (rw e (c.in_ok-put_primitives-in_default.ensures.written, refl))
 
 pub put_parts-returns-else-i-writes : goal.put_parts-returns-else-i-writes
 put_parts-returns-else-i-writes t c =
@@ -70,3 +40,60 @@ put_parts-loop-i-preserved t c =
       count = n.count ∙ c.loop-i.invariant.count;
       kept = begins_more c.args.out.now c.put_values.new.out c.put_note.new.out _ (begins_more c.args.out.now c.loop-i.out c.put_values.new.out _ c.loop-i.invariant.kept values.0) noted.0;
     }
+
+pub put_new-returns-in-None-class_of : goal.put_new-returns-in-None-class_of
+put_new-returns-in-None-class_of t c =
+    let here : slice_get c.args.nodes.now c.args.number ≡ Some c.in-Some.node.now = search rules in
+    let none : class_of c.in-Some.node.now ≡ None = search rules in
+    rw here (alone_adds c.args.nodes.now (write_at c.args.left c.args.nodes.now) c.args.next c.args.number c.in-Some.node.now c.args.out.now c.put_front.new.out c.put_after.new.out c.put_after.result none c.in_ok-put_front-in-Some.ensures.written
+    (rw c.from.ensures at c.put_after.ensures))
+
+pub put_new-returns-in_ok-_before-in-Some-class_of : goal.put_new-returns-in_ok-_before-in-Some-class_of
+put_new-returns-in_ok-_before-in-Some-class_of t c =
+    let here : slice_get c.args.nodes.now c.args.number ≡ Some c.in-Some.node.now = search rules in
+    let some : class_of c.in-Some.node.now ≡ Some c.in-Some-class_of.class = search rules in
+    rw here (classed_adds c.args.nodes.now (write_at c.args.left c.args.nodes.now) c.args.next c.args.number c.in-Some-class_of.class c.in-Some.node.now c.args.out.now c.put_front.new.out c.put_slot.new.out c.put_after-in-Some-class_of.new.out _ c.put_after-in-Some-class_of.result some c.in_ok-put_front-in-Some.ensures.written c.in_ok-_before-in-Some-class_of.ensures
+    (rw c.from-in-Some-class_of.ensures at c.put_after-in-Some-class_of.ensures))
+
+pub put_after-returns-in-Text : goal.put_after-returns-in-Text
+put_after-returns-in-Text t c =
+    let none : rest_tokens c.args.nodes.now c.args.node.now ≡ [] = rw c.in-Text.is refl in
+    head_alone c.args.nodes.now (write_at c.args.left c.args.nodes.now) c.args.next c.args.node.now c.args.out.now c.put_head.new.out none c.in_ok-put_head.ensures.written
+
+pub put_after-returns-in-Class : goal.put_after-returns-in-Class
+put_after-returns-in-Class t c =
+    let none : rest_tokens c.args.nodes.now c.args.node.now ≡ [] = rw c.in-Class.is refl in
+    head_alone c.args.nodes.now (write_at c.args.left c.args.nodes.now) c.args.next c.args.node.now c.args.out.now c.put_head.new.out none c.in_ok-put_head.ensures.written
+
+pub put_after-returns-in-Desc : goal.put_after-returns-in-Desc
+put_after-returns-in-Desc t c =
+    head_adds c.args.nodes.now (write_at c.args.left c.args.nodes.now) c.args.next c.args.node.now c.args.out.now c.put_head.new.out c.put_class.new.out c.put_class.result c.in_ok-put_head.ensures.written
+    (rw c.in-Desc.is (rw (c.as_slice-fields.ensures, c.as_slice-note.ensures) at c.put_class.ensures))
+
+pub put_after-returns-in-Proxy : goal.put_after-returns-in-Proxy
+put_after-returns-in-Proxy t c =
+    head_adds c.args.nodes.now (write_at c.args.left c.args.nodes.now) c.args.next c.args.node.now c.args.out.now c.put_head.new.out c.put_class-in-Proxy.new.out c.put_class-in-Proxy.result c.in_ok-put_head.ensures.written
+    (rw c.in-Proxy.is (rw c.as_slice-note-in-Proxy.ensures at c.put_class-in-Proxy.ensures))
+
+pub put_after-returns-in-Object : goal.put_after-returns-in-Object
+put_after-returns-in-Object t c =
+    head_adds c.args.nodes.now (write_at c.args.left c.args.nodes.now) c.args.next c.args.node.now c.args.out.now c.put_head.new.out c.put_object.new.out c.put_object.result c.in_ok-put_head.ensures.written
+    (rw c.in-Object.is (rw c.as_slice.ensures at c.put_object.ensures))
+
+pub put_after-returns-in-Array : goal.put_after-returns-in-Array
+put_after-returns-in-Array t c =
+    head_adds c.args.nodes.now (write_at c.args.left c.args.nodes.now) c.args.next c.args.node.now c.args.out.now c.put_head.new.out c.put_slots.new.out c.put_slots.result c.in_ok-put_head.ensures.written
+    (rw c.in-Array.is (rw c.slots_of.ensures at c.put_slots.ensures))
+
+pub put_after-returns-in-Enum : goal.put_after-returns-in-Enum
+put_after-returns-in-Enum t c =
+    head_adds c.args.nodes.now (write_at c.args.left c.args.nodes.now) c.args.next c.args.node.now c.args.out.now c.put_head.new.out c.put_slot.new.out c.put_slot.result c.in_ok-put_head.ensures.written
+    (rw (c.in-Enum.is, write_all-one (write_at c.args.left c.args.nodes.now) c.args.next (want (places.Text, slots.Node c.in-Enum.name))) c.put_slot.ensures)
+
+pub put_class-returns : goal.put_class-returns
+put_class-returns t c =
+    class_adds (write_at c.args.left c.args.nodes.now) c.args.next c.in_ok-next.next c.in_ok-next-2.next c.args.fields.now c.args.annotation.now c.args.parent c.args.out.now c.put_fields.new.out c.put_note.new.out c.put_slot.new.out c.put_slot.result c.in_ok-next.ensures c.in_ok-next-2.ensures c.put_slot.ensures
+
+pub put_note-returns-in_ok-put_byte : goal.put_note-returns-in_ok-put_byte
+put_note-returns-in_ok-put_byte t c =
+    rw c.if-writes.true (note_adds (write_at c.args.left c.args.nodes.now) c.args.next c.in_ok-next.next c.args.note.now c.args.out.now c.put_items.new.out c.put_byte.new.out c.in_ok-next.ensures c.in_ok-put_byte.ensures.written)

@@ -9,23 +9,11 @@ decreases-put_slot l = 16 * l.left + 1
 abbrev pub decreases-put_new : goal.decreases-put_new
 decreases-put_new l = 16 * l.left + 15
 
-abbrev pub decreases-put_before : goal.decreases-put_before
-decreases-put_before l = 16 * l.left + 14
-
 abbrev pub decreases-put_after : goal.decreases-put_after
 decreases-put_after l = 16 * l.left + 13
 
-abbrev pub decreases-put_desc : goal.decreases-put_desc
-decreases-put_desc l = 16 * l.left + 12
-
-abbrev pub decreases-put_proxy : goal.decreases-put_proxy
-decreases-put_proxy l = 16 * l.left + 12
-
-abbrev pub decreases-put_ending : goal.decreases-put_ending
-decreases-put_ending l = 16 * l.left + 8
-
-abbrev pub decreases-put_closed : goal.decreases-put_closed
-decreases-put_closed l = 16 * l.left + 7
+abbrev pub decreases-put_class : goal.decreases-put_class
+decreases-put_class l = 16 * l.left + 12
 
 abbrev pub decreases-put_object : goal.decreases-put_object
 decreases-put_object l = 16 * l.left + 12
@@ -41,9 +29,6 @@ decreases-put_items l = 16 * l.left + 6
 
 abbrev pub decreases-put_values : goal.decreases-put_values
 decreases-put_values l = 16 * l.left + 6
-
-abbrev pub decreases-put_array : goal.decreases-put_array
-decreases-put_array l = 16 * l.left + 7
 
 abbrev pub decreases-put_note : goal.decreases-put_note
 decreases-put_note l = 16 * l.left + 8
