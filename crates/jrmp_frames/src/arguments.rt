@@ -1,5 +1,5 @@
 //! The arguments of a call.
-ghost use Rattle.std.specs.Prelude.{◌≡◌, length, ◌∷◌, true, Some, is_some, IfOk, IfErr, OnOk, None};
+ghost use Rattle.std.specs.Prelude.{◌≡◌, length, [], ◌∷◌, true, Some, is_some, IfOk, IfErr, OnOk, None};
 ghost use Rattle.wire_io.specs.Pulled.{Place, place};
 ghost use Rattle.ser_values.specs.Fronts.{without_front};
 ghost use Rattle.ser_read.specs.Wants.{StopsWant, want_at, serve, serve_to_close, wants_at};
@@ -76,6 +76,36 @@ fn want_of(code: TypeCode) -> Want
     }
 }
 
+/// These two bytes as an array.
+fn two_bytes(bytes: &[u8]) -> [u8; 2]
+    requires { length bytes.now ≡ 2 }
+    ensures { result ≡ bytes.now }
+{
+    let mut all = [0; 2];
+    all.copy_from_slice(bytes);
+    all
+}
+
+/// These four bytes as an array.
+fn four_bytes(bytes: &[u8]) -> [u8; 4]
+    requires { length bytes.now ≡ 4 }
+    ensures { result ≡ bytes.now }
+{
+    let mut all = [0; 4];
+    all.copy_from_slice(bytes);
+    all
+}
+
+/// These eight bytes as an array.
+fn eight_bytes(bytes: &[u8]) -> [u8; 8]
+    requires { length bytes.now ≡ 8 }
+    ensures { result ≡ bytes.now }
+{
+    let mut all = [0; 8];
+    all.copy_from_slice(bytes);
+    all
+}
+
 /// The value of a primitive type that these bytes spell; null for the type of references.
 fn value_of(code: TypeCode, bytes: &[u8]) -> Value
     requires { length bytes.now ≡ width_of code }
@@ -84,16 +114,12 @@ fn value_of(code: TypeCode, bytes: &[u8]) -> Value
     match code {
         TypeCode::B => Value::B(u8::from_be_bytes([bytes[0]])),
         TypeCode::Z => Value::Z(u8::from_be_bytes([bytes[0]]) != 0),
-        TypeCode::C => Value::C(u16::from_be_bytes([bytes[0], bytes[1]])),
-        TypeCode::S => Value::S(i16::from_be_bytes([bytes[0], bytes[1]])),
-        TypeCode::F => Value::F(u32::from_be_bytes([bytes[0], bytes[1], bytes[2], bytes[3]])),
-        TypeCode::I => Value::I(i32::from_be_bytes([bytes[0], bytes[1], bytes[2], bytes[3]])),
-        TypeCode::D => Value::D(u64::from_be_bytes([
-            bytes[0], bytes[1], bytes[2], bytes[3], bytes[4], bytes[5], bytes[6], bytes[7],
-        ])),
-        TypeCode::J => Value::J(i64::from_be_bytes([
-            bytes[0], bytes[1], bytes[2], bytes[3], bytes[4], bytes[5], bytes[6], bytes[7],
-        ])),
+        TypeCode::C => Value::C(u16::from_be_bytes(two_bytes(bytes))),
+        TypeCode::S => Value::S(i16::from_be_bytes(two_bytes(bytes))),
+        TypeCode::F => Value::F(u32::from_be_bytes(four_bytes(bytes))),
+        TypeCode::I => Value::I(i32::from_be_bytes(four_bytes(bytes))),
+        TypeCode::D => Value::D(u64::from_be_bytes(eight_bytes(bytes))),
+        TypeCode::J => Value::J(i64::from_be_bytes(eight_bytes(bytes))),
         TypeCode::Array | TypeCode::Object => Value::Ref(Slot::Null),
     }
 }
@@ -141,26 +167,27 @@ fn read_arg<S: Source>(
     }
 }
 
-/// The arguments that come next, for parameters of these types.
-fn read_each<S: Source>(
+/// Takes the arguments that come next, for parameters of these types, into an empty list.
+fn read_onto<S: Source>(
     alloc: Global,
     pull: &mut Pull<'_, S>,
     reader: &mut Reader,
     params: &[TypeCode],
-) -> Result<ArgList, StreamFault>
+    args: &mut ArgList,
+) -> Result<(), StreamFault>
     requires kept { reader.old.refused ≡ None }
+    requires empty { args.old ≡ [] }
     ensures kept { OnOk result (reader.new.refused ≡ None) }
     ensures lent { pull.new.source.ghost_name ≡ pull.old.source.ghost_name }
-    ensures reads { IfOk result (ReadsEach (place S.left S.faults pull.old) (place S.left S.faults pull.new) reader.old.stand reader.new.stand params.now) }
+    ensures reads { OnOk result (ReadsEach (place S.left S.faults pull.old) (place S.left S.faults pull.new) reader.old.stand reader.new.stand params.now args.new) }
     ensures stops { StopsWant S.left S.faults pull.old pull.new result (λ end. serve end (wants_of params.now) reader.old.stand) }
 {
-    let mut args = ArgList::new(alloc);
     args.reserve(params.len())?;
     for code in params {
         let arg = read_arg(alloc, pull, reader, *code)?;
         args.push(arg)?;
     }
-    Ok(args)
+    Ok(())
 }
 
 /// A call's graph less the bytes of its head.
@@ -175,8 +202,28 @@ fn without_head(alloc: Global, whole: Graph) -> Graph
     }
 }
 
-/// Reads the arguments for parameters of these types.
+/// Reads the arguments for parameters of these types into an empty list, up to their end, and gives the graph in which their references stand.
 #[tactic(auto, unfolding(ser_read::specs::Wants::serve_to_close))]
+fn read_graph<S: Source>(
+    alloc: Global,
+    pull: &mut Pull<'_, S>,
+    reader: Reader,
+    params: &[TypeCode],
+    args: &mut ArgList,
+) -> Result<Graph, StreamFault>
+    requires ready { HasHead reader }
+    requires empty { args.old ≡ [] }
+    ensures lent { pull.new.source.ghost_name ≡ pull.old.source.ghost_name }
+    ensures reads { IfOk result (λ graph. ReadsArguments (place S.left S.faults pull.old) (place S.left S.faults pull.new) reader.stand params.now (record { graph = graph; values = args.new })) }
+    ensures stops { StopsWant S.left S.faults pull.old pull.new result (λ end. serve_to_close end (wants_of params.now) reader.stand) }
+{
+    let mut reader = reader;
+    read_onto(alloc, pull, &mut reader, params, args)?;
+    let whole = reader.close(pull)?;
+    Ok(without_head(alloc, whole))
+}
+
+/// Reads the arguments for parameters of these types.
 fn read_values<S: Source>(
     alloc: Global,
     pull: &mut Pull<'_, S>,
@@ -188,13 +235,9 @@ fn read_values<S: Source>(
     ensures reads { IfOk result (λ arguments. ReadsArguments (place S.left S.faults pull.old) (place S.left S.faults pull.new) reader.stand params.now arguments) }
     ensures stops { StopsWant S.left S.faults pull.old pull.new result (λ end. serve_to_close end (wants_of params.now) reader.stand) }
 {
-    let mut reader = reader;
-    let values = read_each(alloc, pull, &mut reader, params)?;
-    let whole = reader.close(pull)?;
-    Ok(Arguments {
-        graph: without_head(alloc, whole),
-        values,
-    })
+    let mut values = ArgList::new(alloc);
+    let graph = read_graph(alloc, pull, reader, params, &mut values)?;
+    Ok(Arguments { graph, values })
 }
 
 /// Reads the arguments of a call for parameters of these types, up to their end. The reader is the one that stands behind the call's head.

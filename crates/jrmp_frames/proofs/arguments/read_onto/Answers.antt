@@ -1,13 +1,13 @@
 use Rattle.std.proofs.Common.{◌∙◌, refl}
 use Rattle.ser_read.proofs.Breaking.{want_raised}
 use Rattle.jrmp_frames.proofs.Each.{comes_first, comes_next, comes_whole, comes_short, comes_unkept}
-use Rattle.jrmp_frames.proofs.arguments.read_each.Goals as goal
+use Rattle.jrmp_frames.proofs.arguments.read_onto.Goals as goal
 
 pub loop-code-init : goal.loop-code-init
 loop-code-init g c = record {
   lent = refl;
   kept = c.requires.kept;
-  comes = rw (c.reserve.ensures, c.new-args.ensures) (comes_first _ c.args.params.now c.args.reader.now.stand);
+  comes = rw (c.reserve.ensures, c.requires.empty) (comes_first _ c.args.params.now c.args.reader.now.stand);
 }
 
 pub loop-code-preserved : goal.loop-code-preserved

@@ -1,7 +1,7 @@
 use Rattle.std.proofs.Common.{◌≡◌, None}
 use Rattle.wire_io.specs.Pulled.{place}
 use Rattle.jrmp_frames.proofs.Each.{Comes}
-use Rattle.jrmp_frames.proofs.arguments.read_each.Given as goal
+use Rattle.jrmp_frames.proofs.arguments.read_onto.Given as goal
 
 abbrev pub invariant-loop-code : goal.invariant-loop-code
 invariant-loop-code g l =
