@@ -298,7 +298,6 @@ const DROPPED_AT_ONCE: &str = "1 10 dirty 01@3/4/5 1 1 16,17,18,19,20,21,22
 > lease 02@3/4/5 until 121
 ";
 
-// Leases that end at 169, 170 and 171.
 // A client's objects are few, and more than eight from the second call on.
 const FEW_AND_MANY: &str = "1 10 dirty 01@3/4/5 1 1 16,17,18,19,20,21,22,23
 > granted 100
@@ -351,6 +350,69 @@ const FEW_AND_MANY: &str = "1 10 dirty 01@3/4/5 1 1 16,17,18,19,20,21,22,23
 > lease 01@3/4/5 until 230
 ";
 
+// A client names its objects again, some of them twice in one call: at the limit of a list, beyond it, and once the lease is over.
+const NAMED_AGAIN: &str = "1 0 dirty 01@3/4/5 1 1 16
+> granted 100
+1 1 dirty 01@3/4/5 2 1 16
+> granted 100
+1 2 dirty 01@3/4/5 3 1 16,16,16
+> granted 100
+? 2
+> pairs 1
+> 16 held by 1
+> 17 free of 0
+> lease 01@3/4/5 until 102
+1 3 dirty 01@3/4/5 4 1 16,17,18,19,20
+> granted 100
+1 4 dirty 01@3/4/5 5 1 20,19,18,17,16
+> granted 100
+1 5 dirty 01@3/4/5 6 1 21,22,16,22
+> granted 100
+? 5
+> pairs 7
+> 16 held by 1
+> 17 held by 1
+> lease 01@3/4/5 until 105
+1 6 dirty 01@3/4/5 7 1 23
+> granted 100
+1 7 dirty 01@3/4/5 8 1 16,17,18,19,20,21,22,23,16,17
+> granted 100
+? 7
+> pairs 8
+> 16 held by 1
+> 17 held by 1
+> lease 01@3/4/5 until 107
+1 8 clean 01@3/4/5 9 weak 17,17
+> done
+1 9 clean 01@3/4/5 10 strong 16
+> done
+? 9
+> pairs 8
+> 16 free of 0
+> 17 free of 0
+> lease 01@3/4/5 until 107
+1 10 dirty 01@3/4/5 11 1 17,24,24
+> granted 100
+? 10
+> pairs 9
+> 16 free of 0
+> 17 held by 1
+> lease 01@3/4/5 until 110
+1 200 dirty 01@3/4/5 12 1 16,17,17
+> granted 100
+? 200
+> pairs 2
+> 16 held by 1
+> 17 held by 1
+> lease 01@3/4/5 until 300
+1 300 tick
+? 300
+> pairs 1
+> 16 free of 0
+> 17 free of 0
+";
+
+// Leases that end at 169, 170 and 171.
 const ENDS: &str = "# 4611686018427387903
 > none due
 1 69 dirty 01@3/4/5 1 1 18
@@ -490,6 +552,7 @@ fn lease_tables_are_told(rt: HostRuntime) {
         (100, LATE_DIRTY),
         (100, DROPPED_AT_ONCE),
         (100, FEW_AND_MANY),
+        (100, NAMED_AGAIN),
     ] {
         let text = told(&rt, rt.alloc(), lease, script);
         must_be(&rt, &text, script);
