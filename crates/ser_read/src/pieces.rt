@@ -129,6 +129,7 @@ pub(crate) fn names<S: Source>(
 }
 
 /// Adds block data behind items: it joins block data that stands last, and no bytes are no item.
+#[inline(never)]
 #[tactic(auto, unfolding(crate::specs::Named::add_bytes))]
 fn add_bytes(items: &mut Vec<Item>, bytes: ByteList) -> Result<(), AllocError>
     ensures { OnOk result (items.new.items ≡ add_bytes items.old.items bytes) }
@@ -153,6 +154,7 @@ fn add_bytes(items: &mut Vec<Item>, bytes: ByteList) -> Result<(), AllocError>
 }
 
 /// Adds an item behind items.
+#[inline(always)]
 pub(crate) fn add(items: &mut Vec<Item>, item: Item) -> Result<(), AllocError>
     ensures { OnOk result (items.new.items ≡ added items.old.items item) }
 {

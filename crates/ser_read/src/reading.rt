@@ -1,5 +1,5 @@
 //! Reading references and what they begin (Java Object Serialization Specification, 6.4).
-ghost use Rattle.std.specs.Prelude.{◌-◌, ◌≤◌, ◌<◌, length};
+ghost use Rattle.std.specs.Prelude.{◌≢◌, ◌-◌, ◌≤◌, ◌<◌, length};
 ghost use Rattle.ser_values.specs.declared.limits.TheConstants.{LEVELS, NODES};
 ghost use Rattle.ser_values.specs.Reading.{slot_at, coded, fresh_at, text_at, short_at, long_at};
 ghost use Rattle.ser_read.specs.Named.{class_named};
@@ -44,6 +44,7 @@ fn slot<S: Source>(
 
 /// What a code begins in a place, whose levels may be so many.
 #[cycle(reading)]
+#[inline(always)]
 #[tactic(auto, unfolding(ser_values::specs::Reading::coded))]
 pub(crate) fn coded<S: Source>(
     alloc: Global,
@@ -59,7 +60,29 @@ pub(crate) fn coded<S: Source>(
 {
     if code == 0x70 {
         null(place, at)
-    } else if code == 0x71 {
+    } else {
+        not_null(alloc, pull, table, place, left, at, code)
+    }
+}
+
+/// What a code other than null's begins in a place, whose levels may be so many.
+#[cycle(reading)]
+#[inline(never)]
+#[tactic(auto, unfolding(ser_values::specs::Reading::coded))]
+fn not_null<S: Source>(
+    alloc: Global,
+    pull: &mut Pull<'_, S>,
+    table: &mut Table,
+    place: Place,
+    left: u32,
+    at: u64,
+    code: u8,
+) -> Result<Slot, StreamFault>
+    requires left { left ≤ LEVELS }
+    requires code { code ≢ 0x70 }
+    ensures { Does S.left S.faults pull.old pull.new table.old table.new result (GivesText place) (λ end. coded end left (slot_at end (left - 1)) place table.old.unread.items at code) }
+{
+    if code == 0x71 {
         handle(pull, table, place, at)
     } else if !admits_code(place, code) {
         Err(bad(code_fault(code), at))
@@ -108,6 +131,7 @@ fn fresh<S: Source>(
 
 /// A text with a length of 16 bits.
 #[tactic(auto, unfolding(ser_values::specs::Reading::text_at))]
+#[inline(never)]
 fn text<S: Source>(
     alloc: Global,
     pull: &mut Pull<'_, S>,

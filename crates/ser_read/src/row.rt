@@ -174,6 +174,7 @@ impl Rows {
 }
 
 /// The types of few fields.
+#[inline(always)]
 fn few_codes_of(fields: &[FieldDesc]) -> Codes
     requires { length fields.now ≤ FEW }
     ensures { result ≡ codes_of fields.now }
@@ -191,6 +192,7 @@ fn few_codes_of(fields: &[FieldDesc]) -> Codes
 }
 
 /// The types of many fields.
+#[inline(never)]
 fn many_codes_of(alloc: Global, fields: &[FieldDesc]) -> Result<CodeList, AllocError>
     ensures { IfOk result (λ codes. codes ≡ codes_of fields.now) }
 {
@@ -202,6 +204,7 @@ fn many_codes_of(alloc: Global, fields: &[FieldDesc]) -> Result<CodeList, AllocE
 }
 
 /// The types of fields.
+#[inline(always)]
 pub(crate) fn codes_of(alloc: Global, fields: &[FieldDesc]) -> Result<Codes, AllocError>
     ensures { IfOk result (λ codes. codes ≡ codes_of fields.now) }
 {

@@ -76,6 +76,7 @@ fn both(a: bool, b: bool) -> bool
 }
 
 /// What a node of a chain is.
+#[inline(never)]
 fn link_of(alloc: Global, node: &Node) -> Result<Climb, AllocError>
     ensures { IfOk result (λ climb. (above : Slot → List Row × Bool) → shown (chain_above above (Some node.now)) ≡ climbed above climb) }
 {
@@ -160,6 +161,7 @@ fn chain_up(alloc: Global, nodes: &[Node], class: u32) -> Result<Chain, AllocErr
 }
 
 /// The chain of a class, the highest superclass first.
+#[inline(never)]
 fn chain_of(alloc: Global, nodes: &[Node], class: u32) -> Result<Chain, AllocError>
     ensures rows { IfOk result (λ chain. chain.rows ≡ class_rows (chain_of PARTS nodes.now (slots.Node class)).0) }
     ensures is_serial { IfOk result (λ chain. chain.is_serial ≡ (chain_of PARTS nodes.now (slots.Node class)).1) }
@@ -172,6 +174,7 @@ fn chain_of(alloc: Global, nodes: &[Node], class: u32) -> Result<Chain, AllocErr
 }
 
 /// The chain of a class that is described, the highest superclass first.
+#[inline(always)]
 #[tactic(auto, using(crate::proofs::Links::one_chain))]
 fn desc_chain(
     alloc: Global,
@@ -236,6 +239,7 @@ fn external_rows(alloc: Global) -> Rows
 
 /// The parts that an object of a class has, and why the class has no objects. A chain that is looked through has a part for
 /// each of its classes.
+#[inline(always)]
 pub(crate) fn shape_of(alloc: Global, table: &Table, class: u32) -> Result<ClassShape, AllocError>
     ensures rows { IfOk result (λ shape. shape.rows ≡ class_rows (rows_of (slice_get table.now.nodes.items class) (chain_of PARTS table.now.nodes.items (slots.Node class)).0)) }
     ensures fault { IfOk result (λ shape. option_map kind_of shape.fault ≡ class_fault (slice_get table.now.nodes.items class) (chain_of PARTS table.now.nodes.items (slots.Node class)).1) }

@@ -3,10 +3,10 @@ ghost use Rattle.std.specs.Prelude.{◌≡◌, ◌+◌, ◌<◌, ◌≤◌, ◌+
 ghost use Rattle.ser_values.specs.declared.limits.TheConstants.{NODES, PARTS};
 ghost use Rattle.ser_values.specs.Loose.{elements_in, elements_at};
 ghost use Rattle.ser_values.specs.Node.{has, is_desc, is_text};
-ghost use Rattle.ser_values.specs.declared.node.Node.TheVariants.{Object};
+ghost use Rattle.ser_values.specs.declared.node.Node.TheVariants.{Desc, Object};
 
 use crate::fault::StreamKind;
-use class_desc::{ENUM, Slot, TypeCode, is_primitive};
+use class_desc::{ClassDesc, ENUM, Slot, TypeCode, element_code, is_primitive};
 use ser_values::limits::{NODES, PARTS};
 use ser_values::{Node, NodeList, PartList, Place, elements_in, fits_node, is_desc, is_text};
 use std::alloc::{AllocError, Global};
@@ -14,6 +14,9 @@ use std::alloc::{AllocError, Global};
 /// For how many nodes there is room when the first one is added: as many as most calls have. A memory allocator keeps blocks of up to about
 /// 1,000 bytes at hand, and takes longer for larger ones.
 const ROOM: usize = 8;
+
+/// For how many types of elements there is room when the first one is added.
+const TYPES: usize = 32;
 
 /// The nodes so far. One that is still being read stands there empty, and is written over when it was read.
 #[derive(Drop)]
@@ -44,10 +47,21 @@ fn has(numbers: &[u32], number: u32) -> bool
 }
 
 /// For how many further nodes there is to be room behind so many: more than one is asked for at the first alone, since room doubles as it grows.
-fn room_behind(nodes: usize) -> usize
+fn room_behind(nodes: usize, first: usize) -> usize
+    requires { 1 ≤ first }
     ensures { 1 ≤ result }
 {
-    if nodes == 0 { ROOM } else { 1 }
+    if nodes == 0 { first } else { 1 }
+}
+
+/// Writes a description. Where one stands already, as one that was begun does, it alone is written over.
+fn write_desc(place: &mut Node, desc: ClassDesc)
+    ensures { place.new ≡ Desc desc }
+{
+    match place {
+        Node::Desc(old) => *old = desc,
+        other => *other = Node::Desc(desc),
+    }
 }
 
 /// Writes an object. Where an object stands already, as one that was begun does, its fields alone are written over.
@@ -104,9 +118,9 @@ impl Table {
         ensures below { IfOk result (λ number. number < length self.new.nodes.items) }
     {
         let number = self.nodes.len() as u32;
-        let more = room_behind(self.nodes.len());
-        self.elements.reserve(more)?;
-        self.nodes.reserve(more)?;
+        let count = self.nodes.len();
+        self.elements.reserve(room_behind(count, TYPES))?;
+        self.nodes.reserve(room_behind(count, ROOM))?;
         self.elements.push_reserved(elements_in(&node));
         self.nodes.push_reserved(node);
         Ok(number)
@@ -122,6 +136,18 @@ impl Table {
         let place = number as usize;
         self.elements[place] = elements_in(&node);
         self.nodes[place] = node;
+    }
+
+    /// Writes a description, which was read, in the place that it has.
+    pub(crate) fn fill_desc(&mut self, number: u32, desc: ClassDesc)
+        requires { number < length self.old.nodes.items }
+        ensures now { now_of self.new ≡ fill (now_of self.old) number (Desc desc) }
+        ensures unread { self.new.unread.items ≡ self.old.unread.items }
+        ensures grows { length self.new.nodes.items ≡ length self.old.nodes.items }
+    {
+        let place = number as usize;
+        self.elements[place] = element_code(&desc.name);
+        write_desc(&mut self.nodes[place], desc);
     }
 
     /// Writes an object, whose parts were read, in the place that it has.

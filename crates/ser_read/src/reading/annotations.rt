@@ -62,6 +62,7 @@ pub(super) fn items<S: Source>(
 
 /// A block, or a reference, after its code.
 #[cycle(reading)]
+#[inline(always)]
 #[tactic(auto, unfolding(crate::specs::Named::item_at))]
 pub(crate) fn item<S: Source>(
     alloc: Global,

@@ -21,6 +21,7 @@ use wire_io::source::Source;
 /// An array.
 #[cycle(reading)]
 #[tactic(auto, using(crate::proofs::Parts::with_class_is))]
+#[inline(never)]
 pub(super) fn array<S: Source>(
     alloc: Global,
     pull: &mut Pull<'_, S>,

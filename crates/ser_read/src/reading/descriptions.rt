@@ -25,6 +25,7 @@ use wire_io::source::Source;
 /// A class's description.
 #[cycle(reading)]
 #[tactic(auto, unfolding(ser_values::specs::Reading::desc_at))]
+#[inline(never)]
 pub(super) fn desc<S: Source>(
     alloc: Global,
     pull: &mut Pull<'_, S>,
@@ -42,7 +43,7 @@ pub(super) fn desc<S: Source>(
     table.open(number)?;
     let desc = desc_behind(alloc, pull, table, at, name, front, left)?;
     table.close();
-    table.fill(number, Node::Desc(desc));
+    table.fill_desc(number, desc);
     Ok(Slot::Node(number))
 }
 
@@ -91,12 +92,12 @@ fn fields<S: Source>(
     requires left { left ≤ LEVELS }
     ensures { Does S.left S.faults pull.old pull.new table.old table.new result Any (λ end. many_at (field_at end at (slot_at end left Text table.old.unread.items)) n) }
 {
-    let mut fields = FieldList::new(alloc);
+    let mut fields = Vec::new(alloc);
     for _ in 0..n {
         let field = field(alloc, pull, table, at, left)?;
         fields.push(field)?;
     }
-    Ok(fields)
+    Ok(FieldList::from_vec(fields))
 }
 
 /// A field.

@@ -23,6 +23,7 @@ use wire_io::source::Source;
 /// An object.
 #[cycle(reading)]
 #[tactic(auto, using(crate::proofs::Parts::with_class_is))]
+#[inline(never)]
 pub(super) fn object<S: Source>(
     alloc: Global,
     pull: &mut Pull<'_, S>,
@@ -104,12 +105,12 @@ fn parts<S: Source>(
     requires left { left ≤ LEVELS }
     ensures { Does S.left S.faults pull.old pull.new table.old table.new result Any (λ end. parts_by end (slot_at end left Reference table.old.unread.items) rows.now) }
 {
-    let mut parts = PartList::new(alloc);
+    let mut parts = Vec::new(alloc);
     for row in rows {
         let part = part(alloc, pull, table, row, left)?;
         parts.push(part)?;
     }
-    Ok(parts)
+    Ok(PartList::from_vec(parts))
 }
 
 /// A part of an object.
@@ -142,12 +143,12 @@ fn values<S: Source>(
     requires left { left ≤ LEVELS }
     ensures { Does S.left S.faults pull.old pull.new table.old table.new result Any (λ end. values_by (slot_at end left Reference table.old.unread.items) codes.now) }
 {
-    let mut values = ValueList::new(alloc);
+    let mut values = Vec::new(alloc);
     for code in codes {
         let value = value(alloc, pull, table, *code, left)?;
         values.push(value)?;
     }
-    Ok(values)
+    Ok(ValueList::from_vec(values))
 }
 
 /// The value of a field.

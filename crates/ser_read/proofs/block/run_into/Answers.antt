@@ -1,4 +1,4 @@
-use Rattle.std.proofs.Common.{◌≡◌, ◌+◌, ◌-◌, ◌≤◌, ◌∙◌, ap, arith, [], length, take, drop, refl, sym}
+use Rattle.std.proofs.Common.{◌≡◌, ◌+◌, ◌-◌, ◌≤◌, ◌∙◌, ap, arith, [], length, take, refl, sym}
 use Rattle.ser_read.specs.Wants.{inside, run_at}
 use Rattle.ser_values.specs.Reading.{short}
 use Rattle.ser_read.proofs.Steps.{leads_start, leads_more, leads_done}

@@ -86,7 +86,7 @@ descriptions::desc-returns g t c = record {
   grows = first_of (search rules, grind (arith, common_steps));
   unread = first_of (search rules, grind (arith, common_steps));
   some = first_of (search rules, grind (arith, common_steps));
-  reads = said (λ end bs here. desc_is end c.args.at (slot_at end c.args.left) c.args.table.now.unread.items (now_of c.args.table.now) bs) (then _ c.in_ok-name.ensures.reads (then _ c.in_ok-front.ensures.reads (then _ (rw (c.in_ok-open.ensures.unread, c.begin.ensures.unread, c.open.ensures.now, c.in_ok-number.ensures.now, c.blank.ensures, c.in_ok-number.ensures.number) at c.in_ok-desc.ensures.reads) (done (λ end bs. made _ _ _ _ _ bs _ refl c.in_ok-number.ensures.number (c.fill.ensures.now ∙ ap (λ (n : Progress). fill n c.in_ok-number.number (nodes.Desc c.in_ok-desc.desc)) c.close.ensures.now))))));
+  reads = said (λ end bs here. desc_is end c.args.at (slot_at end c.args.left) c.args.table.now.unread.items (now_of c.args.table.now) bs) (then _ c.in_ok-name.ensures.reads (then _ c.in_ok-front.ensures.reads (then _ (rw (c.in_ok-open.ensures.unread, c.begin.ensures.unread, c.open.ensures.now, c.in_ok-number.ensures.now, c.blank.ensures, c.in_ok-number.ensures.number) at c.in_ok-desc.ensures.reads) (done (λ end bs. made _ _ _ _ _ bs _ refl c.in_ok-number.ensures.number (c.fill_desc.ensures.now ∙ ap (λ (n : Progress). fill n c.in_ok-number.number (nodes.Desc c.in_ok-desc.desc)) c.close.ensures.now))))));
   stops = tt;
 }
 
@@ -241,8 +241,8 @@ descriptions::fields-loop-preserved g t c = record {
   lent = c.in_ok-field.ensures.lent ∙ c.loop.invariant.lent;
   grows = omega (arith, c.field.ensures.grows, c.loop.invariant.grows);
   unread = c.in_ok-field.ensures.unread ∙ c.loop.invariant.unread;
-  leads = leads_more _ c.loop.invariant.leads (rw c.loop.invariant.unread at c.in_ok-field.ensures.reads) (λ end bs rest here h. rw c.in_ok-push.ensures.ok (many_next (field_at end c.args.at (slot_at end c.args.left Text c.args.table.now.unread.items)) c.loop.fields c.args.n c.loop.counter (now_of c.loop.table) bs c.in_ok-field.field (now_of c.field.new.table) rest c.loop-test.true h))
-      (λ end bs here is. many_err (field_at end c.args.at (slot_at end c.args.left Text c.args.table.now.unread.items)) c.loop.fields c.args.n c.loop.counter (now_of c.loop.table) bs short c.loop-test.true is);
+  leads = leads_more _ c.loop.invariant.leads (rw c.loop.invariant.unread at c.in_ok-field.ensures.reads) (λ end bs rest here h. rw c.in_ok-push.ensures.items (many_next (field_at end c.args.at (slot_at end c.args.left Text c.args.table.now.unread.items)) c.loop.fields.items c.args.n c.loop.counter (now_of c.loop.table) bs c.in_ok-field.field (now_of c.field.new.table) rest c.loop-test.true h))
+      (λ end bs here is. many_err (field_at end c.args.at (slot_at end c.args.left Text c.args.table.now.unread.items)) c.loop.fields.items c.args.n c.loop.counter (now_of c.loop.table) bs short c.loop-test.true is);
 }
 
 pub descriptions::fields-returns : goal.descriptions::fields-returns
@@ -251,7 +251,7 @@ descriptions::fields-returns g t c = record {
   grows = first_of (search rules, grind (arith, common_steps));
   unread = first_of (search rules, grind (arith, common_steps));
   some = tt;
-  reads = leads_done c.loop.invariant.leads (λ end bs. many_end (field_at end c.args.at (slot_at end c.args.left Text c.args.table.now.unread.items)) c.loop.fields c.args.n c.loop.counter (now_of c.loop.table) bs c.loop-test.false);
+  reads = rw c.from_vec.ensures (leads_done c.loop.invariant.leads (λ end bs. many_end (field_at end c.args.at (slot_at end c.args.left Text c.args.table.now.unread.items)) c.loop.fields.items c.args.n c.loop.counter (now_of c.loop.table) bs c.loop-test.false));
   stops = tt;
 }
 
@@ -261,7 +261,7 @@ objects::values-loop-code-init g t c = record {
   lent = refl;
   grows = omega arith;
   unread = refl;
-  leads = rw c.new-values.ensures (leads_start _ _ _ (λ end bs. all_start (value_at (slot_at end c.args.left Reference c.args.table.now.unread.items)) c.args.codes.now (now_of c.args.table.now) bs));
+  leads = rw c.new-values.ensures.items (leads_start _ _ _ (λ end bs. all_start (value_at (slot_at end c.args.left Reference c.args.table.now.unread.items)) c.args.codes.now (now_of c.args.table.now) bs));
 }
 
 pub objects::values-loop-code-preserved : goal.objects::values-loop-code-preserved
@@ -269,8 +269,8 @@ objects::values-loop-code-preserved g t c = record {
   lent = c.in_ok-value.ensures.lent ∙ c.loop-code.invariant.lent;
   grows = omega (arith, c.value.ensures.grows, c.loop-code.invariant.grows);
   unread = c.in_ok-value.ensures.unread ∙ c.loop-code.invariant.unread;
-  leads = leads_more _ c.loop-code.invariant.leads (rw c.loop-code.invariant.unread at c.in_ok-value.ensures.reads) (λ end bs rest here h. rw c.in_ok-push.ensures.ok (all_next (value_at (slot_at end c.args.left Reference c.args.table.now.unread.items)) c.loop-code.values c.args.codes.now c.loop-code.code-index _ (now_of c.loop-code.table) bs c.in_ok-value.value (now_of c.value.new.table) rest c.loop-code-test.true h))
-      (λ end bs here is. all_err (value_at (slot_at end c.args.left Reference c.args.table.now.unread.items)) c.loop-code.values c.args.codes.now c.loop-code.code-index _ (now_of c.loop-code.table) bs short c.loop-code-test.true is);
+  leads = leads_more _ c.loop-code.invariant.leads (rw c.loop-code.invariant.unread at c.in_ok-value.ensures.reads) (λ end bs rest here h. rw c.in_ok-push.ensures.items (all_next (value_at (slot_at end c.args.left Reference c.args.table.now.unread.items)) c.loop-code.values.items c.args.codes.now c.loop-code.code-index _ (now_of c.loop-code.table) bs c.in_ok-value.value (now_of c.value.new.table) rest c.loop-code-test.true h))
+      (λ end bs here is. all_err (value_at (slot_at end c.args.left Reference c.args.table.now.unread.items)) c.loop-code.values.items c.args.codes.now c.loop-code.code-index _ (now_of c.loop-code.table) bs short c.loop-code-test.true is);
 }
 
 pub objects::values-returns : goal.objects::values-returns
@@ -279,7 +279,7 @@ objects::values-returns g t c = record {
   grows = first_of (search rules, grind (arith, common_steps));
   unread = first_of (search rules, grind (arith, common_steps));
   some = tt;
-  reads = leads_done c.loop-code.invariant.leads (λ end bs. all_end (value_at (slot_at end c.args.left Reference c.args.table.now.unread.items)) c.loop-code.values c.args.codes.now c.loop-code.code-index (now_of c.loop-code.table) bs c.loop-code-test.false);
+  reads = rw c.from_vec.ensures (leads_done c.loop-code.invariant.leads (λ end bs. all_end (value_at (slot_at end c.args.left Reference c.args.table.now.unread.items)) c.loop-code.values.items c.args.codes.now c.loop-code.code-index (now_of c.loop-code.table) bs c.loop-code-test.false));
   stops = tt;
 }
 
@@ -289,7 +289,7 @@ objects::parts-loop-row-init g t c = record {
   lent = refl;
   grows = omega arith;
   unread = refl;
-  leads = rw c.new-parts.ensures (leads_start _ _ _ (λ end bs. all_start (part_by end (slot_at end c.args.left Reference c.args.table.now.unread.items)) c.args.rows.now (now_of c.args.table.now) bs));
+  leads = rw c.new-parts.ensures.items (leads_start _ _ _ (λ end bs. all_start (part_by end (slot_at end c.args.left Reference c.args.table.now.unread.items)) c.args.rows.now (now_of c.args.table.now) bs));
 }
 
 pub objects::parts-loop-row-preserved : goal.objects::parts-loop-row-preserved
@@ -297,8 +297,8 @@ objects::parts-loop-row-preserved g t c = record {
   lent = c.in_ok-part.ensures.lent ∙ c.loop-row.invariant.lent;
   grows = omega (arith, c.part.ensures.grows, c.loop-row.invariant.grows);
   unread = c.in_ok-part.ensures.unread ∙ c.loop-row.invariant.unread;
-  leads = leads_more _ c.loop-row.invariant.leads (rw c.loop-row.invariant.unread at c.in_ok-part.ensures.reads) (λ end bs rest here h. rw c.in_ok-push.ensures.ok (all_next_item (part_by end (slot_at end c.args.left Reference c.args.table.now.unread.items)) c.loop-row.parts c.args.rows.now c.loop-row.row-index c.row-item.result (now_of c.loop-row.table) bs c.in_ok-part.part (now_of c.part.new.table) rest c.loop-row-test.true c.row-item.is h))
-      (λ end bs here is. all_err_item (part_by end (slot_at end c.args.left Reference c.args.table.now.unread.items)) c.loop-row.parts c.args.rows.now c.loop-row.row-index c.row-item.result (now_of c.loop-row.table) bs short c.loop-row-test.true c.row-item.is is);
+  leads = leads_more _ c.loop-row.invariant.leads (rw c.loop-row.invariant.unread at c.in_ok-part.ensures.reads) (λ end bs rest here h. rw c.in_ok-push.ensures.items (all_next_item (part_by end (slot_at end c.args.left Reference c.args.table.now.unread.items)) c.loop-row.parts.items c.args.rows.now c.loop-row.row-index c.row-item.result (now_of c.loop-row.table) bs c.in_ok-part.part (now_of c.part.new.table) rest c.loop-row-test.true c.row-item.is h))
+      (λ end bs here is. all_err_item (part_by end (slot_at end c.args.left Reference c.args.table.now.unread.items)) c.loop-row.parts.items c.args.rows.now c.loop-row.row-index c.row-item.result (now_of c.loop-row.table) bs short c.loop-row-test.true c.row-item.is is);
 }
 
 pub objects::parts-returns : goal.objects::parts-returns
@@ -307,7 +307,7 @@ objects::parts-returns g t c = record {
   grows = first_of (search rules, grind (arith, common_steps));
   unread = first_of (search rules, grind (arith, common_steps));
   some = tt;
-  reads = leads_done c.loop-row.invariant.leads (λ end bs. all_end (part_by end (slot_at end c.args.left Reference c.args.table.now.unread.items)) c.loop-row.parts c.args.rows.now c.loop-row.row-index (now_of c.loop-row.table) bs c.loop-row-test.false);
+  reads = rw c.from_vec.ensures (leads_done c.loop-row.invariant.leads (λ end bs. all_end (part_by end (slot_at end c.args.left Reference c.args.table.now.unread.items)) c.loop-row.parts.items c.args.rows.now c.loop-row.row-index (now_of c.loop-row.table) bs c.loop-row-test.false));
   stops = tt;
 }
 
@@ -539,22 +539,22 @@ pub arrays::slots-returns-in_err-push : goal.arrays::slots-returns-in_err-push
 arrays::slots-returns-in_err-push g t c = fell c.from_residual-in_err-push.result c.from_residual-in_err-push.ensures.1 (λ f. tt) (first_of (search rules, grind (arith, common_steps))) (first_of (search rules, grind (arith, common_steps))) (loop_stops c.loop.invariant.leads (λ end bs f here is. many_err (slot_at end c.args.left Reference c.args.table.now.unread.items) c.loop.slots c.args.n c.loop.counter (now_of c.loop.table) bs f c.loop-test.true is) (took (rw c.loop.invariant.unread at c.in_ok-slot.ensures.reads)))
 
 pub descriptions::fields-returns-in_err-field : goal.descriptions::fields-returns-in_err-field
-descriptions::fields-returns-in_err-field g t c = fell c.from_residual.result c.from_residual.ensures.1 (λ f. tt) (first_of (search rules, grind (arith, common_steps))) (first_of (search rules, grind (arith, common_steps))) (loop_stops c.loop.invariant.leads (λ end bs f here is. many_err (field_at end c.args.at (slot_at end c.args.left Text c.args.table.now.unread.items)) c.loop.fields c.args.n c.loop.counter (now_of c.loop.table) bs f c.loop-test.true is) (rw c.loop.invariant.unread at c.in_err-field.ensures.stops))
+descriptions::fields-returns-in_err-field g t c = fell c.from_residual.result c.from_residual.ensures.1 (λ f. tt) (first_of (search rules, grind (arith, common_steps))) (first_of (search rules, grind (arith, common_steps))) (loop_stops c.loop.invariant.leads (λ end bs f here is. many_err (field_at end c.args.at (slot_at end c.args.left Text c.args.table.now.unread.items)) c.loop.fields.items c.args.n c.loop.counter (now_of c.loop.table) bs f c.loop-test.true is) (rw c.loop.invariant.unread at c.in_err-field.ensures.stops))
 
 pub descriptions::fields-returns-in_err-push : goal.descriptions::fields-returns-in_err-push
-descriptions::fields-returns-in_err-push g t c = fell c.from_residual-in_err-push.result c.from_residual-in_err-push.ensures.1 (λ f. tt) (first_of (search rules, grind (arith, common_steps))) (first_of (search rules, grind (arith, common_steps))) (loop_stops c.loop.invariant.leads (λ end bs f here is. many_err (field_at end c.args.at (slot_at end c.args.left Text c.args.table.now.unread.items)) c.loop.fields c.args.n c.loop.counter (now_of c.loop.table) bs f c.loop-test.true is) (took (rw c.loop.invariant.unread at c.in_ok-field.ensures.reads)))
+descriptions::fields-returns-in_err-push g t c = fell c.from_residual-in_err-push.result c.from_residual-in_err-push.ensures.1 (λ f. tt) (first_of (search rules, grind (arith, common_steps))) (first_of (search rules, grind (arith, common_steps))) (loop_stops c.loop.invariant.leads (λ end bs f here is. many_err (field_at end c.args.at (slot_at end c.args.left Text c.args.table.now.unread.items)) c.loop.fields.items c.args.n c.loop.counter (now_of c.loop.table) bs f c.loop-test.true is) (took (rw c.loop.invariant.unread at c.in_ok-field.ensures.reads)))
 
 pub objects::values-returns-in_err-value : goal.objects::values-returns-in_err-value
-objects::values-returns-in_err-value g t c = fell c.from_residual.result c.from_residual.ensures.1 (λ f. tt) (first_of (search rules, grind (arith, common_steps))) (first_of (search rules, grind (arith, common_steps))) (loop_stops c.loop-code.invariant.leads (λ end bs f here is. all_err (value_at (slot_at end c.args.left Reference c.args.table.now.unread.items)) c.loop-code.values c.args.codes.now c.loop-code.code-index _ (now_of c.loop-code.table) bs f c.loop-code-test.true is) (rw c.loop-code.invariant.unread at c.in_err-value.ensures.stops))
+objects::values-returns-in_err-value g t c = fell c.from_residual.result c.from_residual.ensures.1 (λ f. tt) (first_of (search rules, grind (arith, common_steps))) (first_of (search rules, grind (arith, common_steps))) (loop_stops c.loop-code.invariant.leads (λ end bs f here is. all_err (value_at (slot_at end c.args.left Reference c.args.table.now.unread.items)) c.loop-code.values.items c.args.codes.now c.loop-code.code-index _ (now_of c.loop-code.table) bs f c.loop-code-test.true is) (rw c.loop-code.invariant.unread at c.in_err-value.ensures.stops))
 
 pub objects::values-returns-in_err-push : goal.objects::values-returns-in_err-push
-objects::values-returns-in_err-push g t c = fell c.from_residual-in_err-push.result c.from_residual-in_err-push.ensures.1 (λ f. tt) (first_of (search rules, grind (arith, common_steps))) (first_of (search rules, grind (arith, common_steps))) (loop_stops c.loop-code.invariant.leads (λ end bs f here is. all_err (value_at (slot_at end c.args.left Reference c.args.table.now.unread.items)) c.loop-code.values c.args.codes.now c.loop-code.code-index _ (now_of c.loop-code.table) bs f c.loop-code-test.true is) (took (rw c.loop-code.invariant.unread at c.in_ok-value.ensures.reads)))
+objects::values-returns-in_err-push g t c = fell c.from_residual-in_err-push.result c.from_residual-in_err-push.ensures.1 (λ f. tt) (first_of (search rules, grind (arith, common_steps))) (first_of (search rules, grind (arith, common_steps))) (loop_stops c.loop-code.invariant.leads (λ end bs f here is. all_err (value_at (slot_at end c.args.left Reference c.args.table.now.unread.items)) c.loop-code.values.items c.args.codes.now c.loop-code.code-index _ (now_of c.loop-code.table) bs f c.loop-code-test.true is) (took (rw c.loop-code.invariant.unread at c.in_ok-value.ensures.reads)))
 
 pub objects::parts-returns-in_err-part : goal.objects::parts-returns-in_err-part
-objects::parts-returns-in_err-part g t c = fell c.from_residual.result c.from_residual.ensures.1 (λ f. tt) (first_of (search rules, grind (arith, common_steps))) (first_of (search rules, grind (arith, common_steps))) (loop_stops c.loop-row.invariant.leads (λ end bs f here is. all_err_item (part_by end (slot_at end c.args.left Reference c.args.table.now.unread.items)) c.loop-row.parts c.args.rows.now c.loop-row.row-index c.row-item.result (now_of c.loop-row.table) bs f c.loop-row-test.true c.row-item.is is) (rw c.loop-row.invariant.unread at c.in_err-part.ensures.stops))
+objects::parts-returns-in_err-part g t c = fell c.from_residual.result c.from_residual.ensures.1 (λ f. tt) (first_of (search rules, grind (arith, common_steps))) (first_of (search rules, grind (arith, common_steps))) (loop_stops c.loop-row.invariant.leads (λ end bs f here is. all_err_item (part_by end (slot_at end c.args.left Reference c.args.table.now.unread.items)) c.loop-row.parts.items c.args.rows.now c.loop-row.row-index c.row-item.result (now_of c.loop-row.table) bs f c.loop-row-test.true c.row-item.is is) (rw c.loop-row.invariant.unread at c.in_err-part.ensures.stops))
 
 pub objects::parts-returns-in_err-push : goal.objects::parts-returns-in_err-push
-objects::parts-returns-in_err-push g t c = fell c.from_residual-in_err-push.result c.from_residual-in_err-push.ensures.1 (λ f. tt) (first_of (search rules, grind (arith, common_steps))) (first_of (search rules, grind (arith, common_steps))) (loop_stops c.loop-row.invariant.leads (λ end bs f here is. all_err_item (part_by end (slot_at end c.args.left Reference c.args.table.now.unread.items)) c.loop-row.parts c.args.rows.now c.loop-row.row-index c.row-item.result (now_of c.loop-row.table) bs f c.loop-row-test.true c.row-item.is is) (took (rw c.loop-row.invariant.unread at c.in_ok-part.ensures.reads)))
+objects::parts-returns-in_err-push g t c = fell c.from_residual-in_err-push.result c.from_residual-in_err-push.ensures.1 (λ f. tt) (first_of (search rules, grind (arith, common_steps))) (first_of (search rules, grind (arith, common_steps))) (loop_stops c.loop-row.invariant.leads (λ end bs f here is. all_err_item (part_by end (slot_at end c.args.left Reference c.args.table.now.unread.items)) c.loop-row.parts.items c.args.rows.now c.loop-row.row-index c.row-item.result (now_of c.loop-row.table) bs f c.loop-row-test.true c.row-item.is is) (took (rw c.loop-row.invariant.unread at c.in_ok-part.ensures.reads)))
 
 pub annotations::items-returns-in_err-code : goal.annotations::items-returns-in_err-code
 annotations::items-returns-in_err-code g t c = fell c.from_residual.result c.from_residual.ensures.1 (λ f. tt) (first_of (search rules, grind (arith, common_steps))) (first_of (search rules, grind (arith, common_steps))) (loop_stops (slack_leads c.loop-items.invariant.slack) (λ end bs f here is. code_err end (slot_at end c.args.left Reference c.args.table.now.unread.items) _ (now_of c.loop-items.table) c.loop-items.items.items bs f is) c.in_err-code.ensures.stops)
@@ -581,8 +581,8 @@ objects::object_in-returns-then-lacks_parts g t c =
       stops = many_here c.args.at (λ end bs here. object_is end c.args.at (slot_at end c.args.left Reference c.args.table.now.unread.items) c.args.class c.as_slice-rows.result.now (now_of c.args.table.now) bs rows ∙ rw lacks refl);
     }
 
-pub coded-returns-then-not-admits_code : goal.coded-returns-then-not-admits_code
-coded-returns-then-not-admits_code g t c =
+pub not_null-returns-then-not-admits_code : goal.not_null-returns-then-not-admits_code
+not_null-returns-then-not-admits_code g t c =
     let none = sym c.admits_code.ensures ∙ c.if-not-admits_code.true in
     record {
       lent = first_of (search rules, grind (arith, common_steps));
@@ -590,11 +590,11 @@ coded-returns-then-not-admits_code g t c =
       unread = tt;
       some = λ is. tt;
       reads = tt;
-      stops = rw c.bad.ensures (bad_here c.code_fault.result c.args.at c.code_fault.ensures.known (λ end bs here. coded_none end c.args.left (slot_at end (c.args.left - 1)) c.args.place c.args.table.now.unread.items c.args.at c.args.code (now_of c.args.table.now) bs (ne_eqb c.args.code 112 c.if-code-eq112.false) (ne_eqb c.args.code 113 c.if-code-eq113.false) none ∙ ap (λ (k : Kind). Err (bad k c.args.at)) (sym c.code_fault.ensures.kind)));
+      stops = rw c.bad.ensures (bad_here c.code_fault.result c.args.at c.code_fault.ensures.known (λ end bs here. coded_none end c.args.left (slot_at end (c.args.left - 1)) c.args.place c.args.table.now.unread.items c.args.at c.args.code (now_of c.args.table.now) bs (ne_eqb c.args.code 112 c.requires.code) (ne_eqb c.args.code 113 c.if-code-eq113.false) none ∙ ap (λ (k : Kind). Err (bad k c.args.at)) (sym c.code_fault.ensures.kind)));
     }
 
-pub coded-returns-then-left-eq0 : goal.coded-returns-then-left-eq0
-coded-returns-then-left-eq0 g t c =
+pub not_null-returns-then-left-eq0 : goal.not_null-returns-then-left-eq0
+not_null-returns-then-left-eq0 g t c =
     let some = sym c.admits_code.ensures ∙ c.if-not-admits_code.false in
     record {
       lent = first_of (search rules, grind (arith, common_steps));
@@ -602,11 +602,11 @@ coded-returns-then-left-eq0 g t c =
       unread = tt;
       some = λ is. tt;
       reads = tt;
-      stops = deep_here c.args.at (λ end bs here. coded_deep end c.args.left (slot_at end (c.args.left - 1)) c.args.place c.args.table.now.unread.items c.args.at c.args.code (now_of c.args.table.now) bs (ne_eqb c.args.code 112 c.if-code-eq112.false) (ne_eqb c.args.code 113 c.if-code-eq113.false) some c.if-left-eq0.true);
+      stops = deep_here c.args.at (λ end bs here. coded_deep end c.args.left (slot_at end (c.args.left - 1)) c.args.place c.args.table.now.unread.items c.args.at c.args.code (now_of c.args.table.now) bs (ne_eqb c.args.code 112 c.requires.code) (ne_eqb c.args.code 113 c.if-code-eq113.false) some c.if-left-eq0.true);
     }
 
-pub coded-returns-then-is_full : goal.coded-returns-then-is_full
-coded-returns-then-is_full g t c =
+pub not_null-returns-then-is_full : goal.not_null-returns-then-is_full
+not_null-returns-then-is_full g t c =
     let some = sym c.admits_code.ensures ∙ c.if-not-admits_code.false in
     record {
       lent = first_of (search rules, grind (arith, common_steps));
@@ -614,7 +614,7 @@ coded-returns-then-is_full g t c =
       unread = tt;
       some = λ is. tt;
       reads = tt;
-      stops = many_here c.args.at (λ end bs here. coded_full end c.args.left (slot_at end (c.args.left - 1)) c.args.place c.args.table.now.unread.items c.args.at c.args.code (now_of c.args.table.now) bs (ne_eqb c.args.code 112 c.if-code-eq112.false) (ne_eqb c.args.code 113 c.if-code-eq113.false) some (omega arith) (sym c.is_full.ensures ∙ c.if-is_full.true));
+      stops = many_here c.args.at (λ end bs here. coded_full end c.args.left (slot_at end (c.args.left - 1)) c.args.place c.args.table.now.unread.items c.args.at c.args.code (now_of c.args.table.now) bs (ne_eqb c.args.code 112 c.requires.code) (ne_eqb c.args.code 113 c.if-code-eq113.false) some (omega arith) (sym c.is_full.ensures ∙ c.if-is_full.true));
     }
 
 pub constants::constant_in-returns-then-not-is_enum : goal.constants::constant_in-returns-then-not-is_enum
@@ -635,7 +635,7 @@ descriptions::fields-loop-init g t c = record {
   lent = refl;
   grows = omega arith;
   unread = refl;
-  leads = rw c.new-fields.ensures (leads_start _ _ _ (λ end bs. many_start (field_at end c.args.at (slot_at end c.args.left Text c.args.table.now.unread.items)) c.args.n (now_of c.args.table.now) bs));
+  leads = rw c.new-fields.ensures.items (leads_start _ _ _ (λ end bs. many_start (field_at end c.args.at (slot_at end c.args.left Text c.args.table.now.unread.items)) c.args.n (now_of c.args.table.now) bs));
 }
 
 pub arrays::slots-loop-init : goal.arrays::slots-loop-init

@@ -11,86 +11,89 @@ use Rattle.ser_read.proofs.Loop.{front_of}
 use Rattle.ser_read.proofs.Blocks.{Slack}
 use Rattle.ser_read.proofs.reading.+reading.Given as goal
 
+abbrev pub decreases-not_null : goal.decreases-not_null
+decreases-not_null g l = 16 * l.left + 0
+
 abbrev pub decreases-coded : goal.decreases-coded
-decreases-coded g l = 16 * l.left + 0
+decreases-coded g l = 16 * l.left + 1
 
 abbrev pub decreases-slot : goal.decreases-slot
-decreases-slot g l = 16 * l.left + 1
+decreases-slot g l = 16 * l.left + 2
 
 abbrev pub decreases-arrays::slots : goal.decreases-arrays::slots
-decreases-arrays::slots g l = 16 * l.left + 2
+decreases-arrays::slots g l = 16 * l.left + 3
 
 abbrev pub decreases-objects::value : goal.decreases-objects::value
-decreases-objects::value g l = 16 * l.left + 2
+decreases-objects::value g l = 16 * l.left + 3
 
 abbrev pub decreases-descriptions::field_of : goal.decreases-descriptions::field_of
-decreases-descriptions::field_of g l = 16 * l.left + 2
+decreases-descriptions::field_of g l = 16 * l.left + 3
 
 abbrev pub decreases-class : goal.decreases-class
-decreases-class g l = 16 * l.left + 2
+decreases-class g l = 16 * l.left + 3
 
 abbrev pub decreases-annotations::item : goal.decreases-annotations::item
-decreases-annotations::item g l = 16 * l.left + 2
+decreases-annotations::item g l = 16 * l.left + 3
 
 abbrev pub decreases-annotations::items : goal.decreases-annotations::items
-decreases-annotations::items g l = 16 * l.left + 3
+decreases-annotations::items g l = 16 * l.left + 4
 
 abbrev pub decreases-objects::values : goal.decreases-objects::values
-decreases-objects::values g l = 16 * l.left + 3
+decreases-objects::values g l = 16 * l.left + 4
 
 abbrev pub decreases-descriptions::field : goal.decreases-descriptions::field
-decreases-descriptions::field g l = 16 * l.left + 3
+decreases-descriptions::field g l = 16 * l.left + 4
 
 abbrev pub decreases-arrays::elements : goal.decreases-arrays::elements
-decreases-arrays::elements g l = 16 * l.left + 3
+decreases-arrays::elements g l = 16 * l.left + 4
 
 abbrev pub decreases-constants::constant_in : goal.decreases-constants::constant_in
-decreases-constants::constant_in g l = 16 * l.left + 3
+decreases-constants::constant_in g l = 16 * l.left + 4
 
 abbrev pub decreases-constants::class_value : goal.decreases-constants::class_value
-decreases-constants::class_value g l = 16 * l.left + 3
+decreases-constants::class_value g l = 16 * l.left + 4
 
 abbrev pub decreases-annotations::note : goal.decreases-annotations::note
-decreases-annotations::note g l = 16 * l.left + 4
+decreases-annotations::note g l = 16 * l.left + 5
 
 abbrev pub decreases-objects::part : goal.decreases-objects::part
-decreases-objects::part g l = 16 * l.left + 5
+decreases-objects::part g l = 16 * l.left + 6
 
 abbrev pub decreases-objects::parts : goal.decreases-objects::parts
-decreases-objects::parts g l = 16 * l.left + 6
+decreases-objects::parts g l = 16 * l.left + 7
 
 abbrev pub decreases-descriptions::fields : goal.decreases-descriptions::fields
-decreases-descriptions::fields g l = 16 * l.left + 4
+decreases-descriptions::fields g l = 16 * l.left + 5
 
 abbrev pub decreases-arrays::array_of : goal.decreases-arrays::array_of
-decreases-arrays::array_of g l = 16 * l.left + 4
+decreases-arrays::array_of g l = 16 * l.left + 5
 
 abbrev pub decreases-arrays::array_in : goal.decreases-arrays::array_in
-decreases-arrays::array_in g l = 16 * l.left + 5
+decreases-arrays::array_in g l = 16 * l.left + 6
 
 abbrev pub decreases-descriptions::desc_behind : goal.decreases-descriptions::desc_behind
-decreases-descriptions::desc_behind g l = 16 * l.left + 5
+decreases-descriptions::desc_behind g l = 16 * l.left + 6
 
 abbrev pub decreases-objects::object_after : goal.decreases-objects::object_after
-decreases-objects::object_after g l = 16 * l.left + 7
+decreases-objects::object_after g l = 16 * l.left + 8
 
 abbrev pub decreases-objects::object_in : goal.decreases-objects::object_in
-decreases-objects::object_in g l = 16 * l.left + 8
+decreases-objects::object_in g l = 16 * l.left + 9
 
 abbrev pub decreases-descriptions::desc : goal.decreases-descriptions::desc
-decreases-descriptions::desc g l = 16 * l.left + 7
+decreases-descriptions::desc g l = 16 * l.left + 8
 
 abbrev pub decreases-descriptions::proxy : goal.decreases-descriptions::proxy
-decreases-descriptions::proxy g l = 16 * l.left + 7
+decreases-descriptions::proxy g l = 16 * l.left + 8
 
 abbrev pub decreases-arrays::array : goal.decreases-arrays::array
-decreases-arrays::array g l = 16 * l.left + 6
+decreases-arrays::array g l = 16 * l.left + 7
 
 abbrev pub decreases-objects::object : goal.decreases-objects::object
-decreases-objects::object g l = 16 * l.left + 9
+decreases-objects::object g l = 16 * l.left + 10
 
 abbrev pub decreases-constants::constant : goal.decreases-constants::constant
-decreases-constants::constant g l = 16 * l.left + 4
+decreases-constants::constant g l = 16 * l.left + 5
 
 abbrev pub decreases-fresh : goal.decreases-fresh
 decreases-fresh g l = 16 * l.left + 15
@@ -110,7 +113,7 @@ invariant-descriptions::fields-loop g l =
       lent : l.pull.source.ghost_name ≡ l.fn.pull.source.ghost_name;
       grows : length l.fn.table.nodes.items ≤ length l.table.nodes.items;
       unread : l.table.unread.items ≡ l.fn.table.unread.items;
-      leads : Leads short (place g.S.Source.left g.S.Source.faults l.fn.pull) (place g.S.Source.left g.S.Source.faults l.pull) (λ end. many_at (field_at end l.at (slot_at end l.left Text l.fn.table.unread.items)) l.n (now_of l.fn.table)) (λ end bs. front_of l.fields (many_at (field_at end l.at (slot_at end l.left Text l.fn.table.unread.items)) (l.n - l.counter) (now_of l.table) bs));
+      leads : Leads short (place g.S.Source.left g.S.Source.faults l.fn.pull) (place g.S.Source.left g.S.Source.faults l.pull) (λ end. many_at (field_at end l.at (slot_at end l.left Text l.fn.table.unread.items)) l.n (now_of l.fn.table)) (λ end bs. front_of l.fields.items (many_at (field_at end l.at (slot_at end l.left Text l.fn.table.unread.items)) (l.n - l.counter) (now_of l.table) bs));
     }
 
 abbrev pub invariant-objects::values-loop-code : goal.invariant-objects::values-loop-code
@@ -119,7 +122,7 @@ invariant-objects::values-loop-code g l =
       lent : l.pull.source.ghost_name ≡ l.fn.pull.source.ghost_name;
       grows : length l.fn.table.nodes.items ≤ length l.table.nodes.items;
       unread : l.table.unread.items ≡ l.fn.table.unread.items;
-      leads : Leads short (place g.S.Source.left g.S.Source.faults l.fn.pull) (place g.S.Source.left g.S.Source.faults l.pull) (λ end. values_by (slot_at end l.left Reference l.fn.table.unread.items) l.codes (now_of l.fn.table)) (λ end bs. front_of l.values (all_at (value_at (slot_at end l.left Reference l.fn.table.unread.items)) (drop l.code-index l.codes) (now_of l.table) bs));
+      leads : Leads short (place g.S.Source.left g.S.Source.faults l.fn.pull) (place g.S.Source.left g.S.Source.faults l.pull) (λ end. values_by (slot_at end l.left Reference l.fn.table.unread.items) l.codes (now_of l.fn.table)) (λ end bs. front_of l.values.items (all_at (value_at (slot_at end l.left Reference l.fn.table.unread.items)) (drop l.code-index l.codes) (now_of l.table) bs));
     }
 
 abbrev pub invariant-objects::parts-loop-row : goal.invariant-objects::parts-loop-row
@@ -128,7 +131,7 @@ invariant-objects::parts-loop-row g l =
       lent : l.pull.source.ghost_name ≡ l.fn.pull.source.ghost_name;
       grows : length l.fn.table.nodes.items ≤ length l.table.nodes.items;
       unread : l.table.unread.items ≡ l.fn.table.unread.items;
-      leads : Leads short (place g.S.Source.left g.S.Source.faults l.fn.pull) (place g.S.Source.left g.S.Source.faults l.pull) (λ end. parts_by end (slot_at end l.left Reference l.fn.table.unread.items) l.rows (now_of l.fn.table)) (λ end bs. front_of l.parts (all_at (part_by end (slot_at end l.left Reference l.fn.table.unread.items)) (drop l.row-index l.rows) (now_of l.table) bs));
+      leads : Leads short (place g.S.Source.left g.S.Source.faults l.fn.pull) (place g.S.Source.left g.S.Source.faults l.pull) (λ end. parts_by end (slot_at end l.left Reference l.fn.table.unread.items) l.rows (now_of l.fn.table)) (λ end bs. front_of l.parts.items (all_at (part_by end (slot_at end l.left Reference l.fn.table.unread.items)) (drop l.row-index l.rows) (now_of l.table) bs));
     }
 
 abbrev pub invariant-annotations::items-loop-items : goal.invariant-annotations::items-loop-items
