@@ -1,7 +1,6 @@
 -- The end of a turn, by what its parts answered.
-use Rattle.std.proofs.Common.{◌≡◌, ℕ, ◌<◌, ◌≤◌, ◌^◌, List, ◌++◌, length, ap, sym, subst, ◌∙◌, map, max, drop, arith, Option, None, length-append}
+use Rattle.std.proofs.Common.{◌≡◌, ℕ, ◌<◌, ◌≤◌, ◌^◌, List, ◌++◌, length, ap, sym, subst, ◌∙◌, map, max, arith, Option, None}
 use Rattle.std.specs.Prelude.{Bool, filter}
-use Rattle.std.proofs.Math.Seq.{drop-append_seam}
 use Rattle.object_ids.specs.declared.ids.ObjId.{ObjId}
 use Rattle.history.specs.declared.asks.SpaceConfig.{SpaceConfig}
 use Rattle.history.specs.declared.asks.Event.{Event}
@@ -24,9 +23,9 @@ use Rattle.space.specs.Doubts.{HasLog}
 use Rattle.space.proofs.Acting.{stood_for}
 use Rattle.history.specs.Names.{names}
 use Rattle.space.specs.Kept.{Keeps}
-use Rattle.space.proofs.Keeping.{told_calls, going_now}
-use Rattle.space.proofs.TurnLaws.{HasActed, HasWithdrawn, goes-now, is-acted}
-use Rattle.space.proofs.AskLaws.{asked, room-as, gone-few}
+use Rattle.space.proofs.Keeping.{told_calls}
+use Rattle.space.proofs.TurnLaws.{HasActed, HasWithdrawn, is-acted}
+use Rattle.space.proofs.AskLaws.{asked, room-as}
 
 -- What is known once an ask has acted.
 pub has-acted : (config : SpaceConfig) (events : List Event) (e : Event) (leases leases1 : LeaseTable) (x y : ExportTable) (runs seen : List Run) (withdrawn : List Withdrawal) (told opened used moment time running count : ℕ) (stood looked : Option ObjId) (effective : Bool) (room : Option Refused) (names_count : ℕ) →
@@ -71,22 +70,6 @@ has-withdrawn leases1 leases2 t y z time told_gone all_gone e kept gone dropped 
     let G : ExportTable → Type 0 = λ x. ForEachLog leases1 (λ lease moment calls. all_gone ≡ told_gone ++ rows_withdrawn time (held_by lease (max time moment) calls) x.waits x.rows) in
     let D : ExportTable → Type 0 = λ x. ForEachLog leases1 (λ lease moment calls. StandsFor lease leases2 moment (map (without_all (rows_withdrawn time (held_by lease (max time moment) calls) x.waits x.rows)) calls)) in
     record { kept = subst K e kept; gone = subst G e gone; dropped = subst D e dropped }
-
--- What goes stands after what was still to be told.
-pub goes-after : (config : SpaceConfig) (events : List Event) (e : Event) (leases leases1 leases2 : LeaseTable) (exports t x3 : ExportTable) (runs : List Run) (withdrawn : List Withdrawal) (told opened used moment time : ℕ) (effective : Bool) (told_gone all_gone : List ObjId) →
-    HasActed config events e leases leases1 exports t runs withdrawn told opened used moment effective → time ≡ max e.moment moment → HasWithdrawn leases1 leases2 t x3 time told_gone all_gone → length told_gone ≤ length all_gone
-goes-after config events e leases leases1 leases2 exports t x3 runs withdrawn told opened used moment time effective told_gone all_gone a m w =
-    let all = ap length (goes-now config events e leases leases1 leases2 exports t x3 runs withdrawn told opened used moment time effective told_gone all_gone a m w) in
-    let both = length-append told_gone (going_now config events e t) in omega (arith, all, both)
-
--- No more objects go than there are.
-pub goes-few : (config : SpaceConfig) (events : List Event) (e : Event) (leases leases1 leases2 : LeaseTable) (exports t x3 : ExportTable) (runs : List Run) (withdrawn : List Withdrawal) (told opened used moment time : ℕ) (effective : Bool) (told_gone all_gone : List ObjId) →
-    HasActed config events e leases leases1 exports t runs withdrawn told opened used moment effective → time ≡ max e.moment moment → HasWithdrawn leases1 leases2 t x3 time told_gone all_gone → length (drop (length told_gone) all_gone) ≤ length t.rows
-goes-few config events e leases leases1 leases2 exports t x3 runs withdrawn told opened used moment time effective told_gone all_gone a m w =
-    let rest = ap (λ l. length (drop (length told_gone) l)) (goes-now config events e leases leases1 leases2 exports t x3 runs withdrawn told opened used moment time effective told_gone all_gone a m w) in
-    let seam = ap length (drop-append_seam told_gone (going_now config events e t)) in
-    let few = gone-few (max e.moment (now (places config events))) (held_by config.lease_ms (max e.moment (now (places config events))) (told_calls config events e)) t.waits t.rows in
-    omega (arith, rest, seam, few)
 
 -- What is kept of events, once they are there and there is as much room.
 pub appended : (config : SpaceConfig) (events events' : List Event) (leases : LeaseTable) (exports : ExportTable) (runs : List Run) (withdrawn : List Withdrawal) (told opened used moment room room' withdrawn_room : ℕ) (bindings : List Binding) →

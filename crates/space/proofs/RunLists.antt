@@ -1,13 +1,13 @@
 -- Lists that hold the same calls, and what the counts of calls stand for.
-use Rattle.std.proofs.Common.{◌≡◌, ℕ, zero, suc, ◌+◌, ◌-◌, ◌<◌, ◌≤◌, List, [], ◌∷◌, ◌++◌, length, refl, ap, sym, subst, ◌∙◌, cond, arith, length-append, Option, Some, None, is_some, slice_get, get_or, position, replicate, swap_remove, sum_by}
-use Rattle.std.specs.Prelude.{Bool, true, false, ◌==◌, ◌&&◌, filter, nat_lt, unwrap_or, flat_map, if◌then◌else◌}
-use Rattle.std.specs.List.{list_any, IsDistinct, AllByRecursion}
+use Rattle.std.proofs.Common.{◌≡◌, ℕ, zero, suc, ◌+◌, ◌-◌, ◌<◌, ◌≤◌, List, [], ◌∷◌, ◌++◌, length, refl, ap, sym, subst, ◌∙◌, cond, arith, length-append, Option, Some, None, IfSome, is_some, slice_get, get_or, position, replicate, swap_remove, sum_by}
+use Rattle.std.specs.Prelude.{Bool, true, false, ◌==◌, ◌&&◌, filter, nat_lt, not, unwrap_or, flat_map, if◌then◌else◌}
+use Rattle.std.specs.List.{All, list_any, position_or_len, IsDistinct, AllByRecursion}
 use Rattle.std.specs.Option.{option_map}
 use Rattle.std.specs.Map.{keys_of, values_of, lookup}
 use Rattle.std.proofs.lemmas.Bool.{and_parts, and_from, lt-ltb}
 use Rattle.std.proofs.lemmas.Bool.Decides.{Decides-eqb}
 use Rattle.std.proofs.lemmas.List.{length-replicate}
-use Rattle.std.proofs.lemmas.List.Elements.{filter-append}
+use Rattle.std.proofs.lemmas.List.Elements.{All-cons, All-head, All-same, All-set, All-tail, All-take, filter-append}
 use Rattle.std.proofs.lemmas.List.Sums.{sum_by-cons, sum_by-swap_remove}
 use Rattle.std.proofs.lemmas.Map.{NonePasses}
 use Rattle.std.proofs.lemmas.Map.Made.{lookup_key_passes}
@@ -205,6 +205,22 @@ inserted test (e ∷ es) run n = go (same_run run e.0) refl (inserted test es ru
         omega (arith, here, before, sum_by-cons (shares test) (e.0, n) es, sum_by-cons (shares test) e es)
     go false k rest = omega (arith, rest, sum_by-cons (shares test) e (insert_entry same_run es run n), sum_by-cons (shares test) e es)
 
+-- A call that is inserted, and whose count is then set, is as one inserted with that count.
+set-inserted : (run : Run) (es : List (Run × ℕ)) (m n : ℕ) → set_value_at (insert_entry same_run es run m) (position_or_len (same_run run) (keys_of es)) n ≡ insert_entry same_run es run n
+set-inserted run [] m n = refl
+set-inserted run (e ∷ es) m n = go (same_run run e.0) (set-inserted run es m n)
+  where
+    go : (b : Bool) → set_value_at (insert_entry same_run es run m) (position_or_len (same_run run) (keys_of es)) n ≡ insert_entry same_run es run n →
+        set_value_at (if b then (e.0, m) ∷ es else e ∷ insert_entry same_run es run m) (cond (not b) (1 + position_or_len (same_run run) (keys_of es)) 0) n ≡ (if b then (e.0, n) ∷ es else e ∷ insert_entry same_run es run n)
+    go true rest = refl
+    go false rest =
+        let later : 1 + position_or_len (same_run run) (keys_of es) ≡ suc (position_or_len (same_run run) (keys_of es)) = omega arith in
+        ap (λ i. set_value_at (e ∷ insert_entry same_run es run m) i n) later ∙ ap (λ l. e ∷ l) rest
+
+pub recounted : (run : Run) (es fs : List (Run × ℕ)) (i m n : ℕ) → fs ≡ insert_entry same_run es run m → i ≡ position_or_len (same_run run) (keys_of es) → set_value_at fs i n ≡ insert_entry same_run es run n
+recounted run es fs i m n now place =
+    ap (λ l. set_value_at l i n) now ∙ ap (λ j. set_value_at (insert_entry same_run es run m) j n) place ∙ set-inserted run es m n
+
 pub raised : (run : Run) (n : ℕ) (es fs : List (Run × ℕ)) → n ≡ unwrap_or (lookup (same_run run) es) 0 → fs ≡ insert_entry same_run es run (n + 1) → AreSame (flat_map calls_of fs) (flat_map calls_of es ++ run ∷ [])
 unfolding one_if
 raised run n es fs was now test =
@@ -232,42 +248,64 @@ value-there es i e n there value = same_Some n e.1 (sym value ∙ slice_get-map 
 
 pub set-lower : (es : List (Run × ℕ)) (i : ℕ) (e : Run × ℕ) (n : ℕ) → slice_get es i ≡ Some e → n ≡ e.1 → 1 < n → LacksOneOf e es (set_value_at es i (n - 1))
 set-lower es i e n there count some test =
-    omega (arith, set-shares test es i e (n - 1) there, less (nat_lt 0 e.1) (lt-ltb 0 e.1 (omega (arith, some, count))) (test e.0), counted test es, counted test (set_value_at es i (n - 1)))
+    omega (arith, set-shares test es i e (n - 1) there, less (test e.0), counted test es, counted test (set_value_at es i (n - 1)))
   where
-    less : (a : Bool) → a ≡ true → (b : Bool) → (if b then n - 1 else 0) + (if a && b then 1 else 0) ≡ (if b then e.1 else 0)
-    less true k true = omega (arith, some, count)
-    less true k false = refl
-    less false k b = absurd (cc)
+    less : (b : Bool) → (if b then n - 1 else 0) + (if b then 1 else 0) ≡ (if b then e.1 else 0)
+    less true = omega (arith, some, count)
+    less false = refl
 
-pub gone-lower : (es fs : List (Run × ℕ)) (i : ℕ) (e : Run × ℕ) → slice_get es i ≡ Some e → e.1 ≤ 1 → fs ≡ swap_remove es i e → LacksOneOf e es fs
-gone-lower es fs i e h few gone test =
+pub gone-lower : (es fs : List (Run × ℕ)) (i : ℕ) (e : Run × ℕ) → slice_get es i ≡ Some e → e.1 ≡ 1 → fs ≡ swap_remove es i e → LacksOneOf e es fs
+gone-lower es fs i e h one gone test =
     let new = ap (λ l. length (filter test (flat_map calls_of l))) gone ∙ counted test (swap_remove es i e) in
     let out = sum_by-swap_remove (shares test) es i e (slice_get_within es i e h) in
     let it = ap (shares test) (get_or_from_slice_get es i e e h) in
-    omega (arith, new, out, it, less e.1 few (test e.0), counted test es)
-  where
-    less : (n : ℕ) → n ≤ 1 → (b : Bool) → (if nat_lt 0 n && b then 1 else 0) ≡ (if b then n else 0)
-    less zero k true = refl
-    less zero k false = refl
-    less (suc zero) k b = refl
-    less (suc (suc n)) k b = absurd (omega (arith, k))
+    let last = ap (share test e.0) one in
+    omega (arith, new, out, it, last, counted test es)
 
 -- What it leaves, of a list in which the calls stand.
-pub lowered : (run : Run) (e : Run × ℕ) (es fs : List (Run × ℕ)) → run ≡ e.0 → length (filter (is_run run.by run.object) (flat_map calls_of es)) ≡ e.1 → LacksOneOf e es fs → AreSame (flat_map calls_of fs) (without_first (is_run run.by run.object) (flat_map calls_of es))
+pub lowered : (run : Run) (e : Run × ℕ) (es fs : List (Run × ℕ)) → run ≡ e.0 → list_any (is_run run.by run.object) (flat_map calls_of es) ≡ true → LacksOneOf e es fs → AreSame (flat_map calls_of fs) (without_first (is_run run.by run.object) (flat_map calls_of es))
 unfolding one_if
-lowered run e es fs key all lower test = go (nat_lt 0 e.1) (any ∙ ap (nat_lt 0) all) (lower test)
+lowered run e es fs key some lower test =
+    omega (arith, lower test, ones (test e.0), ap (λ r. one_if (test r)) key, count-without (is_run run.by run.object) test (test run) (λ r e. ap test (is-run-equal run.by run.object r e)) (flat_map calls_of es) some)
   where
-    rs : List Run
-    rs = flat_map calls_of es
-
-    any : list_any (is_run run.by run.object) rs ≡ nat_lt 0 (length (filter (is_run run.by run.object) rs))
-    any = list_any-length (is_run run.by run.object) rs
-
     ones : (b : Bool) → (if b then 1 else 0) ≡ one_if b
     ones true = refl
     ones false = refl
 
-    go : (b : Bool) → list_any (is_run run.by run.object) rs ≡ b → length (filter test (flat_map calls_of fs)) + (if b && test e.0 then 1 else 0) ≡ length (filter test rs) →
-        length (filter test (flat_map calls_of fs)) ≡ length (filter test (without_first (is_run run.by run.object) rs))
-    go true some less = omega (arith, less, ones (test e.0), ap (λ r. one_if (test r)) key, count-without (is_run run.by run.object) test (test run) (λ r e. ap test (is-run-equal run.by run.object r e)) rs some)
-    go false none less = omega (arith, less, ap (λ l. length (filter test l)) (without-none (is_run run.by run.object) rs none))
+-- ---- each count is positive
+
+abbrev IsPositive : Run × ℕ → Type 0
+IsPositive e = 0 < e.1
+
+pub positive-there : (es : List (Run × ℕ)) (i : ℕ) (e : Run × ℕ) → slice_get es i ≡ Some e → All IsPositive es → 0 < e.1
+positive-there es i e there h = subst IsPositive (get_or_from_slice_get es i e e there) (h i e (slice_get_within es i e there))
+
+-- A call that an entry counts runs.
+pub some-run : (run : Run) (es : List (Run × ℕ)) (n : ℕ) → length (filter (is_run run.by run.object) (flat_map calls_of es)) ≡ n → 0 < n → list_any (is_run run.by run.object) (flat_map calls_of es) ≡ true
+some-run run es n count some = list_any-length (is_run run.by run.object) (flat_map calls_of es) ∙ ap (nat_lt 0) count ∙ lt-ltb 0 n some
+
+pub positive-raised : (run : Run) (n : ℕ) (es fs : List (Run × ℕ)) → fs ≡ insert_entry same_run es run (n + 1) → All IsPositive es → All IsPositive fs
+positive-raised run n es fs now h = All-same IsPositive fs (insert_entry same_run es run (n + 1)) now (each es h)
+  where
+    each : (xs : List (Run × ℕ)) → All IsPositive xs → All IsPositive (insert_entry same_run xs run (n + 1))
+    each [] k = All-cons IsPositive (run, n + 1) [] (omega arith) k
+    each (x ∷ xs) k = go (same_run run x.0) (each xs (All-tail IsPositive x xs k))
+      where
+        go : (b : Bool) → All IsPositive (insert_entry same_run xs run (n + 1)) → All IsPositive (if b then (x.0, n + 1) ∷ xs else x ∷ insert_entry same_run xs run (n + 1))
+        go true rest = All-cons IsPositive (x.0, n + 1) xs (omega arith) (All-tail IsPositive x xs k)
+        go false rest = All-cons IsPositive x (insert_entry same_run xs run (n + 1)) (All-head IsPositive x xs k) rest
+
+pub positive-set : (es : List (Run × ℕ)) (i n : ℕ) → 0 < n → All IsPositive es → All IsPositive (set_value_at es i n)
+positive-set [] i n some h = h
+positive-set (x ∷ xs) zero n some h = All-cons IsPositive (x.0, n) xs some (All-tail IsPositive x xs h)
+positive-set (x ∷ xs) (suc i) n some h = All-cons IsPositive x (set_value_at xs i n) (All-head IsPositive x xs h) (positive-set xs i n some (All-tail IsPositive x xs h))
+
+pub positive-gone : (es fs : List (Run × ℕ)) (i : ℕ) (taken : Option (Run × ℕ)) → i < length es → taken ≡ slice_get es i → IfSome taken (λ e. fs ≡ swap_remove es i e) → All IsPositive es → All IsPositive fs
+positive-gone [] fs i taken within was left h = absurd (omega (arith, within))
+positive-gone (x ∷ xs) fs i taken within was left h =
+    let es : List (Run × ℕ) = x ∷ xs in
+    let P : Option (Run × ℕ) → Type 0 = λ o. IfSome o (λ e. fs ≡ swap_remove es i e) in
+    let is : fs ≡ swap_remove es i (get_or es i x) = subst P (was ∙ slice_get-get_or es i x within) left in
+    let last = get_or es (length es - 1) (get_or es i x) in
+    All-same IsPositive fs (swap_remove es i (get_or es i x)) is
+    (All-take IsPositive (length es - 1) _ (All-set IsPositive es i last (h (length es - 1) (get_or es i x) (omega (arith, within))) h))

@@ -157,32 +157,34 @@ max_same : (m : ℕ) → max m m ≡ m
 max_same m = omega arith
 
 -- What was written, part after part.
-pub written : (config : SpaceConfig) (events : List Event) (leases : LeaseTable) (exports : ExportTable) (runs : List Run) (withdrawn seen : List Withdrawal) (told opened used moment count : ℕ) (bindings listed : List Binding) (rows : List ExportRow) (start first second third fourth fifth : List ℕ) (s : SpaceHistory) →
+pub written : (config : SpaceConfig) (events : List Event) (leases : LeaseTable) (exports : ExportTable) (runs : List Run) (withdrawn : List Withdrawal) (told opened used moment count : ℕ) (bindings : List Binding) (start first second third fourth fifth : List ℕ) (s : SpaceHistory) →
     record { configuration = config; events = events } ≡ s → Keeps config events leases exports runs withdrawn told opened used moment → AreBindings (places config events) bindings →
-    count ≡ length events → rows ≡ map (row_at moment exports.waits) exports.rows → listed ≡ bindings → seen ≡ withdrawn →
-    start ≡ [] → first ≡ start ++ events_text count used moment →
-    ((lease m : ℕ) (calls : List Call) → StandsFor lease leases m calls → second ≡ first ++ flat_map (λ r. object_line config (held_row lease (max moment m) calls r)) rows) →
+    count ≡ length events → first ≡ start ++ events_text count used moment →
+    ((lease m : ℕ) (calls : List Call) → StandsFor lease leases m calls → second ≡ first ++ flat_map (λ r. object_line config (held_row lease (max moment m) calls r)) (map (row_at moment exports.waits) exports.rows)) →
     ((lease m : ℕ) (calls : List Call) → StandsFor lease leases m calls → third ≡ second ++ flat_map lease_line (lease_rows lease (max moment m) calls)) →
-    fourth ≡ third ++ flat_map (binding_text config) listed →
-    fifth ≡ fourth ++ flat_map (withdrawal_line config) seen →
-    fifth ≡ outline s.configuration s.events
-written config events leases exports runs withdrawn seen told opened used moment count bindings listed rows start first second third fourth fifth s v k bs n o l z a b c d f e =
+    fourth ≡ third ++ flat_map (binding_text config) bindings →
+    fifth ≡ fourth ++ flat_map (withdrawal_line config) withdrawn →
+    fifth ≡ start ++ outline s.configuration s.events
+written config events leases exports runs withdrawn told opened used moment count bindings start first second third fourth fifth s v k bs n b c d f e =
     let same = max_same moment in
-    let P : SpaceHistory → Type 0 = λ x. fifth ≡ outline x.configuration x.events in
+    let P : SpaceHistory → Type 0 = λ x. fifth ≡ start ++ outline x.configuration x.events in
     subst P v (
-    e ∙ ap (λ ws. fourth ++ flat_map (withdrawal_line config) ws) z
-    ∙ ap (λ t. t ++ flat_map (withdrawal_line config) withdrawn) (
-    f ∙ ap (λ xs. third ++ flat_map (binding_text config) xs) l
-    ∙ ap (λ t. t ++ flat_map (binding_text config) bindings) (
+    e ∙ ap (λ t. t ++ flat_map (withdrawal_line config) withdrawn) (
+    f ∙ ap (λ t. t ++ flat_map (binding_text config) bindings) (
     d config.lease_ms moment live k.stands.leases_stand
     ∙ ap (λ t. second ++ flat_map lease_line (lease_rows config.lease_ms t live)) same
     ∙ ap (λ t. t ++ flat_map lease_line (lease_rows config.lease_ms moment live)) (
     c config.lease_ms moment live k.stands.leases_stand
     ∙ ap (λ t. first ++ flat_map (λ r. object_line config (held_row config.lease_ms t live r)) rows) same
-    ∙ ap (λ l. first ++ flat_map (λ r. object_line config (held_row config.lease_ms moment live r)) l) o
-    ∙ ap (λ t. t ++ flat_map (λ r. object_line config (held_row config.lease_ms moment live r)) (map (row_at moment exports.waits) exports.rows)) (
-    b ∙ ap (λ t. t ++ events_text count used moment) a ∙ ap (λ x. events_text x used moment) n))))
-    ∙ sym (outline-is config events leases exports runs withdrawn told opened used moment bindings k bs))
+    ∙ ap (λ t. t ++ flat_map (λ r. object_line config (held_row config.lease_ms moment live r)) rows) (b ∙ ap (λ x. start ++ events_text x used moment) n))))
+    ∙ after_start start (events_text (length events) used moment) (flat_map (λ r. object_line config (held_row config.lease_ms moment live r)) rows) (flat_map lease_line (lease_rows config.lease_ms moment live)) (flat_map (binding_text config) bindings) (flat_map (withdrawal_line config) withdrawn)
+    ∙ ap (λ t. start ++ t) (sym (outline-is config events leases exports runs withdrawn told opened used moment bindings k bs)))
   where
     live : List Call
     live = live_calls (table config (places config events)) (lease_calls (places config events))
+
+    rows : List ExportRow
+    rows = map (row_at moment exports.waits) exports.rows
+
+    after_start : (x a b c n d : List ℕ) → x ++ a ++ b ++ c ++ n ++ d ≡ x ++ (a ++ b ++ c ++ n ++ d)
+    after_start x a b c n d = simp append_assoc refl

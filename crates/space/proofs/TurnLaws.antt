@@ -38,10 +38,6 @@ use Rattle.space.proofs.Acting.{rows-act, waits-act, runs-act, effective-is, sto
 use Rattle.space.proofs.RunLists.{stand-same}
 use Rattle.space.proofs.Keeping.{IsActed, told_calls, going_now, left, withdrawn_then, keeps-push, call-alike, rows-has, refusal-kept, turn-is, step-refused, step-taken, step-agrees}
 
-pub none-else : (o : Option Refused) → ((r : Refused) → o ≡ Some r → ⊥) → o ≡ None
-none-else None n = refl
-none-else (Some r) n = absurd (n r refl)
-
 -- WHAT IS KNOWN of a turn before it acts: what is kept, and what its tests answered.
 pub record IsAsked (config : SpaceConfig) (events : List Event) (e : Event) (leases : LeaseTable) (exports : ExportTable) (runs : List Run) (withdrawn : List Withdrawal) (told opened used moment : ℕ) (effective : Bool) : Type 0 where
   pub keeps : Keeps config events leases exports runs withdrawn told opened used moment

@@ -1,5 +1,5 @@
 -- What contracts see of the calls that run: each as often as it is counted.
-use Rattle.std.specs.Prelude.{◌≡◌, ℕ, ◌+◌, Bool, ◌&&◌, List, length, filter, nat_lt, replicate, flat_map, if◌then◌else◌}
+use Rattle.std.specs.Prelude.{◌≡◌, ℕ, ◌+◌, ◌<◌, Bool, List, All, length, filter, replicate, flat_map, if◌then◌else◌}
 use Rattle.indexmap.specs.IndexMap.{IndexMap}
 use Rattle.space.specs.declared.runs.Run.{Run}
 
@@ -20,6 +20,10 @@ calls_of e = replicate e.1 e.0
 abbrev pub all_calls : {S : Type 0} → IndexMap Run ℕ S → List Run
 all_calls counts = flat_map calls_of counts.entries
 
--- The new entries stand for the calls of the old ones but for one of an entry, if it stands for any.
+-- Each count is positive: an entry stands only for calls that run.
+abbrev pub ArePositive : {S : Type 0} → IndexMap Run ℕ S → Type 0
+ArePositive counts = All (λ (e : Run × ℕ). 0 < e.1) counts.entries
+
+-- The new entries stand for the calls of the old ones but for one of an entry.
 abbrev pub LacksOneOf : Run × ℕ → List (Run × ℕ) → List (Run × ℕ) → Type 0
-LacksOneOf e old new = (test : Run → Bool) → length (filter test (flat_map calls_of new)) + (if nat_lt 0 e.1 && test e.0 then 1 else 0) ≡ length (filter test (flat_map calls_of old))
+LacksOneOf e old new = (test : Run → Bool) → length (filter test (flat_map calls_of new)) + (if test e.0 then 1 else 0) ≡ length (filter test (flat_map calls_of old))

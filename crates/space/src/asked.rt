@@ -53,10 +53,17 @@ impl TryCopy for AskedEnd {
 
 impl TryCopy for Asked {
     fn try_copy(&self, alloc: Global) -> Result<Asked, AllocError> {
-        Ok(Asked {
-            moment: self.moment,
-            ask: self.ask.copy(alloc)?,
-            end: self.end.try_copy(alloc)?,
-        })
+        let ask = self.ask.copy(alloc)?;
+        match self.end.try_copy(alloc) {
+            Ok(end) => Ok(Asked {
+                moment: self.moment,
+                ask,
+                end,
+            }),
+            Err(refused) => {
+                drop(ask);
+                Err(refused)
+            }
+        }
     }
 }

@@ -65,6 +65,7 @@ impl<'a> Port for PortOver<'a, AskedLog> {
 
     fn turn(&mut self, moment: u64, ask: Ask) -> Result<Turn, Refused> {
         if self.asked.reserve(self.asked.len() + 2).is_err() {
+            drop(ask);
             return Err(Refused::OutOfMemory);
         }
         match self.space.turn_noted(self.by, moment, ask) {

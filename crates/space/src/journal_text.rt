@@ -1,7 +1,8 @@
 //! The journal and the summary of a space.
-ghost use Rattle.std.specs.Prelude.{◌≡◌, ◌<◌, ◌++◌, flat_map, pos, OnOk, IfOk};
+ghost use Rattle.std.specs.Prelude.{◌≡◌, ◌<◌, ◌++◌, flat_map, length, pos, slice_get, Some, OnOk, IfOk};
 ghost use Rattle.std.specs.List.{AllByRecursion};
 ghost use Rattle.history.specs.Outline as lines;
+ghost use Rattle.history.specs.declared.asks.Event.{Event};
 ghost use Rattle.history.specs.declared.limits.TheConstants.{END_OF_TIME};
 ghost use Rattle.journal.specs.Grammar.{JournalText};
 ghost use Rattle.journal.specs.Written as written;
@@ -34,10 +35,26 @@ fn put_events(text: &mut ByteList, space: Uid, events: &EventLog) -> Result<(), 
     ensures fits { OnOk result (AllByRecursion (λ e. e.moment < END_OF_TIME → written.EventFits e) events.now.items) }
 {
     for place in 0..events.len() {
-        let view = events.event(place)?;
-        put_event_line(text, space, view.event())?;
+        put_event(text, space, events, place)?;
     }
     Ok(())
+}
+
+/// Appends the line of the event at a place.
+fn put_event(
+    text: &mut ByteList,
+    space: Uid,
+    events: &EventLog,
+    place: usize,
+) -> Result<(), AllocError>
+    requires { place < length events.now.items }
+    ensures text { OnOk result ((e : Event) → slice_get events.now.items place ≡ Some e → text.new ≡ text.old ++ written.event_line space e) }
+    ensures fits { OnOk result ((e : Event) → slice_get events.now.items place ≡ Some e → e.moment < END_OF_TIME → written.EventFits e) }
+{
+    let view = events.event(place)?;
+    let put = put_event_line(text, space, view.event());
+    drop(view);
+    put
 }
 
 /// How many entries the tables of a space have.

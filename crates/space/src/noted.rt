@@ -38,9 +38,16 @@ impl Space {
         ensures config { self.new.configuration ≡ self.old.configuration }
         ensures err { OnErr result (self.new ≡ self.old) }
     {
-        let note = take_note(self.tables.alloc, &self.tables.names, &ask)?;
-        let answer = self.turn_with(by, moment, ask, true);
-        with_entry(moment, note, answer)
+        match take_note(self.tables.alloc, &self.tables.names, &ask) {
+            Ok(note) => {
+                let answer = self.turn_with(by, moment, ask, true);
+                with_entry(moment, note, answer)
+            }
+            Err(refused) => {
+                drop(ask);
+                Err(refused)
+            }
+        }
     }
 }
 
@@ -113,7 +120,10 @@ fn with_entry(
             let end = AskedEnd::Turned(copied(&turn, ids, gone, names));
             Ok((Ok(turn), Asked { moment, ask, end }))
         }
-        Err(Refused::OutOfMemory) => Err(AllocError),
+        Err(Refused::OutOfMemory) => {
+            drop(ask);
+            Err(AllocError)
+        }
         Err(refused) => {
             let end = AskedEnd::Refused(refused);
             Ok((Err(refused), Asked { moment, ask, end }))

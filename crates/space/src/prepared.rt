@@ -1,12 +1,13 @@
 //! What a turn answers and adds, found before anything changes.
-ghost use Rattle.std.specs.Prelude.{◌≡◌, ◌+◌, ◌≤◌, ◌<◌, ◌^◌, true, drop, length, map, IfOk, vec_len, vec_capacity};
-ghost use Rattle.rmi_registry.specs.Named.{names_in};
+ghost use Rattle.std.specs.Prelude.{◌≡◌, ◌+◌, ◌≤◌, ◌<◌, ◌^◌, true, drop, length, map, option_and_then, None, Some, IfOk, IfErr, vec_len, vec_capacity};
+ghost use Rattle.rmi_registry.specs.Named.{names_in, object_of};
+ghost use Rattle.history.specs.Names.{name_in};
 ghost use Rattle.history.specs.Places.{id_at};
 ghost use Rattle.space.specs.Doubts.{AreInDoubt, taken_by};
-ghost use Rattle.space.specs.Acts.{Agrees, await_refusal, opens, reply_at, returned_by};
+ghost use Rattle.space.specs.Acts.{Agrees, await_refusal, effective_by, opens, reply_at, returned_by, room_refusal};
 
 use crate::acts::{fitting, gone_ids};
-use crate::asks::{opens, reply_at};
+use crate::asks::{is_effective, opens, reply_at, room_refusal, stood_for};
 use crate::doubts::in_doubt;
 use crate::returns::returned;
 use crate::tables::Tables;
@@ -14,6 +15,35 @@ use history::plain::places::id_at;
 use history::{Ask, Refused, Reply, Turn};
 use object_ids::{ObjId, ObjIds};
 use std::alloc::{AllocError, Global};
+
+/// What is known of an ask that may be taken, by the limits of the history and of the exported objects.
+#[derive(Clone, Copy)]
+pub(crate) struct Admitted {
+    /// What its name stands for, if there is a name and it stands for something.
+    pub stood: Option<ObjId>,
+    /// Whether it is effective.
+    pub effective: bool,
+}
+
+/// What a connection's ask is. It is refused where there is no room for it in the history, or among the exported objects.
+pub(crate) fn admit(tables: &Tables, by: u32, ask: &Ask) -> Result<Admitted, Refused>
+    ensures stood { IfOk result (λ a. a.stood ≡ option_and_then (object_of tables.now.names) (name_in ask.now)) }
+    ensures effective { IfOk result (λ a. a.effective ≡ effective_by tables.now.exports.rows tables.now.runs.items a.stood by ask.now) }
+    ensures room { IfOk result (λ a. room_refusal tables.now.units (length tables.now.runs.items) (length tables.now.exports.rows) a.effective ask.now ≡ None) }
+    ensures refused { IfErr result (λ refused.
+        let stood = option_and_then (object_of tables.now.names) (name_in ask.now) in
+        let effective = effective_by tables.now.exports.rows tables.now.runs.items stood by ask.now in
+        room_refusal tables.now.units (length tables.now.runs.items) (length tables.now.exports.rows) effective ask.now ≡ Some refused) }
+{
+    let stood = stood_for(&tables.names, ask);
+    let effective = is_effective(&tables.exports, &tables.runs, stood, by, ask);
+    let running = tables.runs.len();
+    let exported = tables.exports.count();
+    match room_refusal(tables.units, running, exported, effective, ask) {
+        Some(refused) => Err(refused),
+        None => Ok(Admitted { stood, effective }),
+    }
+}
 
 /// The objects that a turn is about.
 pub(crate) struct Listed {

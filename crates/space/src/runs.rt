@@ -1,9 +1,9 @@
 //! Calls that connections run.
-ghost use Rattle.std.specs.Prelude.{◌≡◌, ◌<◌, ◌≤◌, ◌^◌, ◌++◌, ◌∷◌, [], ℕ, length, filter, nat_lt, slice_get, Some, OnOk};
+ghost use Rattle.std.specs.Prelude.{◌≡◌, ◌<◌, ◌≤◌, ◌^◌, ◌++◌, ◌∷◌, [], ℕ, length, filter, slice_get, Some, OnOk};
 ghost use Rattle.std.specs.List.{list_any};
 ghost use Rattle.indexmap.specs.IndexMap.{index_map_len, spare};
 ghost use Rattle.space.specs.Acts.{acted_runs};
-ghost use Rattle.space.specs.RunTable.{AreSame, LacksOneOf, all_calls};
+ghost use Rattle.space.specs.RunTable.{ArePositive, AreSame, LacksOneOf, all_calls};
 ghost use Rattle.space.specs.declared.runs.Run.{Run};
 ghost use Rattle.space.specs.Runs.{is_run, without_first};
 
@@ -22,7 +22,7 @@ pub struct Run {
     pub object: ObjId,
 }
 
-/// For each connection and object how many calls of the object it runs, if it runs one.
+/// For each connection and object how many calls of the object it runs, if it runs one. An entry stands only for calls that run.
 type Counts = IndexMap<Run, u32>;
 
 /// The calls that connections run. Contracts see them as a `RunTable`, whose list is in no order that matters.
@@ -43,13 +43,13 @@ impl Drop for Runs {
 impl Model for Runs {
     ghost use Rattle.std.specs.Prelude.{◌≡◌, length};
     ghost use Rattle.indexmap.specs.IndexMap.{spare};
-    ghost use Rattle.space.specs.RunTable.{RunTable, all_calls};
+    ghost use Rattle.space.specs.RunTable.{ArePositive, RunTable, all_calls};
 
     ghost Value = { RunTable };
 
     ghost view = { λ r. record { items = all_calls r.counts; room = spare r.counts } };
 
-    ghost invariant = { λ r. r.total ≡ length (all_calls r.counts) };
+    ghost invariant = { λ r. (r.total ≡ length (all_calls r.counts)) × ArePositive r.counts };
 }
 
 impl Runs {
@@ -159,37 +159,44 @@ fn count_of(counts: &Counts, run: &Run) -> u32
 fn raise(counts: &mut Counts, run: Run)
     requires room { 0 < spare counts.old }
     requires few { length (all_calls counts.old) < 2 ^ 31 }
-    ensures { AreSame (all_calls counts.new) (all_calls counts.old ++ run ∷ []) }
+    requires positive { ArePositive counts.old }
+    ensures calls { AreSame (all_calls counts.new) (all_calls counts.old ++ run ∷ []) }
+    ensures positive { ArePositive counts.new }
 {
-    match counts.entry(run) {
-        Ok(entry) => *entry.or_insert(0) += 1,
+    match counts.insert_full(run, 1) {
+        Ok((at, Some(before))) => counts[at] = before + 1,
+        Ok((_, None)) => {}
         Err(_refused) => {}
     }
 }
 
 /// Counts one call fewer, if there is one, and says whether there was. It takes no memory.
 fn lower(counts: &mut Counts, run: &Run) -> bool
+    requires { ArePositive counts.old }
     ensures ended { result ≡ list_any (is_run run.now.by run.now.object) (all_calls counts.old) }
     ensures rest { AreSame (all_calls counts.new) (without_first (is_run run.now.by run.now.object) (all_calls counts.old)) }
+    ensures positive { ArePositive counts.new }
 {
     match counts.get_index_of(run) {
-        Some(at) => lower_at(counts, at),
+        Some(at) => {
+            lower_at(counts, at);
+            true
+        }
         None => false,
     }
 }
 
-/// Counts one call fewer at a place, if there is one, and says whether there was. A place without calls goes. It takes no memory.
-fn lower_at(counts: &mut Counts, at: usize) -> bool
-    requires { at < index_map_len counts.old }
-    ensures ended { (e : Run × ℕ) → slice_get counts.old.entries at ≡ Some e → result ≡ nat_lt 0 e.1 }
+/// Counts one call fewer at a place. Where it was the last one there, the place goes. It takes no memory.
+fn lower_at(counts: &mut Counts, at: usize)
+    requires within { at < index_map_len counts.old }
+    requires positive { ArePositive counts.old }
     ensures rest { (e : Run × ℕ) → slice_get counts.old.entries at ≡ Some e → LacksOneOf e counts.old.entries counts.new.entries }
+    ensures positive { ArePositive counts.new }
 {
     let count = counts[at];
     if count > 1 {
         counts[at] = count - 1;
-        true
     } else {
         counts.swap_remove_index(at);
-        count > 0
     }
 }

@@ -5,10 +5,9 @@ ghost use Rattle.space.specs.Acts.{event_of};
 ghost use Rattle.space.specs.Whole.{IsWhole, IsWholeWith};
 
 use crate::acts::act;
-use crate::asks::{is_effective, room_refusal, stood_for, told_after};
-use crate::doubts::withdraw_few;
+use crate::asks::told_after;
 use crate::names::settle;
-use crate::prepared::prepare;
+use crate::prepared::{admit, prepare};
 use crate::rooms::room_for_all;
 use crate::runs::{Runs, act_on_runs};
 use crate::withdrawals::Withdrawals;
@@ -73,13 +72,9 @@ impl Tables {
         ensures spare { OnOk result (self.new.events.spare ≡ true) }
         ensures config { self.new.config ≡ self.old.config }
     {
-        let stood = stood_for(&self.names, ask);
-        let effective = is_effective(&self.exports, &self.runs, stood, by, ask);
-        let exported = self.exports.count();
-        let running = self.runs.len();
-        if let Some(refused) = room_refusal(self.units, running, exported, effective, ask) {
-            return Err(refused);
-        }
+        let admitted = admit(self, by, ask)?;
+        let stood = admitted.stood;
+        let effective = admitted.effective;
         let now = moment.max(self.moment);
         let mut ready = prepare(self, stood, effective, now, noted, ask)?;
         room_for_all(
@@ -110,15 +105,14 @@ impl Tables {
             ask,
         );
         act_on_runs(&mut self.runs, effective, by, ask);
-        let untold = ready.untold.gone.len();
-        withdraw_few(
+        self.withdrawn.withdraw_among(
             &mut self.exports,
             &mut self.leases,
             now,
             &ready.listed.doubtful,
+            place,
             &mut ready.untold.gone,
         );
-        self.withdrawn.note(&ready.untold.gone, untold, place);
         self.told = told_after(self.told, self.withdrawn.len(), ask);
         self.added += ready.opened;
         self.units += units_of(ask);

@@ -1,21 +1,22 @@
 //! The texts of a space.
-ghost use Rattle.std.specs.Prelude.{◌≡◌, ◌++◌, flat_map, max, OnOk, IfOk};
+ghost use Rattle.std.specs.Prelude.{◌≡◌, ◌++◌, flat_map, map, max, OnOk, IfOk};
 ghost use Rattle.history.specs.Leases.{lease_rows};
 ghost use Rattle.history.specs.Outline as lines;
 ghost use Rattle.dgc_server.specs.Stands.{ForEachLog};
+ghost use Rattle.export_table.specs.Rows.{row_at};
 ghost use Rattle.space.specs.Rows.{held_row, binding_text};
 
 use crate::turns::Space;
 use crate::withdrawals::Withdrawals;
 use dgc_server::{LeaseRow, Leases};
-use export_table::ExportRow;
+use export_table::{ExportRow, Exports};
 use history::SpaceConfig;
 use journal::ObjectRow;
 use journal::outline::{
     put_events_line, put_lease_line, put_name_line, put_object_line, put_withdrawal_line,
 };
 use mod_utf::list::ByteList;
-use rmi_registry::Binding;
+use rmi_registry::{Binding, Names};
 use std::alloc::{AllocError, Global};
 
 /// The outline of a space: how many events it took, their units and its present moment; each exported object;
@@ -24,25 +25,48 @@ pub fn outline(alloc: Global, space: &Space) -> Result<ByteList, AllocError>
     ensures { IfOk result (λ text. text ≡ lines.outline space.now.configuration space.now.events) }
 {
     let mut text = ByteList::new(alloc);
+    put_outline(alloc, &mut text, space)?;
+    Ok(text)
+}
+
+/// Appends the outline of a space.
+fn put_outline(alloc: Global, text: &mut ByteList, space: &Space) -> Result<(), AllocError>
+    ensures { OnOk result (text.new ≡ text.old ++ lines.outline space.now.configuration space.now.events) }
+{
     put_events_line(
-        &mut text,
+        text,
         space.tables.events.len() as u64,
         space.tables.units,
         space.tables.moment,
     )?;
-    let rows = space.tables.exports.rows(alloc, space.tables.moment)?;
-    put_objects(
-        &mut text,
+    put_exports(
+        alloc,
+        text,
         &space.tables.config,
         &space.tables.leases,
+        &space.tables.exports,
         space.tables.moment,
-        rows.as_slice(),
     )?;
-    put_leases(alloc, &mut text, &space.tables.leases, space.tables.moment)?;
-    let bindings = space.tables.names.bindings(alloc)?;
-    put_names(&mut text, &space.tables.config, bindings.as_slice())?;
-    put_withdrawals(&mut text, &space.tables.config, &space.tables.withdrawn)?;
-    Ok(text)
+    put_leases(alloc, text, &space.tables.leases, space.tables.moment)?;
+    put_bindings(alloc, text, &space.tables.config, &space.tables.names)?;
+    put_withdrawals(text, &space.tables.config, &space.tables.withdrawn)
+}
+
+/// Appends the lines of all exported objects.
+fn put_exports(
+    alloc: Global,
+    text: &mut ByteList,
+    config: &SpaceConfig,
+    leases: &Leases,
+    exports: &Exports,
+    now: u64,
+) -> Result<(), AllocError>
+    ensures { OnOk result (ForEachLog leases.now (λ lease moment calls.
+        let rows = map (row_at now exports.now.waits) exports.now.rows in
+        text.new ≡ text.old ++ flat_map (λ x. lines.object_line config.now (held_row lease (max now moment) calls x)) rows)) }
+{
+    let rows = exports.rows(alloc, now)?;
+    put_objects(text, config, leases, now, rows.as_slice())
 }
 
 /// Appends the lines of exported objects.
@@ -99,6 +123,19 @@ fn put_rows(text: &mut ByteList, rows: &[LeaseRow]) -> Result<(), AllocError>
         put_lease_line(text, &row.client, row.until)?;
     }
     Ok(())
+}
+
+/// Appends the lines of all names.
+fn put_bindings(
+    alloc: Global,
+    text: &mut ByteList,
+    config: &SpaceConfig,
+    names: &Names,
+) -> Result<(), AllocError>
+    ensures { OnOk result (text.new ≡ text.old ++ flat_map (binding_text config.now) names.now) }
+{
+    let bindings = names.bindings(alloc)?;
+    put_names(text, config, bindings.as_slice())
 }
 
 /// Appends the lines of names, each with the object for which it stands.

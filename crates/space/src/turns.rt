@@ -116,9 +116,16 @@ impl Space {
         ensures config { self.new.configuration ≡ self.old.configuration }
         ensures err { OnErr result (self.new ≡ self.old) }
     {
-        let turn = self.tables.turn(by, moment, &ask, noted)?;
-        put_event(&mut self.tables.events, Event { by, moment, ask });
-        Ok(turn)
+        match self.tables.turn(by, moment, &ask, noted) {
+            Ok(turn) => {
+                put_event(&mut self.tables.events, Event { by, moment, ask });
+                Ok(turn)
+            }
+            Err(refused) => {
+                drop(ask);
+                Err(refused)
+            }
+        }
     }
 
     /// The greatest moment of the events, in milliseconds; 0 where there are none.

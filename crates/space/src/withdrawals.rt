@@ -8,7 +8,7 @@ ghost use Rattle.export_table.specs.Waits.{waiting};
 ghost use Rattle.space.specs.Acts.{withdrawal_at};
 ghost use Rattle.space.specs.Doubts.{HasLog};
 
-use crate::doubts::{joined, withdraw_known};
+use crate::doubts::{joined, withdraw_few, withdraw_known};
 use dgc_server::Leases;
 use export_table::Exports;
 use history::Withdrawal;
@@ -109,6 +109,44 @@ impl Withdrawals {
         }
         append(&mut self.objects, &gone[from..]);
         fill(&mut self.places, gone.len() - from, place);
+    }
+
+    /// Withdraws each object that isn't kept at a moment, as `Exports::withdraw` does, appends it to those that a turn tells as gone, and notes that it was
+    /// withdrawn at a place of the history. Those that aren't kept are among `doubtful`. It takes no memory.
+    pub(crate) fn withdraw_among(
+        &mut self,
+        exports: &mut Exports,
+        leases: &mut Leases,
+        now: u64,
+        doubtful: &[ObjId],
+        place: u64,
+        gone: &mut Vec<ObjId>,
+    )
+        requires log { HasLog leases.old }
+        requires room { length self.old.items + length exports.old.rows ≤ self.old.room }
+        requires gone_room { vec_len gone.old + length doubtful.now ≤ vec_capacity gone.old }
+        requires among { ForEachLog leases.old (λ lease moment calls.
+            let held = held_by lease (max now moment) calls in
+            is_settled_but doubtful.now now held exports.old.waits exports.old.rows ≡ true) }
+        ensures kept { ForEachLog leases.old (λ lease moment calls.
+            let held = held_by lease (max now moment) calls in
+            let rows = filter (is_row_kept now held exports.old.waits) exports.old.rows in
+            let waits = waiting now exports.old.waits in
+            exports.new ≡ record exports.old { rows = rows; waits = waits; room = exports.new.room }) }
+        ensures gone { ForEachLog leases.old (λ lease moment calls.
+            let held = held_by lease (max now moment) calls in
+            gone.new.items ≡ gone.old.items ++ withdrawn now held exports.old.waits exports.old.rows) }
+        ensures dropped { ForEachLog leases.old (λ lease moment calls.
+            let held = held_by lease (max now moment) calls in
+            let dropped = withdrawn now held exports.old.waits exports.old.rows in
+            StandsFor lease leases.new moment (map (without_all dropped) calls)) }
+        ensures few { length gone.new.items ≤ length gone.old.items + length doubtful.now }
+        ensures noted { self.new.items ≡ self.old.items ++ map (withdrawal_at place) (drop (length gone.old.items) gone.new.items) }
+        ensures room { self.old.room ≤ self.new.room }
+    {
+        let untold = gone.len();
+        withdraw_few(exports, leases, now, doubtful, gone);
+        self.note(gone.as_slice(), untold, place);
     }
 
     /// Withdraws each object that isn't kept at a moment, as `Exports::withdraw` does, and notes that it was withdrawn at a place of the history. Unless it

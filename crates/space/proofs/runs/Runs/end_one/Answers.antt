@@ -8,9 +8,9 @@ use Rattle.space.proofs.runs.Runs.end_one.Goals as goal
 pub invariant_of-self : goal.invariant_of-self
 invariant_of-self c =
     let fewer = length-without (is_run c.args.by c.args.object.now) (all_calls c.self.inside.counts) (sym c.lower.ensures.ended ∙ c.if-lower.true) in
-    omega (arith, c.self.invariant, as-many _ _ c.lower.ensures.rest, fewer)
+    (omega (arith, c.self.invariant.0, as-many _ _ c.lower.ensures.rest, fewer), c.lower.ensures.positive)
 
 pub invariant_of-self-else-lower : goal.invariant_of-self-else-lower
 invariant_of-self-else-lower c =
     let same = ap length (without-none (is_run c.args.by c.args.object.now) (all_calls c.self.inside.counts) (sym c.lower.ensures.ended ∙ c.if-lower.false)) in
-    omega (arith, c.self.invariant, as-many _ _ c.lower.ensures.rest, same)
+    (omega (arith, c.self.invariant.0, as-many _ _ c.lower.ensures.rest, same), c.lower.ensures.positive)

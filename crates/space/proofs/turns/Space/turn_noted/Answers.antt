@@ -15,12 +15,12 @@ use Rattle.space.proofs.turns.Space.turn_noted.Goals as goal
 
 pub with_entry-requires : goal.with_entry-requires
 with_entry-requires c = record {
-  fits = fits-turn c.self.inside.tables.config c.self.inside.tables.events.items c.turn_with-answer.new.self.events (event_of c.args.by c.args.moment c.args.ask) c.args.self.now c.turn_with-answer.result _ c.in_ok-note.note.names c.self.view_is c.turn_with-answer.ensures.step
-      (λ l. c.in_ok-note.ensures.names l ∙ c.self.invariant.2.names) c.in_ok-note.ensures.ids (if-ok c.turn_with-answer.result (λ x. true ≡ true → x.1 ≡ x.0.gone) (λ x. x.1 ≡ x.0.gone) c.turn_with-answer.ensures.copy (λ x f. f refl));
+  fits = fits-turn c.self.inside.tables.config c.self.inside.tables.events.items c.turn_with-answer.new.self.events (event_of c.args.by c.args.moment c.args.ask) c.args.self.now c.turn_with-answer.result _ c.in-Ok.note.names c.self.view_is c.turn_with-answer.ensures.step
+      (λ l. c.in-Ok.ensures.names l ∙ c.self.invariant.2.names) c.in-Ok.ensures.ids (if-ok c.turn_with-answer.result (λ x. true ≡ true → x.1 ≡ x.0.gone) (λ x. x.1 ≡ x.0.gone) c.turn_with-answer.ensures.copy (λ x f. f refl));
 }
 
-pub returns : goal.returns
-returns c = record {
+pub returns-in-Ok : goal.returns-in-Ok
+returns-in-Ok c = record {
   step = if-ok c.with_entry.result (λ x. x.0 ≡ turned c.turn_with-answer.result) (λ x. Step c.args.self.now.configuration c.args.self.now.events (event_of c.args.by c.args.moment c.args.ask) x.0 c.turn_with-answer.new.self.events) c.with_entry.ensures.answer
       (λ x e. (let P : Result Turn Refused → Type 0 = λ a. Step c.args.self.now.configuration c.args.self.now.events (event_of c.args.by c.args.moment c.args.ask) a c.turn_with-answer.new.self.events in subst P (sym e) c.turn_with-answer.ensures.step));
   noted = search rules;

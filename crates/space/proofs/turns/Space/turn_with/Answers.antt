@@ -9,26 +9,26 @@ use Rattle.space.proofs.turns.Space.turn_with.Goals as goal
 
 pub put_event-requires-clause-room : goal.put_event-requires-clause-room
 put_event-requires-clause-room c =
-    let ends = (c.in_ok-turn.ensures {u = tt}).with_event.1.ends in
+    let ends = c.in-Ok.ensures.with_event.1.ends in
     let longer = length-append c.turn.new.self.events.items (event_of c.args.by c.args.moment c.args.ask ∷ []) in
     omega (arith, ends, longer)
 
-pub invariant_of-self : goal.invariant_of-self
-invariant_of-self c = (c.in_err-turn.ensures {u = tt}).whole
+pub invariant_of-self-in-Err : goal.invariant_of-self-in-Err
+invariant_of-self-in-Err c = c.in-Err.ensures.whole
 
-pub invariant_of-self-2 : goal.invariant_of-self-2
-invariant_of-self-2 c =
+pub invariant_of-self : goal.invariant_of-self
+invariant_of-self c =
     appended c.turn.new.self.config (c.turn.new.self.events.items ++ event_of c.args.by c.args.moment c.args.ask ∷ []) c.put_event.new.events.items c.turn.new.self.leases c.turn.new.self.exports c.turn.new.self.runs.items c.turn.new.self.withdrawn.items
     c.turn.new.self.told c.turn.new.self.added c.turn.new.self.units c.turn.new.self.moment c.turn.new.self.events.capacity c.put_event.new.events.capacity c.turn.new.self.withdrawn.room c.turn.new.self.names
-    (c.in_ok-turn.ensures {u = tt}).with_event c.put_event.ensures.items c.put_event.ensures.capacity
+    c.in-Ok.ensures.with_event c.put_event.ensures.items c.put_event.ensures.capacity
 
-pub returns-clause-step : goal.returns-clause-step
-returns-clause-step c =
-    let Q : List Event → Type 0 = λ es. Step c.self.inside.tables.config c.self.inside.tables.events.items (event_of c.args.by c.args.moment c.args.ask) (Ok c.in_ok-turn.turn.0) es in
-    step-viewed c.self.inside.tables.config c.self.inside.tables.events.items c.put_event.new.events.items (event_of c.args.by c.args.moment c.args.ask) (Ok c.in_ok-turn.turn.0) c.args.self.now c.self.view_is
-    (subst Q (sym (c.put_event.ensures.items ∙ ap (λ es. es ++ event_of c.args.by c.args.moment c.args.ask ∷ []) c.turn.ensures.events)) (c.in_ok-turn.ensures {u = tt}).taken)
+pub returns-in-Ok-clause-step : goal.returns-in-Ok-clause-step
+returns-in-Ok-clause-step c =
+    let Q : List Event → Type 0 = λ es. Step c.self.inside.tables.config c.self.inside.tables.events.items (event_of c.args.by c.args.moment c.args.ask) (Ok c.in-Ok.turn.0) es in
+    step-viewed c.self.inside.tables.config c.self.inside.tables.events.items c.put_event.new.events.items (event_of c.args.by c.args.moment c.args.ask) (Ok c.in-Ok.turn.0) c.args.self.now c.self.view_is
+    (subst Q (sym (c.put_event.ensures.items ∙ ap (λ es. es ++ event_of c.args.by c.args.moment c.args.ask ∷ []) c.turn.ensures.events)) c.in-Ok.ensures.taken)
 
-pub returns-clause-collector : goal.returns-clause-collector
-returns-clause-collector c =
+pub returns-in-Ok-clause-collector : goal.returns-in-Ok-clause-collector
+returns-in-Ok-clause-collector c =
     appended-collects c.self.inside.tables.config c.self.inside.tables.events.items c.put_event.new.events.items (event_of c.args.by c.args.moment c.args.ask) c.args.self.now c.self.view_is
     (c.put_event.ensures.items ∙ ap (λ es. es ++ event_of c.args.by c.args.moment c.args.ask ∷ []) c.turn.ensures.events)

@@ -1,0 +1,13 @@
+use Rattle.std.proofs.Common.{◌≡◌, ◌++◌, List, max, flat_map, subst, ◌∙◌}
+use Rattle.std.specs.Prelude.{OnOk}
+use Rattle.history.specs.Outline.{object_line}
+use Rattle.dgc_server.specs.Stands.{ForEachLog}
+use Rattle.export_table.specs.declared.rows.ExportRow.{ExportRow}
+use Rattle.space.specs.Rows.{held_row}
+use Rattle.space.proofs.texts.put_exports.Goals as goal
+
+pub returns : goal.returns
+returns c =
+    let P : List ExportRow → Type 0 = λ rows. OnOk c.put_objects.result (ForEachLog c.args.leases.now (λ lease moment calls.
+    c.put_objects.new.text ≡ c.args.text.now ++ flat_map (λ x. object_line c.args.config.now (held_row lease (max c.args.now moment) calls x)) rows)) in
+    subst P (c.as_slice.ensures ∙ c.in_ok-rows.ensures) c.put_objects.ensures
