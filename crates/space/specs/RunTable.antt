@@ -20,10 +20,10 @@ calls_of e = replicate e.1 e.0
 abbrev pub all_calls : {S : Type 0} → IndexMap Run ℕ S → List Run
 all_calls counts = flat_map calls_of counts.entries
 
--- Each count is positive: an entry stands only for calls that run.
+-- No count is 0: an entry stands for one call or more.
 abbrev pub ArePositive : {S : Type 0} → IndexMap Run ℕ S → Type 0
 ArePositive counts = All (λ (e : Run × ℕ). 0 < e.1) counts.entries
 
--- The new entries stand for the calls of the old ones but for one of an entry.
+-- The new entries stand for the same calls as the old ones, less one of this entry.
 abbrev pub LacksOneOf : Run × ℕ → List (Run × ℕ) → List (Run × ℕ) → Type 0
 LacksOneOf e old new = (test : Run → Bool) → length (filter test (flat_map calls_of new)) + (if test e.0 then 1 else 0) ≡ length (filter test (flat_map calls_of old))

@@ -61,6 +61,7 @@ impl TryCopy for Asked {
                 end,
             }),
             Err(refused) => {
+                // By hand, so that it is dropped in one call and not field by field.
                 drop(ask);
                 Err(refused)
             }

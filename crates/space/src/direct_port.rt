@@ -65,6 +65,7 @@ impl<'a> Port for PortOver<'a, AskedLog> {
 
     fn turn(&mut self, moment: u64, ask: Ask) -> Result<Turn, Refused> {
         if self.asked.reserve(self.asked.len() + 2).is_err() {
+            // By hand, so that it is dropped in one call and not field by field.
             drop(ask);
             return Err(Refused::OutOfMemory);
         }

@@ -35,13 +35,13 @@ fn put_events(text: &mut ByteList, space: Uid, events: &EventLog) -> Result<(), 
     ensures fits { OnOk result (AllByRecursion (λ e. e.moment < END_OF_TIME → written.EventFits e) events.now.items) }
 {
     for place in 0..events.len() {
-        put_event(text, space, events, place)?;
+        put_line_at(text, space, events, place)?;
     }
     Ok(())
 }
 
 /// Appends the line of the event at a place.
-fn put_event(
+fn put_line_at(
     text: &mut ByteList,
     space: Uid,
     events: &EventLog,
@@ -53,6 +53,7 @@ fn put_event(
 {
     let view = events.event(place)?;
     let put = put_event_line(text, space, view.event());
+    // By hand, so that it is dropped in one call on every way out.
     drop(view);
     put
 }

@@ -44,6 +44,7 @@ impl Space {
                 with_entry(moment, note, answer)
             }
             Err(refused) => {
+                // By hand, so that it is dropped in one call and not field by field.
                 drop(ask);
                 Err(refused)
             }
@@ -121,6 +122,7 @@ fn with_entry(
             Ok((Ok(turn), Asked { moment, ask, end }))
         }
         Err(Refused::OutOfMemory) => {
+            // By hand, so that it is dropped in one call and not field by field.
             drop(ask);
             Err(AllocError)
         }

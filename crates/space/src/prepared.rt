@@ -25,7 +25,8 @@ pub(crate) struct Admitted {
     pub effective: bool,
 }
 
-/// What a connection's ask is. It is refused where there is no room for it in the history, or among the exported objects.
+/// Looks up what an ask's name stands for, and whether the ask of this connection is effective. It is refused where there is no room for it in the
+/// history, or among the exported objects.
 pub(crate) fn admit(tables: &Tables, by: u32, ask: &Ask) -> Result<Admitted, Refused>
     ensures stood { IfOk result (λ a. a.stood ≡ option_and_then (object_of tables.now.names) (name_in ask.now)) }
     ensures effective { IfOk result (λ a. a.effective ≡ effective_by tables.now.exports.rows tables.now.runs.items a.stood by ask.now) }

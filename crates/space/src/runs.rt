@@ -22,7 +22,7 @@ pub struct Run {
     pub object: ObjId,
 }
 
-/// For each connection and object how many calls of the object it runs, if it runs one. An entry stands only for calls that run.
+/// For each connection and object how many calls of the object it runs, if it runs one. No count is 0.
 type Counts = IndexMap<Run, u32>;
 
 /// The calls that connections run. Contracts see them as a `RunTable`, whose list is in no order that matters.
@@ -186,7 +186,7 @@ fn lower(counts: &mut Counts, run: &Run) -> bool
     }
 }
 
-/// Counts one call fewer at a place. Where it was the last one there, the place goes. It takes no memory.
+/// Counts one call fewer at a place. Where it was the last one there, the entry goes, and the last entry takes its place. It takes no memory.
 fn lower_at(counts: &mut Counts, at: usize)
     requires within { at < index_map_len counts.old }
     requires positive { ArePositive counts.old }

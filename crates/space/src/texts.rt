@@ -52,7 +52,7 @@ fn put_outline(alloc: Global, text: &mut ByteList, space: &Space) -> Result<(), 
     put_withdrawals(text, &space.tables.config, &space.tables.withdrawn)
 }
 
-/// Appends the lines of all exported objects.
+/// Takes the rows of all exported objects, and appends a line of each.
 fn put_exports(
     alloc: Global,
     text: &mut ByteList,
@@ -125,7 +125,7 @@ fn put_rows(text: &mut ByteList, rows: &[LeaseRow]) -> Result<(), AllocError>
     Ok(())
 }
 
-/// Appends the lines of all names.
+/// Takes the bindings of all names, and appends a line of each.
 fn put_bindings(
     alloc: Global,
     text: &mut ByteList,

@@ -122,6 +122,7 @@ impl Space {
                 Ok(turn)
             }
             Err(refused) => {
+                // By hand, so that it is dropped in one call and not field by field.
                 drop(ask);
                 Err(refused)
             }

@@ -26,8 +26,8 @@ loop-place-preserved c =
     let P : Event → Type 0 = λ x. x.moment < END_OF_TIME → EventFits x in
     let before : List Event = take c.loop-place.place c.args.events.now.items in
     let more = one-more c.args.events.now.items c.loop-place.place e it.1 in (
-      (c.in_ok-put_event.ensures {u = tt}).text e it.1 ∙ ap (λ t. t ++ event_line c.args.space e) c.loop-place.invariant.0
+      (c.in_ok-put_line_at.ensures {u = tt}).text e it.1 ∙ ap (λ t. t ++ event_line c.args.space e) c.loop-place.invariant.0
           ∙ flat_map_more (event_line c.args.space) c.args.text.now before e
           ∙ ap (λ l. c.args.text.now ++ flat_map (event_line c.args.space) l) (sym more),
-      subst (AllByRecursion P) (sym more) (every-append P before (e ∷ []) c.loop-place.invariant.1 ((c.in_ok-put_event.ensures {u = tt}).fits e it.1, tt)),
+      subst (AllByRecursion P) (sym more) (every-append P before (e ∷ []) c.loop-place.invariant.1 ((c.in_ok-put_line_at.ensures {u = tt}).fits e it.1, tt)),
     )
