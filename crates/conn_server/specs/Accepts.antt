@@ -1,5 +1,5 @@
 -- What holds while links are accepted.
-use Rattle.std.specs.Prelude.{◌≡◌, ℕ, ◌<◌, ◌≤◌, List, [], ◌++◌, map, sum_by, vec_len, vec_capacity, Option, Some, None}
+use Rattle.std.specs.Prelude.{◌≡◌, ℕ, ◌+◌, ◌<◌, ◌≤◌, List, [], ◌++◌, map, sum_by, vec_len, vec_capacity, Option, Some, None}
 use Rattle.wire_io.specs.Links.{Accepted}
 use Rattle.space.specs.declared.asked.Asked.{Asked}
 use Rattle.turn_lock.specs.Handles.{IsRootOf, view_of}
@@ -8,7 +8,7 @@ use Rattle.turn_lock.specs.declared.view.View.{View}
 use Rattle.call_dispatch.specs.declared.book.Kind.{Kind}
 use Rattle.conn_server.specs.Made.{shown_guest}
 use Rattle.conn_server.specs.Rows.{EachAt}
-use Rattle.conn_server.specs.Serves.{IsJob}
+use Rattle.conn_server.specs.Serves.{IsGuest, IsJob}
 use Rattle.conn_server.specs.Starts.{IsUnder, job_of, open_in}
 use Rattle.conn_server.specs.Views.{IsTicking}
 use Rattle.conn_server.specs.declared.accepting.Accepting.{Accepting}
@@ -73,5 +73,14 @@ pub record IsSame {I O T H : Type 0} (a b : Accepting I O T H) : Type 0 where
 -- There is room for one more of each.
 pub record HasRoom {I O T H : Type 0} (a : Accepting I O T H) : Type 0 where
   pub ticks : vec_len a.ticks < vec_capacity a.ticks
+  pub started : vec_len a.started < vec_capacity a.started
+  pub reports : vec_len a.started < vec_capacity a.reports
+
+-- The guest is the next link's, and there is room for the link.
+pub record IsNext {I O T H : Type 0} (Talked : Guest I O T H → LinkReport I O T H → Type 0) (Made : ℕ → Guest I O T H → Type 0) (calls : H → ℕ) (lock : TurnLock) (kinds : List Kind) (a : Accepting I O T H) (guest : Guest I O T H) : Type 0 where
+  pub accepting : IsAccepting Talked Made calls lock kinds a
+  pub few : vec_len a.started < 65535
+  pub can : IsGuest calls guest
+  pub made : Made (vec_len a.started + 1) guest
   pub started : vec_len a.started < vec_capacity a.started
   pub reports : vec_len a.started < vec_capacity a.reports

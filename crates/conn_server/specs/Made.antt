@@ -1,5 +1,6 @@
 -- How the job of a link comes from the link that was accepted, and from the server's turn before it.
-use Rattle.std.specs.Prelude.{◌≡◌, ℕ, List, [], ◌∷◌, map, Option}
+use Rattle.std.specs.Prelude.{◌≡◌, ℕ, List, [], ◌∷◌, ◌≤◌, ◌^◌, ℤ, pos, ◌<ℤ◌, length, map, Option}
+use Rattle.mod_utf.specs.Utf.{utf}
 use Rattle.wire_io.specs.Links.{Accepted, accepted_as}
 use Rattle.wire_io.specs.Wire.{Gave}
 use Rattle.object_ids.specs.declared.ids.ObjId.{ObjId}
@@ -11,6 +12,7 @@ use Rattle.call_dispatch.specs.Acts.{Call, unreferenced, States, Tells, Leads}
 use Rattle.call_dispatch.specs.Terms.{terms_of}
 use Rattle.call_dispatch.specs.declared.book.Kind.{Kind}
 use Rattle.conn_server.specs.Plans.{link_terms}
+use Rattle.conn_server.specs.declared.accepting.Ready.{Ready}
 use Rattle.conn_server.specs.declared.jobs.Guest.{Guest}
 use Rattle.conn_server.specs.declared.plan.ServePlan.{ServePlan}
 
@@ -41,3 +43,12 @@ pub record IsMadeFor {I O T H : Type 0} (left : I → Option (List ℕ)) (held :
   pub tick_asked : guest.tick.value.ask ≡ Tick
   pub ticked : Gave (given guest.first.value.clock) (given guest.clock) (guest.tick.value.moment ∷ [])
   pub told : WasTold moves (seen guest.hand) (state guest.hand) guest.tick.value
+
+-- A hand was given no invocation yet, and its setup is the plan's for connection k, whose peer has this host and port.
+pub record IsReady {H : Type 0} (calls : H → ℕ) (plan : ServePlan) (k : ℕ) (peer : List ℕ) (port : ℤ) (ready : Ready H) : Type 0 where
+  pub told : calls ready.hand ≡ 0
+  pub terms : (kinds : List Kind) → terms_of kinds ready.setup ≡ link_terms kinds plan k peer port
+  pub peer_host : length (utf ready.setup.peer_host) ≤ 255
+  pub host : length (utf ready.setup.host) ≤ 255
+  pub time : ready.setup.draw.time <ℤ pos (2 ^ 61)
+  pub drawn : ready.setup.draw.drawn ≡ 0

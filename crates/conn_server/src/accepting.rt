@@ -11,10 +11,9 @@ ghost use Rattle.call_dispatch.specs.Terms.{terms_of};
 ghost use Rattle.call_dispatch.specs.declared.book.Kind.{Kind};
 ghost use Rattle.turn_lock.specs.Handles.{IsRootOf};
 ghost use Rattle.turn_lock.specs.Ports.{PassWent};
-ghost use Rattle.conn_server.specs.Accepts.{HasRoom, IsAccepting, IsSame, shown_all, links_of, ticks_of};
-ghost use Rattle.conn_server.specs.Made.{gone_with, told_of, shown_guest, IsMadeFor};
+ghost use Rattle.conn_server.specs.Accepts.{HasRoom, IsAccepting, IsNext, IsSame, shown_all, links_of, ticks_of};
+ghost use Rattle.conn_server.specs.Made.{gone_with, told_of, shown_guest, IsMadeFor, IsReady};
 ghost use Rattle.conn_server.specs.Plans.{link_terms};
-ghost use Rattle.conn_server.specs.Serves.{IsGuest};
 ghost use Rattle.conn_server.specs.Talks.{TalksOver};
 
 use crate::crew::{Crew, tell_gone};
@@ -161,6 +160,31 @@ fn prepare<G: Crew, I, O, T>(
     Ok(Ready { hand, setup })
 }
 
+/// Takes room for one more link, and makes what its connection begins with. None where there was no memory.
+fn make_ready<G: Crew, I: Source, O: Sink, T: Clock>(
+    alloc: Global,
+    crew: &G,
+    plan: &ServePlan,
+    link: &Link<I, O, T>,
+    accepting: Accepting<I, O, T, G::Hand>,
+) -> (Accepting<I, O, T, G::Hand>, Option<Ready<G::Hand>>)
+    requires host { length (utf plan.now.host) ≤ 255 }
+    requires few { vec_len accepting.started < 65535 }
+    ensures same { IsSame accepting result.0 }
+    ensures room { IfSome result.1 (λ r. HasRoom result.0) }
+    ensures ready { IfSome result.1 (λ r. IsReady G.Hand.calls plan.now (vec_len accepting.started + 1) link.now.host link.now.port r) }
+{
+    let (accepting, room) = with_room(accepting);
+    if !room {
+        return (accepting, None);
+    }
+    let by = accepting.started.len() as u32 + 1;
+    match prepare(alloc, crew, plan, by, link) {
+        Ok(ready) => (accepting, Some(ready)),
+        Err(_full) => (accepting, None),
+    }
+}
+
 /// Begins to serve the link as the next connection.
 fn with_link<
     's,
@@ -181,11 +205,7 @@ fn with_link<
     guest: Guest<I, O, T, H>,
     accepting: Accepting<I, O, T, H>,
 ) -> Accepting<I, O, T, H>
-    requires accepting { IsAccepting (TalksOver I.left O.held T.given H.calls H.seen H.state H.may H.moves book.now) (IsMadeFor I.left O.held T.given H.seen H.state H.moves plan.now) H.calls lock.now book.now accepting }
-    requires few { vec_len accepting.started < 65535 }
-    requires guest { IsGuest H.calls guest }
-    requires made { IsMadeFor I.left O.held T.given H.seen H.state H.moves plan.now (vec_len accepting.started + 1) guest }
-    requires room { (vec_len accepting.started < vec_capacity accepting.started) × (vec_len accepting.started < vec_capacity accepting.reports) }
+    requires { IsNext (TalksOver I.left O.held T.given H.calls H.seen H.state H.may H.moves book.now) (IsMadeFor I.left O.held T.given H.seen H.state H.moves plan.now) H.calls lock.now book.now accepting guest }
     ensures accepting { IsAccepting (TalksOver I.left O.held T.given H.calls H.seen H.state H.may H.moves book.now) (IsMadeFor I.left O.held T.given H.seen H.state H.moves plan.now) H.calls lock.now book.now result }
     ensures turns { result.root.pass.room ≡ accepting.root.pass.room }
     ensures ticks { result.ticks ≡ accepting.ticks }
@@ -279,6 +299,62 @@ fn shut<I: Source + Drop, O: Sink + Drop>(mut source: I, mut sink: O) {
     sink.shut();
 }
 
+/// Shuts a link that is not served.
+fn turn_away<I: Source + Drop, O: Sink + Drop, T: Drop>(link: Link<I, O, T>) {
+    shut(link.source, link.sink);
+}
+
+/// Makes a Tick before the link is served, and its guest. None where there was no memory for the Tick: the link is shut.
+fn welcome<R: Wait, I: Source + Drop, O: Sink + Drop, T: Clock + Drop, H: Worker + Drop>(
+    rt: &R,
+    alloc: Global,
+    lock: &TurnLock,
+    book: &Book,
+    plan: &ServePlan,
+    link: Link<I, O, T>,
+    ready: Ready<H>,
+    accepting: Accepting<I, O, T, H>,
+) -> (Accepting<I, O, T, H>, Option<Guest<I, O, T, H>>)
+    requires accepting { IsAccepting (TalksOver I.left O.held T.given H.calls H.seen H.state H.may H.moves book.now) (IsMadeFor I.left O.held T.given H.seen H.state H.moves plan.now) H.calls lock.now book.now accepting }
+    requires turns { 0 < accepting.root.pass.room }
+    requires few { vec_len accepting.started < 65535 }
+    requires room { HasRoom accepting }
+    requires ready { IsReady H.calls plan.now (vec_len accepting.started + 1) link.host link.port ready }
+    ensures accepting { IsAccepting (TalksOver I.left O.held T.given H.calls H.seen H.state H.may H.moves book.now) (IsMadeFor I.left O.held T.given H.seen H.state H.moves plan.now) H.calls lock.now book.now result.0 }
+    ensures turns { accepting.root.pass.room ≤ result.0.root.pass.room + 1 }
+    ensures links { (result.0.started ≡ accepting.started) × (result.0.reports ≡ accepting.reports) }
+    ensures ticks { MatchOption result.1 (result.0.ticks.items ≡ accepting.ticks.items) (λ guest. result.0.ticks.items ≡ accepting.ticks.items ++ guest.tick.value ∷ []) }
+    ensures first { IfSome result.1 (λ guest. guest.first.value ≡ link) }
+    ensures next { IfSome result.1 (λ guest. IsNext (TalksOver I.left O.held T.given H.calls H.seen H.state H.may H.moves book.now) (IsMadeFor I.left O.held T.given H.seen H.state H.moves plan.now) H.calls lock.now book.now result.0 guest) }
+{
+    let first = Snapshot::of(&link);
+    let Link {
+        source,
+        sink,
+        mut clock,
+        host: _host,
+        port: _port,
+    } = link;
+    let Ready { mut hand, setup } = ready;
+    let (accepting, entry) = with_tick(
+        rt, alloc, lock, book, plan, &mut clock, &mut hand, accepting,
+    );
+    let Some(tick) = entry else {
+        shut(source, sink);
+        return (accepting, None);
+    };
+    let guest = Guest {
+        source,
+        sink,
+        clock,
+        setup,
+        hand,
+        first,
+        tick,
+    };
+    (accepting, Some(guest))
+}
+
 /// Makes a Tick, and begins to serve the link. Says whether it did: where there was no memory, the link is shut.
 pub fn take_in<
     's,
@@ -314,40 +390,14 @@ where
         (links_of (shown_all I.left O.held T.given result.0.started.items) ≡ links_of (shown_all I.left O.held T.given accepting.started.items)) }
     ensures count { MatchBool result.1 (vec_len result.0.started ≡ vec_len accepting.started + 1) (vec_len result.0.started ≡ vec_len accepting.started) }
 {
-    let first = Snapshot::of(&link);
-    let (accepting, room) = with_room(accepting);
-    if !room {
-        shut(link.source, link.sink);
-        return (accepting, false);
-    }
-    let by = accepting.started.len() as u32 + 1;
-    let Ok(ready) = prepare(alloc, crew, plan, by, &link) else {
-        shut(link.source, link.sink);
+    let (accepting, ready) = make_ready(alloc, crew, plan, &link, accepting);
+    let Some(ready) = ready else {
+        turn_away(link);
         return (accepting, false);
     };
-    let Ready { mut hand, setup } = ready;
-    let Link {
-        source,
-        sink,
-        mut clock,
-        host: _host,
-        port: _port,
-    } = link;
-    let (accepting, entry) = with_tick(
-        rt, alloc, lock, book, plan, &mut clock, &mut hand, accepting,
-    );
-    let Some(tick) = entry else {
-        shut(source, sink);
+    let (accepting, guest) = welcome(rt, alloc, lock, book, plan, link, ready, accepting);
+    let Some(guest) = guest else {
         return (accepting, false);
-    };
-    let guest = Guest {
-        source,
-        sink,
-        clock,
-        setup,
-        hand,
-        first,
-        tick,
     };
     let accepting = with_link(scope, rt, alloc, lock, book, ended, plan, guest, accepting);
     (accepting, true)

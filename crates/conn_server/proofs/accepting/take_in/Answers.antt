@@ -1,18 +1,48 @@
-use Rattle.std.proofs.Common.{◌∙◌, ◌+◌, ap, sym, refl}
+use Rattle.std.proofs.Common.{◌≡◌, ◌∙◌, ◌+◌, ap, sym, arith}
 use Rattle.std.specs.Prelude.{vec_len}
-use Rattle.conn_server.proofs.Making.{made_for}
+use Rattle.conn_server.specs.Accepts.{shown_all, links_of, ticks_of}
+use Rattle.conn_server.proofs.Taking.{same_accepting}
 use Rattle.conn_server.proofs.accepting.take_in.Goals as goal
 
-pub with_link-accepting-requires-clause-guest : goal.with_link-accepting-requires-clause-guest
-with_link-accepting-requires-clause-guest g c κs within =
-    let ready = c.in-Ok.ensures in
-    record { told = c.with_tick-accepting.ensures.calls ∙ ready.calls; peer_host = ready.peer_host; host = ready.host; time = ready.time; drawn = ready.drawn }
+pub returns-in_default-clause-accepting : goal.returns-in_default-clause-accepting
+returns-in_default-clause-accepting g c = same_accepting _ _ _ _ _ _ _ c.make_ready-accepting.ensures.same c.requires.accepting
 
-pub with_link-accepting-requires-clause-made : goal.with_link-accepting-requires-clause-made
-with_link-accepting-requires-clause-made g c κs within =
-    let t = c.with_tick-accepting.ensures in
-    let hand = c.in-Ok.ready.hand in
-    made_for g.I.Source.left g.O.Sink.held g.T.Clock.given g.G.Hand.Worker.seen g.G.Hand.Worker.state g.G.Hand.Worker.moves c.args.plan.now _ _ c.args.link _ c.of-first.ensures
-    (ap (λ n. n + 1) (c.len.ensures ∙ ap vec_len (sym t.links.0))) refl refl c.in-Ok.ensures.terms
-    (rw c.in-Some.is at t.asked) (rw c.in-Some.is at t.given)
-    (g.G.Hand.Worker.seen hand, g.G.Hand.Worker.state hand, rw c.in-Some.is at t.seen, rw c.in-Some.is at t.state)
+pub returns-in_default-clause-turns : goal.returns-in_default-clause-turns
+returns-in_default-clause-turns g c = let root = ap (λ r. r.pass.room) c.make_ready-accepting.ensures.same.root in omega (arith, root)
+
+pub returns-in_default-clause-tied : goal.returns-in_default-clause-tied
+returns-in_default-clause-tied g c =
+    let same = c.make_ready-accepting.ensures.same in
+    same.ticks ∙ (c.requires.tied ∙ ap (λ l. ticks_of (shown_all g.I.Source.left g.O.Sink.held g.T.Clock.given l)) (sym same.started))
+
+pub returns-in_default-clause-links : goal.returns-in_default-clause-links
+returns-in_default-clause-links g c = ap (λ l. links_of (shown_all g.I.Source.left g.O.Sink.held g.T.Clock.given l)) c.make_ready-accepting.ensures.same.started
+
+pub returns-in_default-clause-count : goal.returns-in_default-clause-count
+returns-in_default-clause-count g c = c.make_ready-accepting.ensures.same.count
+
+pub welcome-accepting-requires-clause-accepting : goal.welcome-accepting-requires-clause-accepting
+welcome-accepting-requires-clause-accepting g c = same_accepting _ _ _ _ _ _ _ c.make_ready-accepting.ensures.same c.requires.accepting
+
+pub returns-in_default-guest-clause-accepting : goal.returns-in_default-guest-clause-accepting
+returns-in_default-guest-clause-accepting g c = c.welcome-accepting.ensures.accepting
+
+pub returns-in_default-guest-clause-turns : goal.returns-in_default-guest-clause-turns
+returns-in_default-guest-clause-turns g c =
+    let root = ap (λ r. r.pass.room) c.make_ready-accepting.ensures.same.root in
+    let turns = c.welcome-accepting.ensures.turns in
+    omega (arith, root, turns)
+
+pub returns-in_default-guest-clause-links : goal.returns-in_default-guest-clause-links
+returns-in_default-guest-clause-links g c =
+    ap (λ v. links_of (shown_all g.I.Source.left g.O.Sink.held g.T.Clock.given v.items)) c.welcome-accepting.ensures.links.0
+    ∙ ap (λ l. links_of (shown_all g.I.Source.left g.O.Sink.held g.T.Clock.given l)) c.make_ready-accepting.ensures.same.started
+
+pub returns-in_default-guest-clause-count : goal.returns-in_default-guest-clause-count
+returns-in_default-guest-clause-count g c = ap vec_len c.welcome-accepting.ensures.links.0 ∙ c.make_ready-accepting.ensures.same.count
+
+pub returns-clause-accepting : goal.returns-clause-accepting
+returns-clause-accepting g c = c.with_link-accepting.ensures.accepting
+
+pub returns-clause-count : goal.returns-clause-count
+returns-clause-count g c = c.with_link-accepting.ensures.count ∙ ap (λ n. n + 1) (ap vec_len c.welcome-accepting.ensures.links.0 ∙ c.make_ready-accepting.ensures.same.count)

@@ -6,9 +6,10 @@ pub returns-clause-accepting : goal.returns-clause-accepting
 returns-clause-accepting g c =
     let s = c.in-Ok.ensures in
     let begun = c.start-begun in
-    let is = c.requires.accepting in
+    let next = c.requires in
+    let is = next.accepting in
     let r = s.pass.1 in
     let full : 2147483648 ≤ c.in-Ok.pass.room = omega (arith, r) in
     link_accepting _ _ _ c.args.lock.now c.args.book.now c.args.accepting _ _ begun.result is c.split.ensures.root s.pass.2 s.pass.3 s.pass.5 s.pass.4 (ap (λ n. n + 1) c.len.ensures)
-    (record { own = s.pass.0; room = full; guest = c.requires.guest }) c.requires.made begun.ensures.job begun.ensures.begun begun.ensures.out
-    c.push_reserved.ensures.items c.push_reserved.ensures.len c.requires.room.1 is.empty refl
+    (record { own = s.pass.0; room = full; guest = next.can }) next.made begun.ensures.job begun.ensures.begun begun.ensures.out
+    c.push_reserved.ensures.items c.push_reserved.ensures.len next.reports is.empty refl
