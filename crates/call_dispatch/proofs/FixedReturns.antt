@@ -1,10 +1,9 @@
 -- The bytes that are put together of leases and of references are those that are written of their graphs.
-use Rattle.std.proofs.Common.{◌≡◌, ◌≢◌, ◌<◌, ◌+◌, ℕ, ℤ, Bool, true, false, List, [], ◌∷◌, ◌++◌, length, map, take, get_or, sym, ap, ◌∙◌, append_assoc, if◌then◌else◌}
+use Rattle.std.proofs.Common.{◌≡◌, ◌<◌, ◌+◌, ℕ, ℤ, Bool, true, false, List, [], ◌∷◌, ◌++◌, length, map, take, get_or, sym, ap, ◌∙◌, append_assoc, if◌then◌else◌}
 use Rattle.std.proofs.lemmas.List.{append-nil, take_more, flat_map_more}
 use Rattle.mod_utf.specs.Utf.{unit_bytes, utf}
 use Rattle.std.specs.Int.{w32, w64, to_be_bytes}
 use Rattle.std.specs.Prelude.{codes}
-use Rattle.class_desc.specs.declared.slot.Slot.{Slot}
 use Rattle.class_desc.specs.declared.slot.Slot.TheVariants as slots
 use Rattle.ser_values.specs.declared.value.Values.TheVariants as kinds
 use Rattle.ser_values.specs.declared.node.Node.{Node}
@@ -14,7 +13,7 @@ use Rattle.object_ids.specs.Bytes.{signed_bytes}
 use Rattle.object_ids.specs.Client.{Client}
 use Rattle.java_shapes.specs.declared.ref_views.LiveRef.{LiveRef}
 use Rattle.ser_write.specs.Canonical.{Written, before_more, short_bytes, write_items, write_all, write_one, write_at, tokens_before, tokens_after, contents, pieces, pieces_in, blocks}
-use Rattle.ser_write.proofs.Writes.{write_all-append, write_all-primitive, write_all-raw}
+use Rattle.ser_write.proofs.Writes.{write_all-append, write_all-elements, write_all-raw}
 use Rattle.class_desc.specs.declared.known_class.KnownClass.TheVariants as known
 use Rattle.ser_values.specs.declared.node.Node.TheVariants.{Text, Object, Proxy}
 use Rattle.ser_values.specs.declared.node.Place.TheVariants as places
@@ -31,14 +30,11 @@ use Rattle.call_dispatch.specs.FixedReturns.{return_start, lease_head, lease_sta
 
 -- ---- leases
 
-no_slots : (bytes : List ℕ) (slots : List Slot) → kinds.Bytes bytes ≢ kinds.Refs slots
-no_slots bytes slots = λ same. cc
-
 -- the client's address, where 7 nodes have handles
 array_written : (value : ℤ) (client : Client) → write_at 198 (lease_nodes value client) 7 (slots.Node 8) ≡ (array_object client.addr, 9)
 unfolding write_at write_one write_all write_items tokens_before tokens_after lease_nodes array_object array_head
 array_written value client = ap (λ (w : Written). (array_head ++ (to_be_bytes w32 (length client.addr) ++ w.0), w.1))
-    (write_all-primitive (write_at 197 (lease_nodes value client)) 9 (kinds.Bytes client.addr) (no_slots client.addr))
+    (write_all-elements (write_at 197 (lease_nodes value client)) 9 (kinds.Bytes client.addr) ∙ ap (λ (l : List ℕ). (l, 9)) (append-nil client.addr))
 
 client_written : (value : ℤ) (client : Client) → write_at 199 (lease_nodes value client) 3 (slots.Node 6) ≡ (client_object client, 11)
 unfolding write_at write_one write_all write_items tokens_before tokens_after part_tokens writers lease_nodes client_object client_head uid_object uid_values uid_head array_object array_head
