@@ -1,4 +1,7 @@
 //! Graphs from serialization streams (Java Object Serialization Specification, chapter 6).
+//!
+//! A small call spends most of its time here, so inline marks part what each value passes through, which stands in its callers, from what
+//! is rare or long (a fault, a large item, the parts of an object), which doesn't.
 #![tactic(auto)]
 
 mod block;

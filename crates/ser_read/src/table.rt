@@ -46,7 +46,8 @@ fn has(numbers: &[u32], number: u32) -> bool
     }
 }
 
-/// For how many further nodes there is to be room behind so many: more than one is asked for at the first alone, since room doubles as it grows.
+/// For how many further nodes there is to be room behind so many: for `first` behind none, and for one behind others, since room doubles as it
+/// grows.
 fn room_behind(nodes: usize, first: usize) -> usize
     requires { 1 ≤ first }
     ensures { 1 ≤ result }
