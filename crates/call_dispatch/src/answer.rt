@@ -1,5 +1,5 @@
 //! Writing an answer.
-ghost use Rattle.std.specs.Prelude.{◌≡◌, ◌≤◌, ◌<◌, ◌+◌, ◌^◌, length, OnErr};
+ghost use Rattle.std.specs.Prelude.{◌≤◌, ◌<◌, ◌+◌, ◌^◌, length, OnErr};
 ghost use Rattle.wire_io.specs.Wire.{Rose};
 ghost use Rattle.call_dispatch.specs.Progress.{Writes};
 

@@ -3,7 +3,6 @@ ghost use Rattle.std.specs.Prelude.{◌≡◌, ◌≤◌, ◌<◌, ◌^◌, ◌|
 ghost use Rattle.std.specs.List.{list_any, position};
 ghost use Rattle.std.specs.Ordering.{int_eq};
 ghost use Rattle.mod_utf.specs.Utf.{utf};
-ghost use Rattle.method_hash.specs.Hash.{hash_of};
 ghost use Rattle.call_dispatch.specs.Book.{is_float, returns_float, uses_float, has_float, methods_of, first_with, hashes_of, FaultsBook, AreSystemHashes};
 ghost use Rattle.call_dispatch.specs.Served.{minus_one};
 ghost use Rattle.call_dispatch.specs.Systems.{registry_numbered, collector_numbered, registry_hashed, collector_hashed, registry_method, collector_method, system_method};

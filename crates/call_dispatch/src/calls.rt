@@ -1,5 +1,5 @@
 //! What a Call is answered.
-ghost use Rattle.std.specs.Prelude.{◌≡◌, ◌≢◌, ◌≤◌, ◌<◌, ◌+◌, ◌^◌, ◌++◌, ◌∷◌, ◌⊎◌, pos, ◌<ℤ◌, codes, List, length, IfOk, IfSome, IfNone, OnOk, None, Some, []};
+ghost use Rattle.std.specs.Prelude.{◌≡◌, ◌≤◌, ◌<◌, ◌+◌, ◌^◌, ◌∷◌, pos, ◌<ℤ◌, List, length, IfOk, IfSome, IfNone, OnOk, None, Some, []};
 ghost use Rattle.history.specs.declared.replies.Reply.TheVariants.{Finished};
 ghost use Rattle.wire_io.specs.Pulled.{Place, place};
 ghost use Rattle.space.specs.Balance.{Balanced};

@@ -1,8 +1,8 @@
 //! The opening of a connection.
-ghost use Rattle.std.specs.Prelude.{◌≡◌, ◌≤◌, ◌<◌, ◌+◌, ◌^◌, length, Err, IfErr, IfOk};
+ghost use Rattle.std.specs.Prelude.{◌≡◌, ◌≤◌, ◌<◌, ◌^◌, length, Err, IfOk};
 ghost use Rattle.wire_io.specs.Wire.{Rose};
 ghost use Rattle.mod_utf.specs.Utf.{utf};
-ghost use Rattle.jrmp_frames.specs.Frames.{header_start, IsNoProtocol, protocol_ack};
+ghost use Rattle.jrmp_frames.specs.Frames.{protocol_ack};
 ghost use Rattle.call_dispatch.specs.End.{IsWriteFault};
 ghost use Rattle.call_dispatch.specs.Faults.{counts_of, BlamesIn};
 ghost use Rattle.call_dispatch.specs.Spot.{spot_of, Stays};

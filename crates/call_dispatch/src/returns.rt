@@ -1,5 +1,5 @@
 //! What calls are answered.
-ghost use Rattle.std.specs.Prelude.{◌≡◌, ◌+◌, ◌≤◌, ◌<◌, ◌^◌, pos, ◌<ℤ◌, Bool, true, false, List, Option, length, codes, ◌++◌, IfOk};
+ghost use Rattle.std.specs.Prelude.{◌≡◌, ◌+◌, ◌≤◌, ◌<◌, ◌^◌, pos, ◌<ℤ◌, true, false, List, Option, length, codes, ◌++◌, IfOk};
 ghost use Rattle.object_ids.specs.Draw.{uid_drawn};
 ghost use Rattle.class_desc.specs.declared.field.TypeCode.{TypeCode};
 ghost use Rattle.jrmp_frames.specs.Messages.{return_message};

@@ -1,8 +1,8 @@
 //! The two objects that every server has of itself, and their methods: the registry and the collector (Java RMI Specification, 6.1 and 9.1).
-ghost use Rattle.std.specs.Prelude.{◌≡◌, ◌<◌, ◌^◌, length};
+ghost use Rattle.std.specs.Prelude.{◌≡◌};
 ghost use Rattle.object_ids.specs.Same.{same_id};
 ghost use Rattle.call_dispatch.specs.Book.{text_of, hash_by};
-ghost use Rattle.call_dispatch.specs.Systems.{registry_id, collector_id, is_system, params_of};
+ghost use Rattle.call_dispatch.specs.Systems.{registry_id, is_system, params_of};
 
 use class_desc::TypeCode;
 use method_hash::{CollectorMethod, RegistryMethod, hash_text};

@@ -4,7 +4,7 @@ ghost use Rattle.mod_utf.specs.Utf.{utf};
 ghost use Rattle.history.specs.declared.asks.Ask.{Ask as Asks};
 ghost use Rattle.java_shapes.specs.TextsGraph.{texts_items, texts_nodes};
 ghost use Rattle.call_dispatch.specs.Demands.{kept_of};
-ghost use Rattle.call_dispatch.specs.Returns.{fault_return, full, no_object, wrong_outcome};
+ghost use Rattle.call_dispatch.specs.Returns.{fault_return, full};
 ghost use Rattle.call_dispatch.specs.Results.{graph_return};
 ghost use Rattle.call_dispatch.specs.SystemReturns.{answer_written, bound_return, found_return, kept_return, lease_return, named_fault, reply_return, unbound_return, void_return};
 ghost use Rattle.call_dispatch.specs.Terms.{terms_of};

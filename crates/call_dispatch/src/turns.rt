@@ -3,7 +3,7 @@ ghost use Rattle.std.specs.Prelude.{◌≡◌, ◌<◌, ◌≤◌, ◌+◌, ℕ,
 ghost use Rattle.object_ids.specs.declared.ids.ObjId.{ObjId};
 ghost use Rattle.space.specs.Ports.{Shows, IsAnswerTo};
 ghost use Rattle.space.specs.declared.asked.Asked.{Asked};
-ghost use Rattle.call_dispatch.specs.Acts.{Side, Led, tells_of, TakesTurn, GivesUp};
+ghost use Rattle.call_dispatch.specs.Acts.{Led, tells_of, TakesTurn, GivesUp};
 ghost use Rattle.call_dispatch.specs.Spot.{side_of, IsLent};
 
 use crate::connection::Connection;

@@ -1,5 +1,5 @@
 //! Judging a space by the definitions.
-ghost use Rattle.std.specs.Prelude.{◌≤◌, ◌<◌, ◌^◌, IfOk, IsTrue};
+ghost use Rattle.std.specs.Prelude.{◌≤◌, ◌<◌, ◌^◌, IsTrue};
 
 use crate::defined::defined_outline;
 use history::limits::END_OF_TIME;

@@ -1,5 +1,4 @@
 //! What a connection's thread is given, and what it gives back.
-ghost use Rattle.std.specs.Prelude.{◌≡◌};
 ghost use Rattle.conn_server.specs.Serves.{IsJob, Serves};
 ghost use Rattle.conn_server.specs.Talks.{TalksOver};
 

@@ -1,5 +1,5 @@
 //! The clients of a lease table, in the order of clients. They stand in chunks, so that a new client moves few others.
-ghost use Rattle.std.specs.Prelude.{◌≡◌, ℕ, [], ◌∷◌, ◌+◌, ◌++◌, ◌<◌, ◌≤◌, ◌^◌, length, filter, map, IsTrue, IfOk, OnOk, OnErr, true, vec_len, vec_capacity, insert, slice_index_or, reverse as reversed, unwrap_or};
+ghost use Rattle.std.specs.Prelude.{◌≡◌, ℕ, [], ◌∷◌, ◌+◌, ◌++◌, ◌<◌, ◌≤◌, ◌^◌, length, filter, map, IsTrue, IfOk, OnOk, OnErr, true, vec_len, vec_capacity, slice_index_or, reverse as reversed, unwrap_or};
 ghost use Rattle.std.specs.List.{list_all, AllByRecursion};
 ghost use Rattle.std.specs.Option.{option_copied};
 ghost use Rattle.std.specs.Ordering.{is_lt};

@@ -1,5 +1,5 @@
 //! What a lease table keeps of one client.
-ghost use Rattle.std.specs.Prelude.{◌≡◌, ℕ, ◌+◌, ◌<◌, ◌≤◌, ◌^◌, length, not, ◌&&◌, IsTrue, IfOk, OnOk, OnErr, true, if◌then◌else◌};
+ghost use Rattle.std.specs.Prelude.{◌≡◌, ◌+◌, ◌<◌, ◌≤◌, ◌^◌, length, ◌&&◌, IsTrue, IfOk, OnOk, OnErr, true, if◌then◌else◌};
 ghost use Rattle.object_ids.specs.declared.ids.ObjId.{ObjId};
 ghost use Rattle.history.specs.Leases.{is_dirty_kind};
 ghost use Rattle.dgc_server.specs.Numbers.{is_dirty_highest};

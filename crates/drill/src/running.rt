@@ -1,5 +1,5 @@
 //! A drill in a space.
-ghost use Rattle.std.specs.Prelude.{◌≡◌, ◌++◌, ◌≤◌, ◌<◌, ◌^◌, [], length, IfOk, IfErr, OnOk};
+ghost use Rattle.std.specs.Prelude.{◌≡◌, ◌++◌, ◌≤◌, ◌<◌, ◌^◌, [], IfOk, IfErr, OnOk};
 ghost use Rattle.std.specs.List.{AllByRecursion};
 ghost use Rattle.drill.specs.Rounds.{drill_config, start, events_from, drilled};
 ghost use Rattle.drill.specs.Runs.{EndsIn};

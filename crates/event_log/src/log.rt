@@ -1,5 +1,5 @@
 //! A list of events in few bytes.
-ghost use Rattle.std.specs.Prelude.{◌≡◌, ◌⊎◌, ◌≤◌, ◌<◌, ◌+◌, ◌++◌, ◌∷◌, [], ◌↔◌, true, false, length, slice_get, Some, IsTrue, IfOk, OnOk, OnErr};
+ghost use Rattle.std.specs.Prelude.{◌≡◌, ◌⊎◌, ◌≤◌, ◌<◌, ◌+◌, ◌++◌, ◌∷◌, [], ◌↔◌, true, length, slice_get, Some, IsTrue, IfOk, OnOk, OnErr};
 ghost use Rattle.event_log.specs.Rows.{IsPlain};
 ghost use Rattle.event_log.specs.Views.{viewed};
 

@@ -1,5 +1,5 @@
 //! The export table.
-ghost use Rattle.std.specs.Prelude.{◌≡◌, ◌≢◌, ◌⊎◌, ◌<◌, ◌≤◌, ◌+◌, ◌^◌, ◌↔◌, ◌++◌, ◌∷◌, [], ℕ, List, Bool, true, false, max, length, map, filter, not, IsTrue, OnOk, OnErr, IfOk, IfErr, vec_len, vec_capacity};
+ghost use Rattle.std.specs.Prelude.{◌≡◌, ◌≢◌, ◌⊎◌, ◌<◌, ◌≤◌, ◌+◌, ◌^◌, ◌↔◌, ◌++◌, ◌∷◌, [], false, max, length, map, filter, not, IsTrue, OnOk, OnErr, IfOk, IfErr, vec_len, vec_capacity};
 ghost use Rattle.history.specs.declared.limits.TheConstants.{MAX_EXPORTS, MAX_AWAITING};
 ghost use Rattle.history.specs.Places.{id_at};
 ghost use Rattle.object_ids.specs.declared.ids.FullKind.TheVariants.{Exports as FullExports, Awaiting as FullAwaiting};
@@ -7,7 +7,7 @@ ghost use Rattle.dgc_server.specs.Counts.{without_all};
 ghost use Rattle.dgc_server.specs.Stands.{StandsFor, ForEachLog};
 ghost use Rattle.export_table.specs.Waits.{waiting, goes_on, over, of_return, objects, is_waiting, listed, acknowledged};
 ghost use Rattle.std.specs.List.{list_any};
-ghost use Rattle.export_table.specs.Rows.{is_exported, kind_of, running_of, pins_of, ids, is_rising, new_row, changed, begun, ended, pinned_once, unpinned_once, is_row_kept, held_by, withdrawn, stays_among, row_at};
+ghost use Rattle.export_table.specs.Rows.{is_exported, kind_of, running_of, pins_of, ids, new_row, changed, begun, ended, pinned_once, unpinned_once, is_row_kept, held_by, withdrawn, stays_among, row_at};
 ghost use Rattle.export_table.specs.Table.{IsSound, no_room};
 
 use crate::row_table::RowTable;

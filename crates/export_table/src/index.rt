@@ -1,5 +1,5 @@
 //! The index of the references that await, kept beside their list.
-ghost use Rattle.std.specs.Prelude.{◌≡◌, ◌++◌, ◌∷◌, [], ◌+◌, ◌<◌, ◌≤◌, ◌^◌, List, length, filter, take, drop, IsTrue, true, false, if◌then◌else◌};
+ghost use Rattle.std.specs.Prelude.{◌≡◌, ◌++◌, ◌∷◌, [], ◌+◌, ◌<◌, ◌≤◌, ◌^◌, List, length, filter, take, drop, IsTrue, true, if◌then◌else◌};
 ghost use Rattle.indexmap.specs.IndexMap.{spare};
 ghost use Rattle.indexmap.specs.IndexSet.{spare as places};
 ghost use Rattle.export_table.specs.declared.waits.Wait.{Wait};

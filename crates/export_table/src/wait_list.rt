@@ -1,5 +1,5 @@
 //! The references that await their acknowledgement, with an index of them.
-ghost use Rattle.std.specs.Prelude.{◌≡◌, ◌++◌, ◌∷◌, [], ◌+◌, ◌<◌, ◌≤◌, ◌^◌, length, filter, take, drop, not, true, false, IsTrue, IsOk, IfOk, OnOk, OnErr, ◌↔◌};
+ghost use Rattle.std.specs.Prelude.{◌≡◌, ◌++◌, ◌∷◌, [], ◌+◌, ◌<◌, ◌≤◌, ◌^◌, length, filter, take, drop, not, false, IsTrue, IsOk, IfOk, OnOk, OnErr, ◌↔◌};
 ghost use Rattle.std.specs.List.{list_any};
 ghost use Rattle.history.specs.declared.limits.TheConstants.{MAX_AWAITING};
 ghost use Rattle.export_table.specs.Waits.{is_wait_of, goes_on, waiting, over, of_return, objects, is_waiting, is_awaited, awaiting_of, until_of, listed, acknowledged};

@@ -1,8 +1,7 @@
 //! The graph that is measured: a class with one field of its own type, a byte array, and objects, each of which holds the
 //! node before it.
-ghost use Rattle.std.specs.Prelude.{◌≡◌, ◌++◌, [], ◌∷◌, ◌-◌, IfOk, OnOk, replicate};
+ghost use Rattle.std.specs.Prelude.{◌≡◌, ◌++◌, ◌∷◌, ◌-◌, IfOk, OnOk};
 ghost use Rattle.ser_values.specs.declared.node.Node.TheVariants as nodes;
-ghost use Rattle.ser_values.specs.declared.value.Values.TheVariants as kinds;
 ghost use Rattle.class_desc.specs.declared.slot.Slot.TheVariants as slots;
 ghost use Rattle.class_desc.specs.declared.slot.Item.TheVariants as contents;
 ghost use Rattle.graph_bench.specs.Sample.{fixed_nodes, node_class, array_class, objects, object_after, items_after};

@@ -1,5 +1,5 @@
 //! What the definitions of a history, which go by its newest place, say of whole histories.
-ghost use Rattle.std.specs.Prelude.{ℕ, List};
+ghost use Rattle.std.specs.Prelude.{List};
 ghost use Rattle.history.specs.declared.asks.Event.{Event};
 ghost use Rattle.history.specs.declared.asks.SpaceConfig.{SpaceConfig};
 ghost use Rattle.history.specs.Collector.{Collects};

@@ -1,5 +1,4 @@
 //! What is said of the places of a history.
-ghost use Rattle.std.specs.Prelude.{◌≡◌, IfOk};
 
 use crate::asks::Event;
 use mod_utf::list::{Same, Sequence, TryCopy};

@@ -1,7 +1,6 @@
 //! The graph of a fault.
-ghost use Rattle.std.specs.Prelude.{◌≡◌, ◌++◌, ◌∷◌, ◌<◌, ◌^◌, [], All, Some, length, IfOk, OnOk};
+ghost use Rattle.std.specs.Prelude.{◌≡◌, ◌++◌, ◌∷◌, ◌<◌, ◌^◌, [], All, Some, IfOk, OnOk};
 ghost use Rattle.class_desc.specs.declared.slot.Slot.TheVariants as slots;
-ghost use Rattle.mod_utf.specs.Utf.{utf};
 ghost use Rattle.ser_values.specs.declared.node.Node.TheVariants as loose;
 ghost use Rattle.java_shapes.specs.Fault.{class_node, fault_classes, fault_items, fault_nodes, fault_text};
 ghost use Rattle.java_shapes.specs.Throwable.{fault_text_at};

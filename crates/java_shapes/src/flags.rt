@@ -1,7 +1,6 @@
 //! Graphs in which each reference says that it was made for a result.
-ghost use Rattle.std.specs.Prelude.{◌≡◌, ◌++◌, Some, length, IfOk, IfSome, OnOk, option_map};
+ghost use Rattle.std.specs.Prelude.{◌≡◌, ◌++◌, Some, IfOk, IfSome, OnOk, option_map};
 ghost use Rattle.class_desc.specs.declared.slot.Slot.{Slot};
-ghost use Rattle.class_desc.specs.declared.slot.Slot.TheVariants as slots;
 ghost use Rattle.java_shapes.specs.LiveRefs.{live_ref_at};
 ghost use Rattle.java_shapes.specs.Flags.{as_places, flag_at, flags_in, for_result, note_end, place_in, place_within, set_flags};
 

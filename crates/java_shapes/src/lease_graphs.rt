@@ -1,7 +1,6 @@
 //! The graph of a lease.
-ghost use Rattle.std.specs.Prelude.{◌≡◌, ◌≤◌, ◌++◌, ◌∷◌, ◌<◌, ◌^◌, [], All, Some, length, IfOk, OnOk};
+ghost use Rattle.std.specs.Prelude.{◌≡◌, ◌++◌, ◌<◌, ◌^◌, [], All, Some, IfOk, OnOk};
 ghost use Rattle.class_desc.specs.declared.slot.Slot.TheVariants as slots;
-ghost use Rattle.ser_values.specs.declared.node.Node.TheVariants as loose;
 ghost use Rattle.java_shapes.specs.Ids.{lease_at};
 ghost use Rattle.java_shapes.specs.LeaseGraph.{lease_first, vmid_class, vmid_parts, vmid_next, addr_next, uid_last, lease_items, lease_nodes};
 

@@ -2,7 +2,7 @@
 ghost use Rattle.std.specs.Prelude.{◌≡◌, ◌≢◌, ◌∷◌, MatchOption, codes};
 ghost use Rattle.journal.specs.Reading.{Reads};
 ghost use Rattle.journal.specs.Keywords.{keyword_text, IsNoneOf, call_keywords, collector_keywords, registry_keywords};
-ghost use Rattle.journal.specs.Grammar.{SpellsAsk, SpellsPinned, SpellsStrong, End};
+ghost use Rattle.journal.specs.Grammar.{SpellsAsk, SpellsPinned, SpellsStrong};
 ghost use Rattle.journal.specs.declared.asks.Keyword.{Keyword as KeywordData};
 
 use crate::fields::{Field, four, none, one, two};

@@ -1,5 +1,4 @@
 //! Clients of the collector as words.
-ghost use Rattle.std.specs.Prelude.{◌≡◌};
 ghost use Rattle.journal.specs.Grammar.{SpellsAddress, SpellsClient};
 
 use crate::fields::{Field, two};

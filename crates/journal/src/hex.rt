@@ -1,6 +1,5 @@
 //! Bytes as hexadecimal digits in lower case.
-ghost use Rattle.std.specs.Prelude.{◌≡◌, ℕ, ◌<◌, ◌≤◌, ◌^◌, ◌++◌, length, drop, false};
-ghost use Rattle.std.specs.Fmt.{digit_glyph};
+ghost use Rattle.std.specs.Prelude.{◌<◌};
 ghost use Rattle.journal.specs.Reading.{Finds, Reads};
 ghost use Rattle.journal.specs.Hex.{IsHexDigit, BeginsWithByte, SpellsBytes};
 

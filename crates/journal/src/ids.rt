@@ -1,5 +1,4 @@
 //! Identifiers of machines, objects and clients as words.
-ghost use Rattle.std.specs.Prelude.{◌≡◌};
 ghost use Rattle.journal.specs.Reading.{Reads};
 ghost use Rattle.journal.specs.Grammar.{SpellsUid, SpellsObject, SpellsLong};
 

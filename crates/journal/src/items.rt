@@ -1,5 +1,5 @@
 //! Lists as words.
-ghost use Rattle.std.specs.Prelude.{◌≡◌, List, ℕ};
+ghost use Rattle.std.specs.Prelude.{List, ℕ};
 ghost use Rattle.journal.specs.Reading.{Reads};
 ghost use Rattle.journal.specs.Parts.{Lacks};
 ghost use Rattle.journal.specs.Grammar.{SpellsList, SpellsKinds, SpellsObjects};

@@ -1,6 +1,5 @@
 //! Writing lists. After a refusal, which comes only for want of memory, a front of the text stands appended.
-ghost use Rattle.std.specs.Prelude.{◌≡◌, ◌∷◌, ◌++◌, decimal, flat_map, OnOk, OnErr};
-ghost use Rattle.history.specs.Texts.{object_text};
+ghost use Rattle.std.specs.Prelude.{◌≡◌, ◌++◌, decimal, flat_map, OnOk, OnErr};
 ghost use Rattle.journal.specs.Putting.{AppendsFront};
 ghost use Rattle.journal.specs.Written.{list_text, objects_text, further_kind, further_object, IsObject, AreKinds, AreObjects};
 

@@ -1,6 +1,5 @@
 //! Passes and threads that take turns at one space.
 ghost use Rattle.std.specs.Prelude.{◌≡◌, ◌+◌, ◌≤◌, IfSome};
-ghost use Rattle.std.specs.Thread.{IsSync};
 ghost use Rattle.turn_lock.specs.Handles.{IsBranchOf, IsRootOf};
 ghost use Rattle.turn_lock.specs.Rule.{most_turns};
 

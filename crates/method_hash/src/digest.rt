@@ -1,5 +1,5 @@
 //! The hash by which a call names a method (Java RMI Specification, 8.3).
-ghost use Rattle.std.specs.Prelude.{◌≡◌, ◌<◌, ◌^◌, length, IfOk};
+ghost use Rattle.std.specs.Prelude.{◌≡◌, ◌<◌, ◌^◌, length};
 ghost use Rattle.method_hash.specs.Hash.{folded, hash_of};
 
 use crate::method::Method;

@@ -1,8 +1,8 @@
 //! The texts of remote methods (Java RMI Specification, 8.3).
-ghost use Rattle.std.specs.Prelude.{◌≡◌, ◌⊎◌, ◌+◌, ◌^◌, ◌<◌, ◌≤◌, ◌++◌, [], None, Some, OnOk, IfOk, IfErr, IfSome, IfNone, length};
+ghost use Rattle.std.specs.Prelude.{◌≡◌, ◌⊎◌, ◌+◌, ◌^◌, ◌<◌, ◌≤◌, ◌++◌, None, Some, OnOk, IfOk, IfErr, IfSome, IfNone};
 ghost use Rattle.method_hash.specs.MethodText.{IsMethod, IsUnread};
 ghost use Rattle.method_hash.specs.Next.{next, need};
-ghost use Rattle.method_hash.specs.Reading.{HasRead, name_noted, param_noted, returned_noted};
+ghost use Rattle.method_hash.specs.Reading.{name_noted, param_noted, returned_noted};
 ghost use Rattle.method_hash.specs.declared.method.MethodFault.TheVariants.{OutOfMemory};
 ghost use Rattle.method_hash.specs.declared.place.Place.{Place as Places};
 ghost use Rattle.method_hash.specs.declared.place.Place.TheVariants.{Name};

@@ -1,5 +1,5 @@
 //! Units from bytes: modified UTF (Java Object Serialization Specification, 6.2).
-ghost use Rattle.std.specs.Prelude.{◌≡◌, ◌++◌, ◌<◌, ◌≤◌, length, drop, take, List, ℕ, OnOk, OnErr, IfOk, IfErr, IfSome};
+ghost use Rattle.std.specs.Prelude.{◌≡◌, ◌++◌, ◌<◌, ◌≤◌, length, take, List, ℕ, OnOk, OnErr, IfOk, IfErr, IfSome};
 ghost use Rattle.mod_utf.specs.Utf.{Utf};
 ghost use Rattle.mod_utf.specs.Decoding.{front, two, three, decoded, IsUnread, GivesUnits, GivesMore};
 

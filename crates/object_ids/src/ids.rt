@@ -1,6 +1,5 @@
 //! Identifiers as plain data, with their equality.
-ghost use Rattle.std.specs.Prelude.{◌≡◌, ◌≤◌, ◌<◌, ◌↔◌, length, IsTrue, IfOk, IsSome, IfSome};
-ghost use Rattle.object_ids.specs.Same.{same_uid, same_id, same_client};
+ghost use Rattle.std.specs.Prelude.{◌≡◌, ◌≤◌, ◌<◌, ◌↔◌, length, IfOk, IsSome, IfSome};
 ghost use Rattle.object_ids.specs.Client.{Client, client_cmp};
 
 use mod_utf::list::{ByteList, Same, Sequence, TryCopy};

@@ -1,5 +1,5 @@
 //! All that the program does.
-ghost use Rattle.std.specs.Prelude.{◌≡◌, ◌≢◌, ◌↔◌, ◌⊎◌, ℕ, IfOk};
+ghost use Rattle.std.specs.Prelude.{◌≡◌, ◌≢◌, ◌↔◌, ◌⊎◌, ℕ};
 ghost use Rattle.wire_io.specs.Wire.{Rose, wires};
 ghost use Rattle.rmi_cli.specs.Answer.{Answers, AnswersExactly};
 ghost use Rattle.rmi_cli.specs.Command.{AskFor};

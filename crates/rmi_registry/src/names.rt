@@ -1,5 +1,5 @@
 //! The names of a registry.
-ghost use Rattle.std.specs.Prelude.{◌≡◌, ◌≢◌, ◌⊎◌, ◌≤◌, ◌↔◌, ◌++◌, ◌∷◌, [], Ok, Err, None, true, false, IsTrue, IsOk, IfOk, IfErr, OnOk, OnErr, length, nat_le, if◌then◌else◌};
+ghost use Rattle.std.specs.Prelude.{◌≡◌, ◌⊎◌, ◌≤◌, ◌↔◌, ◌++◌, ◌∷◌, [], Ok, Err, None, false, IsTrue, IsOk, IfOk, IfErr, OnOk, OnErr, length, nat_le, if◌then◌else◌};
 ghost use Rattle.std.specs.Result.{result_ok};
 ghost use Rattle.history.specs.declared.limits.TheConstants.{MAX_NAMES};
 ghost use Rattle.object_ids.specs.declared.ids.FullKind.TheVariants.{Names as FullNames};

@@ -1,5 +1,5 @@
 //! The chains of classes.
-ghost use Rattle.std.specs.Prelude.{◌≡◌, ◌++◌, List, ℕ, IfOk, slice_get};
+ghost use Rattle.std.specs.Prelude.{◌≡◌, List, ℕ, IfOk, slice_get};
 ghost use Rattle.class_desc.specs.declared.slot.Slot.{Slot as OneSlot};
 ghost use Rattle.ser_values.specs.Chain.{chain, up_from, up_by};
 

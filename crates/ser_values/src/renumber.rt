@@ -1,5 +1,5 @@
 //! Nodes under other numbers.
-ghost use Rattle.std.specs.Prelude.{◌≡◌, ◌<◌, ◌^◌, ℕ, List, map, length, IfOk};
+ghost use Rattle.std.specs.Prelude.{◌≡◌, ◌<◌, ◌^◌, ℕ, map, length, IfOk};
 ghost use Rattle.ser_values.specs.Renumber.{AllBelow, HasPlaces, place_at, slot_by, item_by, field_by, value_by, part_by, values_by, desc_by, proxy_by, node_by};
 
 use crate::node::Node;

@@ -1,5 +1,5 @@
 //! The rules on nodes.
-ghost use Rattle.std.specs.Prelude.{◌≡◌, ◌<◌, ◌^◌, Bool, Option, Some, List, length, option_map, slice_get};
+ghost use Rattle.std.specs.Prelude.{◌≡◌, ◌<◌, ◌^◌, Bool, Option, Some, length, slice_get};
 ghost use Rattle.class_desc.specs.declared.slot.Slot.{Slot};
 ghost use Rattle.ser_values.specs.Loose.{elements_in};
 ghost use Rattle.ser_values.specs.Node.{is_desc, is_text, admits, admits_null, takes};

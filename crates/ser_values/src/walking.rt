@@ -1,6 +1,6 @@
 //! The order in which nodes get their handles: a walk with a stack of its own, since the rules are judged however deep
 //! the nodes are.
-ghost use Rattle.std.specs.Prelude.{◌≡◌, ◌≤◌, ◌<◌, ◌^◌, ◌++◌, [], ◌∷◌, false, OnOk, IfOk, length, option_map, nat_le};
+ghost use Rattle.std.specs.Prelude.{◌≡◌, ◌<◌, ◌++◌, [], ◌∷◌, false, OnOk, IfOk, length, option_map};
 ghost use Rattle.class_desc.specs.declared.slot.Slot.TheVariants as slots;
 ghost use Rattle.ser_values.specs.declared.walking.Task.TheVariants as tasks;
 ghost use Rattle.ser_values.specs.Node.{has, before, after, is_desc, item_wants, value_wants, part_wants, field_wants, slot_wants, element_wants, inside};

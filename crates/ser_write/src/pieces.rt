@@ -1,5 +1,5 @@
 //! What is written of a node by itself.
-ghost use Rattle.std.specs.Prelude.{◌≡◌, ◌∷◌, ◌++◌, [], ℕ, suc, IfOk, OnErr, OnOk, option_map, reverse, slice_get, take, drop};
+ghost use Rattle.std.specs.Prelude.{◌≡◌, ◌∷◌, ◌++◌, ℕ, suc, IfOk, OnErr, OnOk, option_map, reverse, slice_get, take, drop};
 ghost use Rattle.std.specs.Int.{w16, to_be_bytes};
 ghost use Rattle.std.specs.List.{flat_map};
 ghost use Rattle.ser_values.specs.Spelled.{writers};

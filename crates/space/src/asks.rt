@@ -1,5 +1,5 @@
 //! Whether an ask is effective, whether there is room for it, and what it is answered.
-ghost use Rattle.std.specs.Prelude.{◌≡◌, ◌+◌, ◌≤◌, ◌<◌, ◌^◌, nat_lt, option_and_then, if◌then◌else◌, IfOk};
+ghost use Rattle.std.specs.Prelude.{◌≡◌, ◌+◌, ◌<◌, ◌^◌, option_and_then, if◌then◌else◌, IfOk};
 ghost use Rattle.history.specs.declared.limits.TheConstants.{MAX_UNITS};
 ghost use Rattle.history.specs.Names.{name_in};
 ghost use Rattle.export_table.specs.Rows.{is_exported};

@@ -1,5 +1,5 @@
 //! A port that holds its space.
-ghost use Rattle.std.specs.Prelude.{◌≡◌, ◌^◌, ◌-◌, ℕ, [], refl};
+ghost use Rattle.std.specs.Prelude.{◌≡◌, ◌^◌, ◌-◌, [], refl};
 ghost use Rattle.object_ids.specs.declared.ids.ObjId.{ObjId};
 ghost use Rattle.space.specs.Ties.{IsTied, Leads};
 ghost use Rattle.space.specs.TieLaws.{leads_self, leads_on};

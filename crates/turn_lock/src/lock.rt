@@ -1,5 +1,5 @@
 //! What callers do with a lock.
-ghost use Rattle.std.specs.Prelude.{◌≡◌, ◌≢◌, ◌+◌, ◌<◌, ◌≤◌, ◌^◌, [], length, MatchResult, Ok, Err, IfOk};
+ghost use Rattle.std.specs.Prelude.{◌≡◌, ◌≢◌, ◌+◌, ◌<◌, ◌^◌, length, MatchResult, Ok, Err, IfOk};
 ghost use Rattle.history.specs.declared.asks.Ask.TheVariants.{Abandon};
 ghost use Rattle.history.specs.Running.{running};
 ghost use Rattle.history.specs.Steps.{turn_of};

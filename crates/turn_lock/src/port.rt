@@ -1,5 +1,5 @@
 //! A port over a pass of a lock.
-ghost use Rattle.std.specs.Prelude.{◌≡◌, ℕ, [], refl};
+ghost use Rattle.std.specs.Prelude.{◌≡◌, [], refl};
 ghost use mathlib.Core.Path.{◌∙◌};
 ghost use Rattle.space.specs.Ties.{IsTied};
 ghost use Rattle.turn_lock.specs.Handles.{IsPassOf, seen_space, view_of};

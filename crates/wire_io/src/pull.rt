@@ -1,6 +1,5 @@
 //! Taking bytes one after the other, with their positions.
-ghost use Rattle.std.specs.Prelude.{◌≡◌, ◌+◌, ◌<◌, ◌≤◌, ◌^◌, ◌++◌, ℕ, List, length, max, min, replicate, OnOk, OnErr, vec_len, vec_capacity};
-ghost use Rattle.wire_io.specs.Wire.{Rose};
+ghost use Rattle.std.specs.Prelude.{◌≡◌, ◌+◌, ◌<◌, ◌≤◌, ◌^◌, ◌++◌, length, max, min, replicate, OnOk, OnErr, vec_len, vec_capacity};
 
 use crate::source::Source;
 use mod_utf::list::ByteList;

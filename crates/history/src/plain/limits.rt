@@ -1,5 +1,5 @@
 //! Units, the entries of the tables, and refusals.
-ghost use Rattle.std.specs.Prelude.{◌≡◌, ◌+◌, ◌*◌, ◌^◌, ◌<◌, ◌≤◌, ◌++◌, ◌∷◌, [], length, map, filter, flat_map, max, nat_lt, option_to_list, if◌then◌else◌, IfOk};
+ghost use Rattle.std.specs.Prelude.{◌≡◌, ◌+◌, ◌*◌, ◌^◌, ◌<◌, ◌≤◌, ◌++◌, [], length, map, filter, flat_map, max, nat_lt, option_to_list, if◌then◌else◌, IfOk};
 ghost use Rattle.std.specs.List.{list_any};
 ghost use Rattle.object_ids.specs.Same.{same_bytes, same_client};
 ghost use Rattle.history.specs.LeaseCalls.{lease_calls as calls_in};

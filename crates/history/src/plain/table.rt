@@ -1,5 +1,5 @@
 //! The collector's table, and the places of a list of events.
-ghost use Rattle.std.specs.Prelude.{◌≡◌, ◌+◌, ◌<◌, ◌^◌, ◌++◌, ◌∷◌, ◌||◌, ◌&&◌, length, map, filter, not, option_to_list, option_and_then, if◌then◌else◌, [], IfOk};
+ghost use Rattle.std.specs.Prelude.{◌≡◌, ◌+◌, ◌<◌, ◌++◌, ◌∷◌, ◌||◌, ◌&&◌, filter, not, option_to_list, option_and_then, if◌then◌else◌, [], IfOk};
 ghost use Rattle.history.specs.LeaseCalls as call_words;
 ghost use Rattle.history.specs.Names as name_words;
 ghost use Rattle.history.specs.Places as place_words;
