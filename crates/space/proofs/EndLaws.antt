@@ -1,55 +1,27 @@
 -- The end of a turn, by what its parts answered.
-use Rattle.std.proofs.Common.{◌≡◌, ℕ, ◌<◌, ◌≤◌, ◌^◌, List, ◌++◌, length, ap, sym, subst, ◌∙◌, map, max, arith, Option, None}
+use Rattle.std.proofs.Common.{◌≡◌, ℕ, ◌≤◌, List, ◌++◌, length, ap, sym, subst, map, max, arith}
 use Rattle.std.specs.Prelude.{Bool, filter}
 use Rattle.object_ids.specs.declared.ids.ObjId.{ObjId}
 use Rattle.history.specs.declared.asks.SpaceConfig.{SpaceConfig}
 use Rattle.history.specs.declared.asks.Event.{Event}
 use Rattle.history.specs.declared.places.Withdrawal.{Withdrawal}
-use Rattle.history.specs.declared.replies.Refused.{Refused}
-use Rattle.history.specs.LeaseCalls.{call_with}
 use Rattle.history.specs.Places.{now}
 use Rattle.history.specs.Table.{places}
 use Rattle.dgc_server.specs.Counts.{without_all}
 use Rattle.dgc_server.specs.Stands.{LeaseTable, StandsFor, ForEachLog}
-use Rattle.export_table.specs.Rows.{is_exported, is_row_kept as row_kept, held_by, withdrawn as rows_withdrawn}
+use Rattle.export_table.specs.Rows.{is_row_kept as row_kept, held_by, withdrawn as rows_withdrawn}
 use Rattle.export_table.specs.Table.{ExportTable}
 use Rattle.export_table.specs.Waits.{waiting}
 use Rattle.space.specs.declared.runs.Run.{Run}
-use Rattle.space.specs.Acts.{ForEachLogBy, effective_by, acted, room_refusal, await_refusal, told_refusal}
 use Rattle.rmi_registry.specs.declared.binding.Binding.{Binding}
 use Rattle.rmi_registry.specs.Stands.{AreBindings}
 use Rattle.space.specs.Ahead.{HasRoom}
 use Rattle.space.specs.Doubts.{HasLog}
-use Rattle.space.proofs.Acting.{stood_for}
-use Rattle.history.specs.Names.{names}
 use Rattle.space.specs.Kept.{Keeps}
 use Rattle.space.proofs.Keeping.{told_calls}
 use Rattle.space.proofs.TurnLaws.{HasActed, HasWithdrawn, is-acted}
-use Rattle.space.proofs.AskLaws.{asked, room-as}
 
--- What is known once an ask has acted.
-pub has-acted : (config : SpaceConfig) (events : List Event) (e : Event) (leases leases1 : LeaseTable) (x y : ExportTable) (runs seen : List Run) (withdrawn : List Withdrawal) (told opened used moment time running count : ℕ) (stood looked : Option ObjId) (effective : Bool) (room : Option Refused) (names_count : ℕ) →
-    Keeps config events leases x runs withdrawn told opened used moment → stood ≡ stood_for (places config events) e.ask → stood ≡ looked → names_count ≡ length (names (places config events)) → e.moment < 2 ^ 62 → effective ≡ effective_by x.rows seen stood e.by e.ask → seen ≡ runs → y ≡ record x { room = y.room } →
-    room ≡ room_refusal used running count effective e.ask → running ≡ length runs → count ≡ length x.rows → room ≡ None → time ≡ max e.moment moment → await_refusal time y.rows y.waits stood effective e.ask ≡ None →
-    ForEachLogBy time leases (λ lease calls. told_refusal lease time calls (call_with (is_exported y.rows) time e.ask) names_count looked effective e.ask ≡ None) →
-    ForEachLogBy time leases (λ lease calls. StandsFor lease leases1 time (call_with (is_exported y.rows) time e.ask ++ calls)) →
-    HasActed config events e leases leases1 y (acted stood effective time e.ask y) runs withdrawn told opened used moment effective
-has-acted config events e leases leases1 x y runs seen withdrawn told opened used moment time running count stood looked effective room names_count k st lk nc early f s r re n m none t fit refusal ok =
-    let R : ℕ → Type 0 = λ i. ForEachLogBy i leases (λ lease calls. told_refusal lease i calls (call_with (is_exported y.rows) i e.ask) names_count looked effective e.ask ≡ None) in
-    let C : ℕ → Type 0 = λ i. ForEachLogBy (max e.moment moment) leases (λ lease calls. told_refusal lease (max e.moment moment) calls (call_with (is_exported y.rows) (max e.moment moment) e.ask) i looked effective e.ask ≡ None) in
-    let D : Option ObjId → Type 0 = λ i. ForEachLogBy (max e.moment moment) leases (λ lease calls. told_refusal lease (max e.moment moment) calls (call_with (is_exported y.rows) (max e.moment moment) e.ask) (length (names (places config events))) i effective e.ask ≡ None) in
-    let O : ℕ → Type 0 = λ i. ForEachLogBy i leases (λ lease calls. StandsFor lease leases1 i (call_with (is_exported y.rows) i e.ask ++ calls)) in
-    record {
-      asked = asked config events e leases x y runs seen withdrawn told opened used moment stood effective k st f s r;
-      early = early;
-      room = room-as used running count effective e.ask runs x y room None re n m r none;
-      fit = ap (λ i. await_refusal i y.rows y.waits (stood_for (places config events) e.ask) effective e.ask) (sym t) ∙ ap (λ o. await_refusal time y.rows y.waits o effective e.ask) (sym st) ∙ fit;
-      unrefused = subst D (sym lk ∙ st) (subst C nc (subst R t refusal));
-      told_leases = subst O t ok;
-      act = ap (λ i. acted stood effective i e.ask y) t ∙ ap (λ o. acted o effective (max e.moment moment) e.ask y) st;
-    }
-
--- Then there are calls for which the leases stand.
+-- Once an ask has acted there are calls for which the leases stand.
 pub has-log : (config : SpaceConfig) (events : List Event) (e : Event) (leases leases1 : LeaseTable) (exports t : ExportTable) (runs : List Run) (withdrawn : List Withdrawal) (told opened used moment : ℕ) (effective : Bool) →
     HasActed config events e leases leases1 exports t runs withdrawn told opened used moment effective → HasLog leases1
 has-log config events e leases leases1 exports t runs withdrawn told opened used moment effective a = record {

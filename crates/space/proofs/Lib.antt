@@ -27,6 +27,7 @@ pub mod NotedLaws
 pub mod ObjectLaws
 pub mod Pairs
 pub mod Quiet
+pub mod ReadyLaws
 pub mod ReferenceLaws
 pub mod Refusals
 pub mod Room

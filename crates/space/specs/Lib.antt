@@ -13,6 +13,7 @@ pub mod Legal
 pub mod Lists
 pub mod Noted
 pub mod Ports
+pub mod Ready
 pub mod Rows
 pub mod Runs
 pub mod RunTable

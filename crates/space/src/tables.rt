@@ -2,12 +2,13 @@
 ghost use Rattle.std.specs.Prelude.{◌≡◌, ◌<◌, ◌^◌, ◌++◌, ◌∷◌, [], true, Ok, Err, IfOk, IfErr, OnOk, OnErr};
 ghost use Rattle.history.specs.Steps.{Step};
 ghost use Rattle.space.specs.Acts.{event_of};
+ghost use Rattle.space.specs.Ready.{IsReady};
 ghost use Rattle.space.specs.Whole.{IsWhole, IsWholeWith};
 
 use crate::acts::act;
 use crate::asks::told_after;
 use crate::names::settle;
-use crate::prepared::{admit, prepare};
+use crate::prepared::{Admitted, Prepared, admit, prepare};
 use crate::rooms::room_for_all;
 use crate::runs::{Runs, act_on_runs};
 use crate::withdrawals::Withdrawals;
@@ -73,10 +74,8 @@ impl Tables {
         ensures config { self.new.config ≡ self.old.config }
     {
         let admitted = admit(self, by, ask)?;
-        let stood = admitted.stood;
-        let effective = admitted.effective;
         let now = moment.max(self.moment);
-        let mut ready = prepare(self, stood, effective, now, noted, ask)?;
+        let ready = prepare(self, admitted.stood, admitted.effective, now, noted, ask)?;
         room_for_all(
             &mut self.events,
             &mut self.runs,
@@ -91,10 +90,34 @@ impl Tables {
             &mut self.leases,
             &mut self.names,
             &self.exports,
-            effective,
+            admitted.effective,
             now,
             ask,
         )?;
+        Ok(self.take(by, moment, ask, admitted, ready, noted))
+    }
+
+    /// Takes a turn that nothing can refuse any more: the leases and the names know of it already, and there is room for all that it adds. What it
+    /// answers, and the copy, are as `turn` says.
+    fn take(
+        &mut self,
+        by: u32,
+        moment: u64,
+        ask: &Ask,
+        admitted: Admitted,
+        mut ready: Prepared,
+        noted: bool,
+    ) -> (Turn, ObjIds)
+        requires ready { IsReady self.old (event_of by moment ask.now) admitted ready noted }
+        ensures taken { let e = event_of by moment ask.now in
+            Step self.old.config self.old.events.items e (Ok result.0) (self.old.events.items ++ e ∷ []) }
+        ensures copy { noted ≡ true → result.1 ≡ result.0.gone }
+        ensures with_event { IsWholeWith self.new (self.new.events.items ++ event_of by moment ask.now ∷ []) }
+        ensures events { self.new.events ≡ self.old.events }
+        ensures config { self.new.config ≡ self.old.config }
+    {
+        let Admitted { stood, effective } = admitted;
+        let now = moment.max(self.moment);
         let place = self.events.len() as u64;
         act(
             &mut self.exports,
@@ -117,6 +140,6 @@ impl Tables {
         self.added += ready.opened;
         self.units += units_of(ask);
         self.moment = now;
-        Ok(ready.into_turn(self.alloc, place, noted))
+        ready.into_turn(self.alloc, place, noted)
     }
 }
