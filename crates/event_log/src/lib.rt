@@ -1,9 +1,10 @@
-//! The events of a history in few bytes. Most take a row of 48 bytes and no more: those without lists or names, and those by which a client
-//! takes or gives up one object, or renews its leases without naming any. Each other event takes a box beside its row.
+//! The events of a history in few bytes. Most take a row of 48 bytes and no more: those without lists or names, those by which a client
+//! takes or gives up one object, or renews its leases without naming any, and those by which a name is looked up. Each other event takes a
+//! box beside its row.
 #![tactic(auto)]
 
-mod clients;
 pub mod log;
+mod numbered;
 mod rows;
 pub mod view;
 

@@ -3,7 +3,7 @@ ghost use Rattle.std.specs.Prelude.{◌≡◌, ◌⊎◌, ◌≤◌, ◌<◌, �
 ghost use Rattle.event_log.specs.Rows.{IsPlain};
 ghost use Rattle.event_log.specs.Views.{viewed};
 
-use crate::clients::Clients;
+use crate::numbered::{Clients, Names};
 use crate::rows::{Row, is_plain, plain_row, row_of, view_of};
 use crate::view::EventView;
 use history::{Ask, Event};
@@ -13,14 +13,16 @@ use std::fmt;
 use std::marker::Model;
 
 /// The events of a space, oldest first. A plain event takes a row of 48 bytes: an Open, a Begin, an Abandon, an Ack, a List, a Tick, or a Finish
-/// of one of the space's own objects that makes and lists nothing. So does a Dirty or a Clean of none or one of its own objects; the client is
-/// kept beside, mostly once for all its calls. Each other event takes a box beside its row. Contracts see a log as an `EventRecord`: its space, the
-/// list of its events, how many of them it has room for, and whether it has a box and room for a client to spare.
+/// of one of the space's own objects that makes and lists nothing. So does a Dirty or a Clean of none or one of its own objects, and a Lookup; the
+/// client or the name is kept beside, mostly once for all its calls. Each other event takes a box beside its row. Contracts see a log as an
+/// `EventRecord`: its space, the list of its events, how many of them it has room for, and whether it has a box and room for a client and a name
+/// to spare.
 #[derive(Drop)]
 pub struct EventLog {
     alloc: Global,
     space: Uid,
     clients: Clients,
+    names: Names,
     rows: Vec<Row>,
     spare: Option<Box<Event>>,
 }
@@ -35,13 +37,14 @@ impl Model for EventLog {
 
     ghost view = { λ l. record {
       space = l.space;
-      items = map (event_of l.space l.clients.list.items) l.rows.items;
+      items = map (event_of l.space l.clients.list.items l.names.list.items) l.rows.items;
       capacity = vec_capacity l.rows;
       spare = is_some l.spare;
     } };
 
-    ghost invariant = { λ l. AllByRecursion (IsKnown (length l.clients.list.items)) l.rows.items
-        × (is_some l.spare ≡ true → length l.clients.list.items < vec_capacity l.clients.list) };
+    ghost invariant = { λ l. AllByRecursion (IsKnown (length l.clients.list.items) (length l.names.list.items)) l.rows.items
+        × (is_some l.spare ≡ true → length l.clients.list.items < vec_capacity l.clients.list)
+        × (is_some l.spare ≡ true → length l.names.list.items < vec_capacity l.names.list) };
 }
 
 impl fmt::Debug for EventLog {
@@ -72,6 +75,7 @@ impl EventLog {
             alloc,
             space,
             clients: Clients::new(alloc),
+            names: Names::new(alloc),
             rows: Vec::new(alloc),
             spare: None,
         }
@@ -100,6 +104,7 @@ impl EventLog {
             self.alloc,
             self.space,
             self.clients.list.as_slice(),
+            self.names.list.as_slice(),
             &self.rows[place],
         )
     }
@@ -115,6 +120,7 @@ impl EventLog {
     {
         self.rows.reserve(more)?;
         self.clients.reserve(self.alloc)?;
+        self.names.reserve(self.alloc)?;
         if self.spare.is_none() {
             self.spare = Some(room(self.alloc)?);
         }
@@ -134,7 +140,13 @@ impl EventLog {
             let row = plain_row(&self.space, event);
             self.rows.push_reserved(row);
         } else {
-            let row = row_of(&mut self.clients, &mut self.spare, &self.space, event);
+            let row = row_of(
+                &mut self.clients,
+                &mut self.names,
+                &mut self.spare,
+                &self.space,
+                event,
+            );
             self.rows.push_reserved(row);
         }
     }

@@ -1,13 +1,13 @@
 //! Events as a log keeps them.
 ghost use Rattle.std.specs.Prelude.{◌≡◌, ◌↔◌, ◌<◌, ◌+◌, ℕ, List, [], ◌∷◌, ◌++◌, length, slice_get, Some, is_some, true, option_copied, IsTrue, IsSome, IfSome, IfOk, vec_capacity};
-ghost use Rattle.history.specs.declared.asks.Ask.TheVariants.{Finish as FinishAsk, Dirty as DirtyAsk, Clean as CleanAsk};
+ghost use Rattle.history.specs.declared.asks.Ask.TheVariants.{Finish as FinishAsk, Dirty as DirtyAsk, Clean as CleanAsk, Lookup as LookupAsk};
 ghost use Rattle.object_ids.specs.Client.{Client};
-ghost use Rattle.event_log.specs.Rows.{IsPlain, IsOfFew, IsAmongClients, IsKnown, client_at, client_of, event_of, event_with, objects_of};
+ghost use Rattle.event_log.specs.Rows.{IsPlain, IsOfFew, IsAmong, IsKnown, client_at, client_of, event_of, event_with, looked_up, name_at, objects_of};
 ghost use Rattle.event_log.specs.Views.{viewed};
 
-use crate::clients::Clients;
+use crate::numbered::{Clients, Names};
 use crate::view::EventView;
-use history::{Ask, Event};
+use history::{Ask, Event, Name};
 use mod_utf::list::{Kinds, Same};
 use object_ids::{ObjId, ObjIds, Uid, Vmid};
 use std::alloc::{AllocError, Global};
@@ -63,6 +63,11 @@ pub enum What {
         strong: bool,
         number: i64,
     },
+    /// A Lookup of the name of that number.
+    LooksUp {
+        name: u32,
+        uid: Uid,
+    },
     /// A List.
     ListsNames,
     /// A Tick.
@@ -114,8 +119,8 @@ pub(crate) fn is_plain(space: &Uid, ask: &Ask) -> bool
 /// What the row of an ask says that it keeps alone.
 fn plain_what(space: &Uid, ask: &Ask) -> What
     requires { IsPlain space.now ask.now }
-    ensures row { (clients : List Client) → (by moment : ℕ) → event_with space.now clients by moment result ≡ record { by = by; moment = moment; ask = ask.now } }
-    ensures known { (count : ℕ) → IsAmongClients count result }
+    ensures row { (clients : List Client) → (names : List (List ℕ)) → (by moment : ℕ) → event_with space.now clients names by moment result ≡ record { by = by; moment = moment; ask = ask.now } }
+    ensures known { (clients names : ℕ) → IsAmong clients names result }
 {
     match ask {
         Ask::Open { kind, pinned } => What::Opens {
@@ -143,8 +148,8 @@ fn plain_what(space: &Uid, ask: &Ask) -> What
 /// The row of an event that is kept in it alone.
 pub(crate) fn plain_row(space: &Uid, event: Event) -> Row
     requires { IsPlain space.now event.ask }
-    ensures row { (clients : List Client) → event_of space.now clients result ≡ event }
-    ensures known { (count : ℕ) → IsKnown count result }
+    ensures row { (clients : List Client) → (names : List (List ℕ)) → event_of space.now clients names result ≡ event }
+    ensures known { (clients names : ℕ) → IsKnown clients names result }
 {
     Row {
         moment: event.moment,
@@ -223,9 +228,9 @@ fn number_of(clients: &Clients, ask: &Ask) -> Option<u32>
 
 /// What the row of a Dirty of the space's object of this number, or of none, says, where its client has that number.
 fn dirty_what(client: u32, number: i64, asked: i64, object: Option<i64>) -> What
-    ensures row { (space : Uid) → (clients : List Client) → (by moment : ℕ) →
-        event_with space clients by moment result ≡ record { by = by; moment = moment; ask = DirtyAsk (client_at clients client) number asked (objects_of space object) } }
-    ensures known { (count : ℕ) → client < count → IsAmongClients count result }
+    ensures row { (space : Uid) → (clients : List Client) → (names : List (List ℕ)) → (by moment : ℕ) →
+        event_with space clients names by moment result ≡ record { by = by; moment = moment; ask = DirtyAsk (client_at clients client) number asked (objects_of space object) } }
+    ensures known { (clients names : ℕ) → client < clients → IsAmong clients names result }
 {
     match object {
         Some(object) => What::Dirties {
@@ -244,9 +249,9 @@ fn dirty_what(client: u32, number: i64, asked: i64, object: Option<i64>) -> What
 
 /// What the row of a Clean of the space's object of this number, or of none, says, where its client has that number.
 fn clean_what(client: u32, number: i64, strong: bool, object: Option<i64>) -> What
-    ensures row { (space : Uid) → (clients : List Client) → (by moment : ℕ) →
-        event_with space clients by moment result ≡ record { by = by; moment = moment; ask = CleanAsk (client_at clients client) number (objects_of space object) strong } }
-    ensures known { (count : ℕ) → client < count → IsAmongClients count result }
+    ensures row { (space : Uid) → (clients : List Client) → (names : List (List ℕ)) → (by moment : ℕ) →
+        event_with space clients names by moment result ≡ record { by = by; moment = moment; ask = CleanAsk (client_at clients client) number (objects_of space object) strong } }
+    ensures known { (clients names : ℕ) → client < clients → IsAmong clients names result }
 {
     match object {
         Some(object) => What::Cleans {
@@ -266,9 +271,9 @@ fn clean_what(client: u32, number: i64, strong: bool, object: Option<i64>) -> Wh
 /// What the row of a call of the collector of the space's object of this number, or of none, says, where its client has that number.
 fn call_what(space: &Uid, client: u32, object: Option<i64>, ask: &Ask) -> What
     requires { IsOfFew space.now object ask.now }
-    ensures row { (clients : List Client) → (by moment : ℕ) → slice_get clients client ≡ client_of ask.now →
-        event_with space.now clients by moment result ≡ record { by = by; moment = moment; ask = ask.now } }
-    ensures known { (count : ℕ) → client < count → IsAmongClients count result }
+    ensures row { (clients : List Client) → (names : List (List ℕ)) → (by moment : ℕ) → slice_get clients client ≡ client_of ask.now →
+        event_with space.now clients names by moment result ≡ record { by = by; moment = moment; ask = ask.now } }
+    ensures known { (clients names : ℕ) → client < clients → IsAmong clients names result }
 {
     match ask {
         Ask::Dirty { number, asked, .. } => dirty_what(client, *number, *asked, object),
@@ -281,8 +286,8 @@ fn call_what(space: &Uid, client: u32, object: Option<i64>, ask: &Ask) -> What
 /// The row of a call of the collector of the space's object of this number, or of none, where its client has that number.
 fn call_row(space: &Uid, client: u32, object: Option<i64>, event: &Event) -> Row
     requires { IsOfFew space.now object event.now.ask }
-    ensures row { (clients : List Client) → slice_get clients client ≡ client_of event.now.ask → event_of space.now clients result ≡ event.now }
-    ensures known { (count : ℕ) → client < count → IsKnown count result }
+    ensures row { (clients : List Client) → (names : List (List ℕ)) → slice_get clients client ≡ client_of event.now.ask → event_of space.now clients names result ≡ event.now }
+    ensures known { (clients names : ℕ) → client < clients → IsKnown clients names result }
 {
     Row {
         moment: event.moment,
@@ -294,8 +299,8 @@ fn call_row(space: &Uid, client: u32, object: Option<i64>, event: &Event) -> Row
 /// The row of an event that is kept whole, in a box that is there.
 fn whole_row(room: Option<Box<Event>>, event: Event) -> Row
     requires { IsSome room }
-    ensures row { (space : Uid) → (clients : List Client) → event_of space clients result ≡ event }
-    ensures known { (count : ℕ) → IsKnown count result }
+    ensures row { (space : Uid) → (clients : List Client) → (names : List (List ℕ)) → event_of space clients names result ≡ event }
+    ensures known { (clients names : ℕ) → IsKnown clients names result }
 {
     let moment = event.moment;
     let by = event.by;
@@ -308,27 +313,52 @@ fn whole_row(room: Option<Box<Event>>, event: Event) -> Row
     }
 }
 
-/// The row of an event that isn't plain. There is a box, and room for a client. A call of a client that has a number needs neither. Where a
-/// client gets a number, the box is given up, so that the next `reserve` makes room for a further client. Any other event is put into the box.
+/// The row of an event that isn't plain. There is a box, and room for a client and for a name. A call of a client that has a number needs none
+/// of these, nor does a Lookup of a name that has one. Where a client or a name gets a number, the box is given up, so that the next `reserve`
+/// makes room for a further one. Any other event is put into the box.
 pub(crate) fn row_of(
     clients: &mut Clients,
+    names: &mut Names,
     spare: &mut Option<Box<Event>>,
     space: &Uid,
     event: Event,
 ) -> Row
     requires spare { is_some spare.old ≡ true }
     requires room { length clients.old.list.items < vec_capacity clients.old.list }
-    ensures row { event_of space.now clients.new.list.items result ≡ event }
-    ensures known { IsKnown (length clients.new.list.items) result }
+    requires name_room { length names.old.list.items < vec_capacity names.old.list }
+    ensures row { event_of space.now clients.new.list.items names.new.list.items result ≡ event }
+    ensures known { IsKnown (length clients.new.list.items) (length names.new.list.items) result }
+    ensures clients { (more : List Client) × (clients.new.list.items ≡ clients.old.list.items ++ more) }
+    ensures names { (more : List (List ℕ)) × (names.new.list.items ≡ names.old.list.items ++ more) }
+    ensures room { is_some spare.new ≡ true → length clients.new.list.items < vec_capacity clients.new.list }
+    ensures name_room { is_some spare.new ≡ true → length names.new.list.items < vec_capacity names.new.list }
+{
+    match few_objects(space, &event.ask) {
+        Some(object) => caller_row(clients, spare, space, object, event),
+        None => other_row(names, spare, event),
+    }
+}
+
+/// The row of a call of the collector of the space's object of this number, or of none.
+fn caller_row(
+    clients: &mut Clients,
+    spare: &mut Option<Box<Event>>,
+    space: &Uid,
+    object: Option<i64>,
+    event: Event,
+) -> Row
+    requires call { IsOfFew space.now object event.ask }
+    requires caller { IsSome (client_of event.ask) }
+    requires spare { is_some spare.old ≡ true }
+    requires room { length clients.old.list.items < vec_capacity clients.old.list }
+    ensures row { (names : List (List ℕ)) → event_of space.now clients.new.list.items names result ≡ event }
+    ensures known { (names : ℕ) → IsKnown (length clients.new.list.items) names result }
     ensures clients { (more : List Client) × (clients.new.list.items ≡ clients.old.list.items ++ more) }
     ensures room { is_some spare.new ≡ true → length clients.new.list.items < vec_capacity clients.new.list }
 {
-    match few_objects(space, &event.ask) {
-        Some(object) => match number_of(clients, &event.ask) {
-            Some(client) => call_row(space, client, object, &event),
-            None => fresh_row(clients, spare, space, object, event),
-        },
-        None => whole_row(spare.take(), event),
+    match number_of(clients, &event.ask) {
+        Some(client) => call_row(space, client, object, &event),
+        None => fresh_row(clients, spare, space, object, event),
     }
 }
 
@@ -344,8 +374,8 @@ fn fresh_row(
     requires caller { IsSome (client_of event.ask) }
     requires spare { is_some spare.old ≡ true }
     requires room { length clients.old.list.items < vec_capacity clients.old.list }
-    ensures row { event_of space.now clients.new.list.items result ≡ event }
-    ensures known { IsKnown (length clients.new.list.items) result }
+    ensures row { (names : List (List ℕ)) → event_of space.now clients.new.list.items names result ≡ event }
+    ensures known { (names : ℕ) → IsKnown (length clients.new.list.items) names result }
     ensures clients { (more : List Client) × (clients.new.list.items ≡ clients.old.list.items ++ more) }
     ensures room { is_some spare.new ≡ true → length clients.new.list.items < vec_capacity clients.new.list }
 {
@@ -373,6 +403,113 @@ fn add_caller(clients: &mut Clients, number: u32, ask: Ask)
     }
 }
 
+/// Whether it is a Lookup.
+fn is_lookup(ask: &Ask) -> bool
+    ensures { IsTrue result ↔ IsSome (looked_up ask.now) }
+{
+    matches!(ask, Ask::Lookup { .. })
+}
+
+/// A number of the name that is looked up, if one is found.
+fn number_of_name(names: &Names, ask: &Ask) -> Option<u32>
+    ensures name { IfSome result (λ number. slice_get names.now.list.items number ≡ looked_up ask.now) }
+    ensures lookup { IfSome result (λ number. IsSome (looked_up ask.now)) }
+{
+    match ask {
+        Ask::Lookup { name, uid: _ } => names.find(name),
+        _ => None,
+    }
+}
+
+/// The name that is looked up, moved out of the ask.
+fn name_in(ask: Ask) -> Option<Name>
+    ensures { result ≡ looked_up ask }
+{
+    match ask {
+        Ask::Lookup { name, uid: _ } => Some(name),
+        _ => None,
+    }
+}
+
+/// What the row of a Lookup says, where its name has that number.
+fn lookup_what(name: u32, ask: &Ask) -> What
+    requires { IsSome (looked_up ask.now) }
+    ensures row { (space : Uid) → (clients : List Client) → (names : List (List ℕ)) → (by moment : ℕ) → slice_get names name ≡ looked_up ask.now →
+        event_with space clients names by moment result ≡ record { by = by; moment = moment; ask = ask.now } }
+    ensures known { (clients names : ℕ) → name < names → IsAmong clients names result }
+{
+    match ask {
+        Ask::Lookup { name: _, uid } => What::LooksUp { name, uid: *uid },
+        // no other ask is a Lookup
+        _ => What::Ticks,
+    }
+}
+
+/// The row of a Lookup, where its name has that number.
+fn lookup_row(name: u32, event: &Event) -> Row
+    requires { IsSome (looked_up event.now.ask) }
+    ensures row { (space : Uid) → (clients : List Client) → (names : List (List ℕ)) → slice_get names name ≡ looked_up event.now.ask → event_of space clients names result ≡ event.now }
+    ensures known { (clients names : ℕ) → name < names → IsKnown clients names result }
+{
+    Row {
+        moment: event.moment,
+        by: event.by,
+        what: lookup_what(name, &event.ask),
+    }
+}
+
+/// The row of an event that is neither plain nor a call of the collector of none or one of the space's own objects.
+fn other_row(names: &mut Names, spare: &mut Option<Box<Event>>, event: Event) -> Row
+    requires spare { is_some spare.old ≡ true }
+    requires room { length names.old.list.items < vec_capacity names.old.list }
+    ensures row { (space : Uid) → (clients : List Client) → event_of space clients names.new.list.items result ≡ event }
+    ensures known { (clients : ℕ) → IsKnown clients (length names.new.list.items) result }
+    ensures names { (more : List (List ℕ)) × (names.new.list.items ≡ names.old.list.items ++ more) }
+    ensures room { is_some spare.new ≡ true → length names.new.list.items < vec_capacity names.new.list }
+{
+    if !is_lookup(&event.ask) {
+        return whole_row(spare.take(), event);
+    }
+    match number_of_name(names, &event.ask) {
+        Some(name) => lookup_row(name, &event),
+        None => fresh_lookup(names, spare, event),
+    }
+}
+
+/// The row of a Lookup whose name gets a number, where there is one.
+fn fresh_lookup(names: &mut Names, spare: &mut Option<Box<Event>>, event: Event) -> Row
+    requires lookup { IsSome (looked_up event.ask) }
+    requires spare { is_some spare.old ≡ true }
+    requires room { length names.old.list.items < vec_capacity names.old.list }
+    ensures row { (space : Uid) → (clients : List Client) → event_of space clients names.new.list.items result ≡ event }
+    ensures known { (clients : ℕ) → IsKnown clients (length names.new.list.items) result }
+    ensures names { (more : List (List ℕ)) × (names.new.list.items ≡ names.old.list.items ++ more) }
+    ensures room { is_some spare.new ≡ true → length names.new.list.items < vec_capacity names.new.list }
+{
+    let hand = spare.take();
+    match names.next() {
+        Some(name) => {
+            let row = lookup_row(name, &event);
+            add_name(names, name, event.ask);
+            row
+        }
+        None => whole_row(hand, event),
+    }
+}
+
+/// Gives the name that is looked up a number, for which there is room.
+fn add_name(names: &mut Names, number: u32, ask: Ask)
+    requires lookup { IsSome (looked_up ask) }
+    requires room { length names.old.list.items < vec_capacity names.old.list }
+    ensures name { slice_get names.new.list.items (length names.old.list.items) ≡ looked_up ask }
+    ensures len { length names.new.list.items ≡ length names.old.list.items + 1 }
+    ensures names { (more : List (List ℕ)) × (names.new.list.items ≡ names.old.list.items ++ more) }
+{
+    if let Some(name) = name_in(ask) {
+        names.add(number, name);
+    }
+}
+
 /// A Finish that makes and lists nothing.
 fn finish(alloc: Global, space: Uid, number: i64, uid: Uid) -> Ask
     ensures { result ≡ FinishAsk (record { number = number; space = space }) [] [] uid }
@@ -392,6 +529,15 @@ fn client_numbered(clients: &[Vmid], number: u32) -> &Vmid
     ensures { result.now ≡ client_at clients.now number }
 {
     &clients[number as usize]
+}
+
+/// The name of this number.
+#[tactic(auto, using(crate::proofs::RowLaws::name_there))]
+fn name_numbered(names: &[Name], number: u32) -> &Name
+    requires { number < length names.now }
+    ensures { result.now ≡ name_at names.now number }
+{
+    &names[number as usize]
 }
 
 /// The list of the space's object of this number.
@@ -451,15 +597,28 @@ fn clean<'a>(
     }))
 }
 
+/// A Lookup of this name.
+fn lookup<'a>(alloc: Global, row: &Row, name: &Name, uid: Uid) -> Result<EventView<'a>, AllocError>
+    ensures { IfOk result (λ view. viewed view ≡ record { by = row.now.by; moment = row.now.moment; ask = LookupAsk name.now uid }) }
+{
+    let name = name.copy(alloc)?;
+    Ok(EventView::Made(Event {
+        by: row.by,
+        moment: row.moment,
+        ask: Ask::Lookup { name, uid },
+    }))
+}
+
 /// The event of a row. It is refused only for want of memory.
 pub(crate) fn view_of<'a>(
     alloc: Global,
     space: Uid,
     clients: &[Vmid],
+    names: &[Name],
     row: &'a Row,
 ) -> Result<EventView<'a>, AllocError>
-    requires { IsKnown (length clients.now) row.now }
-    ensures { IfOk result (λ view. viewed view ≡ event_of space clients.now row.now) }
+    requires { IsKnown (length clients.now) (length names.now) row.now }
+    ensures { IfOk result (λ view. viewed view ≡ event_of space clients.now names.now row.now) }
 {
     let ask = match &row.what {
         What::Whole(event) => return Ok(EventView::Kept(event)),
@@ -498,6 +657,9 @@ pub(crate) fn view_of<'a>(
         } => {
             let client = client_numbered(clients, *client);
             return clean(alloc, row, client, *number, ObjIds::new(alloc), *strong);
+        }
+        What::LooksUp { name, uid } => {
+            return lookup(alloc, row, name_numbered(names, *name), *uid);
         }
         What::Opens { kind, pinned } => Ask::Open {
             kind: *kind,
