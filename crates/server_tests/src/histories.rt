@@ -20,7 +20,12 @@ pub(crate) fn begins_so(alloc: Global, space: &Space, text: &str) -> bool {
 }
 
 /// Appends the line of the event of an entry, which connection `by` made. An entry that was refused has none.
-fn put_entry(text: &mut ByteList, alloc: Global, by: u32, entry: &Asked) -> Result<(), AllocError> {
+pub(crate) fn put_entry(
+    text: &mut ByteList,
+    alloc: Global,
+    by: u32,
+    entry: &Asked,
+) -> Result<(), AllocError> {
     if let AskedEnd::Refused(_) = entry.end {
         return Ok(());
     }
@@ -48,7 +53,7 @@ fn lines_of(rt: &impl Abort, alloc: Global, by: u32, entries: &PortEntries) -> B
 }
 
 /// Whether a line of a journal is of an event of connection `by`.
-fn is_of(line: &str, by: u32) -> bool {
+pub(crate) fn is_of(line: &str, by: u32) -> bool {
     match line.split_once(' ') {
         Some((number, _rest)) => number.parse::<u32>().ok() == Some(by),
         None => false,

@@ -14,6 +14,8 @@ mod outlines;
 #[cfg(test)]
 mod recorded;
 #[cfg(test)]
+mod replies;
+#[cfg(test)]
 mod rows;
 #[cfg(test)]
 mod servers;
