@@ -1,5 +1,6 @@
 //! Links that are served at once, and a listener that has too few.
 use crate::histories::begins_so;
+use crate::replies::check_replies;
 use crate::servers::{ReportOf, served};
 use crate::texts::must;
 use conn_server::Stop;
@@ -132,4 +133,26 @@ const FOR_ANOTHER: &str =
 fn an_acknowledgement_counts_from_any_link(rt: HostRuntime) {
     let told = served(&rt, rt.alloc(), 2, 1099, Stop::All, FOR_ANOTHER);
     must(&rt, told.is_some(), "memory");
+}
+
+/// A client that holds the counter, and one that has a counter made.
+const HOLDING: &str =
+    "0 | 1234 | 0 | | opening dirty objects 0000000000000011 in_space 77 08 8000000000000000 lease client 00000008 0102030405060708 of_client | ack return +5 first lease holder 00000008 0102030405060708 of_holder | Ended
+1 | 1234 | 0 | | opening make | ack return +5 first counter 0000000000000013 of_space | Ended";
+
+/// Their turns, and what these are answered.
+const HOLDING_TURNS: &str =
+    "1 0 dirty 0102030405060708@3/4/5 -9223372036854775808 600000 17 > granted 600000
+2 0 begin 18 > started 2
+2 0 finish 18 1 - 7/6/-32768 > finished 19";
+
+#[test]
+fn a_dirty_is_granted_and_a_counter_is_made(rt: HostRuntime) {
+    match served(&rt, rt.alloc(), 2, 1099, Stop::All, HOLDING) {
+        Some(report) => {
+            let links = report.links.as_slice();
+            check_replies(&rt, rt.alloc(), links, &report.space, HOLDING_TURNS);
+        }
+        None => must(&rt, false, "memory"),
+    }
 }
