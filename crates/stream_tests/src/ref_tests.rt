@@ -1,7 +1,10 @@
 //! References to remote objects: the bytes of what is built, and what is done with all references of a graph.
+ghost use Rattle.std.specs.Prelude.{◌≤◌, length};
+ghost use Rattle.mod_utf.specs.Utf.{utf};
+
 use crate::shape_tests::{graph_at, is_written, read};
 use crate::text::{MEMORY, ascii, bytes_of, must};
-use java_shapes::{LiveRef, local_refs, put_live_ref, with_result_flag};
+use java_shapes::{LiveRef, local_refs, put_live_ref, ref_graph, with_result_flag};
 use mod_utf::ByteList;
 use mod_utf::utf::encoded_len;
 use object_ids::{ObjId, Uid};
@@ -25,7 +28,7 @@ const REMOTE: &str = "ACED0005 73 7D 00000001 'java.rmi.Remote' 70 78
  77 32 'UnicastRef' '127.0.0.1' 0000044B 0000000000000010 00000007 0000000000000009 0000 01 78";
 
 /// The identifier of an object of the space 7/9/0.
-fn id_of(number: i64) -> ObjId {
+pub fn id_of(number: i64) -> ObjId {
     let space = Uid {
         unique: 7,
         time: 9,
@@ -34,16 +37,23 @@ fn id_of(number: i64) -> ObjId {
     ObjId { number, space }
 }
 
-/// The graph of the reference of object 16, put with an interface.
-fn built(rt: &impl Abort, alloc: Global, interface: &str) -> Graph {
+/// A reference to object 16 at 127.0.0.1 port 1099, as it stands in a result.
+fn reference(rt: &impl Abort, alloc: Global) -> LiveRef
+    ensures { length (utf result.host) ≤ 65535 }
+{
     let host = ascii(alloc, "127.0.0.1").expect(rt, MEMORY);
     assert!(rt; encoded_len(&host) <= 65_535, "a short host");
-    let reference = LiveRef {
+    LiveRef {
         host,
         port: 1099,
         id: id_of(16),
         result: true,
-    };
+    }
+}
+
+/// The graph of the reference of object 16, put with an interface.
+fn built(rt: &impl Abort, alloc: Global, interface: &str) -> Graph {
+    let reference = reference(rt, alloc);
     let interface = ascii(alloc, interface).expect(rt, MEMORY);
     let mut builder = Builder::new(alloc);
     let slot = put_live_ref(alloc, &mut builder, &interface, &reference).expect(rt, "a reference");
@@ -57,6 +67,14 @@ fn references_are_built(rt: HostRuntime) {
         let graph = built(&rt, alloc, interface);
         must(&rt, is_written(&rt, alloc, &graph, stream), interface);
     }
+}
+
+#[test]
+fn a_reference_has_its_graph(rt: HostRuntime) {
+    let alloc = rt.alloc();
+    let interface = ascii(alloc, "sample.Echo").expect(&rt, MEMORY);
+    let graph = ref_graph(alloc, &interface, &reference(&rt, alloc)).expect(&rt, "a graph");
+    must(&rt, is_written(&rt, alloc, &graph, ECHO), "a reference");
 }
 
 /// An array of stubs of the objects 17, 16 and 17, of object 18 at another port, and of object 19 at another host; `^` stands

@@ -1,10 +1,11 @@
 //! Java's own objects: what views tell of streams, three of which Java 17 wrote, and the bytes of what is built.
+use crate::ref_tests::id_of;
 use crate::script::names_of;
 use crate::text::{MEMORY, ascii, bytes_of, cut, decimal, is_text, must, number_of, slot_of};
 use class_desc::{Item, Items, Slot};
 use java_shapes::{
     LeaseView, LiveRef, as_fault_text, as_lease, as_live_ref, as_objids, as_text, as_texts,
-    as_vmid, fault_graph, put_fault, put_lease, put_texts,
+    as_vmid, fault_graph, lease_graph, put_fault, put_lease, put_objids, put_texts, put_vmid,
 };
 use mod_utf::{ByteList, Kinds};
 use object_ids::{ObjIds, Uid, Vmid};
@@ -196,6 +197,24 @@ const LEASE: &str =
  75 72 '[B' ACF317F8060854E0 02 0000 70 78 70 00000008 0102030405060708
  73 72 'java.rmi.server.UID' 0F12700DBF364F12 02 0003 53 'count' 4A 'time' 49 'unique' 70 78 70 0005 0000000000000004 00000003";
 
+/// That client, of which the lease tells.
+const CLIENT: &str =
+    "ACED0005 73 72 'java.rmi.dgc.VMID' F8865BAFA4A56DB6 02 0002 5B 'addr' 74 '[B' 4C 'uid' 74 'Ljava/rmi/server/UID;' 70 78 70
+ 75 72 '[B' ACF317F8060854E0 02 0000 70 78 70 00000008 0102030405060708
+ 73 72 'java.rmi.server.UID' 0F12700DBF364F12 02 0003 53 'count' 4A 'time' 49 'unique' 70 78 70 0005 0000000000000004 00000003";
+
+/// The objects 17 and 16 of the space 7/9/0, the first of them twice.
+const IDS: &str =
+    "ACED0005 75 72 '[Ljava.rmi.server.ObjID;' 871300B8D02C647E 02 0000 70 78 70 00000003
+ 73 72 'java.rmi.server.ObjID' A75EFA128DDCE55C 02 0002 4A 'objNum' 4C 'space' 74 'Ljava/rmi/server/UID;' 70 78 70 0000000000000011
+ 73 72 'java.rmi.server.UID' 0F12700DBF364F12 02 0003 53 'count' 4A 'time' 49 'unique' 70 78 70 0000 0000000000000009 00000007
+ 73 71 007E0002 0000000000000010 73 71 007E0005 0000 0000000000000009 00000007
+ 73 71 007E0002 0000000000000011 73 71 007E0005 0000 0000000000000009 00000007";
+
+/// No objects.
+const NO_IDS: &str =
+    "ACED0005 75 72 '[Ljava.rmi.server.ObjID;' 871300B8D02C647E 02 0000 70 78 70 00000000";
+
 /// The texts `a` and `b`.
 const TEXTS: &str =
     "ACED0005 75 72 '[Ljava.lang.String;' ADD256E7E91D7B47 02 0000 70 78 70 00000002 74 'a' 74 'b'";
@@ -224,7 +243,16 @@ fn client(rt: &impl Abort, alloc: Global) -> Vmid {
     Vmid::new(addr, uid).expect(rt, "a client")
 }
 
-/// Puts what a word names into a builder: a fault, a lease, or texts.
+/// Identifiers of objects with these numbers, of the space 7/9/0.
+fn ids_of(rt: &impl Abort, alloc: Global, numbers: &[i64]) -> ObjIds {
+    let mut ids = ObjIds::new(alloc);
+    for number in numbers {
+        must(rt, ids.push(id_of(*number)).is_ok(), MEMORY);
+    }
+    ids
+}
+
+/// Puts what a word names into a builder: a fault, a lease, a client, objects, or texts.
 fn put(rt: &impl Abort, alloc: Global, builder: &mut Builder, word: &str) -> Slot {
     let slot = match word {
         "fault" => {
@@ -232,13 +260,23 @@ fn put(rt: &impl Abort, alloc: Global, builder: &mut Builder, word: &str) -> Slo
             put_fault(alloc, builder, &message)
         }
         "lease" => put_lease(alloc, builder, 600_000, &client(rt, alloc)),
+        "client" => put_vmid(alloc, builder, &client(rt, alloc)),
+        "ids" => put_objids(alloc, builder, &ids_of(rt, alloc, &[17, 16, 17])),
+        "no ids" => put_objids(alloc, builder, &ids_of(rt, alloc, &[])),
         _ => put_texts(alloc, builder, &names_of(rt, alloc, "a,b")),
     };
     slot.expect(rt, word)
 }
 
 /// What is put into a builder, and how the graph of it is written.
-const BUILT: [(&str, &str); 3] = [("fault", FAULT), ("lease", LEASE), ("texts", TEXTS)];
+const BUILT: [(&str, &str); 6] = [
+    ("fault", FAULT),
+    ("lease", LEASE),
+    ("client", CLIENT),
+    ("ids", IDS),
+    ("no ids", NO_IDS),
+    ("texts", TEXTS),
+];
 
 #[test]
 fn what_is_put_is_written(rt: HostRuntime) {
@@ -257,4 +295,11 @@ fn a_fault_has_its_graph(rt: HostRuntime) {
     let message = ascii(alloc, "no such object").expect(&rt, MEMORY);
     let graph = fault_graph(alloc, &message).expect(&rt, "a graph");
     must(&rt, is_written(&rt, alloc, &graph, FAULT), "a fault");
+}
+
+#[test]
+fn a_lease_has_its_graph(rt: HostRuntime) {
+    let alloc = rt.alloc();
+    let graph = lease_graph(alloc, 600_000, &client(&rt, alloc)).expect(&rt, "a graph");
+    must(&rt, is_written(&rt, alloc, &graph, LEASE), "a lease");
 }
