@@ -71,7 +71,8 @@ fn a_new_counter_is_made(rt: HostRuntime) {
 
 /// How long a new counter can be called: until the Return's acknowledgement or 300,000 ms later; where a dirty came before, until the lease of
 /// 600,000 ms ends or the client cleans. A dirty that comes after a strong clean of a later number counts for nothing. The acknowledgement of an identifier
-/// that nobody awaits is a turn, at which time has passed.
+/// that nobody awaits is a turn, at which time has passed. A dirty that comes when the counter is gone is granted a lease and doesn't bring
+/// it back; one that is itself the first turn after the wait's end holds it.
 const LIVES: &str =
     "opening make 54 unknown get_made | ack reference first made exception second fault no_object | 0 | 7 no such object | | | 0 0 300000
 opening make 54 unknown get_made | ack reference first made number second 0000000000000000 | 0 | 0 ended | | | 0 0 299999
@@ -80,7 +81,11 @@ opening make dirty_made 0000000000000001 asks_lease 54 first 54 unknown get_made
 opening make dirty_made 0000000000000001 asks_lease 54 first 54 unknown get_made | ack reference first made reference second grants_lease number third 0000000000000000 | 0 | 0 ended | | | 0 0 0 0 599999
 opening make dirty_made 0000000000000001 asks_lease 54 unknown get_made | ack reference first made reference second grants_lease number third 0000000000000000 | 0 | 0 ended | | | 0 0 0 300000
 opening make dirty_made 0000000000000001 asks_lease 54 first get_made clean_made 0000000000000002 by_client 77 01 00 get_made | ack reference first made reference second grants_lease number third 0000000000000000 reference fourth exception fifth fault no_object | 0 | 7 no such object | | | 
-opening make clean_made 0000000000000005 by_client 77 01 01 dirty_made 0000000000000004 asks_lease 54 first get_made | ack reference first made reference second reference third grants_lease exception fourth fault no_object | 0 | 7 no such object | | | ";
+opening make clean_made 0000000000000005 by_client 77 01 01 dirty_made 0000000000000004 asks_lease 54 first get_made | ack reference first made reference second reference third grants_lease exception fourth fault no_object | 0 | 7 no such object | | | 
+opening make 54 unknown dirty_made 0000000000000001 asks_lease get_made | ack reference first made reference second grants_lease exception third fault no_object | 0 | 7 no such object | | | 0 0 300000
+opening make 54 unknown dirty_made 0000000000000001 asks_lease 54 unknown get_made | ack reference first made reference second grants_lease number third 0000000000000000 | 0 | 0 ended | | | 0 0 299999 299999 300000
+opening make dirty_made 0000000000000001 asks_lease get_made | ack reference first made reference second grants_lease number third 0000000000000000 | 0 | 0 ended | | | 0 0 300000
+opening make 54 first dirty_made 0000000000000001 asks_lease get_made | ack reference first made reference second grants_lease exception third fault no_object | 0 | 7 no such object | | | ";
 
 #[test]
 fn a_new_counter_lives_while_it_is_awaited_or_held(rt: HostRuntime) {
