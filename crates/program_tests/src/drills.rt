@@ -4,7 +4,6 @@ use crate::texts::cut;
 use journal::split_line;
 use mod_utf::list::ByteList;
 use std::alloc::Global;
-use std::process::Abort;
 
 /// Words, what they print, the status and the line, and the indices of the writes that fail.
 const DRILLS: &str =

@@ -1,7 +1,6 @@
 //! What `replay` prints, and how it ends.
 use crate::hosts::{Runs, check, check_table, copied, cut_by, must, put};
 use std::alloc::Global;
-use std::process::Abort;
 
 /// Journals, each with its outline: the lines after `=`.
 const JOURNALS: &str = "space 1 1 0 0
