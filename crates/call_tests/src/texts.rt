@@ -24,11 +24,7 @@ pub(crate) fn listed(rt: &impl Abort, alloc: Global, piece: &[u8]) -> ByteList {
 
 /// The units of a text of ASCII.
 pub(crate) fn units_of(rt: &impl Abort, alloc: Global, text: &str) -> Units {
-    let mut units = Units::new(alloc);
-    for byte in text.as_bytes() {
-        must(rt, units.push(u16::from(*byte)).is_ok(), "memory");
-    }
-    units
+    Units::from_ascii(alloc, text.as_bytes()).expect(rt, "memory")
 }
 
 /// What stands before the separator, and what after it.

@@ -2,7 +2,7 @@
 ghost use Rattle.std.specs.Prelude.{◌≡◌, ◌≤◌, pos, length};
 ghost use Rattle.mod_utf.specs.Utf.{utf};
 
-use crate::hosts::{Outside, must, sink_of, source_of};
+use crate::hosts::{Outside, sink_of, source_of};
 use call_dispatch::Setup;
 use mod_utf::list::{MomentList, Units};
 use mod_utf::utf::encoded_len;
@@ -32,10 +32,7 @@ pub(crate) fn wires_of(rt: &impl Abort, alloc: Global, input: &[u8], outside: Ou
 fn this_host(rt: &impl Abort, alloc: Global) -> Units
     ensures { length (utf result) ≤ 255 }
 {
-    let mut host = Units::new(alloc);
-    for byte in "127.0.0.1".as_bytes() {
-        must(rt, host.push(u16::from(*byte)).is_ok(), "memory");
-    }
+    let host = Units::from_ascii(alloc, b"127.0.0.1").expect(rt, "memory");
     assert!(rt; encoded_len(&host) <= 255, "a short host");
     host
 }
