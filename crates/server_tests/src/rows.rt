@@ -4,10 +4,7 @@ use crate::replies::check_replies;
 use crate::servers::{ReportOf, served};
 use crate::texts::must;
 use conn_server::Stop;
-use std::alloc::Global;
-use std::process::Abort;
 use std::sync::Wait;
-use std::thread::Threads;
 
 // A line is a link: for how many others it waits to be served before it sends anything; the peer's port; the moments of its clock; which of its reads
 // or writes fails; what the client sends; what it gets; and the connection's end.

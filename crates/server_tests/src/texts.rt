@@ -129,9 +129,5 @@ pub(crate) fn moments_of(rt: &impl Abort, alloc: Global, words: &str) -> MomentL
 
 /// The text `127.0.0.1`.
 pub(crate) fn this_host(rt: &impl Abort, alloc: Global) -> Units {
-    let mut units = Units::new(alloc);
-    for byte in "127.0.0.1".as_bytes() {
-        must(rt, units.push(u16::from(*byte)).is_ok(), "memory");
-    }
-    units
+    Units::from_ascii(alloc, b"127.0.0.1").expect(rt, "memory")
 }
