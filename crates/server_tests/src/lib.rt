@@ -12,6 +12,8 @@ mod many;
 #[cfg(test)]
 mod outlines;
 #[cfg(test)]
+mod promptly;
+#[cfg(test)]
 mod recorded;
 #[cfg(test)]
 mod replies;

@@ -73,7 +73,7 @@ fn make(alloc: Global, space: &mut Space) -> bool {
 }
 
 /// The sample's space, in which a counter was made; None where there is no memory.
-fn space_with_made(alloc: Global) -> Option<Space> {
+pub(crate) fn space_with_made(alloc: Global) -> Option<Space> {
     let mut space = sample_space(alloc, &CONFIG).ok()?;
     if make(alloc, &mut space) {
         Some(space)
