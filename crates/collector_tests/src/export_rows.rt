@@ -151,7 +151,8 @@ fn returned(time: u32) -> Uid {
 }
 
 /// Waits of 100 milliseconds, line by line: `list OBJECT RETURN MOMENT`, `ack RETURN`, and `forget MOMENT`, at which those that ended are forgotten.
-/// A line `at MOMENT WAITING ENDED..` says how many await at a moment, and of which objects waits have ended. An empty line begins a new table.
+/// A line `at MOMENT WAITING ENDED..` says how many await at a moment, and of which objects waits have ended; and `of RETURN OBJECTS..` which objects'
+/// references in a return await. An empty line begins a new table.
 const WAITS: &str = "\
 list 16 1 10
 list 17 2 20
@@ -198,9 +199,17 @@ at 150 0
 
 list 16 1 10
 list 17 1 10
+list 18 2 10
+of 1 16 17
+of 2 18
+of 3
 list 16 1 20
-at 110 1 17
+at 110 1 17 18
+ack 2
+of 1 17 16
+of 2
 ack 1
+of 1
 at 110 0";
 
 /// The numbers that words spell.
@@ -213,6 +222,27 @@ fn spelled(rt: &impl Abort, alloc: Global, words: &str) -> Vec<u32> {
     numbers
 }
 
+/// Whether objects have these numbers, in this order.
+fn are_numbered(objects: &[ObjId], numbers: &[u32]) -> bool {
+    let all = objects
+        .iter()
+        .zip(numbers.iter())
+        .all(|(id, number)| id.number == i64::from(*number));
+    all && objects.len() == numbers.len()
+}
+
+/// Whether the references in a return that await are of these objects.
+fn returns_so(
+    rt: &impl Abort,
+    alloc: Global,
+    exports: &Exports,
+    time: u32,
+    numbers: &[u32],
+) -> bool {
+    let awaited = exports.of_return(alloc, returned(time)).expect(rt, MEMORY);
+    are_numbered(awaited.as_slice(), numbers)
+}
+
 /// Whether at a moment so many references await, and the waits of these objects have ended.
 fn waits_so(
     rt: &impl Abort,
@@ -223,12 +253,8 @@ fn waits_so(
     numbers: &[u32],
 ) -> bool {
     let ended = exports.ended(alloc, moment).expect(rt, MEMORY);
-    let all = ended
-        .iter()
-        .zip(numbers.iter())
-        .all(|(id, number)| id.number == i64::from(*number));
     let known = exports.has_ended(moment) != numbers.is_empty();
-    exports.waiting(moment) == waiting && known && all && ended.len() == numbers.len()
+    exports.waiting(moment) == waiting && known && are_numbered(ended.as_slice(), numbers)
 }
 
 /// Does what a line says to a table.
@@ -253,6 +279,13 @@ fn take_line(
     } else if let Some(words) = line.strip_prefix("forget ") {
         let now = words.parse::<u64>().expect(rt, "a moment");
         let _taken = withdrawn(alloc, exports, leases, now).expect(rt, MEMORY);
+    } else if let Some(words) = line.strip_prefix("of ") {
+        match *spelled(rt, alloc, words) {
+            [uid, ref numbers @ ..] => {
+                must(rt, returns_so(rt, alloc, exports, uid, numbers), line);
+            }
+            _ => must(rt, false, line),
+        }
     } else if let Some(words) = line.strip_prefix("at ") {
         match *spelled(rt, alloc, words) {
             [moment, waiting, ref numbers @ ..] => must(
