@@ -16,6 +16,8 @@ mod ends;
 #[cfg(test)]
 mod frames;
 #[cfg(test)]
+mod hands;
+#[cfg(test)]
 mod hosts;
 #[cfg(test)]
 mod journals;
