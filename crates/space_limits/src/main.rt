@@ -1,15 +1,17 @@
 //! Drives spaces by turns to their limits, and prints what they answer there. Each word of the command line names what is
-//! filled: `history`, `pairs`, `returns`, `twice`, `clients`, `exports`, by `many_pairs` the pairs, by calls that each name many objects, or by
-//! `many_calls` the running calls, or by `many_clients` the clients, in no order.
+//! filled: `history`, `pairs`, `returns`, `twice`, `clients`, `exports`, `names`, by `lookups` the references that await, by `many_pairs` the
+//! pairs, by calls that each name many objects, or by `many_calls` the running calls, or by `many_clients` the clients, in no order.
 #![tactic(auto)]
 
 mod many_calls;
 mod many_clients;
 mod many_pairs;
+mod named;
 
 use crate::many_calls::many_calls;
 use crate::many_clients::many_clients;
 use crate::many_pairs::many_pairs;
+use crate::named::{lookups, names, nearly_look_up, nearly_name};
 use history::{Ask, Refused, SpaceConfig};
 use mod_utf::list::{ByteList, Kinds};
 use object_ids::{ObjId, ObjIds, Uid, Vmid};
@@ -269,6 +271,8 @@ fn fill(alloc: Global, space: &mut Space, word: &str) -> Result<(), Refused> {
         "history" => nearly_fill(alloc, space),
         "pairs" => nearly_pair(alloc, space),
         "clients" => nearly_lease(alloc, space),
+        "names" => nearly_name(alloc, space),
+        "lookups" => nearly_look_up(alloc, space),
         _ => await_once(alloc, space),
     }
 }
@@ -290,6 +294,8 @@ fn show_limits<W: Write>(
         "twice" => twice(alloc, out, space),
         "clients" => clients(alloc, out, space),
         "exports" => exports(alloc, out, space),
+        "names" => names(alloc, out, space),
+        "lookups" => lookups(alloc, out, space),
         _ => writeln!(out, "{word} is no word"),
     }
 }
