@@ -1,16 +1,19 @@
 //! Drives spaces by turns to their limits, and prints what they answer there. Each word of the command line names what is
 //! filled: `history`, `pairs`, `returns`, `twice`, `clients`, `exports`, `names`, by `lookups` the references that await, by `many_pairs` the
-//! pairs, by calls that each name many objects, or by `many_calls` the running calls, or by `many_clients` the clients, in no order.
+//! pairs, by calls that each name many objects, or by `many_calls` the running calls, or by `many_clients` the clients, in no order. By
+//! `many_turns` the objects are filled, and many turns made then.
 #![tactic(auto)]
 
 mod many_calls;
 mod many_clients;
 mod many_pairs;
+mod many_turns;
 mod named;
 
 use crate::many_calls::many_calls;
 use crate::many_clients::many_clients;
 use crate::many_pairs::many_pairs;
+use crate::many_turns::many_turns;
 use crate::named::{lookups, names, nearly_look_up, nearly_name};
 use history::{Ask, Refused, SpaceConfig};
 use mod_utf::list::{ByteList, Kinds};
@@ -312,6 +315,9 @@ fn try_word<W: Write>(alloc: Global, out: &mut W, word: &str) -> io::Result<()> 
         return many_clients(alloc, out);
     }
     let mut space = fresh(alloc);
+    if word == "many_turns" {
+        return many_turns(alloc, out, &mut space);
+    }
     show_limits(alloc, out, &mut space, word)
 }
 
