@@ -22,6 +22,9 @@ const OBJECTS: u32 = 512;
 /// How many clients name them: 262,144 pairs.
 const CLIENTS: i32 = 512;
 
+/// How many clients a space has at most.
+const MOST_CLIENTS: i32 = 65_536;
+
 /// Two pieces, one after the other.
 fn joined(alloc: Global, front: &[u8], rest: &[u8]) -> Result<ByteList, AllocError> {
     let mut bytes = ByteList::from_slice(alloc, front)?;
@@ -103,6 +106,29 @@ fn paired(alloc: Global) -> Result<ByteList, AllocError> {
     Ok(journal)
 }
 
+/// Appends the line of a dirty of a client that names no object.
+fn put_dirty(journal: &mut ByteList, client: &Vmid) -> Result<(), AllocError> {
+    put_line(
+        journal,
+        &[
+            Word::Text(b"1 0 dirty"),
+            Word::Client(client),
+            Word::Text(b"1 600000 -"),
+        ],
+    )
+}
+
+/// A journal of 65,536 dirties of as many clients, which is the most.
+fn leased(alloc: Global) -> Result<ByteList, AllocError> {
+    let mut journal = ByteList::from_slice(alloc, FIRST_LINE)?;
+    for number in 0..MOST_CLIENTS {
+        if let Some(client) = client(alloc, number) {
+            put_dirty(&mut journal, &client)?;
+        }
+    }
+    Ok(journal)
+}
+
 /// Replays a journal with a further piece, and prints what is written and answered.
 fn show<R: Threads + Wait + Sync, W: Write>(
     rt: &R,
@@ -157,8 +183,22 @@ fn pairs<R: Threads + Wait + Sync, W: Write>(rt: &R, alloc: Global, out: &mut W)
     show(rt, alloc, out, "Pairs 262145", &journal, more)
 }
 
+/// A client that has time left is taken, so that the line after it is told as bad; one more client is refused.
+fn clients<R: Threads + Wait + Sync, W: Write>(
+    rt: &R,
+    alloc: Global,
+    out: &mut W,
+) -> io::Result<()> {
+    let journal = leased(alloc)?;
+    let again = b"1 0 dirty -@0/0/0 2 600000 -\ntack\n";
+    let more = b"1 0 dirty -@65536/0/0 1 600000 -\n";
+    show(rt, alloc, out, "Clients 65536", &journal, again)?;
+    show(rt, alloc, out, "Clients 65537", &journal, more)
+}
+
 fn main(rt: HostRuntime) -> io::Result<()> {
     let mut out = rt.stdout();
     history(&rt, rt.alloc(), &mut out)?;
-    pairs(&rt, rt.alloc(), &mut out)
+    pairs(&rt, rt.alloc(), &mut out)?;
+    clients(&rt, rt.alloc(), &mut out)
 }
