@@ -46,6 +46,13 @@ fn dirty(alloc: Global, number: i64, objects: ObjIds) -> Ask {
     }
 }
 
+/// The client's dirty call of the k-th round, from 0, which names the k-th object.
+fn renewal(alloc: Global, k: u32) -> Result<Ask, AllocError> {
+    let mut objects = ObjIds::new(alloc);
+    objects.push(object(k))?;
+    Ok(dirty(alloc, 1 + i64::from(k), objects))
+}
+
 /// Has the objects made, held by one client and acknowledged.
 fn fill(alloc: Global, space: &mut Space) -> Result<(), Refused> {
     open(space)?;
@@ -60,11 +67,8 @@ fn fill(alloc: Global, space: &mut Space) -> Result<(), Refused> {
 /// Notes that time has passed, has the client name an object, and runs a call: four turns.
 fn round(alloc: Global, space: &mut Space, k: u32) -> Result<(), Refused> {
     let moment = u64::from(k);
-    let number = 1 + i64::from(k);
-    let mut objects = ObjIds::new(alloc);
-    objects.push(object(k))?;
     take(space, moment, Ask::Tick)?;
-    take(space, moment, dirty(alloc, number, objects))?;
+    take(space, moment, renewal(alloc, k)?)?;
     take(space, moment, Ask::Begin { object: object(0) })?;
     take(space, moment, finish(alloc, 0)?)
 }
