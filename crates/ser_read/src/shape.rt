@@ -13,7 +13,10 @@ ghost use Rattle.ser_read.specs.Here.{kind_of, IsInBytes};
 use crate::fault::StreamKind;
 use crate::row::{ClassRow, Codes, Rows, codes_of};
 use crate::table::Table;
-use class_desc::{BLOCK_DATA, ClassDesc, ENUM, EXTERNALIZABLE, SERIALIZABLE, Slot, WRITE_METHOD};
+use class_desc::{
+    BLOCK_DATA, ClassDesc, ENUM, EXTERNALIZABLE, SERIALIZABLE, Slot, WRITE_METHOD, has_flag,
+    lacks_flag,
+};
 use ser_values::Node;
 use std::alloc::{AllocError, Global};
 
@@ -54,18 +57,6 @@ pub(crate) struct ClassShape {
     pub(crate) rows: Rows,
     /// Why the class has no objects.
     pub(crate) fault: Option<StreamKind>,
-}
-
-fn has_flag(flags: u8, flag: u8) -> bool
-    ensures { result ≡ has_flag flags flag }
-{
-    flags & flag == flag
-}
-
-fn lacks_flag(flags: u8, flag: u8) -> bool
-    ensures { result ≡ lacks_flag flags flag }
-{
-    flags & flag == 0
 }
 
 /// Whether both hold.
