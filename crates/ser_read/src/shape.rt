@@ -18,10 +18,8 @@ use class_desc::{
     lacks_flag,
 };
 use ser_values::Node;
+use ser_values::limits::PARTS;
 use std::alloc::{AllocError, Global};
-
-/// The greatest number of classes of a chain that are looked at.
-const CLASSES: u32 = 0x10_0000;
 
 /// What one step up a chain finds.
 #[derive(Drop)]
@@ -120,7 +118,7 @@ fn chain_up(alloc: Global, nodes: &[Node], class: u32) -> Result<Chain, AllocErr
     let mut rows = Rows::new();
     let mut is_serial = true;
     let mut slot = Slot::Node(class);
-    let mut left = CLASSES;
+    let mut left = PARTS;
     while left > 0 {
         match step_up(alloc, nodes, slot)? {
             Climb::Top => return Ok(Chain { rows, is_serial }),
