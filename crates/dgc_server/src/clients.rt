@@ -298,22 +298,9 @@ fn move_back(entries: &mut Vec<ClientEntry>, back: &mut Vec<ClientEntry>)
 {
     while entries.len() > HALF_LEN {
         match entries.pop() {
-            Some(entry) => push_within(back, entry),
+            Some(entry) => back.push_reserved(entry),
             None => return,
         }
-    }
-}
-
-/// Appends an entry, for which there is room.
-fn push_within(entries: &mut Vec<ClientEntry>, entry: ClientEntry)
-    requires { vec_len entries.old < vec_capacity entries.old }
-    ensures items { entries.new.items ≡ entries.old.items ++ entry ∷ [] }
-    ensures len { vec_len entries.new ≡ vec_len entries.old + 1 }
-    ensures capacity { vec_capacity entries.old ≤ vec_capacity entries.new }
-{
-    match entries.push(entry) {
-        Ok(()) => {}
-        Err(_refused) => {}
     }
 }
 

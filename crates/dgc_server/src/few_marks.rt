@@ -72,10 +72,7 @@ pub fn add(marks: &mut Vec<Mark>, object: &ObjId, numbers: Packed)
     ensures objects { object_entries marks.new.items ≡ with_numbers object.now numbers (object_entries marks.old.items) }
     ensures room { vec_capacity marks.old - length marks.old.items ≤ vec_capacity marks.new - length marks.new.items + 1 }
 {
-    match marks.push((*object, numbers)) {
-        Ok(()) => {}
-        Err(_refused) => {}
-    }
+    marks.push_reserved((*object, numbers));
 }
 
 /// Forgets the numbers of a tenure, and the objects that have no others.
