@@ -16,9 +16,7 @@ fn take_all(space: &mut Space, events: Vec<Event>) -> Result<(), Refused>
     ensures err { IfErr result (EndsIn space.old.configuration space.old.events events.items) }
     ensures config { space.new.configuration ≡ space.old.configuration }
 {
-    let Ok(turns) = space.turns(events) else {
-        return Err(Refused::OutOfMemory);
-    };
+    let turns = space.turns(events)?;
     let _len = space.len();
     match turns.refused {
         None => Ok(()),
@@ -37,10 +35,7 @@ fn go_on(alloc: Global, space: &mut Space, seed: u64, rounds: u64) -> Result<(),
     let mut left = rounds;
     while left > 0 {
         let events = drill.round(alloc)?;
-        match take_all(space, events) {
-            Ok(()) => {}
-            Err(refused) => return Err(refused),
-        }
+        take_all(space, events)?;
         left -= 1;
     }
     Ok(())
@@ -57,12 +52,7 @@ pub fn drill(alloc: Global, seed: u64, rounds: u64) -> Result<Space, Refused>
     let mut space = Space::fresh(alloc, &drill_config());
     let mut opening = Vec::with_capacity(alloc, 1)?;
     opening.push_reserved(Drill::opening());
-    match take_all(&mut space, opening) {
-        Ok(()) => {}
-        Err(refused) => return Err(refused),
-    }
-    match go_on(alloc, &mut space, seed, rounds) {
-        Ok(()) => Ok(space),
-        Err(refused) => Err(refused),
-    }
+    take_all(&mut space, opening)?;
+    go_on(alloc, &mut space, seed, rounds)?;
+    Ok(space)
 }

@@ -24,6 +24,16 @@ pub enum ReplayFault {
     OutOfMemory,
 }
 
+impl From<AllocError> for ReplayFault {
+    ghost use Rattle.rmi_cli.specs.declared.outlines.ReplayFault.TheVariants.{OutOfMemory};
+
+    ghost from_gives = { λ _ fault. fault ≡ OutOfMemory };
+
+    fn from(_refused: AllocError) -> ReplayFault {
+        ReplayFault::OutOfMemory
+    }
+}
+
 /// Makes the turns of a journal, line after line, and answers the outline of the history that they make.
 ///
 /// The first bad line, or the first turn that is refused, is answered, whichever comes first.
@@ -38,14 +48,8 @@ pub fn replay(alloc: Global, input: &[u8]) -> Result<ByteList, ReplayFault>
         return Err(ReplayFault::BadLine { line: 1 });
     };
     let mut space = Space::fresh(alloc, &config);
-    match take_lines(alloc, &mut space, &config, lines) {
-        Ok(()) => {}
-        Err(fault) => return Err(fault),
-    }
-    match outline(alloc, &space) {
-        Ok(text) => Ok(text),
-        Err(_) => Err(ReplayFault::OutOfMemory),
-    }
+    take_lines(alloc, &mut space, &config, lines)?;
+    Ok(outline(alloc, &space)?)
 }
 
 /// Makes the turns of lines, the first of which is the journal's second, up to the first that can't be taken.
@@ -63,13 +67,9 @@ fn take_lines(
     let mut rest = lines;
     let mut number: u64 = 2;
     while !rest.is_empty() {
-        match take_batch(alloc, space, config, rest, number) {
-            Ok((next, more)) => {
-                number = next;
-                rest = more;
-            }
-            Err(fault) => return Err(fault),
-        }
+        let (next, more) = take_batch(alloc, space, config, rest, number)?;
+        number = next;
+        rest = more;
     }
     Ok(())
 }
@@ -92,25 +92,18 @@ fn take_batch<'a>(
     ensures size { IfOk result (λ p. p.0 + length p.1.now ≤ number + length lines.now) }
     ensures config { space.new.configuration ≡ config.now }
 {
-    let batch = match read_batch(alloc, config, lines) {
-        Ok(batch) => batch,
-        Err(_refused) => return Err(ReplayFault::OutOfMemory),
-    };
+    let batch = read_batch(alloc, config, lines)?;
     let Batch {
         events,
         rest,
         is_bad,
     } = batch;
     let next = number + events.len() as u64;
-    match make_turns(space, events) {
-        Ok(()) => {
-            if is_bad {
-                Err(ReplayFault::BadLine { line: next })
-            } else {
-                Ok((next, rest))
-            }
-        }
-        Err(fault) => Err(fault),
+    make_turns(space, events)?;
+    if is_bad {
+        Err(ReplayFault::BadLine { line: next })
+    } else {
+        Ok((next, rest))
     }
 }
 
@@ -170,6 +163,16 @@ enum LineFault {
     OutOfMemory,
 }
 
+impl From<AllocError> for LineFault {
+    ghost use Rattle.rmi_cli.specs.declared.outlines.LineFault.TheVariants.{OutOfMemory};
+
+    ghost from_gives = { λ _ fault. fault ≡ OutOfMemory };
+
+    fn from(_refused: AllocError) -> LineFault {
+        LineFault::OutOfMemory
+    }
+}
+
 /// The event of the first of these lines, and the lines after it.
 fn read_line<'a>(
     alloc: Global,
@@ -182,10 +185,9 @@ fn read_line<'a>(
     let Some((line, more)) = split_line(lines) else {
         return Err(LineFault::Bad);
     };
-    match read_event(alloc, config.uid, line) {
-        Ok(Some(event)) => Ok((event, more)),
-        Ok(None) => Err(LineFault::Bad),
-        Err(_refused) => Err(LineFault::OutOfMemory),
+    match read_event(alloc, config.uid, line)? {
+        Some(event) => Ok((event, more)),
+        None => Err(LineFault::Bad),
     }
 }
 
@@ -196,12 +198,10 @@ fn make_turns(space: &mut Space, events: Vec<Event>) -> Result<(), ReplayFault>
     ensures err { IfErr result (λ fault. Halts space.old.configuration space.old.events events.items fault space.new.events) }
     ensures config { space.new.configuration ≡ space.old.configuration }
 {
-    match space.turns(events) {
-        Ok(answered) => match answered.refused {
-            None => Ok(()),
-            Some(refused) => Err(fault_of(refused)),
-        },
-        Err(_refused) => Err(ReplayFault::OutOfMemory),
+    let answered = space.turns(events)?;
+    match answered.refused {
+        None => Ok(()),
+        Some(refused) => Err(fault_of(refused)),
     }
 }
 

@@ -101,9 +101,7 @@ fn bind(
     ensures ok { OnOk result (space.new ≡ record space.old { events = space.old.events ++ bound config.now name.now number ∷ [] }) }
     ensures err { IfErr result (λ refused. refused ≡ OutOfMemory) }
 {
-    let Ok(ask) = binding(alloc, config, name, number) else {
-        return Err(Refused::OutOfMemory);
-    };
+    let ask = binding(alloc, config, name, number)?;
     let answer = space.turn(0, 0, ask);
     match answer {
         Ok(_turn) => Ok(()),
