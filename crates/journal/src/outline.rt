@@ -39,7 +39,7 @@ pub enum Word<'a> {
     Objects { space: Uid, objects: &'a ObjIds },
 }
 
-/// Appends a line of words, which are parted by one space and end with LF.
+/// Appends a line of words, which are separated by one space and end with LF.
 pub fn put_line(out: &mut ByteList, words: &[Word]) -> Result<(), AllocError>
     ensures ok { OnOk result (out.new ≡ out.old ++ line (map word_text words.now)) }
     ensures err { OnErr result (AppendsFront out.old (line (map word_text words.now)) out.new) }
@@ -48,7 +48,7 @@ pub fn put_line(out: &mut ByteList, words: &[Word]) -> Result<(), AllocError>
     out.push(b'\n')
 }
 
-/// Appends words, parted by one space.
+/// Appends words, separated by one space.
 pub(crate) fn put_words(out: &mut ByteList, words: &[Word]) -> Result<(), AllocError>
     ensures ok { OnOk result (out.new ≡ out.old ++ join_with_byte 32 (map word_text words.now)) }
     ensures err { OnErr result (AppendsFront out.old (join_with_byte 32 (map word_text words.now)) out.new) }
