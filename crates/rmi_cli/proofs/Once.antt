@@ -15,7 +15,8 @@ use Rattle.rmi_cli.specs.declared.end.RunEnd.{RunEnd}
 use Rattle.rmi_cli.specs.declared.end.RunEnd.TheVariants as ends
 use Rattle.rmi_cli.specs.Answer.{IsOutside}
 use Rattle.rmi_cli.specs.Replay.{IsTaken, BeginsWith, Opens, Stops, AllTaken, IsJournalUpTo, Replays}
-use Rattle.rmi_cli.specs.Replayed.{journal_bytes, TakesWhole, ReplayEnds, end_of, output_of, ReplaysExactly}
+use Rattle.rmi_cli.specs.declared.journal_input.TheConstants.{JOURNAL_BYTES}
+use Rattle.rmi_cli.specs.Replayed.{TakesWhole, ReplayEnds, end_of, output_of, ReplaysExactly}
 use Rattle.rmi_cli.specs.Told.{Told, TellsExactly, Tells}
 
 -- ---- stops
@@ -207,7 +208,7 @@ at_whole old new told input taken answer mine left whole known known_mine replay
     subst Q same (tells, all.1, held)
 
 within : (old new : Wires) (told : Told) (end : RunEnd) → ReplayEnds old new end → TellsExactly told end
-    → (input : List ℕ) (answer : Result (List ℕ) ReplayFault) → old.left ≡ Some input → length input ≤ journal_bytes → Replays input answer → IsKnown answer
+    → (input : List ℕ) (answer : Result (List ℕ) ReplayFault) → old.left ≡ Some input → length input ≤ JOURNAL_BYTES → Replays input answer → IsKnown answer
     → Ends old new told answer ⊎ IsOutside told.status
 within old new told ends.Done (taken, output, whole, outlines, held) tells input answer left short replays known =
     inl (at_whole old new told input taken answer (Ok output) left whole known tt replays outlines tells held)
@@ -226,11 +227,11 @@ within old new told ends.ReadFault e tells input answer left short replays known
 within old new told ends.WriteFault e tells input answer left short replays known = inr (inr (inl tells.0))
 within old new told ends.OutOfMemory e tells input answer left short replays known = inr (inr (inr tells.0))
 
-no_room : (old new : Wires) (input taken : List ℕ) → old.left ≡ Some input → journal_bytes < length input → TakesWhole old new taken → ⊥
+no_room : (old new : Wires) (input taken : List ℕ) → old.left ≡ Some input → JOURNAL_BYTES < length input → TakesWhole old new taken → ⊥
 no_room old new input taken left long whole = let all = all_taken old new input taken left whole in omega (arith, ap length all.0, whole.short, long)
 
-past : (old new : Wires) (told : Told) (end : RunEnd) → ReplayEnds old new end → TellsExactly told end → (input : List ℕ) → old.left ≡ Some input → journal_bytes < length input
-    → (TellsExactly told (ends.TooLarge journal_bytes) × (new.held ≡ old.held)) ⊎ IsOutside told.status
+past : (old new : Wires) (told : Told) (end : RunEnd) → ReplayEnds old new end → TellsExactly told end → (input : List ℕ) → old.left ≡ Some input → JOURNAL_BYTES < length input
+    → (TellsExactly told (ends.TooLarge JOURNAL_BYTES) × (new.held ≡ old.held)) ⊎ IsOutside told.status
 past old new told ends.Done (taken, output, whole, outlines, held) tells input left long = absurd (no_room old new input taken left long whole)
 past old new told ends.Usage e tells input left long = absurd e
 past old new told (ends.Answered end) e tells input left long = absurd e

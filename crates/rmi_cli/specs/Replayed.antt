@@ -4,24 +4,21 @@ use Rattle.wire_io.specs.Wire.{Wires, with_front, with_end, NothingLeft}
 use Rattle.rmi_cli.specs.Answer.{IsOutside}
 use Rattle.rmi_cli.specs.Replay.{Outlines, IsBadLine, IsRefused, Replays}
 use Rattle.rmi_cli.specs.Told.{Told, TellsExactly, Tells}
+use Rattle.rmi_cli.specs.declared.journal_input.TheConstants.{JOURNAL_BYTES}
 use Rattle.rmi_cli.specs.declared.outlines.ReplayFault.{ReplayFault}
 use Rattle.rmi_cli.specs.declared.outlines.ReplayFault.TheVariants as faults
 use Rattle.rmi_cli.specs.declared.end.RunEnd.{RunEnd}
 use Rattle.rmi_cli.specs.declared.end.RunEnd.TheVariants.{Done, Usage, Answered, BadLine, Refused, TooLarge, NotShown, ListenFault, AcceptFault, ReadFault, WriteFault, OutOfMemory}
 
--- how many bytes a journal has at most
-abbrev pub journal_bytes : ℕ
-journal_bytes = 268435456
-
 -- The whole input was taken, within the limit.
 pub record TakesWhole (old new : Wires) (input : List ℕ) : Type 0 where
   pub left : old.left ≡ with_front input new.left
   pub nothing : NothingLeft new.left
-  pub short : length input ≤ journal_bytes
+  pub short : length input ≤ JOURNAL_BYTES
 
 -- Some front of the input was taken, at most 4,096 bytes more than the limit, and nothing was written.
 abbrev pub TakesFront : Wires → Wires → Type 0
-TakesFront old new = (front : List ℕ) × (length front ≤ journal_bytes + 4096) × (old.left ≡ with_front front new.left) × (new.held ≡ old.held)
+TakesFront old new = (front : List ℕ) × (length front ≤ JOURNAL_BYTES + 4096) × (old.left ≡ with_front front new.left) × (new.held ≡ old.held)
 
 -- What each end says of the input, and what was written.
 abbrev pub ReplayEnds : Wires → Wires → RunEnd → Type 0
@@ -32,7 +29,7 @@ ReplayEnds old new (Answered end) = ⊥
 ReplayEnds old new (BadLine line) = (input : List ℕ) × TakesWhole old new input × IsBadLine input line × (new.held ≡ old.held)
 ReplayEnds old new Refused = (input : List ℕ) × TakesWhole old new input × IsRefused input × (new.held ≡ old.held)
 ReplayEnds old new (TooLarge limit) =
-    (limit ≡ journal_bytes) × ((front : List ℕ) × (journal_bytes < length front) × (length front ≤ journal_bytes + 4096) × (old.left ≡ with_front front new.left)) × (new.held ≡ old.held)
+    (limit ≡ JOURNAL_BYTES) × ((front : List ℕ) × (JOURNAL_BYTES < length front) × (length front ≤ JOURNAL_BYTES + 4096) × (old.left ≡ with_front front new.left)) × (new.held ≡ old.held)
 ReplayEnds old new (NotShown fault) = ⊥
 ReplayEnds old new ListenFault = ⊥
 ReplayEnds old new AcceptFault = ⊥
@@ -60,6 +57,6 @@ output_of (Err fault) = []
 -- Where the input is told: if it is within the limit, and this is what a replay of it answers with ample memory, then all of it was taken,
 -- the outline was written, and the end is told; if it is past the limit, nothing was written, and that is told. Unless the outside failed.
 pub record ReplaysExactly (old new : Wires) (told : Told) : Type 0 where
-  pub within : (input : List ℕ) (answer : Result (List ℕ) ReplayFault) → old.left ≡ Some input → length input ≤ journal_bytes → Replays input answer → answer ≢ Err faults.OutOfMemory
+  pub within : (input : List ℕ) (answer : Result (List ℕ) ReplayFault) → old.left ≡ Some input → length input ≤ JOURNAL_BYTES → Replays input answer → answer ≢ Err faults.OutOfMemory
       → (TellsExactly told (end_of answer) × (new.left ≡ Some []) × (new.held ≡ with_end old.held (output_of answer))) ⊎ IsOutside told.status
-  pub past : (input : List ℕ) → old.left ≡ Some input → journal_bytes < length input → (TellsExactly told (TooLarge journal_bytes) × (new.held ≡ old.held)) ⊎ IsOutside told.status
+  pub past : (input : List ℕ) → old.left ≡ Some input → JOURNAL_BYTES < length input → (TellsExactly told (TooLarge JOURNAL_BYTES) × (new.held ≡ old.held)) ⊎ IsOutside told.status
