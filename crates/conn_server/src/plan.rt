@@ -12,7 +12,7 @@ use std::alloc::{AllocError, Global};
 use wire_io::Link;
 
 /// Below this a moment is drawn from the seed, in milliseconds.
-const MOMENTS: u64 = 1 << 61;
+pub const MOMENTS: u64 = 1 << 61;
 
 /// What a server is told beforehand.
 #[derive(Drop)]

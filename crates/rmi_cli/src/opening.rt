@@ -4,13 +4,11 @@ ghost use Rattle.rmi_cli.specs.Opening.{low_signed, served_space, served_opening
 ghost use Rattle.rmi_cli.specs.Terms.{IsInRange};
 
 use crate::terms::Terms;
+use conn_server::plan::MOMENTS;
 use object_ids::Uid;
 use sample_app::sample_space;
 use space::{Space, SpaceConfig};
 use std::alloc::{AllocError, Global};
-
-/// Below this a moment is drawn from the seed, in milliseconds.
-const MOMENTS: u64 = 1 << 61;
 
 /// The sample space that the seed and the terms give. It is refused only for want of memory.
 pub(crate) fn opened_space(
