@@ -14,6 +14,7 @@ ghost use Rattle.call_dispatch.specs.Results.{graph_return, own_return, referenc
 ghost use Rattle.call_dispatch.specs.Terms.{terms_of};
 
 use crate::setup::Setup;
+use java_shapes::NOTE_ROOM;
 use mod_utf::list::{ByteList, Units};
 use mod_utf::utf::encode;
 use object_ids::{ObjId, Uid, Vmid, objid_bytes, uid_bytes};
@@ -22,9 +23,6 @@ use std::alloc::{AllocError, Global};
 
 /// How many bytes there is room for when a Return is begun: as many as most of them have.
 const RETURN_ROOM: usize = 512;
-
-/// How many bytes there is room for when a reference's note is begun: as many as most of them have.
-const NOTE_ROOM: usize = 64;
 
 /// Begins a normal Return.
 #[tactic(auto, unfolding(crate::specs::FixedReturns::return_start))]

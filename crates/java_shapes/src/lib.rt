@@ -35,7 +35,7 @@ pub use id_views::as_objids;
 pub use lease_graphs::lease_graph;
 pub use lease_views::{LeaseView, as_lease, as_vmid, is_nameless_lease};
 pub use leases::{put_lease, put_vmid};
-pub use live_refs::put_live_ref;
+pub use live_refs::{NOTE_ROOM, put_live_ref};
 pub use local_ids::{is_local, local_refs};
 pub use name_lists::put_texts;
 pub use ref_graphs::ref_graph;

@@ -23,7 +23,7 @@ use ser_values::{BuildFault, Builder, Part, PartList, ValueList};
 use std::alloc::{AllocError, Global};
 
 /// How many bytes there is room for when a note is begun: as many as most of them have.
-const NOTE_ROOM: usize = 64;
+pub const NOTE_ROOM: usize = 64;
 
 /// The last bytes of a reference's note: its port, its object and its flag.
 fn tail_bytes(reference: &LiveRef) -> [u8; 27]
