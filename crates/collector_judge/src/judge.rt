@@ -27,7 +27,8 @@ fn is_early(event: &Event) -> bool
     event.moment < END_OF_TIME
 }
 
-/// Whether a space answers an event so. Every second abandon of a running call is made by `abandon`, which answers nothing.
+/// Whether a space answers an event so. Every second abandon of a running call is made by `abandon`, which answers nothing, and of the other
+/// events every third one is handed in as a list by `turns`.
 fn is_answered(
     alloc: Global,
     space: &mut Space,
@@ -43,8 +44,30 @@ fn is_answered(
             return Ok(answer.is_ok());
         }
     }
+    if event.moment % 3 == 0 {
+        return is_answered_in_a_list(alloc, space, event, answer);
+    }
     let given = space.turn(event.by, event.moment, event.ask.copy(alloc)?);
     Ok(are_same(&given, answer))
+}
+
+/// Whether a space answers an event so where it is the one event of a list.
+fn is_answered_in_a_list(
+    alloc: Global,
+    space: &mut Space,
+    event: &Event,
+    answer: &Result<Turn, Refused>,
+) -> Result<bool, AllocError>
+    requires { event.now.moment < 2 ^ 62 }
+{
+    let mut events = Vec::with_capacity(alloc, 1)?;
+    events.push(event.copy(alloc)?)?;
+    let given = space.turns(events)?;
+    Ok(match (given.turns.as_slice(), given.refused, answer) {
+        ([turn], None, Ok(answer)) => turn.is_same(answer),
+        ([], Some(refused), Err(answer)) => refused == *answer,
+        _ => false,
+    })
 }
 
 fn are_same(a: &Result<Turn, Refused>, b: &Result<Turn, Refused>) -> bool {

@@ -1,6 +1,6 @@
 -- What a turn's entry needs, by what is kept.
 use Rattle.std.proofs.Common.{◌≡◌, ℕ, ◌≤◌, inl, inr, List, [], ◌∷◌, ◌++◌, length, refl, ap, sym, subst, ◌∙◌, arith, Option, Some, None, Ok, Err}
-use Rattle.std.specs.Prelude.{Bool, true, false, ◌⊎◌, if◌then◌else◌, Result, IfOk, OnErr}
+use Rattle.std.specs.Prelude.{Bool, true, false, ◌⊎◌, if◌then◌else◌, Result, IfOk, OnOk, OnErr}
 use Rattle.std.proofs.lemmas.List.{length-map}
 use Rattle.object_ids.specs.declared.ids.ObjId.{ObjId}
 use Rattle.history.specs.declared.asks.SpaceConfig.{SpaceConfig}
@@ -189,3 +189,8 @@ on-err (Err e) p f = f p
 pub stays : (answer : Result (Turn × List ObjId) Refused) (P : Type 0) → turned answer ≡ Err OutOfMemory → OnErr answer P → P
 stays (Ok x) P e p = absurd (cc)
 stays (Err refused) P e p = p
+
+-- What holds where a turn is taken holds where its answer alone is looked at.
+pub turned-ok : (answer : Result (Turn × List ObjId) Refused) (P : Type 0) → OnOk answer P → OnOk (turned answer) P
+turned-ok (Ok x) P p = p
+turned-ok (Err refused) P p = p

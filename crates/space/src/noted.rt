@@ -1,8 +1,9 @@
 //! Turns with their entries.
-ghost use Rattle.std.specs.Prelude.{◌≡◌, ◌≢◌, ◌≤◌, ◌<◌, ◌^◌, ℕ, List, length, Err, IfOk, OnErr, vec_capacity};
+ghost use Rattle.std.specs.Prelude.{◌≡◌, ◌≢◌, ◌≤◌, ◌<◌, ◌^◌, ℕ, List, length, Err, IfOk, OnOk, OnErr, vec_capacity};
 ghost use Rattle.object_ids.specs.declared.ids.ObjId.{ObjId};
 ghost use Rattle.history.specs.declared.asks.Ask.TheVariants.{List as ListNames};
 ghost use Rattle.history.specs.declared.replies.Reply.TheVariants.{Finished, Names as NamesReply};
+ghost use Rattle.history.specs.Collector.{Collects};
 ghost use Rattle.history.specs.Running.{running};
 ghost use Rattle.history.specs.Steps.{Step};
 ghost use Rattle.history.specs.Table.{places};
@@ -32,6 +33,7 @@ impl Space {
     ) -> Result<(Result<Turn, Refused>, Asked), AllocError>
         requires moment { moment < 2 ^ 62 }
         ensures step { IfOk result (λ x. Step self.old.configuration self.old.events (event_of by moment ask) x.0 self.new.events) }
+        ensures collector { IfOk result (λ x. OnOk x.0 (Collects self.old.configuration self.old.events (event_of by moment ask) self.new.events)) }
         ensures noted { IfOk result (λ x. x.1 ≡ entry_of moment ask x.0) }
         ensures row { IfOk result (λ x. IsAnswerTo (λ o. 0 < running (places self.old.configuration self.old.events) by o) ask x.0) }
         ensures known { IfOk result (λ x. x.0 ≢ Err Refused.OutOfMemory) }

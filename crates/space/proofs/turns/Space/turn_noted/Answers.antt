@@ -1,7 +1,8 @@
 use Rattle.std.proofs.Common.{◌≡◌, ◌<◌, Result, refl, sym, subst, ◌∙◌, rules}
-use Rattle.std.specs.Prelude.{true}
+use Rattle.std.specs.Prelude.{true, OnOk}
 use Rattle.history.specs.declared.replies.Refused.{Refused}
 use Rattle.history.specs.declared.replies.Turn.{Turn}
+use Rattle.history.specs.Collector.{Collects}
 use Rattle.history.specs.Running.{running}
 use Rattle.history.specs.Steps.{Step}
 use Rattle.history.specs.Table.{places}
@@ -10,7 +11,7 @@ use Rattle.space.specs.Noted.{turned}
 use Rattle.space.specs.Ports.{IsAnswerTo}
 use Rattle.space.proofs.AnswerLaws.{answer-row}
 use Rattle.space.proofs.Bindings.{names-short}
-use Rattle.space.proofs.NotedLaws.{fits-turn, if-ok, on-err, stays}
+use Rattle.space.proofs.NotedLaws.{fits-turn, if-ok, on-err, stays, turned-ok}
 use Rattle.space.proofs.turns.Space.turn_noted.Goals as goal
 
 pub with_entry-requires : goal.with_entry-requires
@@ -23,6 +24,9 @@ pub returns-in-Ok : goal.returns-in-Ok
 returns-in-Ok c = record {
   step = if-ok c.with_entry.result (λ x. x.0 ≡ turned c.turn_with-answer.result) (λ x. Step c.args.self.now.configuration c.args.self.now.events (event_of c.args.by c.args.moment c.args.ask) x.0 c.turn_with-answer.new.self.events) c.with_entry.ensures.answer
       (λ x e. (let P : Result Turn Refused → Type 0 = λ a. Step c.args.self.now.configuration c.args.self.now.events (event_of c.args.by c.args.moment c.args.ask) a c.turn_with-answer.new.self.events in subst P (sym e) c.turn_with-answer.ensures.step));
+  collector = if-ok c.with_entry.result (λ x. x.0 ≡ turned c.turn_with-answer.result) (λ x. OnOk x.0 (Collects c.args.self.now.configuration c.args.self.now.events (event_of c.args.by c.args.moment c.args.ask) c.turn_with-answer.new.self.events)) c.with_entry.ensures.answer
+      (λ x e. (let P : Result Turn Refused → Type 0 = λ a. OnOk a (Collects c.args.self.now.configuration c.args.self.now.events (event_of c.args.by c.args.moment c.args.ask) c.turn_with-answer.new.self.events) in
+      subst P (sym e) (turned-ok c.turn_with-answer.result _ c.turn_with-answer.ensures.collector)));
   noted = search rules;
   row = if-ok c.with_entry.result (λ x. x.0 ≡ turned c.turn_with-answer.result) (λ x. IsAnswerTo (λ o. 0 < running (places c.args.self.now.configuration c.args.self.now.events) c.args.by o) c.args.ask x.0) c.with_entry.ensures.answer
       (λ x e. (let P : Result Turn Refused → Type 0 = λ a. IsAnswerTo (λ o. 0 < running (places c.args.self.now.configuration c.args.self.now.events) c.args.by o) c.args.ask a in
