@@ -25,7 +25,8 @@ use Rattle.call_dispatch.specs.Terms.{Terms}
 use Rattle.call_dispatch.specs.Acts.{Act, Call, States, Side, Led, acts_of, abandoned}
 use Rattle.call_dispatch.specs.Spot.{Spot, Course, took, Goes}
 use Rattle.call_dispatch.specs.Served.{Served, absent, refused, begun, unknown, ran, FitsHead, served_acts, served_written, served_closes, IsServed}
-use Rattle.call_dispatch.specs.Rows.{Exchange, served, row_of, closed_by, draws_in, course_by, most_bytes, IsExchange, IsCut}
+use Rattle.ser_values.specs.declared.limits.TheConstants.{MESSAGE_BYTES}
+use Rattle.call_dispatch.specs.Rows.{Exchange, served, row_of, closed_by, draws_in, course_by, IsExchange, IsCut}
 use Rattle.call_dispatch.specs.Inside.{BreaksAt}
 use Rattle.call_dispatch.specs.Systems.{is_system}
 use Rattle.call_dispatch.specs.Dialogue.{Opening, Whole, opened, IsClosed, EndsInHead, EndsInArguments, EndsInSystem, EndsInCall, Ends}
@@ -99,7 +100,7 @@ pub head_breaks : (may : Invocation → Outcome → Type 0) (moves : States → 
 head_breaks may moves terms start first p q held side drawn sent opening exchanges fault h within broken =
     let (more, left, here) = breaks_at head_at p q fault within broken in
     breaks_talk head_at may moves terms start first (spot_at p held side drawn) (spot_at q held side drawn) p.at p.stop sent opening exchanges more [] p.at p.stop more q.left (end_from fault)
-    h left refl (led_nothing may moves side) refl here (inl (more, refl, moved head_at p.at (h.place + 1) p.stop (h.place + most_bytes) more q.left (end_from fault) h.position h.limit here))
+    h left refl (led_nothing may moves side) refl here (inl (more, refl, moved head_at p.at (h.place + 1) p.stop (h.place + MESSAGE_BYTES) more q.left (end_from fault) h.position h.limit here))
 
 -- Reading ended in the arguments.
 pub arguments_break : (may : Invocation → Outcome → Type 0) (moves : States → Call → States → Type 0) (terms : Terms) (start first : Spot) (p q : Place) (held : Option (List ℕ)) (side side2 : Side) (drawn drew sent : ℕ) (opening : Opening) (exchanges : List Exchange)
@@ -131,7 +132,7 @@ arguments_break may moves terms start first p q held side side2 drawn drew sent 
       method = method;
       method_is = method_is;
       more = more;
-      breaks = moved (λ last. serve_to_close last (wants_of method.params) (inside_block (head_bytes head) left)) mid.at (h.place + 1 + length front) mid.stop (h.place + most_bytes) more q.left (end_from fault)
+      breaks = moved (λ last. serve_to_close last (wants_of method.params) (inside_block (head_bytes head) left)) mid.at (h.place + 1 + length front) mid.stop (h.place + MESSAGE_BYTES) more q.left (end_from fault)
           (reads.takes.at ∙ ap (λ n. n + length front) h.position) (reads.takes.stop ∙ h.limit) here;
       moment2 = moment2;
       place2 = ended;

@@ -32,7 +32,7 @@ use Rattle.call_dispatch.specs.Inside.{BreaksAt}
 use Rattle.call_dispatch.specs.Results.{listed_by, normal_return}
 use Rattle.call_dispatch.specs.Served.{EndsWithHead, FitsHead, Conclusion, finished, denied, faulted, IsConclusion, Running, unknown, ran, IsMethodOf, HasNoMethod, IsRunning, Served, absent, refused, begun, served_acts, IsServed}
 use Rattle.call_dispatch.specs.Spot.{Course, took}
-use Rattle.call_dispatch.specs.Rows.{most_bytes}
+use Rattle.ser_values.specs.declared.limits.TheConstants.{MESSAGE_BYTES}
 use Rattle.call_dispatch.specs.Dialogue.{EndsInHead, EndsInArguments}
 use Rattle.call_dispatch.specs.Terms.{Terms}
 use Rattle.call_dispatch.specs.Tape.{Tick, answered, tape}
@@ -204,14 +204,14 @@ abbrev pub InCall : List Kind → ℕ → Course → List ℕ → ConnEnd → Ty
 InCall kinds at tail rest end = EndsInHead at tail (Some rest) end ⊎ EndsInArguments kinds at tail (Some rest) end
 
 -- What was taken of a head that isn't read whole doesn't begin with a head, within the limit.
-pub head_unread : (at : ℕ) (more rest whole xs : List ℕ) (end : ConnEnd) (head : CallHead) (left : ℕ) → BreaksAt head_at (at + 1) (at + most_bytes) more (Some rest) end → IsSettled end
-    → EndsWithHead head whole left → at + 1 + length whole ≤ at + most_bytes → whole ++ xs ≡ more ++ rest → ⊥
+pub head_unread : (at : ℕ) (more rest whole xs : List ℕ) (end : ConnEnd) (head : CallHead) (left : ℕ) → BreaksAt head_at (at + 1) (at + MESSAGE_BYTES) more (Some rest) end → IsSettled end
+    → EndsWithHead head whole left → at + 1 + length whole ≤ at + MESSAGE_BYTES → whole ++ xs ≡ more ++ rest → ⊥
 head_unread at more rest whole xs end head left breaks settled heading within input =
-    breaks_read head_at (at + 1) (at + most_bytes) more rest whole xs end breaks settled (λ n r. ((head_bytes head, inside_block (head_bytes head) left, r), head_given n head whole left r heading)) within input
+    breaks_read head_at (at + 1) (at + MESSAGE_BYTES) more rest whole xs end breaks settled (λ n r. ((head_bytes head, inside_block (head_bytes head) left, r), head_given n head whole left r heading)) within input
 
 -- Reading doesn't end in the head of a Call that is served.
-pub head_not_served : (at : ℕ) (more rest bytes xs : List ℕ) (end : ConnEnd) (head : CallHead) → BreaksAt head_at (at + 1) (at + most_bytes) more (Some rest) end → IsSettled end
-    → Begins head bytes → 1 + length bytes ≤ most_bytes → more ++ rest ≡ bytes ++ xs → ⊥
+pub head_not_served : (at : ℕ) (more rest bytes xs : List ℕ) (end : ConnEnd) (head : CallHead) → BreaksAt head_at (at + 1) (at + MESSAGE_BYTES) more (Some rest) end → IsSettled end
+    → Begins head bytes → 1 + length bytes ≤ MESSAGE_BYTES → more ++ rest ≡ bytes ++ xs → ⊥
 head_not_served at more rest bytes xs end head breaks settled b few input =
     let long : length bytes ≡ length b.front + length b.more = ap (λ (l : List ℕ). length l) b.is ∙ length-append b.front b.more in
     let whole : bytes ++ xs ≡ b.front ++ (b.more ++ xs) = ap (λ (l : List ℕ). l ++ xs) b.is ∙ append_assoc b.front b.more xs in
@@ -220,14 +220,14 @@ head_not_served at more rest bytes xs end head breaks settled b few input =
 -- what is read behind a head, of the arguments of a method
 abbrev ArgumentsBreak : ℕ → List ℕ → ConnEnd → CallHead → List ℕ → ℕ → Method → List ℕ → Type 0
 ArgumentsBreak at rest end head front left method more =
-    BreaksAt (λ last. serve_to_close last (wants_of method.params) (inside_block (head_bytes head) left)) (at + 1 + length front) (at + most_bytes) more (Some rest) end
+    BreaksAt (λ last. serve_to_close last (wants_of method.params) (inside_block (head_bytes head) left)) (at + 1 + length front) (at + MESSAGE_BYTES) more (Some rest) end
 
-head_read_whole : (kinds : List Kind) (at : ℕ) (tail : Course) (rest : List ℕ) (end : ConnEnd) (a : EndsInArguments kinds at tail (Some rest) end) → IsSettled end → at + 1 + length a.front ≤ at + most_bytes
+head_read_whole : (kinds : List Kind) (at : ℕ) (tail : Course) (rest : List ℕ) (end : ConnEnd) (a : EndsInArguments kinds at tail (Some rest) end) → IsSettled end → at + 1 + length a.front ≤ at + MESSAGE_BYTES
 head_read_whole kinds at tail rest end a settled =
-    breaks_within (λ last. serve_to_close last (wants_of a.method.params) (inside_block (head_bytes a.head) a.left)) (at + 1 + length a.front) (at + most_bytes) a.more rest end a.breaks settled
+    breaks_within (λ last. serve_to_close last (wants_of a.method.params) (inside_block (head_bytes a.head) a.left)) (at + 1 + length a.front) (at + MESSAGE_BYTES) a.more rest end a.breaks settled
 
 -- Reading ends in a head or behind it, not both.
-head_or_behind : (kinds : List Kind) (at : ℕ) (more rest more2 rest2 : List ℕ) (tail2 : Course) (end end2 : ConnEnd) → BreaksAt head_at (at + 1) (at + most_bytes) more (Some rest) end → IsSettled end
+head_or_behind : (kinds : List Kind) (at : ℕ) (more rest more2 rest2 : List ℕ) (tail2 : Course) (end end2 : ConnEnd) → BreaksAt head_at (at + 1) (at + MESSAGE_BYTES) more (Some rest) end → IsSettled end
     → (a : EndsInArguments kinds at tail2 (Some rest2) end2) → IsSettled end2 → more2 ≡ a.front ++ a.more → more ++ rest ≡ more2 ++ rest2 → ⊥
 head_or_behind kinds at more rest more2 rest2 tail2 end end2 breaks settled a settled2 is input =
     let whole : more2 ++ rest2 ≡ a.front ++ (a.more ++ rest2) = ap (λ (l : List ℕ). l ++ rest2) is ∙ append_assoc a.front a.more rest2 in
@@ -276,7 +276,7 @@ arguments_one kinds at tail tail2 rest rest2 end end2 t t2 a settled b settled2 
     let T : List ℕ → Type 0 = λ x. ArgumentsBreak at rest2 end2 b.head x a.left a.method b.more in
     let U : CallHead → Type 0 = λ x. ArgumentsBreak at rest2 end2 x a.front a.left a.method b.more in
     let breaks : ArgumentsBreak at rest2 end2 a.head a.front a.left a.method b.more = subst U (sym heads) (subst T (sym same.2) (subst S (sym same.1) (subst R (sym methods.1) b.breaks))) in
-    let one = breaks_one (λ last. serve_to_close last (wants_of a.method.params) (inside_block (head_bytes a.head) a.left)) (at + 1 + length a.front) (at + most_bytes) a.more b.more rest rest2 end end2
+    let one = breaks_one (λ last. serve_to_close last (wants_of a.method.params) (inside_block (head_bytes a.head) a.left)) (at + 1 + length a.front) (at + MESSAGE_BYTES) a.more b.more rest rest2 end end2
     a.breaks settled breaks settled2 same.3 in (
       one.0,
       a.tail_is ∙ tail_same a.head.id b.head.id a.front b.front a.more b.more a.moment b.moment a.turn b.turn a.moment2 b.moment2 a.place2 b.place2
@@ -326,7 +326,7 @@ pub in_call_one : (kinds : List Kind) (at : ℕ) (tail tail2 : Course) (rest res
     → tail.taken ++ rest ≡ tail2.taken ++ rest2 → tape tail.acts ++ t ≡ tape tail2.acts ++ t2 → (end ≡ end2) × (tail ≡ tail2) × (rest ≡ rest2)
 in_call_one kinds at tail tail2 rest rest2 end end2 t t2 (inl (more, is, breaks)) settled (inl (more2, is2, breaks2)) settled2 input ticking =
     let behind : more ++ rest ≡ more2 ++ rest2 = head_behind at tail rest more2 rest2 end (more, is, breaks) (input ∙ ap (λ (c : Course). c.taken ++ rest2) is2) in
-    let one = breaks_one head_at (at + 1) (at + most_bytes) more more2 rest rest2 end end2 breaks settled breaks2 settled2 behind in
+    let one = breaks_one head_at (at + 1) (at + MESSAGE_BYTES) more more2 rest rest2 end end2 breaks settled breaks2 settled2 behind in
     with_rests end end2 tail tail2 rest rest2 input one.0 (is ∙ ap (λ (l : List ℕ). took (code_byte Call ∷ l)) one.1 ∙ sym is2)
 in_call_one kinds at tail tail2 rest rest2 end end2 t t2 (inl (more, is, breaks)) settled (inr b) settled2 input ticking =
     absurd (head_or_behind kinds at more rest (b.front ++ b.more) rest2 tail2 end end2 breaks settled b settled2 refl
@@ -340,7 +340,7 @@ in_call_one kinds at tail tail2 rest rest2 end end2 t t2 (inr a) settled (inr b)
 
 -- Reading doesn't end in a Call that is served.
 pub in_call_not_served : (terms : Terms) (at : ℕ) (tail : Course) (rest : List ℕ) (end : ConnEnd) (head : CallHead) (bytes : List ℕ) (uid : Uid) (s : Served) (xs : List ℕ) (t u : List Tick)
-    → InCall terms.kinds at tail rest end → IsSettled end → FitsHead head → 1 + length bytes ≤ most_bytes → IsServed terms head bytes uid s
+    → InCall terms.kinds at tail rest end → IsSettled end → FitsHead head → 1 + length bytes ≤ MESSAGE_BYTES → IsServed terms head bytes uid s
     → tail.taken ++ rest ≡ code_byte Call ∷ (bytes ++ xs) → tape tail.acts ++ t ≡ tape (served_acts head uid s) ++ u → ⊥
 in_call_not_served terms at tail rest end head bytes uid s xs t u (inl (more, is, breaks)) settled fits few legal input ticking =
     head_not_served at more rest bytes xs end head breaks settled (served_begins terms head bytes uid s legal) few (head_behind at tail rest bytes xs end (more, is, breaks) input)

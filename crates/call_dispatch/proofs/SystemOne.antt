@@ -37,7 +37,7 @@ use Rattle.call_dispatch.specs.Spot.{Course, took}
 use Rattle.call_dispatch.specs.SystemReturns.{answer_written}
 use Rattle.call_dispatch.specs.Systems.{is_system, system_method, params_of, System, unknown, barred, turned, system_acts, drawn_at, IsSystem}
 use Rattle.call_dispatch.specs.Terms.{Terms}
-use Rattle.call_dispatch.specs.Rows.{most_bytes}
+use Rattle.ser_values.specs.declared.limits.TheConstants.{MESSAGE_BYTES}
 use Rattle.call_dispatch.specs.Dialogue.{EndsInHead, EndsInArguments, EndsInSystem}
 use Rattle.call_dispatch.specs.Tape.{Tick, answered, tape}
 use Rattle.call_dispatch.proofs.HeadReads.{head_given, one_front, same_head, Begins, call_begins}
@@ -205,7 +205,7 @@ InAnyCall kinds at tail rest end = EndsInHead at tail (Some rest) end ⊎ (EndsI
 -- what is read behind a head, of the arguments of a method
 abbrev SystemBreak : ℕ → List ℕ → ConnEnd → CallHead → List ℕ → ℕ → SystemMethod → List ℕ → Type 0
 SystemBreak at rest end head front left method more =
-    BreaksAt (λ last. serve_to_close last (wants_of (params_of method)) (inside_block (head_bytes head) left)) (at + 1 + length front) (at + most_bytes) more (Some rest) end
+    BreaksAt (λ last. serve_to_close last (wants_of (params_of method)) (inside_block (head_bytes head) left)) (at + 1 + length front) (at + MESSAGE_BYTES) more (Some rest) end
 
 -- what comes behind the code
 system_behind : (at : ℕ) (tail : Course) (rest more2 rest2 : List ℕ) (end : ConnEnd) (a : EndsInSystem at tail (Some rest) end) → tail.taken ++ rest ≡ code_byte Call ∷ (more2 ++ rest2) → (a.front ++ a.more) ++ rest ≡ more2 ++ rest2
@@ -215,12 +215,12 @@ begins_so : (at : ℕ) (tail : Course) (rest : List ℕ) (end : ConnEnd) (a : En
 begins_so at tail rest end a = record { front = a.front; left = a.left; more = a.more; is = refl; heading = a.heading }
 
 -- Reading ends in a head or behind it, not both.
-head_or_system : (at : ℕ) (more rest : List ℕ) (tail2 : Course) (rest2 : List ℕ) (end end2 : ConnEnd) → BreaksAt head_at (at + 1) (at + most_bytes) more (Some rest) end → IsSettled end
+head_or_system : (at : ℕ) (more rest : List ℕ) (tail2 : Course) (rest2 : List ℕ) (end end2 : ConnEnd) → BreaksAt head_at (at + 1) (at + MESSAGE_BYTES) more (Some rest) end → IsSettled end
     → (a : EndsInSystem at tail2 (Some rest2) end2) → IsSettled end2 → more ++ rest ≡ (a.front ++ a.more) ++ rest2 → ⊥
 head_or_system at more rest tail2 rest2 end end2 breaks settled a settled2 input =
     let whole : (a.front ++ a.more) ++ rest2 ≡ a.front ++ (a.more ++ rest2) = append_assoc a.front a.more rest2 in
     head_unread at more rest a.front (a.more ++ rest2) end a.head a.left breaks settled a.heading
-    (breaks_within (λ last. serve_to_close last (wants_of (params_of a.method)) (inside_block (head_bytes a.head) a.left)) (at + 1 + length a.front) (at + most_bytes) a.more rest2 end2 a.breaks settled2)
+    (breaks_within (λ last. serve_to_close last (wants_of (params_of a.method)) (inside_block (head_bytes a.head) a.left)) (at + 1 + length a.front) (at + MESSAGE_BYTES) a.more rest2 end2 a.breaks settled2)
     (sym whole ∙ sym input)
 
 -- Reading ends in the arguments of such a Call in one way.
@@ -237,13 +237,13 @@ system_ends_one at tail tail2 rest rest2 end end2 a settled b settled2 input =
     let T : List ℕ → Type 0 = λ x. SystemBreak at rest2 end2 b.head x a.left a.method b.more in
     let U : CallHead → Type 0 = λ x. SystemBreak at rest2 end2 x a.front a.left a.method b.more in
     let breaks : SystemBreak at rest2 end2 a.head a.front a.left a.method b.more = subst U (sym heads) (subst T (sym same.2) (subst S (sym same.1) (subst R (sym methods) b.breaks))) in
-    let one = breaks_one (λ last. serve_to_close last (wants_of (params_of a.method)) (inside_block (head_bytes a.head) a.left)) (at + 1 + length a.front) (at + most_bytes) a.more b.more rest rest2 end end2
+    let one = breaks_one (λ last. serve_to_close last (wants_of (params_of a.method)) (inside_block (head_bytes a.head) a.left)) (at + 1 + length a.front) (at + MESSAGE_BYTES) a.more b.more rest rest2 end end2
     a.breaks settled breaks settled2 same.3 in
     (one.0, a.tail_is ∙ ap (λ (l : List ℕ). took (code_byte Call ∷ l ++ a.more)) same.2 ∙ ap (λ (l : List ℕ). took (code_byte Call ∷ b.front ++ l)) one.1 ∙ sym b.tail_is)
 
 -- Reading doesn't end in the arguments of a Call that was read whole.
 system_not_read : (at : ℕ) (tail : Course) (rest : List ℕ) (end : ConnEnd) (method : SystemMethod) (arguments : Arguments) (bytes xs : List ℕ) → (a : EndsInSystem at tail (Some rest) end) → IsSettled end
-    → 1 + length bytes ≤ most_bytes → system_method a.head ≡ Some method → CallBytes a.head (params_of method) arguments (0x50 ∷ bytes) → (a.front ++ a.more) ++ rest ≡ bytes ++ xs → ⊥
+    → 1 + length bytes ≤ MESSAGE_BYTES → system_method a.head ≡ Some method → CallBytes a.head (params_of method) arguments (0x50 ∷ bytes) → (a.front ++ a.more) ++ rest ≡ bytes ++ xs → ⊥
 system_not_read at tail rest end method arguments bytes xs a settled few known call input =
     let methods : method ≡ a.method = method_same method a.method (sym known ∙ a.known) in
     let P : SystemMethod → Type 0 = λ m. CallBytes a.head (params_of m) arguments (0x50 ∷ bytes) in
@@ -254,12 +254,12 @@ system_not_read at tail rest end method arguments bytes xs a settled few known c
     let long : length bytes ≡ length b.front + length b.more = ap (λ (l : List ℕ). length l) b.is ∙ length-append b.front b.more in
     let fronts : length a.front ≡ length b.front = ap (λ (l : List ℕ). length l) same.2 in
     let Q : ℕ → Type 0 = λ k. SystemBreak at rest end a.head a.front k a.method a.more in
-    breaks_read (λ last. serve_to_close last (wants_of (params_of a.method)) (inside_block (head_bytes a.head) b.left)) (at + 1 + length a.front) (at + most_bytes) a.more rest b.more xs end (subst Q same.1 a.breaks) settled
+    breaks_read (λ last. serve_to_close last (wants_of (params_of a.method)) (inside_block (head_bytes a.head) b.left)) (at + 1 + length a.front) (at + MESSAGE_BYTES) a.more rest b.more xs end (subst Q same.1 a.breaks) settled
     (λ n r. arguments_read a.head (params_of a.method) arguments bytes b n r mine) (omega (arith, few, long, fronts)) (sym same.3)
 
 -- Nor in those of a Call that is answered.
 system_not_answered : (terms : Terms) (drawn at : ℕ) (tail : Course) (rest : List ℕ) (end : ConnEnd) (head : CallHead) (bytes : List ℕ) (uid : Uid) (s : System) (xs : List ℕ) → (a : EndsInSystem at tail (Some rest) end) → IsSettled end
-    → head ≡ a.head → 1 + length bytes ≤ most_bytes → IsSystem terms drawn head bytes uid s → (a.front ++ a.more) ++ rest ≡ bytes ++ xs → ⊥
+    → head ≡ a.head → 1 + length bytes ≤ MESSAGE_BYTES → IsSystem terms drawn head bytes uid s → (a.front ++ a.more) ++ rest ≡ bytes ++ xs → ⊥
 system_not_answered terms drawn at tail rest end head bytes uid unknown xs a settled heads few (h, none, is) input = no_method a.method (sym a.known ∙ ap system_method (sym heads) ∙ none)
 system_not_answered terms drawn at tail rest end head bytes uid (barred method arguments bar) xs a settled heads few (known, call, is, e) input =
     let P : CallHead → Type 0 = λ h. CallBytes h (params_of method) arguments (0x50 ∷ bytes) in
@@ -298,7 +298,7 @@ in_any_one kinds at tail tail2 rest rest2 end end2 t t2 (inr (inr a)) settled (i
 
 -- Reading doesn't end in a Call that is served.
 pub in_any_not_served : (terms : Terms) (at : ℕ) (tail : Course) (rest : List ℕ) (end : ConnEnd) (head : CallHead) (bytes : List ℕ) (uid : Uid) (s : Served) (xs : List ℕ) (t u : List Tick)
-    → InAnyCall terms.kinds at tail rest end → IsSettled end → is_system head.id ≡ false → FitsHead head → 1 + length bytes ≤ most_bytes → IsServed terms head bytes uid s
+    → InAnyCall terms.kinds at tail rest end → IsSettled end → is_system head.id ≡ false → FitsHead head → 1 + length bytes ≤ MESSAGE_BYTES → IsServed terms head bytes uid s
     → tail.taken ++ rest ≡ code_byte Call ∷ (bytes ++ xs) → tape tail.acts ++ t ≡ tape (served_acts head uid s) ++ u → ⊥
 in_any_not_served terms at tail rest end head bytes uid s xs t u (inl a) settled other fits few legal input ticking = in_call_not_served terms at tail rest end head bytes uid s xs t u (inl a) settled fits few legal input ticking
 in_any_not_served terms at tail rest end head bytes uid s xs t u (inr (inl a)) settled other fits few legal input ticking = in_call_not_served terms at tail rest end head bytes uid s xs t u (inr a) settled fits few legal input ticking
@@ -308,7 +308,7 @@ in_any_not_served terms at tail rest end head bytes uid s xs t u (inr (inr a)) s
 
 -- Nor in a Call of the registry or the collector that is answered.
 pub in_any_not_answered : (terms : Terms) (drawn at : ℕ) (tail : Course) (rest : List ℕ) (end : ConnEnd) (head : CallHead) (bytes : List ℕ) (uid : Uid) (s : System) (xs : List ℕ)
-    → InAnyCall terms.kinds at tail rest end → IsSettled end → is_system head.id ≡ true → FitsHead head → 1 + length bytes ≤ most_bytes → IsSystem terms drawn head bytes uid s
+    → InAnyCall terms.kinds at tail rest end → IsSettled end → is_system head.id ≡ true → FitsHead head → 1 + length bytes ≤ MESSAGE_BYTES → IsSystem terms drawn head bytes uid s
     → tail.taken ++ rest ≡ code_byte Call ∷ (bytes ++ xs) → ⊥
 in_any_not_answered terms drawn at tail rest end head bytes uid s xs (inl (more, is, breaks)) settled own fits few legal input =
     head_not_served at more rest bytes xs end head breaks settled (system_begins terms drawn head bytes uid s legal) few (head_behind at tail rest bytes xs end (more, is, breaks) input)

@@ -19,7 +19,8 @@ use Rattle.call_dispatch.specs.Terms.{Terms}
 use Rattle.call_dispatch.specs.Acts.{Act, Call, States, Side, Led}
 use Rattle.call_dispatch.specs.Spot.{Spot, Course, took}
 use Rattle.call_dispatch.specs.Served.{FitsHead}
-use Rattle.call_dispatch.specs.Rows.{Exchange, system, draws_in, course_by, most_bytes, IsExchange, IsCut}
+use Rattle.ser_values.specs.declared.limits.TheConstants.{MESSAGE_BYTES}
+use Rattle.call_dispatch.specs.Rows.{Exchange, system, draws_in, course_by, IsExchange, IsCut}
 use Rattle.call_dispatch.specs.Dialogue.{Opening, Whole, opened, IsClosed, Ends}
 use Rattle.call_dispatch.specs.Faults.{Blames, BlamesIn}
 use Rattle.call_dispatch.specs.Progress.{Stands, Talked, IsCoded, StepsTo, Writes, end_from}
@@ -59,7 +60,7 @@ system_breaks may moves terms start first p q held side drawn sent opening excha
       method = method;
       known = known;
       more = more;
-      breaks = moved (λ last. serve_to_close last (wants_of (params_of method)) (inside_block (head_bytes head) left)) mid.at (h.place + 1 + length front) mid.stop (h.place + most_bytes) more q.left (end_from fault)
+      breaks = moved (λ last. serve_to_close last (wants_of (params_of method)) (inside_block (head_bytes head) left)) mid.at (h.place + 1 + length front) mid.stop (h.place + MESSAGE_BYTES) more q.left (end_from fault)
           (reads.takes.at ∙ ap (λ n. n + length front) h.position) (reads.takes.stop ∙ h.limit) here;
       tail_is = refl;
     }))))

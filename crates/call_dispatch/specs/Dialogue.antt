@@ -27,7 +27,8 @@ use Rattle.call_dispatch.specs.Systems.{is_system, system_method, params_of}
 use Rattle.call_dispatch.specs.declared.system.SystemMethod.{SystemMethod}
 use Rattle.call_dispatch.specs.Terms.{Terms}
 use Rattle.call_dispatch.specs.Spot.{Course, exchanged, took, followed_by}
-use Rattle.call_dispatch.specs.Rows.{Exchange, taken_by, acts_by, draws_by, written_by, draws_in, course_by, most_bytes, IsExchange, closed_by, GoOn, IsChain, IsCut}
+use Rattle.ser_values.specs.declared.limits.TheConstants.{MESSAGE_BYTES}
+use Rattle.call_dispatch.specs.Rows.{Exchange, taken_by, acts_by, draws_by, written_by, draws_in, course_by, IsExchange, closed_by, GoOn, IsChain, IsCut}
 
 -- an opening: what stands before the first message. The stream protocol's has the client's endpoint.
 pub data Opening : Type 0 where
@@ -159,7 +160,7 @@ IsAnswered terms drawn w c = IsGreeting terms w c ⊎ (((byte : ℕ) × IsRefuse
 
 -- Reading ends in the head of a Call that begins at a position.
 abbrev pub EndsInHead : ℕ → Course → Option (List ℕ) → ConnEnd → Type 0
-EndsInHead at tail rest end = (more : List ℕ) × (tail ≡ took (code_byte Call ∷ more)) × BreaksAt head_at (at + 1) (at + most_bytes) more rest end
+EndsInHead at tail rest end = (more : List ℕ) × (tail ≡ took (code_byte Call ∷ more)) × BreaksAt head_at (at + 1) (at + MESSAGE_BYTES) more rest end
 
 -- Reading ends in the arguments of a Call that begins at a position: its head was read, its Begin answered, its method found, and it is given up.
 pub record EndsInArguments (kinds : List Kind) (at : ℕ) (tail : Course) (rest : Option (List ℕ)) (end : ConnEnd) : Type 0 where
@@ -178,7 +179,7 @@ pub record EndsInArguments (kinds : List Kind) (at : ℕ) (tail : Course) (rest 
   pub method : Method
   pub method_is : slice_get (methods_of kinds kind) place ≡ Some method
   pub more : List ℕ
-  pub breaks : BreaksAt (λ last. serve_to_close last (wants_of method.params) (inside_block (head_bytes head) left)) (at + 1 + length front) (at + most_bytes) more rest end
+  pub breaks : BreaksAt (λ last. serve_to_close last (wants_of method.params) (inside_block (head_bytes head) left)) (at + 1 + length front) (at + MESSAGE_BYTES) more rest end
   pub moment2 : ℕ
   pub place2 : ℕ
   pub tail_is : tail ≡ record {
@@ -200,7 +201,7 @@ pub record EndsInSystem (at : ℕ) (tail : Course) (rest : Option (List ℕ)) (e
   pub method : SystemMethod
   pub known : system_method head ≡ Some method
   pub more : List ℕ
-  pub breaks : BreaksAt (λ last. serve_to_close last (wants_of (params_of method)) (inside_block (head_bytes head) left)) (at + 1 + length front) (at + most_bytes) more rest end
+  pub breaks : BreaksAt (λ last. serve_to_close last (wants_of (params_of method)) (inside_block (head_bytes head) left)) (at + 1 + length front) (at + MESSAGE_BYTES) more rest end
   pub tail_is : tail ≡ took (code_byte Call ∷ front ++ more)
 
 -- Reading ends in a Call.

@@ -17,7 +17,8 @@ use Rattle.call_dispatch.specs.End.{IsSettled}
 use Rattle.call_dispatch.specs.Terms.{Terms}
 use Rattle.call_dispatch.specs.Acts.{Call, States}
 use Rattle.call_dispatch.specs.Spot.{Spot, Course, took, Goes}
-use Rattle.call_dispatch.specs.Rows.{Exchange, IsOpen, most_bytes}
+use Rattle.ser_values.specs.declared.limits.TheConstants.{MESSAGE_BYTES}
+use Rattle.call_dispatch.specs.Rows.{Exchange, IsOpen}
 use Rattle.call_dispatch.specs.Dialogue.{Opening, protocol_of, Whole, opened, IsWhole, taken_in, written_in, course_in, IsAtCode, Dialogue}
 use Rattle.call_dispatch.specs.Tape.{Tick, tape}
 
@@ -97,7 +98,7 @@ pub record IsCoded (may : Invocation → Outcome → Type 0) (moves : States →
   pub side : before.side ≡ first.side
   pub drawn : before.drawn ≡ first.drawn
   pub position : at ≡ place + 1
-  pub limit : stop ≡ place + most_bytes
+  pub limit : stop ≡ place + MESSAGE_BYTES
 
 -- Wherever the connection began and a Call's code was just taken, its exchange comes to stand, or the dialogue ends.
 abbrev pub ServesCall : (Invocation → Outcome → Type 0) → (States → Call → States → Type 0) → Terms → Spot → Spot → ℕ → ℕ → ℕ → ℕ → Result ℕ ConnEnd → Type 0

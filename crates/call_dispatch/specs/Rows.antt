@@ -1,5 +1,5 @@
 -- The table of exchanges: what each message takes, does, draws and writes, and how a row is cut.
-use Rattle.std.specs.Prelude.{◌≡◌, true, false, ℕ, ◌+◌, ◌^◌, ◌≤◌, List, [], ◌∷◌, ◌++◌, ◌⊎◌, length, Option, None, Result, Ok, Err, FitsSigned}
+use Rattle.std.specs.Prelude.{◌≡◌, true, false, ℕ, ◌+◌, ◌≤◌, List, [], ◌∷◌, ◌++◌, ◌⊎◌, length, Option, None, Result, Ok, Err, FitsSigned}
 use Rattle.std.specs.Int.{w16, w32, w64}
 use Rattle.std.specs.List.{flat_map}
 use Rattle.object_ids.specs.declared.ids.ObjId.{ObjId}
@@ -14,6 +14,7 @@ use Rattle.space.specs.declared.asked.AskedEnd.TheVariants.{Abandoned}
 use Rattle.space.specs.Ports.{abandoned_at, Shows}
 use Rattle.object_ids.specs.declared.ids.Uid.{Uid}
 use Rattle.object_ids.specs.Draw.{uid_drawn}
+use Rattle.ser_values.specs.declared.limits.TheConstants.{MESSAGE_BYTES}
 use Rattle.jrmp_frames.specs.declared.head.CallHead.{CallHead}
 use Rattle.jrmp_frames.specs.declared.code.Code.TheVariants.{Ping, Call}
 use Rattle.jrmp_frames.specs.Frames.{code_byte, ping_ack, dgc_ack}
@@ -50,10 +51,6 @@ row_of (served bytes head uid s) =
 row_of (system bytes head uid s) =
     record { message = code_byte Call ∷ bytes; acts = system_acts s; draws = system_draws s; written = system_written uid s; closes = system_closes head s }
 
--- how many bytes a message has at most
-abbrev pub most_bytes : ℕ
-most_bytes = 2 ^ 24
-
 -- The identifier's numbers are in range, so that its bytes tell them.
 pub record FitsUid (uid : Uid) : Type 0 where
   pub unique : FitsSigned w32 uid.unique
@@ -71,8 +68,8 @@ abbrev pub IsExchange : Terms → ℕ → Exchange → Type 0
 IsExchange terms drawn ping = Unit {0}
 IsExchange terms drawn (acknowledged uid moment answer) = FitsUid uid × IsNoted answer
 IsExchange terms drawn (served bytes head uid s) =
-    (is_system head.id ≡ false) × (uid ≡ uid_drawn terms.unique terms.time drawn) × FitsHead head × (1 + length bytes ≤ most_bytes) × IsServed terms head bytes uid s
-IsExchange terms drawn (system bytes head uid s) = (is_system head.id ≡ true) × FitsHead head × (1 + length bytes ≤ most_bytes) × IsSystem terms drawn head bytes uid s
+    (is_system head.id ≡ false) × (uid ≡ uid_drawn terms.unique terms.time drawn) × FitsHead head × (1 + length bytes ≤ MESSAGE_BYTES) × IsServed terms head bytes uid s
+IsExchange terms drawn (system bytes head uid s) = (is_system head.id ≡ true) × FitsHead head × (1 + length bytes ≤ MESSAGE_BYTES) × IsSystem terms drawn head bytes uid s
 
 abbrev pub taken_by : Exchange → List ℕ
 taken_by e = (row_of e).message

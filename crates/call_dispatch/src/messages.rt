@@ -21,15 +21,13 @@ use crate::worker::Worker;
 use history::{Ask, Refused};
 use jrmp_frames::{Code, Protocol, read_code, read_head, read_uid};
 use object_ids::Uid;
+use ser_values::limits::MESSAGE_BYTES;
 use space::Port;
 use std::alloc::Global;
 use wire_io::{Clock, Sink, Source};
 
 /// How many messages a connection has at most.
 const MESSAGES: u32 = 1 << 28;
-
-/// How many bytes a message has at most.
-const MESSAGE_BYTES: u64 = 1 << 24;
 
 /// Serves the messages after an opening, until the connection ends.
 pub fn serve_messages<S: Source, K: Sink, C: Clock, P: Port, W: Worker>(

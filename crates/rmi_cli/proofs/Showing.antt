@@ -10,9 +10,10 @@ use Rattle.ser_read.specs.Here.{Fails, Gives}
 use Rattle.ser_read.specs.Whole.{stream_at, going_on, BreaksWhole, TakesStream}
 use Rattle.ser_read.proofs.Streams.{from_start}
 use Rattle.ser_read.proofs.ToEnd.{graph_parts}
-use Rattle.rmi_cli.specs.Shown.{stream_bytes, TakesGraph, IsFaultOf, StopsAt}
+use Rattle.ser_values.specs.declared.limits.TheConstants.{MESSAGE_BYTES}
+use Rattle.rmi_cli.specs.Shown.{TakesGraph, IsFaultOf, StopsAt}
 
-pub graph_taken : (p q : Place) (result : Result Graph StreamFault) → p.at ≡ 0 → p.stop ≡ stream_bytes → q.at ≤ q.stop
+pub graph_taken : (p q : Place) (result : Result Graph StreamFault) → p.at ≡ 0 → p.stop ≡ MESSAGE_BYTES → q.at ≤ q.stop
     → IfOk result (λ graph. TakesStream p q graph.nodes graph.items) → IfOk result (λ graph. TakesGraph p.left q.left graph.nodes graph.items)
 graph_taken p q (Err e) start stop le t = tt
 graph_taken p q (Ok graph) start stop le t =
@@ -27,7 +28,7 @@ graph_taken p q (Ok graph) start stop le t =
       read = rw (from_start t.taken) (rw all at t.read);
     }
 
-pub fault_told : (left : Option (List ℕ)) (at stop : ℕ) (result : Result Graph StreamFault) → at ≡ 0 → stop ≡ stream_bytes
+pub fault_told : (left : Option (List ℕ)) (at stop : ℕ) (result : Result Graph StreamFault) → at ≡ 0 → stop ≡ MESSAGE_BYTES
     → ((bytes : List ℕ) → left ≡ Some bytes → length bytes ≤ stop - at → Gives (Truncated (at + length bytes)) graph_parts result (stream_at (at + length bytes) bytes))
     → ((bytes : List ℕ) → left ≡ Some bytes → stop - at < length bytes → IsErrAnd result (λ e. Fails (TooLarge Bytes stop) e (going_on (stream_at stop (take (stop - at) bytes)))))
     → IfErr result (IsFaultOf left)
@@ -37,11 +38,11 @@ fault_told left at stop (Err e) start s gives limited = record {
       let all : at + length input ≡ length input = omega (arith, start) in
       rw (from_start input) (rw all at (gives input told (omega (arith, start, s))));
   past = λ input told more.
-      let room : stop - at ≡ stream_bytes = omega (arith, start, s) in
+      let room : stop - at ≡ MESSAGE_BYTES = omega (arith, start, s) in
       rw (room, s) at (limited input told (omega (arith, start, s)));
 }
 
-pub stops_there : (p q : Place) (result : Result Graph StreamFault) → p.at ≡ 0 → p.stop ≡ stream_bytes → IfErr result (λ e. BreaksWhole p q e stream_at)
+pub stops_there : (p q : Place) (result : Result Graph StreamFault) → p.at ≡ 0 → p.stop ≡ MESSAGE_BYTES → IfErr result (λ e. BreaksWhole p q e stream_at)
     → IfErr result (StopsAt p.left q.left)
 stops_there p q (Ok graph) start stop breaks = tt
 stops_there p q (Err e) start stop breaks = record { start = p; stop = q; before = refl; after = refl; first = start; limit = stop; is = breaks }

@@ -18,7 +18,8 @@ use Rattle.rmi_cli.specs.declared.end.RunEnd.{RunEnd}
 use Rattle.rmi_cli.specs.declared.end.RunEnd.TheVariants as ends
 use Rattle.rmi_cli.specs.Answer.{IsOutside}
 use Rattle.rmi_cli.specs.Line.{status_of_fault}
-use Rattle.rmi_cli.specs.Shown.{stream_bytes, TakesGraph, ShowEnds, told_kind, told_fault, EndsExactly, ShowsExactly}
+use Rattle.ser_values.specs.declared.limits.TheConstants.{MESSAGE_BYTES}
+use Rattle.rmi_cli.specs.Shown.{TakesGraph, ShowEnds, told_kind, told_fault, EndsExactly, ShowsExactly}
 use Rattle.rmi_cli.specs.Told.{Told, TellsExactly, Tells}
 use Rattle.rmi_cli.proofs.Once.{whole_is}
 
@@ -74,7 +75,7 @@ abbrev Answer : Type 0
 Answer = List Node × List Item
 
 record TookAll (left : Option (List ℕ)) (nodes : List Node) (items : List Item) (input : List ℕ) : Type 0 where
-  within : length input ≤ stream_bytes
+  within : length input ≤ MESSAGE_BYTES
   nothing : left ≡ Some []
   read : stream_of input ≡ Ok (nodes, items)
 
@@ -82,7 +83,7 @@ took_all : (before after : Option (List ℕ)) (nodes : List Node) (items : List 
 took_all before after nodes items input takes told =
     let all = whole_is input takes.input after (sym told ∙ takes.left) takes.nothing in
     record {
-      within = subst (λ (i : List ℕ). length i ≤ stream_bytes) all.0 takes.short;
+      within = subst (λ (i : List ℕ). length i ≤ MESSAGE_BYTES) all.0 takes.short;
       nothing = all.1;
       read = subst (λ (i : List ℕ). stream_of i ≡ Ok (nodes, items)) all.0 takes.read;
     }
@@ -104,7 +105,7 @@ text_is old new nodes others items contents input all is held =
 reads_on : (left : Option (List ℕ)) (nodes : List Node) (items : List Item) (input : List ℕ) (f : Fault) → TookAll left nodes items input → stream_of input ≡ Err f → ⊥
 reads_on left nodes items input f all stops = no_stop (nodes, items) f (sym all.read ∙ stops)
 
-no_room : (left : Option (List ℕ)) (nodes : List Node) (items : List Item) (input : List ℕ) → TookAll left nodes items input → stream_bytes < length input → ⊥
+no_room : (left : Option (List ℕ)) (nodes : List Node) (items : List Item) (input : List ℕ) → TookAll left nodes items input → MESSAGE_BYTES < length input → ⊥
 no_room left nodes items input all long = omega (arith, all.within, long)
 
 -- ---- ends
@@ -143,7 +144,7 @@ ends_exactly old new (ends.NotShown fault) (is_fault, stops_at, held) = record {
   stream = λ nodes items input told short is. inr (outside_stops fault (faults.Truncated (length input)) nodes items input is (is_fault.within input told short));
   within = λ input f told short stops. ended_at old new fault (faults.Truncated (length input)) f (stream_of input) held (is_fault.within input told short) stops;
   past = λ input f told long stops.
-      ended_at old new fault (faults.TooLarge Bytes stream_bytes) f (going_on (stream_at stream_bytes (take stream_bytes input))) held (is_fault.past input told long) stops;
+      ended_at old new fault (faults.TooLarge Bytes MESSAGE_BYTES) f (going_on (stream_at MESSAGE_BYTES (take MESSAGE_BYTES input))) held (is_fault.past input told long) stops;
 }
 ends_exactly old new ends.ListenFault e = absurd e
 ends_exactly old new ends.AcceptFault e = absurd e

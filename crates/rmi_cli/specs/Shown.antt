@@ -3,6 +3,7 @@ use Rattle.std.specs.Prelude.{◌≡◌, ℕ, ◌<◌, ◌≤◌, ◌⊎◌, Lis
 use Rattle.class_desc.specs.declared.slot.Item.{Item}
 use Rattle.wire_io.specs.Wire.{Wires, with_front, with_end, NothingLeft}
 use Rattle.wire_io.specs.Pulled.{Place}
+use Rattle.ser_values.specs.declared.limits.TheConstants.{MESSAGE_BYTES, PARTS}
 use Rattle.ser_values.specs.declared.node.Node.{Node}
 use Rattle.ser_values.specs.Shape.{parts_in}
 use Rattle.ser_values.specs.Spelled.{IsStream}
@@ -21,24 +22,20 @@ use Rattle.rmi_cli.specs.Told.{Told, TellsExactly, Tells}
 use Rattle.rmi_cli.specs.declared.end.RunEnd.{RunEnd}
 use Rattle.rmi_cli.specs.declared.end.RunEnd.TheVariants.{Done, Usage, Answered, BadLine, Refused, TooLarge, NotShown, ListenFault, AcceptFault, ReadFault, WriteFault, OutOfMemory}
 
--- how many bytes a stream has at most
-abbrev pub stream_bytes : ℕ
-stream_bytes = 16777216
-
 -- The whole input was taken, within the limit, and is a stream of these nodes and items: by the grammar, and read from left to right.
 pub record TakesGraph (left_before left_after : Option (List ℕ)) (nodes : List Node) (items : List Item) : Type 0 where
   pub input : List ℕ
   pub left : left_before ≡ with_front input left_after
   pub nothing : NothingLeft left_after
-  pub short : length input ≤ stream_bytes
+  pub short : length input ≤ MESSAGE_BYTES
   pub stream : IsStream nodes items input
-  pub parts : parts_in nodes ≤ 1048576
+  pub parts : parts_in nodes ≤ PARTS
   pub read : stream_of input ≡ Ok (nodes, items)
 
 -- Where the input is told, this is the fault at which reading it from left to right stops, or there are too many bytes.
 pub record IsFaultOf (left : Option (List ℕ)) (fault : StreamFault) : Type 0 where
-  pub within : (input : List ℕ) → left ≡ Some input → length input ≤ stream_bytes → Fails (faults.Truncated (length input)) fault (stream_of input)
-  pub past : (input : List ℕ) → left ≡ Some input → stream_bytes < length input → Fails (faults.TooLarge Bytes stream_bytes) fault (going_on (stream_at stream_bytes (take stream_bytes input)))
+  pub within : (input : List ℕ) → left ≡ Some input → length input ≤ MESSAGE_BYTES → Fails (faults.Truncated (length input)) fault (stream_of input)
+  pub past : (input : List ℕ) → left ≡ Some input → MESSAGE_BYTES < length input → Fails (faults.TooLarge Bytes MESSAGE_BYTES) fault (going_on (stream_at MESSAGE_BYTES (take MESSAGE_BYTES input)))
 
 -- What was taken of the input, told or not, comes to this fault and goes no further.
 pub record StopsAt (left_before left_after : Option (List ℕ)) (fault : StreamFault) : Type 0 where
@@ -47,7 +44,7 @@ pub record StopsAt (left_before left_after : Option (List ℕ)) (fault : StreamF
   pub before : start.left ≡ left_before
   pub after : stop.left ≡ left_after
   pub first : start.at ≡ 0
-  pub limit : start.stop ≡ stream_bytes
+  pub limit : start.stop ≡ MESSAGE_BYTES
   pub is : BreaksWhole start stop fault stream_at
 
 -- What each end says of the input, and what was written.
@@ -95,13 +92,13 @@ told_fault after (too_deep at) = faults.TooLarge Depth at
 -- past the limit as much of it as a stream may have, stops at a fault, that fault is the end, and nothing was written. Unless the outside
 -- failed, by the status. `Ends` says that the run ended so.
 pub record ExactlyShown (Ends : RunEnd → Type 0) (status : ℕ) (old new : Wires) : Type 0 where
-  pub stream : (nodes : List Node) (items : List Item) (input : List ℕ) → old.left ≡ Some input → length input ≤ stream_bytes → IsStream nodes items input
+  pub stream : (nodes : List Node) (items : List Item) (input : List ℕ) → old.left ≡ Some input → length input ≤ MESSAGE_BYTES → IsStream nodes items input
       → (Ends Done × (new.left ≡ Some []) × (new.held ≡ with_end old.held (graph_text nodes items))) ⊎ IsOutside status
-  pub within : (input : List ℕ) (fault : Fault) → old.left ≡ Some input → length input ≤ stream_bytes → stream_of input ≡ Err fault
+  pub within : (input : List ℕ) (fault : Fault) → old.left ≡ Some input → length input ≤ MESSAGE_BYTES → stream_of input ≡ Err fault
       → (Ends (NotShown (told_fault (faults.Truncated (length input)) fault)) × (new.held ≡ old.held)) ⊎ IsOutside status
-  pub past : (input : List ℕ) (fault : Fault) → old.left ≡ Some input → stream_bytes < length input
-      → going_on (stream_at stream_bytes (take stream_bytes input)) ≡ Err fault
-      → (Ends (NotShown (told_fault (faults.TooLarge Bytes stream_bytes) fault)) × (new.held ≡ old.held)) ⊎ IsOutside status
+  pub past : (input : List ℕ) (fault : Fault) → old.left ≡ Some input → MESSAGE_BYTES < length input
+      → going_on (stream_at MESSAGE_BYTES (take MESSAGE_BYTES input)) ≡ Err fault
+      → (Ends (NotShown (told_fault (faults.TooLarge Bytes MESSAGE_BYTES) fault)) × (new.held ≡ old.held)) ⊎ IsOutside status
 
 -- The end is this one.
 abbrev pub EndsExactly : Wires → Wires → RunEnd → Type 0
