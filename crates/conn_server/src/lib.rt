@@ -14,6 +14,6 @@ mod started;
 
 pub use accepts::Stop;
 pub use crew::Crew;
-pub use jobs::LinkReport;
+pub use jobs::{Done, Guest, Job, JobKept, LinkReport};
 pub use plan::ServePlan;
-pub use server::{LinkReports, Report, serve};
+pub use server::{LinkReports, Outcome, Report, serve};
