@@ -11,8 +11,8 @@ use Rattle.history.specs.Table.{places}
 use Rattle.wire_io.specs.Wire.{Wires}
 use Rattle.drill.specs.Rounds.{drill_config, drilled}
 use Rattle.drill.specs.Runs.{StopsIn, EndsIn}
-use Rattle.rmi_cli.specs.Drilled.{TakesAll, IsStopped, Stops, Drills, DrillsExactly}
-use Rattle.rmi_cli.specs.Replay.{IsTaken, AllTaken}
+use Rattle.rmi_cli.specs.Drilled.{TakesAll, IsStopped, DrillStops, Drills, DrillsExactly}
+use Rattle.rmi_cli.specs.Replay.{EventIsTaken, AllTaken}
 use Rattle.rmi_cli.specs.Told.{Told}
 use Rattle.rmi_cli.specs.declared.words.DrillText.{DrillText}
 use Rattle.rmi_cli.specs.declared.end.RunEnd.TheVariants as ends
@@ -20,11 +20,11 @@ use Rattle.rmi_cli.specs.declared.end.RunEnd.TheVariants as ends
 -- ---- legal histories
 
 -- A step leaves the history, or takes its event.
-one_step : (config : SpaceConfig) (h next : List Event) (e : Event) (a : Result Turn Refused) → Step config h e a next → (next ≡ h) ⊎ (IsTaken config h e × (next ≡ h ++ e ∷ []))
+one_step : (config : SpaceConfig) (h next : List Event) (e : Event) (a : Result Turn Refused) → Step config h e a next → (next ≡ h) ⊎ (EventIsTaken config h e × (next ≡ h ++ e ∷ []))
 one_step config h next e a (inr q) = inl q.1
 one_step config h next e a (inl p) = go (refusal limits config (places config h) e) refl p.1
   where
-    go : (r : Option Refused) → refusal limits config (places config h) e ≡ r → next ≡ history_with h e r → (next ≡ h) ⊎ (IsTaken config h e × (next ≡ h ++ e ∷ []))
+    go : (r : Option Refused) → refusal limits config (places config h) e ≡ r → next ≡ history_with h e r → (next ≡ h) ⊎ (EventIsTaken config h e × (next ≡ h ++ e ∷ []))
     go None is left = inr (is, left)
     go (Some refused) is left = inl left
 
@@ -37,7 +37,7 @@ steps_taken config h (e ∷ events) [] h2 s = absurd s
 steps_taken config h (e ∷ events) (a ∷ given) h2 (next, step, steps) =
     on (one_step config h next e a step) (steps_taken config next events given h2 steps)
   where
-    on : (next ≡ h) ⊎ (IsTaken config h e × (next ≡ h ++ e ∷ [])) → (more : List Event) × (h2 ≡ next ++ more) × AllTaken config next more
+    on : (next ≡ h) ⊎ (EventIsTaken config h e × (next ≡ h ++ e ∷ [])) → (more : List Event) × (h2 ≡ next ++ more) × AllTaken config next more
         → (more : List Event) × (h2 ≡ h ++ more) × AllTaken config h more
     on (inl same) (more, is, taken) =
         let P : List Event → Type 0 = λ g. AllTaken config g more in (more, is ∙ ap (λ g. g ++ more) same, subst P same taken)
@@ -51,10 +51,10 @@ legal_taken config h (events, given, steps) =
     let P : List Event → Type 0 = λ g. AllTaken config [] g in subst P (sym went.1) went.2
 
 -- Among events that are all taken there is no cause to refuse one.
-taken_there : (config : SpaceConfig) (h front : List Event) (e : Event) (rest : List Event) → AllTaken config h (front ++ e ∷ rest) → IsTaken config (h ++ front) e
-taken_there config h [] e rest taken = let P : List Event → Type 0 = λ g. IsTaken config g e in subst P (sym (append-nil h)) taken.0
+taken_there : (config : SpaceConfig) (h front : List Event) (e : Event) (rest : List Event) → AllTaken config h (front ++ e ∷ rest) → EventIsTaken config (h ++ front) e
+taken_there config h [] e rest taken = let P : List Event → Type 0 = λ g. EventIsTaken config g e in subst P (sym (append-nil h)) taken.0
 taken_there config h (x ∷ front) e rest taken =
-    let P : List Event → Type 0 = λ g. IsTaken config g e in
+    let P : List Event → Type 0 = λ g. EventIsTaken config g e in
     subst P (append_assoc h (x ∷ []) front) (taken_there config (h ++ x ∷ []) front e rest taken.1)
 
 -- ---- drills
@@ -76,7 +76,7 @@ stopped_in seed rounds cause s = record {
   refused = s.cause;
 }
 
-pub stops : (seed rounds : ℕ) (refused : Refused) → EndsIn drill_config [] (drilled seed rounds) refused → Stops seed rounds refused
+pub stops : (seed rounds : ℕ) (refused : Refused) → EndsIn drill_config [] (drilled seed rounds) refused → DrillStops seed rounds refused
 stops seed rounds HistoryFull (inl memory) = absurd (cc)
 stops seed rounds HistoryFull (inr s) = stopped_in seed rounds HistoryFull s
 stops seed rounds (Full kind) (inl memory) = absurd (cc)

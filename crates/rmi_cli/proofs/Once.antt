@@ -14,7 +14,7 @@ use Rattle.rmi_cli.specs.declared.outlines.ReplayFault.TheVariants.{BadLine, Ref
 use Rattle.rmi_cli.specs.declared.end.RunEnd.{RunEnd}
 use Rattle.rmi_cli.specs.declared.end.RunEnd.TheVariants as ends
 use Rattle.rmi_cli.specs.Answer.{IsOutside}
-use Rattle.rmi_cli.specs.Replay.{IsTaken, BeginsWith, Opens, Stops, AllTaken, IsJournalUpTo, Replays}
+use Rattle.rmi_cli.specs.Replay.{EventIsTaken, BeginsWith, Opens, ReplayStops, AllTaken, IsJournalUpTo, Replays}
 use Rattle.rmi_cli.specs.declared.journal_input.TheConstants.{JOURNAL_BYTES}
 use Rattle.rmi_cli.specs.Replayed.{TakesWhole, ReplayEnds, end_of, output_of, ReplaysExactly}
 use Rattle.rmi_cli.specs.Told.{Told, TellsExactly, Tells}
@@ -34,7 +34,7 @@ IsKnown (Err OutOfMemory) = ⊥
 
 -- Lines stop in one way.
 same_stop : (config : SpaceConfig) (h : List Event) (rest : List ℕ) (number : ℕ) (a b : Result (Unit {0}) ReplayFault) → IsKnown a → IsKnown b
-    → Stops config h rest number a → Stops config h rest number b → a ≡ b
+    → ReplayStops config h rest number a → ReplayStops config h rest number b → a ≡ b
 same_stop config h rest number (Err OutOfMemory) b known_a known_b of_a of_b = absurd known_a
 same_stop config h rest number a (Err OutOfMemory) known_a known_b of_a of_b = absurd known_b
 same_stop config h rest number (Ok u) (Ok v) known_a known_b of_a of_b = refl
@@ -49,7 +49,7 @@ same_stop config h rest number (Err RefusedTurn) (Err RefusedTurn) known_a known
 
 -- Where the first line spells an event that is taken, lines don't stop.
 no_stop : (config : SpaceConfig) (h : List Event) (rest : List ℕ) (number : ℕ) (stop : Result (Unit {0}) ReplayFault) (y : Event) → IsKnown stop
-    → BeginsWith config rest y → IsTaken config h y → Stops config h rest number stop → ⊥
+    → BeginsWith config rest y → EventIsTaken config h y → ReplayStops config h rest number stop → ⊥
 no_stop config h rest number (Ok u) y known (line, more, spells, is) taken stops = no_lines line more (sym stops ∙ is)
 no_stop config h rest number (Err (BadLine n)) y known begins taken stops = stops.1 y begins
 no_stop config h rest number (Err OutOfMemory) y known begins taken stops = known
@@ -61,32 +61,32 @@ no_stop config h rest number (Err RefusedTurn) y known (line, more, spells, is) 
 
 -- The same stop after one more event.
 shifted : (config : SpaceConfig) (h : List Event) (e : Event) (events : List Event) (rest : List ℕ) (number : ℕ) (stop : Result (Unit {0}) ReplayFault)
-    → Stops config (h ++ e ∷ events) rest (number + length (e ∷ events)) stop → Stops config ((h ++ e ∷ []) ++ events) rest (number + 1 + length events) stop
+    → ReplayStops config (h ++ e ∷ events) rest (number + length (e ∷ events)) stop → ReplayStops config ((h ++ e ∷ []) ++ events) rest (number + 1 + length events) stop
 shifted config h e events rest number stop stops =
-    let P : List Event → Type 0 = λ g. Stops config g rest (number + length (e ∷ events)) stop in
-    let Q : ℕ → Type 0 = λ n. Stops config ((h ++ e ∷ []) ++ events) rest n stop in
+    let P : List Event → Type 0 = λ g. ReplayStops config g rest (number + length (e ∷ events)) stop in
+    let Q : ℕ → Type 0 = λ n. ReplayStops config ((h ++ e ∷ []) ++ events) rest n stop in
     let count : number + length (e ∷ events) ≡ number + 1 + length events = omega arith in
     subst Q count (subst P (sym (append_assoc h (e ∷ []) events)) stops)
 
 -- Lines are taken in one way up to a stop.
 walk : (config : SpaceConfig) (h xs ys : List Event) (bytes r s : List ℕ) (number : ℕ) (a b : Result (Unit {0}) ReplayFault) → IsKnown a → IsKnown b
-    → SpellsFront config.uid xs bytes r → AllTaken config h xs → Stops config (h ++ xs) r (number + length xs) a
-    → SpellsFront config.uid ys bytes s → AllTaken config h ys → Stops config (h ++ ys) s (number + length ys) b → (xs ≡ ys) × (a ≡ b)
+    → SpellsFront config.uid xs bytes r → AllTaken config h xs → ReplayStops config (h ++ xs) r (number + length xs) a
+    → SpellsFront config.uid ys bytes s → AllTaken config h ys → ReplayStops config (h ++ ys) s (number + length ys) b → (xs ≡ ys) × (a ≡ b)
 walk config h [] [] bytes r s number a b known_a known_b of_x taken_x stops_a of_y taken_y stops_b =
-    let P : List ℕ → Type 0 = λ t. Stops config (h ++ []) t (number + 0) a in
+    let P : List ℕ → Type 0 = λ t. ReplayStops config (h ++ []) t (number + 0) a in
     (refl, same_stop config (h ++ []) s (number + 0) a b known_a known_b (subst P (sym of_x ∙ of_y) stops_a) stops_b)
 walk config h [] (y ∷ ys) bytes r s number a b known_a known_b of_x taken_x stops_a (line, others, one, more, is) taken_y stops_b =
-    let P : List Event → Type 0 = λ g. IsTaken config g y in
+    let P : List Event → Type 0 = λ g. EventIsTaken config g y in
     absurd (no_stop config (h ++ []) r (number + 0) a y known_a (line, others, one, sym of_x ∙ is) (subst P (sym (append-nil h)) taken_y.0) stops_a)
 walk config h (x ∷ xs) [] bytes r s number a b known_a known_b (line, others, one, more, is) taken_x stops_a of_y taken_y stops_b =
-    let P : List Event → Type 0 = λ g. IsTaken config g x in
+    let P : List Event → Type 0 = λ g. EventIsTaken config g x in
     absurd (no_stop config (h ++ []) s (number + 0) b x known_b (line, others, one, sym of_y ∙ is) (subst P (sym (append-nil h)) taken_x.0) stops_b)
 walk config h (x ∷ xs) (y ∷ ys) bytes r s number a b known_a known_b (line, others, one, more, is) taken_x stops_a (line2, others2, one2, more2, is2) taken_y stops_b =
     let same = line_injective 10 line line2 others others2 (event_lacks config.uid x line one) (event_lacks config.uid y line2 one2) (sym is ∙ is2) in
     let head : x ≡ y = event_once config.uid x y line one (subst (SpellsEvent config.uid y) (sym same.0) one2) in
     let F : List ℕ → Type 0 = λ t. SpellsFront config.uid ys t s in
     let T : Event → Type 0 = λ e. AllTaken config (h ++ e ∷ []) ys in
-    let S : Event → Type 0 = λ e. Stops config ((h ++ e ∷ []) ++ ys) s (number + 1 + length ys) b in
+    let S : Event → Type 0 = λ e. ReplayStops config ((h ++ e ∷ []) ++ ys) s (number + 1 + length ys) b in
     let tail = walk config (h ++ x ∷ []) xs ys others r s (number + 1) a b known_a known_b more taken_x.1 (shifted config h x xs r number a stops_a)
     (subst F (sym same.1) more2) (subst T (sym head) taken_y.1) (subst S (sym head) (shifted config h y ys s number b stops_b)) in
     (ap (λ e. e ∷ xs) head ∙ ap (λ es. y ∷ es) tail.0, tail.1)
@@ -107,7 +107,7 @@ record Went (input : List ℕ) (answer : Result (List ℕ) ReplayFault) : Type 0
   events : List Event
   rest : List ℕ
   up : IsJournalUpTo input config events rest
-  stops : Stops config events rest (2 + length events) (stop_of answer)
+  stops : ReplayStops config events rest (2 + length events) (stop_of answer)
   says : Says config events answer
 
 -- Its first line spells no configuration, and this is the answer.
@@ -153,7 +153,7 @@ went_once input a b known_a known_b w v = by_opens w.up.opens v.up.opens
         let F : SpaceConfig → Type 0 = λ c. SpellsFront c.uid v.events v.up.lines v.rest in
         let L : List ℕ → Type 0 = λ l. SpellsFront w.config.uid v.events l v.rest in
         let T : SpaceConfig → Type 0 = λ c. AllTaken c [] v.events in
-        let S : SpaceConfig → Type 0 = λ c. Stops c v.events v.rest (2 + length v.events) (stop_of b) in
+        let S : SpaceConfig → Type 0 = λ c. ReplayStops c v.events v.rest (2 + length v.events) (stop_of b) in
         let all = walk w.config [] w.events v.events w.up.lines w.rest v.rest 2 (stop_of a) (stop_of b) (known_stop a known_a) (known_stop b known_b)
         w.up.spelled w.up.taken w.stops (subst L same.1 (subst F config v.up.spelled)) (subst T config v.up.taken) (subst S config v.stops) in
         same_answer w.config v.config w.events v.events a b config all.0 w.says v.says all.1

@@ -19,7 +19,7 @@ use Rattle.space.proofs.ListLaws.{taken-after}
 use Rattle.rmi_cli.specs.declared.outlines.ReplayFault.{ReplayFault}
 use Rattle.rmi_cli.specs.declared.outlines.ReplayFault.TheVariants.{BadLine, Refused as RefusedTurn, OutOfMemory}
 use Rattle.history.specs.Outline.{outline}
-use Rattle.rmi_cli.specs.Replay.{IsTaken, TakesLines, BeginsWith, BeginsBadly, Opens, Stops, Goes, AllTaken, IsJournalUpTo, Outlines, Replays}
+use Rattle.rmi_cli.specs.Replay.{EventIsTaken, TakesLines, BeginsWith, FirstLineIsBad, Opens, ReplayStops, Goes, AllTaken, IsJournalUpTo, Outlines, Replays}
 use Rattle.rmi_cli.specs.Batches.{TakesLine, SpellsLines, HasRead, AreTaken, Halt, Halts, fault_of, TakesTo}
 
 -- ---- lines and their ends
@@ -106,7 +106,7 @@ in_two config (e ∷ front) more lines (rest, (line, spells, is), others) =
 
 -- ---- turns
 
-was_taken : (config : SpaceConfig) (h h2 : List Event) (e : Event) (turn : Turn) → Step config h e (Ok turn) h2 → IsTaken config h e
+was_taken : (config : SpaceConfig) (h h2 : List Event) (e : Event) (turn : Turn) → Step config h e (Ok turn) h2 → EventIsTaken config h e
 was_taken config h h2 e turn (inl p) = go (refusal limits config (places config h) e) p.0
   where
     go : (r : Option Refused) → Ok turn ≡ answer_with config h e r → r ≡ None
@@ -190,7 +190,7 @@ takes_to config h events h2 lines rest number next read taken is = record {
 }
 
 -- They are taken, and the line after them is bad.
-pub bad_next : (config : SpaceConfig) (h : List Event) (lines rest : List ℕ) (number next : ℕ) (h2 : List Event) → TakesTo config h lines number rest next h2 → BeginsBadly config rest
+pub bad_next : (config : SpaceConfig) (h : List Event) (lines rest : List ℕ) (number next : ℕ) (h2 : List Event) → TakesTo config h lines number rest next h2 → FirstLineIsBad config rest
     → Goes config h lines number (Err (BadLine next)) h2
 bad_next config h lines rest number next h2 t bad = record {
   events = t.events;
@@ -204,7 +204,7 @@ bad_next config h lines rest number next h2 t bad = record {
 
 -- One of them spells an event that is refused.
 stops_there : (config : SpaceConfig) (h events : List Event) (lines rest : List ℕ) (number : ℕ) (fault : ReplayFault) → SpellsLines config events lines → Halt config h events fault
-    → Stops config h (lines ++ rest) number (Err fault)
+    → ReplayStops config h (lines ++ rest) number (Err fault)
 stops_there config h events lines rest number (BadLine line) s halt = absurd halt
 stops_there config h events lines rest number RefusedTurn s (e, more, is, cause) =
     let P : List Event → Type 0 = λ es. SpellsLines config es lines in (e, begins (subst P is s), cause)
@@ -232,7 +232,7 @@ pub goes_on : (config : SpaceConfig) (h mid : List Event) (lines more : List ℕ
     → TakesTo config h lines number more next mid → Goes config mid more next stop h2 → Goes config h lines number stop h2
 goes_on config h mid lines more number next stop h2 t goes =
     let P : List Event → Type 0 = λ g. TakesLines config g goes.events goes.front in
-    let Q : ℕ → Type 0 = λ n. Stops config h2 goes.rest n stop in
+    let Q : ℕ → Type 0 = λ n. ReplayStops config h2 goes.rest n stop in
     let count : next + length goes.events ≡ number + length (t.events ++ goes.events) = omega (arith, t.next_is, length-append t.events goes.events) in record {
       events = t.events ++ goes.events;
       front = t.front ++ goes.front;
@@ -245,7 +245,7 @@ goes_on config h mid lines more number next stop h2 t goes =
 
 -- No line is taken here.
 pub stops_here : (config : SpaceConfig) (h : List Event) (lines : List ℕ) (number : ℕ) (stop : Result (Unit {0}) ReplayFault)
-    → Stops config h lines number stop → Goes config h lines number stop h
+    → ReplayStops config h lines number stop → Goes config h lines number stop h
 stops_here config h lines number stop stops = record {
   events = [];
   front = [];
@@ -253,7 +253,7 @@ stops_here config h lines number stop stops = record {
   lines_are = refl;
   taken = refl;
   after = sym (append-nil h);
-  stops = subst (λ n. Stops config h lines n stop) (omega arith) stops;
+  stops = subst (λ n. ReplayStops config h lines n stop) (omega arith) stops;
 }
 
 -- ---- the first of some lines
@@ -314,6 +314,6 @@ pub not_all : (input : List ℕ) (config : SpaceConfig) (lines : List ℕ) (faul
 not_all input config lines (BadLine n) h2 opens goes =
     inr (config, goes.events, goes.rest, up_to input config lines (Err (BadLine n)) h2 opens goes, (goes.stops.0, goes.stops.1), goes.stops.2)
 not_all input config lines RefusedTurn h2 opens goes =
-    let P : List Event → Type 0 = λ h. Stops config h goes.rest (2 + length goes.events) (Err RefusedTurn) in
+    let P : List Event → Type 0 = λ h. ReplayStops config h goes.rest (2 + length goes.events) (Err RefusedTurn) in
     (config, goes.events, goes.rest, up_to input config lines (Err RefusedTurn) h2 opens goes, subst P goes.after goes.stops)
 not_all input config lines OutOfMemory h2 opens goes = tt

@@ -11,7 +11,7 @@ use Rattle.rmi_cli.specs.declared.outlines.ReplayFault.{ReplayFault}
 use Rattle.rmi_cli.specs.declared.outlines.ReplayFault.TheVariants.{BadLine, Refused as RefusedTurn, OutOfMemory}
 use Rattle.rmi_cli.specs.declared.outlines.LineFault.{LineFault}
 use Rattle.rmi_cli.specs.declared.outlines.LineFault.TheVariants.{Bad, OutOfMemory as NoRoom}
-use Rattle.rmi_cli.specs.Replay.{IsTaken, TakesLines, BeginsWith}
+use Rattle.rmi_cli.specs.Replay.{EventIsTaken, TakesLines, BeginsWith}
 
 -- ---- reading
 
@@ -40,7 +40,7 @@ pub record HasRead (config : SpaceConfig) (lines : List ℕ) (events : List Even
 -- After the history h these events are all taken, and leave the history h2.
 abbrev pub AreTaken : SpaceConfig → List Event → List Event → List Event → Type 0
 AreTaken config h [] h2 = h2 ≡ h
-AreTaken config h (e ∷ events) h2 = IsTaken config h e × AreTaken config (h ++ e ∷ []) events h2
+AreTaken config h (e ∷ events) h2 = EventIsTaken config h e × AreTaken config (h ++ e ∷ []) events h2
 
 -- Why none of these events is taken after the history h; want of memory says nothing of it.
 abbrev pub Halt : SpaceConfig → List Event → List Event → ReplayFault → Type 0

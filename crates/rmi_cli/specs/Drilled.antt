@@ -41,10 +41,10 @@ pub record IsStopped (seed rounds : ℕ) : Type 0 where
   pub refused : refusal limits drill_config (places drill_config front) event ≡ Some cause
 
 -- Why a drill's events were not all taken; want of memory says nothing of it.
-abbrev pub Stops : ℕ → ℕ → Refused → Type 0
-Stops seed rounds HistoryFull = IsStopped seed rounds
-Stops seed rounds (Full kind) = IsStopped seed rounds
-Stops seed rounds NoMemory = Unit {0}
+abbrev pub DrillStops : ℕ → ℕ → Refused → Type 0
+DrillStops seed rounds HistoryFull = IsStopped seed rounds
+DrillStops seed rounds (Full kind) = IsStopped seed rounds
+DrillStops seed rounds NoMemory = Unit {0}
 
 -- how a run ends where an event was refused
 abbrev pub end_of_refused : Refused → RunEnd

@@ -13,14 +13,14 @@ use Rattle.rmi_cli.specs.declared.outlines.ReplayFault.TheVariants.{BadLine, Ref
 -- ---- lines
 
 -- After the history h the event is taken: there is no cause to refuse it.
-abbrev pub IsTaken : SpaceConfig → List Event → Event → Type 0
-IsTaken config h e = refusal limits config (places config h) e ≡ None
+abbrev pub EventIsTaken : SpaceConfig → List Event → Event → Type 0
+EventIsTaken config h e = refusal limits config (places config h) e ≡ None
 
 -- These lines spell events that are taken, one after another, after the history h.
 abbrev pub TakesLines : SpaceConfig → List Event → List Event → List ℕ → Type 0
 TakesLines config h [] lines = lines ≡ []
 TakesLines config h (e ∷ events) lines =
-    (line : List ℕ) × (rest : List ℕ) × SpellsEvent config.uid e line × IsTaken config h e
+    (line : List ℕ) × (rest : List ℕ) × SpellsEvent config.uid e line × EventIsTaken config h e
     × TakesLines config (h ++ e ∷ []) events rest × (lines ≡ line ++ 10 ∷ rest)
 
 -- The first of these lines spells this event.
@@ -28,15 +28,15 @@ abbrev pub BeginsWith : SpaceConfig → List ℕ → Event → Type 0
 BeginsWith config lines e = (line : List ℕ) × (rest : List ℕ) × SpellsEvent config.uid e line × (lines ≡ line ++ 10 ∷ rest)
 
 -- There are lines, and the first of them spells no event.
-abbrev pub BeginsBadly : SpaceConfig → List ℕ → Type 0
-BeginsBadly config lines = (lines ≢ []) × ((e : Event) → BeginsWith config lines e → ⊥)
+abbrev pub FirstLineIsBad : SpaceConfig → List ℕ → Type 0
+FirstLineIsBad config lines = (lines ≢ []) × ((e : Event) → BeginsWith config lines e → ⊥)
 
 -- Why no more lines are taken after the history h: there are none; or the first is bad, whose number is told; or its event is refused.
-abbrev pub Stops : SpaceConfig → List Event → List ℕ → ℕ → Result (Unit {0}) ReplayFault → Type 0
-Stops config h lines number (Ok _) = lines ≡ []
-Stops config h lines number (Err (BadLine line)) = (lines ≢ []) × ((e : Event) → BeginsWith config lines e → ⊥) × (line ≡ number)
-Stops config h lines number (Err RefusedTurn) = (e : Event) × BeginsWith config lines e × ((cause : Refused) × (refusal limits config (places config h) e ≡ Some cause))
-Stops config h lines number (Err OutOfMemory) = Unit {0}
+abbrev pub ReplayStops : SpaceConfig → List Event → List ℕ → ℕ → Result (Unit {0}) ReplayFault → Type 0
+ReplayStops config h lines number (Ok _) = lines ≡ []
+ReplayStops config h lines number (Err (BadLine line)) = (lines ≢ []) × ((e : Event) → BeginsWith config lines e → ⊥) × (line ≡ number)
+ReplayStops config h lines number (Err RefusedTurn) = (e : Event) × BeginsWith config lines e × ((cause : Refused) × (refusal limits config (places config h) e ≡ Some cause))
+ReplayStops config h lines number (Err OutOfMemory) = Unit {0}
 
 -- After the history h these lines, the first of which has this number, are taken up to a stop, which leaves the history h2.
 pub record Goes (config : SpaceConfig) (h : List Event) (lines : List ℕ) (number : ℕ) (stop : Result (Unit {0}) ReplayFault) (h2 : List Event) : Type 0 where
@@ -46,7 +46,7 @@ pub record Goes (config : SpaceConfig) (h : List Event) (lines : List ℕ) (numb
   pub lines_are : lines ≡ front ++ rest
   pub taken : TakesLines config h events front
   pub after : h2 ≡ h ++ events
-  pub stops : Stops config h2 rest (number + length events) stop
+  pub stops : ReplayStops config h2 rest (number + length events) stop
 
 -- ---- the whole input
 
@@ -57,7 +57,7 @@ Opens input config lines = (line : List ℕ) × SpellsConfig config line × (inp
 -- After the history h these events are all taken, one after another.
 abbrev pub AllTaken : SpaceConfig → List Event → List Event → Type 0
 AllTaken config h [] = Unit {0}
-AllTaken config h (e ∷ events) = IsTaken config h e × AllTaken config (h ++ e ∷ []) events
+AllTaken config h (e ∷ events) = EventIsTaken config h e × AllTaken config (h ++ e ∷ []) events
 
 -- The input is a journal up to this rest: of this configuration and of these events, which are all taken.
 pub record IsJournalUpTo (input : List ℕ) (config : SpaceConfig) (events : List Event) (rest : List ℕ) : Type 0 where
@@ -75,7 +75,7 @@ Outlines input output =
 abbrev pub IsBadLine : List ℕ → ℕ → Type 0
 IsBadLine input number =
     ((number ≡ 1) × ((config : SpaceConfig) (lines : List ℕ) → Opens input config lines → ⊥))
-    ⊎ ((config : SpaceConfig) × (events : List Event) × (rest : List ℕ) × IsJournalUpTo input config events rest × BeginsBadly config rest × (number ≡ 2 + length events))
+    ⊎ ((config : SpaceConfig) × (events : List Event) × (rest : List ℕ) × IsJournalUpTo input config events rest × FirstLineIsBad config rest × (number ≡ 2 + length events))
 
 -- A turn is refused after lines that were all taken.
 abbrev pub IsRefused : List ℕ → Type 0

@@ -2,7 +2,7 @@
 ghost use Rattle.std.specs.Prelude.{◌≡◌, ◌≢◌, ◌≤◌, IfOk, IfErr};
 ghost use Rattle.wire_io.specs.Wire.{Rose};
 ghost use Rattle.drill.specs.Rounds.{drill_config, drilled};
-ghost use Rattle.rmi_cli.specs.Drilled.{text_of, drill_text, TakesAll, Stops, end_of_refused, DrillEnds};
+ghost use Rattle.rmi_cli.specs.Drilled.{text_of, drill_text, TakesAll, DrillStops, end_of_refused, DrillEnds};
 ghost use Rattle.rmi_cli.specs.Line.{status_of_run};
 
 use crate::end::RunEnd;
@@ -48,7 +48,7 @@ fn drilled_space(alloc: Global, seed: u64, rounds: u64) -> Result<Space, Refused
     requires { rounds ≤ 1000000 }
     ensures space { IfOk result (λ space. space ≡ record { configuration = drill_config; events = drilled seed rounds }) }
     ensures all { IfOk result (λ _. TakesAll seed rounds) }
-    ensures refused { IfErr result (Stops seed rounds) }
+    ensures refused { IfErr result (DrillStops seed rounds) }
 {
     match drill(alloc, seed, rounds) {
         Ok(space) => {

@@ -1,7 +1,7 @@
 //! `replay`: the outline of the history that a journal spells.
 ghost use Rattle.std.specs.Prelude.{◌≡◌, ◌≢◌, ◌<◌, ◌≤◌, ◌+◌, ◌^◌, [], true, false, IfOk, IfErr, OnOk, Err, length};
 ghost use Rattle.std.specs.List.{AllByRecursion};
-ghost use Rattle.rmi_cli.specs.Replay.{BeginsBadly, Goes, Replays};
+ghost use Rattle.rmi_cli.specs.Replay.{FirstLineIsBad, Goes, Replays};
 ghost use Rattle.rmi_cli.specs.Batches.{TakesLine, WasBad, HasRead, AreTaken, Halts, TakesTo, fault_of};
 
 use history::{Event, Refused, SpaceConfig};
@@ -125,7 +125,7 @@ fn read_batch<'a>(
 ) -> Result<Batch<'a>, AllocError>
     requires { lines.now ≢ [] }
     ensures read { IfOk result (λ batch. HasRead config.now lines.now batch.events.items batch.rest.now) }
-    ensures bad { IfOk result (λ batch. batch.is_bad ≡ true → BeginsBadly config.now batch.rest.now) }
+    ensures bad { IfOk result (λ batch. batch.is_bad ≡ true → FirstLineIsBad config.now batch.rest.now) }
     ensures fewer { IfOk result (λ batch. batch.is_bad ≡ false → length batch.rest.now < length lines.now) }
     ensures size { IfOk result (λ batch. length batch.events.items + length batch.rest.now ≤ length lines.now) }
 {
