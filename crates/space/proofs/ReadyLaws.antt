@@ -97,7 +97,7 @@ is-ready t {e} {a} {p} {noted} {time} {counted} {events} {runs} {withdrawn} {exp
       wait_room = omega (arith, count, waits_room);
     }))))
 
--- ---- what follows
+-- ---- what follows of a turn that may rely on it
 
 pub asked-when-ready : {t : Tables} {e : Event} {a : Admitted} {p : Prepared} {noted : Bool} (r : IsReady t e a p noted) →
     IsAsked t.config t.events.items e r.before t.exports t.runs.items t.withdrawn.items t.told t.added t.units t.moment a.effective
@@ -144,7 +144,7 @@ whole-when-ready {t} {e} {a} {p} {noted} {time} {place} {told} {added} {used} {w
       r.names_told,
     )
 
--- ---- what its parts require: the exported objects
+-- ---- what its parts require of the exported objects
 
 pub few-when-ready : {t : Tables} {e : Event} {a : Admitted} {p : Prepared} {noted : Bool} → IsReady t e a p noted → (o : ObjId) → running_of t.exports.rows o < 2 ^ 31
 few-when-ready {t} r o = few-run t.config t.events.items r.before t.exports t.runs.items t.withdrawn.items t.told t.added t.units t.moment r.keeps o
@@ -184,9 +184,11 @@ few-pins-when-ready {t} r o = few-pins t.config t.events.items r.before t.export
 pub bound-when-ready : {t : Tables} {e : Event} {a : Admitted} {p : Prepared} {noted : Bool} → IsReady t e a p noted → (o : ObjId) → a.effective ≡ true → object_bound e.ask ≡ Some o → is_exported t.exports.rows o ≡ true
 bound-when-ready {t} {e} {a} r o f b = bound-exported t.exports.rows t.runs.items a.stood e.by e.ask o (sym r.effective_is ∙ f) b
 
+-- There is room for the references that it returns, by what its name stands for.
 fits : {t : Tables} {e : Event} {a : Admitted} {p : Prepared} {noted : Bool} {time : ℕ} → IsReady t e a p noted → time ≡ max e.moment t.moment → await_refusal time t.exports.rows t.exports.waits (stood_for (places t.config t.events.items) e.ask) a.effective e.ask ≡ None
 fits {t} {e} {a} r at = ap (λ n. await_refusal n t.exports.rows t.exports.waits (stood_for (places t.config t.events.items) e.ask) a.effective e.ask) at ∙ (acted-when-ready r refl).fit
 
+-- These are what it returns, by the same.
 returns : {t : Tables} {e : Event} {a : Admitted} {p : Prepared} {noted : Bool} {seen : List ObjId} → IsReady t e a p noted → seen ≡ p.listed.references.items →
     seen ≡ returned_by t.exports.space t.exports.added t.exports.rows (stood_for (places t.config t.events.items) e.ask) a.effective e.ask
 returns {t} {e} {a} r see = references-when-ready r see ∙ ap (λ o. returned_by t.exports.space t.exports.added t.exports.rows o a.effective e.ask) r.stood_is
@@ -204,12 +206,12 @@ awaiting-when-ready {t} {e} {a} {p} {noted} {time} {seen} r at see o made listed
 pub wait-room-when-ready : {t : Tables} {e : Event} {a : Admitted} {p : Prepared} {noted : Bool} {seen : List ObjId} → IsReady t e a p noted → seen ≡ p.listed.references.items → length seen ≤ t.exports.room.waits
 wait-room-when-ready r see = let same = ap length see in let room = r.wait_room in omega (arith, same, room)
 
--- ---- the running calls, and the sums
+-- ---- the running calls
 
 pub few-calls-when-ready : {t : Tables} {e : Event} {a : Admitted} {p : Prepared} {noted : Bool} → IsReady t e a p noted → length t.runs.items < 2 ^ 31
 few-calls-when-ready {t} r = few-calls t.config t.events.items r.before t.exports t.runs.items t.withdrawn.items t.told t.added t.units t.moment r.keeps
 
--- ---- what goes
+-- ---- what its withdrawal requires
 
 pub log-when-ready : {t : Tables} {e : Event} {a : Admitted} {p : Prepared} {noted : Bool} → IsReady t e a p noted → HasLog t.leases
 log-when-ready {t} {e} {a} r =
@@ -233,6 +235,7 @@ among-when-ready {t} {e} {a} {p} {noted} {time} {exports} {seen} r at x see =
     (settled-but t.config t.events.items e r.before t.leases t.exports (acted a.stood a.effective time e.ask t.exports) t.runs.items t.withdrawn.items t.told t.added t.units t.moment a.effective (acted-when-ready r at) time p.listed.doubtful.items at
     (subst O r.stood_is (subst L r.references_are (subst N (sym at) r.doubtful_are))))
 
+-- There is room for the copy of what goes.
 pub copy-room-when-ready : {t : Tables} {e : Event} {a : Admitted} {p : Prepared} {noted : Bool} {seen : List ObjId} (gone : List ObjId) → IsReady t e a p noted → seen ≡ p.listed.doubtful.items → vec_len p.untold.gone ≡ length p.untold.gone.items →
     length gone ≤ length p.untold.gone.items + length seen → noted ≡ true → length gone ≤ vec_capacity p.untold.spare
 copy-room-when-ready gone r see untold few asked = let same = ap length see in let room = r.copy_room asked in omega (arith, same, untold, few, room)

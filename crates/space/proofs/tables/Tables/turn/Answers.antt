@@ -1,6 +1,7 @@
 use Rattle.std.proofs.Common.{◌≡◌, List, ◌∷◌, ◌++◌, [], ℕ, length, refl, ap, sym, subst, ◌∙◌, rules, arith, max, Ok, Err, Result, Option, None}
 use Rattle.std.specs.Prelude.{IfErr, option_and_then}
 use Rattle.object_ids.specs.declared.ids.ObjId.{ObjId}
+use Rattle.history.specs.declared.asks.Event.{Event}
 use Rattle.history.specs.declared.replies.Refused.{Refused}
 use Rattle.history.specs.declared.replies.Turn.{Turn}
 use Rattle.history.specs.LeaseCalls.{call_with}
@@ -12,10 +13,9 @@ use Rattle.export_table.specs.Table.{ExportTable}
 use Rattle.dgc_server.proofs.Told.{error-is}
 use Rattle.space.specs.Acts.{ForEachLogBy, event_of, effective_by, await_refusal, told_refusal, Agrees}
 use Rattle.space.proofs.TurnLaws.{room-step, await-step, memory-step, told-step, whole-err}
-use Rattle.space.proofs.ReadyLaws.{is-ready}
-use Rattle.history.specs.declared.asks.Event.{Event}
 use Rattle.space.proofs.AheadLaws.{room-grown, few-calls}
 use Rattle.space.proofs.AskLaws.{stood-is, keeps-roomy, asked, room-as, room-exports, room-units, returned-few}
+use Rattle.space.proofs.ReadyLaws.{is-ready}
 use Rattle.rmi_registry.specs.Named.{object_of}
 use Rattle.space.proofs.Bindings.{bindings-counted, bindings-same}
 use Rattle.space.proofs.tables.Tables.turn.Goals as goal
