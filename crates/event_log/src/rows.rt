@@ -422,7 +422,7 @@ fn number_of_name(names: &Names, ask: &Ask) -> Option<u32>
 }
 
 /// The name that is looked up, moved out of the ask.
-fn name_in(ask: Ask) -> Option<Name>
+fn looked_up_in(ask: Ask) -> Option<Name>
     ensures { result ≡ looked_up ask }
 {
     match ask {
@@ -505,7 +505,7 @@ fn add_name(names: &mut Names, number: u32, ask: Ask)
     ensures len { length names.new.list.items ≡ length names.old.list.items + 1 }
     ensures names { (more : List (List ℕ)) × (names.new.list.items ≡ names.old.list.items ++ more) }
 {
-    if let Some(name) = name_in(ask) {
+    if let Some(name) = looked_up_in(ask) {
         names.add(number, name);
     }
 }
