@@ -26,6 +26,9 @@ use space::Port;
 use std::alloc::Global;
 use wire_io::{Clock, Sink, Source};
 
+// How many bytes a message has at most is what the README says.
+const _: () = prove!(MESSAGE_BYTES == 16_777_216);
+
 /// How many messages a connection has at most.
 const MESSAGES: u32 = 1 << 28;
 

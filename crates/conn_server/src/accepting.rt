@@ -12,6 +12,7 @@ ghost use Rattle.call_dispatch.specs.declared.book.Kind.{Kind};
 ghost use Rattle.turn_lock.specs.Handles.{IsRootOf};
 ghost use Rattle.turn_lock.specs.Ports.{PassWent};
 ghost use Rattle.conn_server.specs.Accepts.{HasRoom, IsAccepting, IsNext, IsSame, shown_all, links_of, ticks_of};
+ghost use Rattle.conn_server.specs.Hands.{IsUntold};
 ghost use Rattle.conn_server.specs.Made.{gone_with, told_of, shown_guest, IsMadeFor, IsReady};
 ghost use Rattle.conn_server.specs.Plans.{link_terms};
 ghost use Rattle.conn_server.specs.Talks.{TalksOver};
@@ -149,6 +150,7 @@ fn prepare<G: Crew, I, O, T>(
 ) -> Result<Ready<G::Hand>, AllocError>
     requires host { length (utf plan.now.host) ≤ 255 }
     ensures calls { IfOk result (λ r. G.Hand.calls r.hand ≡ 0) }
+    ensures untold { IfOk result (λ r. IsUntold (G.Hand.seen r.hand)) }
     ensures terms { IfOk result (λ r. (kinds : List Kind) → terms_of kinds r.setup ≡ link_terms kinds plan.now by link.now.host link.now.port) }
     ensures peer_host { IfOk result (λ r. length (utf r.setup.peer_host) ≤ 255) }
     ensures host { IfOk result (λ r. length (utf r.setup.host) ≤ 255) }
@@ -172,7 +174,7 @@ fn make_ready<G: Crew, I: Source, O: Sink, T: Clock>(
     requires few { vec_len accepting.started < 65535 }
     ensures same { IsSame accepting result.0 }
     ensures room { IfSome result.1 (λ r. HasRoom result.0) }
-    ensures ready { IfSome result.1 (λ r. IsReady G.Hand.calls plan.now (vec_len accepting.started + 1) link.now.host link.now.port r) }
+    ensures ready { IfSome result.1 (λ r. IsReady G.Hand.calls G.Hand.seen plan.now (vec_len accepting.started + 1) link.now.host link.now.port r) }
 {
     let (accepting, room) = with_room(accepting);
     if !room {
@@ -319,7 +321,7 @@ fn welcome<R: Wait, I: Source + Drop, O: Sink + Drop, T: Clock + Drop, H: Worker
     requires turns { 0 < accepting.root.pass.room }
     requires few { vec_len accepting.started < 65535 }
     requires room { HasRoom accepting }
-    requires ready { IsReady H.calls plan.now (vec_len accepting.started + 1) link.host link.port ready }
+    requires ready { IsReady H.calls H.seen plan.now (vec_len accepting.started + 1) link.host link.port ready }
     ensures accepting { IsAccepting (TalksOver I.left O.held T.given H.calls H.seen H.state H.may H.moves book.now) (IsMadeFor I.left O.held T.given H.seen H.state H.moves plan.now) H.calls lock.now book.now result.0 }
     ensures turns { accepting.root.pass.room ≤ result.0.root.pass.room + 1 }
     ensures links { (result.0.started ≡ accepting.started) × (result.0.reports ≡ accepting.reports) }

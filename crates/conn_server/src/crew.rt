@@ -2,6 +2,7 @@
 ghost use Rattle.std.specs.Prelude.{◌≡◌, ℕ, List, Option, IfOk};
 ghost use Rattle.space.specs.declared.asked.Asked.{Asked};
 ghost use Rattle.call_dispatch.specs.Acts.{Led, tells_of};
+ghost use Rattle.conn_server.specs.Hands.{IsUntold};
 
 use call_dispatch::Worker;
 use object_ids::ObjId;
@@ -11,9 +12,10 @@ use std::alloc::AllocError;
 pub trait Crew: Sync {
     type Hand: Worker + Send + Drop;
 
-    /// The hand of connection `by`, which was given no invocation yet. It is refused only for want of memory.
+    /// The hand of connection `by`, which was given no invocation yet and told of no object. It is refused only for want of memory.
     fn hand(&self, by: u32) -> Result<Self::Hand, AllocError>
-        ensures calls { IfOk result (λ hand. Self.Hand.calls hand ≡ 0) };
+        ensures calls { IfOk result (λ hand. Self.Hand.calls hand ≡ 0) }
+        ensures untold { IfOk result (λ hand. IsUntold (Self.Hand.seen hand)) };
 }
 
 /// Tells a hand of each object that it is no longer exported.

@@ -24,3 +24,6 @@ pub use program::run;
 pub use stream_input::STREAM_BYTES;
 pub use terms::{ServeWords, Terms};
 pub use words::{Command, DrillText, Words};
+
+// How many bytes a journal has at most is what the README says.
+const _: () = prove!(JOURNAL_BYTES == 268_435_456);

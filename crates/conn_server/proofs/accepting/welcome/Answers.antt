@@ -21,7 +21,7 @@ returns-clause-next g c =
       made = made_for g.I.Source.left g.O.Sink.held g.T.Clock.given g.H.Worker.seen g.H.Worker.state g.H.Worker.moves c.args.plan.now _ _ c.args.link _ c.of-first.ensures
           (ap (λ n. n + 1) (sym count)) refl refl ready.terms
           (rw c.in-Some.is at t.asked) (rw c.in-Some.is at t.given)
-          (g.H.Worker.seen hand, g.H.Worker.state hand, rw c.in-Some.is at t.seen, rw c.in-Some.is at t.state);
+          (g.H.Worker.seen hand, g.H.Worker.state hand, ready.untold, rw c.in-Some.is at t.seen, rw c.in-Some.is at t.state);
       started = omega (arith, count, held, room);
       reports = omega (arith, count, kept, room2);
     }
