@@ -1,8 +1,10 @@
 -- What a listener tells as links are accepted one after another.
 use Rattle.std.proofs.Common.{◌≡◌, List, [], ◌∷◌, ◌++◌, refl, ap, sym, ◌∙◌, append_assoc, append-nil}
+use Rattle.std.proofs.lemmas.List.{map_push}
 use Rattle.std.specs.Prelude.{Option, Some, None}
-use Rattle.wire_io.specs.Links.{with_next}
-use Rattle.conn_server.specs.Accepts.{with_all}
+use Rattle.wire_io.specs.Links.{Accepted, with_next}
+use Rattle.space.specs.declared.asked.Asked.{Asked}
+use Rattle.conn_server.specs.Accepts.{links_of, ticks_of, with_all}
 
 pub with_none : {A : Type 0} (told : Option (List A)) → with_all told [] ≡ told
 with_none None = refl
@@ -19,3 +21,10 @@ one_more first before after xs x is then = then ∙ (ap (λ t. with_next t x) is
 -- None was.
 pub no_more : {A : Type 0} (first before after : Option (List A)) (xs : List A) → before ≡ with_all first xs → after ≡ before → after ≡ with_all first (xs ++ [])
 no_more first before after xs is same = same ∙ (is ∙ ap (with_all first) (sym (append-nil xs)))
+
+-- One more link is shown with its entry: so it is the last of the links, and its entry the last of the entries.
+pub links_on : (shown after : List (Accepted × Asked)) (p : Accepted × Asked) (links : List Accepted) (link : Accepted) → after ≡ shown ++ p ∷ [] → links_of shown ≡ links → p.0 ≡ link → links_of after ≡ links ++ link ∷ []
+links_on shown after p links link is were named = ap links_of is ∙ (map_push (λ (q : Accepted × Asked). q.0) shown p ∙ (λ i. were i ++ named i ∷ []))
+
+pub ticks_on : (shown after : List (Accepted × Asked)) (p : Accepted × Asked) (ticks more : List Asked) → after ≡ shown ++ p ∷ [] → ticks ≡ ticks_of shown → more ≡ ticks ++ p.1 ∷ [] → more ≡ ticks_of after
+ticks_on shown after p ticks more is tied then = then ∙ (ap (λ l. l ++ p.1 ∷ []) tied ∙ (sym (map_push (λ (q : Accepted × Asked). q.1) shown p) ∙ ap ticks_of (sym is)))
