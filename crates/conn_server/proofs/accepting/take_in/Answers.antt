@@ -87,16 +87,16 @@ returns-clause-tied g c =
     let welcomed = c.welcome-accepting.ensures in
     let begun = c.with_link-accepting.ensures in
     ticks_on (shown_all g.I.Source.left g.O.Sink.held g.T.Clock.given c.welcome-accepting.result.0.started.items) _ (shown_guest g.I.Source.left g.O.Sink.held g.T.Clock.given c.in-Some-guest.guest) _ _ begun.links
-        (same.ticks ∙ (c.requires.tied ∙ ap (λ l. ticks_of (shown_all g.I.Source.left g.O.Sink.held g.T.Clock.given l)) (sym (ap (λ v. v.items) welcomed.links.0 ∙ same.started))))
-        (ap (λ v. v.items) begun.ticks ∙ (rw c.in-Some-guest.is at welcomed.ticks))
+    (same.ticks ∙ (c.requires.tied ∙ ap (λ l. ticks_of (shown_all g.I.Source.left g.O.Sink.held g.T.Clock.given l)) (sym (ap (λ v. v.items) welcomed.links.0 ∙ same.started))))
+    (ap (λ v. v.items) begun.ticks ∙ (rw c.in-Some-guest.is at welcomed.ticks))
 
 pub returns-clause-links : goal.returns-clause-links
 returns-clause-links g c =
     let same = c.make_ready-accepting.ensures.same in
     let welcomed = c.welcome-accepting.ensures in
     links_on (shown_all g.I.Source.left g.O.Sink.held g.T.Clock.given c.welcome-accepting.result.0.started.items) _ (shown_guest g.I.Source.left g.O.Sink.held g.T.Clock.given c.in-Some-guest.guest) _ _ c.with_link-accepting.ensures.links
-        (ap (λ l. links_of (shown_all g.I.Source.left g.O.Sink.held g.T.Clock.given l)) (ap (λ v. v.items) welcomed.links.0 ∙ same.started))
-        (ap (λ l. accepted_as g.I.Source.left g.O.Sink.held g.T.Clock.given l) (rw c.in-Some-guest.is at welcomed.first))
+    (ap (λ l. links_of (shown_all g.I.Source.left g.O.Sink.held g.T.Clock.given l)) (ap (λ v. v.items) welcomed.links.0 ∙ same.started))
+    (ap (λ l. accepted_as g.I.Source.left g.O.Sink.held g.T.Clock.given l) (rw c.in-Some-guest.is at welcomed.first))
 
 pub returns-clause-count : goal.returns-clause-count
 returns-clause-count g c = c.with_link-accepting.ensures.count ∙ ap (λ n. n + 1) (ap vec_len c.welcome-accepting.ensures.links.0 ∙ c.make_ready-accepting.ensures.same.count)
