@@ -1,5 +1,5 @@
 //! A service of one's own: a kind of objects with two methods, and who does its calls.
-ghost use Rattle.std.specs.Prelude.{◌≡◌, ◌⊎◌, ◌≢◌, ◌≤◌, ◌<◌, ◌^◌, pos, None, length, IfOk, IfSome};
+ghost use Rattle.std.specs.Prelude.{◌≡◌, ◌⊎◌, ◌≢◌, ◌≤◌, ◌<◌, ◌^◌, pos, None, length, IfSome};
 ghost use Rattle.mod_utf.specs.Utf.{utf};
 ghost use Rattle.call_dispatch.specs.declared.outcome.Outcome.TheVariants.{OutOfMemory};
 ghost use Rattle.example_service.specs.Does.{Adds, May, amount_of, overflow};
@@ -126,9 +126,7 @@ impl<'t, R: Wait + Sync> LedgerCrew<'t, R> {
 impl<'t, R: Wait + Sync> Crew for LedgerCrew<'t, R> {
     type Hand = LedgerHand<'t, R>;
 
-    fn hand(&self, _by: u32) -> Result<LedgerHand<'t, R>, AllocError>
-        ensures calls { IfOk result (λ hand. hand.calls ≡ 0) }
-    {
+    fn hand(&self, _by: u32) -> Result<LedgerHand<'t, R>, AllocError> {
         Ok(LedgerHand {
             rt: self.rt,
             ledger: Arc::try_clone(&self.ledger)?,

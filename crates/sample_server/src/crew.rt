@@ -1,5 +1,5 @@
 //! The hands of the sample's connections.
-ghost use Rattle.std.specs.Prelude.{◌≡◌, None, IfOk};
+ghost use Rattle.std.specs.Prelude.{None};
 ghost use Rattle.sample_app.specs.Does.{May, Moves};
 
 use call_dispatch::{Invocation, Outcome, Worker};
@@ -39,9 +39,7 @@ impl<'t, R: Wait + Sync> SampleCrew<'t, R> {
 impl<'t, R: Wait + Sync> Crew for SampleCrew<'t, R> {
     type Hand = SampleHand<'t, R>;
 
-    fn hand(&self, _by: u32) -> Result<SampleHand<'t, R>, AllocError>
-        ensures calls { IfOk result (λ hand. hand.calls ≡ 0) }
-    {
+    fn hand(&self, _by: u32) -> Result<SampleHand<'t, R>, AllocError> {
         Ok(SampleHand {
             rt: self.rt,
             shared: Arc::try_clone(&self.shared)?,

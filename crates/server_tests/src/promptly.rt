@@ -1,6 +1,5 @@
 //! A hand is told what a turn withdrew before its client's next byte is asked for, not at its next call or at its connection's end.
-ghost use Rattle.std.specs.Prelude.{◌≡◌, ◌≤◌, length, IfOk, IfSome};
-ghost use Rattle.mod_utf.specs.Utf.{utf};
+ghost use Rattle.std.specs.Prelude.{◌≡◌, ◌≤◌, IfSome};
 
 use crate::gates::{Gated, GatedSink, GatedSource};
 use crate::servers::{is_short, is_told, listener_of, plan_of};
@@ -81,9 +80,7 @@ struct Counting {
 impl Crew for Counting {
     type Hand = CountingHand;
 
-    fn hand(&self, _by: u32) -> Result<CountingHand, AllocError>
-        ensures calls { IfOk result (λ hand. hand.calls ≡ 0) }
-    {
+    fn hand(&self, _by: u32) -> Result<CountingHand, AllocError> {
         let gone = Arc::try_clone(&self.gone)?;
         Ok(CountingHand { gone, calls: 0 })
     }

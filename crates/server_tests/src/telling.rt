@@ -1,5 +1,5 @@
 //! Hands that keep their calls: each is the hand of one connection, and is told once what the Tick before that connection withdrew.
-ghost use Rattle.std.specs.Prelude.{◌≡◌, ◌≤◌, length, IfOk};
+ghost use Rattle.std.specs.Prelude.{◌≤◌, length};
 ghost use Rattle.mod_utf.specs.Utf.{utf};
 
 use crate::gates::{Gated, GatedSink, GatedSource};
@@ -28,9 +28,7 @@ struct Recorders {
 impl Crew for Recorders {
     type Hand = RecordingWorker;
 
-    fn hand(&self, by: u32) -> Result<RecordingWorker, AllocError>
-        ensures calls { IfOk result (λ hand. hand.calls ≡ 0) }
-    {
+    fn hand(&self, by: u32) -> Result<RecordingWorker, AllocError> {
         let mut outcomes = OutcomeList::new(self.alloc);
         outcomes.push(Outcome::Prim(Value::J(i64::from(by))))?;
         Ok(RecordingWorker::new(self.alloc, outcomes))
