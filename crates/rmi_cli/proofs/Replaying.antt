@@ -1,7 +1,6 @@
 -- Replays, line after line.
-use Rattle.std.proofs.Common.{◌≡◌, ℕ, ◌+◌, ◌≤◌, ◌<◌, ◌^◌, List, [], ◌∷◌, ◌++◌, length, map, Option, Some, None, Result, Ok, Err, false, refl, ap, sym, subst, ◌∙◌, inl, inr, arith, append_assoc, append-nil, length-append}
-use Rattle.std.specs.Prelude.{◌==◌, IsTrue}
-use Rattle.std.specs.List.{AllByRecursion}
+use Rattle.std.proofs.Common.{◌≡◌, ℕ, ◌+◌, ◌≤◌, ◌<◌, ◌^◌, List, [], ◌∷◌, ◌++◌, length, Option, Some, None, Result, Ok, Err, false, refl, ap, sym, subst, ◌∙◌, inl, inr, arith, append_assoc, append-nil, length-append}
+use Rattle.std.specs.Prelude.{◌==◌, ◌≢◌}
 use Rattle.object_ids.specs.declared.ids.Uid.{Uid}
 use Rattle.history.specs.declared.asks.SpaceConfig.{SpaceConfig}
 use Rattle.history.specs.declared.asks.Event.{Event}
@@ -9,18 +8,17 @@ use Rattle.history.specs.declared.replies.Refused.{Refused}
 use Rattle.history.specs.declared.replies.Refused.TheVariants.{HistoryFull, Full, OutOfMemory as NoMemory}
 use Rattle.history.specs.declared.replies.Turn.{Turn}
 use Rattle.history.specs.Limits.{limits, refusal}
-use Rattle.history.specs.Steps.{answer_with, Step, Steps}
+use Rattle.history.specs.Steps.{answer_with, Step}
 use Rattle.history.specs.Table.{places}
 use Rattle.journal.specs.Parts.{Lacks}
 use Rattle.journal.specs.Grammar.{SpellsConfig, SpellsEvent, SpellsFront}
-use Rattle.journal.proofs.Laws.{event_once, event_lacks, config_lacks}
-use Rattle.space.specs.Lists.{TakesFront}
+use Rattle.journal.proofs.Laws.{event_lacks, config_lacks}
 use Rattle.space.proofs.ListLaws.{taken-after}
 use Rattle.rmi_cli.specs.declared.outlines.ReplayFault.{ReplayFault}
 use Rattle.rmi_cli.specs.declared.outlines.ReplayFault.TheVariants.{BadLine, Refused as RefusedTurn, OutOfMemory}
 use Rattle.history.specs.Outline.{outline}
-use Rattle.rmi_cli.specs.Replay.{EventIsTaken, TakesLines, BeginsWith, FirstLineIsBad, Opens, ReplayStops, Goes, AllTaken, IsJournalUpTo, Outlines, Replays}
-use Rattle.rmi_cli.specs.Batches.{TakesLine, SpellsLines, HasRead, AreTaken, Halt, Halts, fault_of, TakesTo}
+use Rattle.rmi_cli.specs.Replay.{EventIsTaken, TakesLines, BeginsWith, Opens, ReplayStops, Goes, AllTaken, IsJournalUpTo, Outlines, Replays}
+use Rattle.rmi_cli.specs.Taking.{TakesLine, IsTakenTo, Halts, fault_of, TakesTo}
 
 -- ---- lines and their ends
 
@@ -50,27 +48,6 @@ no_line (b ∷ lines) (c ∷ line) rest p is = no_line lines line rest p.1 (grin
 
 -- ---- lines that are read
 
--- No line is read yet.
-pub none_read : (config : SpaceConfig) (lines : List ℕ) → HasRead config lines [] lines
-none_read config lines = record { front = []; lines_are = refl; spelled = refl }
-
-spells_more : (config : SpaceConfig) (events : List Event) (e : Event) (front last : List ℕ) → SpellsLines config events front → TakesLine config last e [] → SpellsLines config (events ++ e ∷ []) (front ++ last)
-spells_more config [] e front last s t = let P : List ℕ → Type 0 = λ f. TakesLine config (f ++ last) e [] in ([], subst P (sym s) t, refl)
-spells_more config (x ∷ events) e front last (rest, (line, spells, is), more) t =
-    (rest ++ last, (line, spells, ap (λ f. f ++ last) is ∙ append_assoc line (10 ∷ rest) last), spells_more config events e rest last more t)
-
--- One more line is read.
-one_read : (config : SpaceConfig) (lines rest more : List ℕ) (events : List Event) (e : Event) → HasRead config lines events rest → TakesLine config rest e more → HasRead config lines (events ++ e ∷ []) more
-one_read config lines rest more events e t (line, spells, is) = record {
-  front = t.front ++ (line ++ 10 ∷ []);
-  lines_are = t.lines_are ∙ ap (λ r. t.front ++ r) (is ∙ sym (append_assoc line (10 ∷ []) more)) ∙ sym (append_assoc t.front (line ++ 10 ∷ []) more);
-  spelled = spells_more config events e t.front (line ++ 10 ∷ []) t.spelled (line, spells, refl);
-}
-
-pub read_next : (config : SpaceConfig) (lines rest more : List ℕ) (events events2 : List Event) (e : Event) → events2 ≡ events ++ e ∷ [] → HasRead config lines events rest → TakesLine config rest e more
-    → HasRead config lines events2 more
-read_next config lines rest more events events2 e after t took = let P : List Event → Type 0 = λ es. HasRead config lines es more in subst P (sym after) (one_read config lines rest more events e t took)
-
 -- The lines after the first are shorter.
 pub line_shorter : (config : SpaceConfig) (lines more : List ℕ) (e : Event) → TakesLine config lines e more → length more + 1 ≤ length lines
 line_shorter config lines more e (line, spells, is) = omega (arith, ap length is, length-append line (10 ∷ more))
@@ -80,29 +57,9 @@ moment_of uid e line ([], words, is) = absurd words
 moment_of uid e line (a ∷ [], words, is) = absurd words.1
 moment_of uid e line (a ∷ b ∷ more, words, is) = words.1.0.0
 
--- The events that lines spell are none too late.
-pub spelled_moments : (config : SpaceConfig) (events : List Event) (lines : List ℕ) → SpellsLines config events lines → AllByRecursion (λ e. e.moment < 2 ^ 62) events
-spelled_moments config [] lines s = tt
-spelled_moments config (e ∷ events) lines (rest, (line, spells, is), more) = (moment_of config.uid e line spells, spelled_moments config events rest more)
-
--- Lines that spell two lists of events, the one after the other.
-record InTwo (config : SpaceConfig) (front more : List Event) (lines : List ℕ) : Type 0 where
-  first : List ℕ
-  second : List ℕ
-  lines_are : lines ≡ first ++ second
-  of_front : SpellsLines config front first
-  of_more : SpellsLines config more second
-
-in_two : (config : SpaceConfig) (front more : List Event) (lines : List ℕ) → SpellsLines config (front ++ more) lines → InTwo config front more lines
-in_two config [] more lines s = record { first = []; second = lines; lines_are = refl; of_front = refl; of_more = s }
-in_two config (e ∷ front) more lines (rest, (line, spells, is), others) =
-    let s = in_two config front more rest others in record {
-      first = line ++ 10 ∷ s.first;
-      second = s.second;
-      lines_are = is ∙ ap (λ r. line ++ 10 ∷ r) s.lines_are ∙ sym (append_assoc line (10 ∷ s.first) s.second);
-      of_front = (s.first, (line, spells, refl), s.of_front);
-      of_more = s.of_more;
-    }
+-- The event that a line spells is not too late.
+pub line_moment : (config : SpaceConfig) (lines more : List ℕ) (e : Event) → TakesLine config lines e more → e.moment < 2 ^ 62
+line_moment config lines more e (line, spells, is) = moment_of config.uid e line spells
 
 -- ---- turns
 
@@ -124,49 +81,17 @@ was_refused config h h2 e refused other (inl p) = go (refusal limits config (pla
     go (Some cause) a = (cause, refl)
 was_refused config h h2 e refused other (inr q) = absurd (other (cc))
 
--- Events that all have turns are all taken.
-pub all_taken : (config : SpaceConfig) (h events : List Event) (turns : List Turn) (h2 : List Event) → Steps config h events (map Ok turns) h2 → AreTaken config h events h2
-all_taken config h [] [] h2 s = s
-all_taken config h [] (turn ∷ turns) h2 s = absurd s
-all_taken config h (e ∷ events) [] h2 s = absurd s
-all_taken config h (e ∷ events) (turn ∷ turns) h2 (next, step, more) =
-    let P : List Event → Type 0 = λ g. AreTaken config g events h2 in
-    (was_taken config h next e turn step, subst P (taken-after config h next e turn step) (all_taken config next events turns h2 more))
+-- An event that has a turn is taken.
+pub turn_taken : (config : SpaceConfig) (h h2 : List Event) (e : Event) (turn : Turn) → Step config h e (Ok turn) h2 → IsTakenTo config h e h2
+turn_taken config h h2 e turn s = (was_taken config h h2 e turn s, taken-after config h h2 e turn s)
 
-pub front_taken : (config : SpaceConfig) (h events : List Event) (turns : List Turn) (h2 : List Event) → TakesFront config h events turns None h2 → AreTaken config h events h2
-front_taken config h events turns h2 t =
-    let P : List Event → Type 0 = λ es. AreTaken config h es h2 in
-    subst P (sym (t.events_are ∙ ap (λ r. t.front ++ r) t.stops ∙ append-nil t.front)) (all_taken config h t.front turns h2 t.taken.steps)
-
-halt_of : (config : SpaceConfig) (h rest : List Event) (e : Event) (more : List Event) (refused : Refused) → rest ≡ e ∷ more → Step config h e (Err refused) h → Halt config h rest (fault_of refused)
-halt_of config h rest e more HistoryFull is s = (e, more, is, was_refused config h h e HistoryFull (λ same. cc) s)
-halt_of config h rest e more (Full kind) is s = (e, more, is, was_refused config h h e (Full kind) (λ same. cc) s)
-halt_of config h rest e more NoMemory is s = tt
-
-pub front_halts : (config : SpaceConfig) (h events : List Event) (turns : List Turn) (refused : Refused) (h2 : List Event) → TakesFront config h events turns (Some refused) h2
-    → Halts config h events (fault_of refused) h2
-front_halts config h events turns refused h2 t = record {
-  front = t.front;
-  rest = t.rest;
-  events_are = t.events_are;
-  taken = all_taken config h t.front turns h2 t.taken.steps;
-  halts = halt_of config h2 t.rest t.stops.0 t.stops.1 refused t.stops.2 t.stops.3;
-}
-
--- No turn was made, for want of memory.
-pub none_made : (config : SpaceConfig) (h events h2 : List Event) → h2 ≡ h → Halts config h events OutOfMemory h2
-none_made config h events h2 same = record { front = []; rest = events; events_are = refl; taken = same; halts = tt }
-
-after_taken : (config : SpaceConfig) (h events h2 : List Event) → AreTaken config h events h2 → h2 ≡ h ++ events
-after_taken config h [] h2 t = t ∙ sym (append-nil h)
-after_taken config h (e ∷ events) h2 (is, more) = after_taken config (h ++ e ∷ []) events h2 more ∙ append_assoc h (e ∷ []) events
+-- One that is refused is not.
+pub turn_halts : (config : SpaceConfig) (h h2 : List Event) (e : Event) (refused : Refused) → Step config h e (Err refused) h2 → Halts config h e (fault_of refused)
+turn_halts config h h2 e HistoryFull s = was_refused config h h2 e HistoryFull (λ same. cc) s
+turn_halts config h h2 e (Full kind) s = was_refused config h h2 e (Full kind) (λ same. cc) s
+turn_halts config h h2 e NoMemory s = tt
 
 -- ---- lines and the turns of their events
-
-takes_lines : (config : SpaceConfig) (h events : List Event) (front : List ℕ) (h2 : List Event) → SpellsLines config events front → AreTaken config h events h2 → TakesLines config h events front
-takes_lines config h [] front h2 s t = s
-takes_lines config h (e ∷ events) front h2 (rest, (line, spells, is), more) (taken, others) =
-    (line, rest, spells, taken, takes_lines config (h ++ e ∷ []) events rest h2 more others, is)
 
 takes_both : (config : SpaceConfig) (h a b : List Event) (x y : List ℕ) → TakesLines config h a x → TakesLines config (h ++ a) b y → TakesLines config h (a ++ b) (x ++ y)
 takes_both config h [] b x y s t =
@@ -177,55 +102,17 @@ takes_both config h (e ∷ a) b x y (line, rest, spells, taken, others, is) t =
     let Q : List Event → Type 0 = λ g. TakesLines config g b y in
     (line, rest ++ y, spells, taken, takes_both config (h ++ e ∷ []) a b rest y others (subst Q (sym (append_assoc h (e ∷ []) a)) t), ap (λ r. r ++ y) is ∙ append_assoc line (10 ∷ rest) y)
 
--- The lines that were read are taken.
-pub takes_to : (config : SpaceConfig) (h events h2 : List Event) (lines rest : List ℕ) (number next : ℕ) → HasRead config lines events rest → AreTaken config h events h2 → next ≡ number + length events
-    → TakesTo config h lines number rest next h2
-takes_to config h events h2 lines rest number next read taken is = record {
-  events = events;
-  front = read.front;
-  lines_are = read.lines_are;
-  taken = takes_lines config h events read.front h2 read.spelled taken;
-  after = after_taken config h events h2 taken;
-  next_is = is;
+-- The first line is taken.
+pub takes_one : (config : SpaceConfig) (h h2 : List Event) (lines more : List ℕ) (e : Event) (number : ℕ) → TakesLine config lines e more → IsTakenTo config h e h2
+    → TakesTo config h lines number more (number + 1) h2
+takes_one config h h2 lines more e number (line, spells, is) (taken, after) = record {
+  events = e ∷ [];
+  front = line ++ 10 ∷ [];
+  lines_are = is ∙ sym (append_assoc line (10 ∷ []) more);
+  taken = (line, [], spells, taken, refl, refl);
+  after = after;
+  next_is = refl;
 }
-
--- They are taken, and the line after them is bad.
-pub bad_next : (config : SpaceConfig) (h : List Event) (lines rest : List ℕ) (number next : ℕ) (h2 : List Event) → TakesTo config h lines number rest next h2 → FirstLineIsBad config rest
-    → Goes config h lines number (Err (BadLine next)) h2
-bad_next config h lines rest number next h2 t bad = record {
-  events = t.events;
-  front = t.front;
-  rest = rest;
-  lines_are = t.lines_are;
-  taken = t.taken;
-  after = t.after;
-  stops = (bad.0, bad.1, t.next_is);
-}
-
--- One of them spells an event that is refused.
-stops_there : (config : SpaceConfig) (h events : List Event) (lines rest : List ℕ) (number : ℕ) (fault : ReplayFault) → SpellsLines config events lines → Halt config h events fault
-    → ReplayStops config h (lines ++ rest) number (Err fault)
-stops_there config h events lines rest number (BadLine line) s halt = absurd halt
-stops_there config h events lines rest number RefusedTurn s (e, more, is, cause) =
-    let P : List Event → Type 0 = λ es. SpellsLines config es lines in (e, begins (subst P is s), cause)
-  where
-    begins : SpellsLines config (e ∷ more) lines → BeginsWith config (lines ++ rest) e
-    begins (others, (line, spells, here), after) = (line, others ++ rest, spells, ap (λ r. r ++ rest) here ∙ append_assoc line (10 ∷ others) rest)
-stops_there config h events lines rest number OutOfMemory s halt = tt
-
-pub halts_there : (config : SpaceConfig) (h events h2 : List Event) (lines rest : List ℕ) (number : ℕ) (fault : ReplayFault) → HasRead config lines events rest → Halts config h events fault h2
-    → Goes config h lines number (Err fault) h2
-halts_there config h events h2 lines rest number fault read t =
-    let P : List Event → Type 0 = λ es. SpellsLines config es read.front in
-    let s = in_two config t.front t.rest read.front (subst P t.events_are read.spelled) in record {
-      events = t.front;
-      front = s.first;
-      rest = s.second ++ rest;
-      lines_are = read.lines_are ∙ ap (λ f. f ++ rest) s.lines_are ∙ append_assoc s.first s.second rest;
-      taken = takes_lines config h t.front s.first h2 s.of_front t.taken;
-      after = after_taken config h t.front h2 t.taken;
-      stops = stops_there config h2 t.rest s.second rest (number + length t.front) fault s.of_more t.halts;
-    }
 
 -- Further lines in front.
 pub goes_on : (config : SpaceConfig) (h mid : List Event) (lines more : List ℕ) (number next : ℕ) (stop : Result (Unit {0}) ReplayFault) (h2 : List Event)
@@ -255,6 +142,24 @@ stops_here config h lines number stop stops = record {
   after = sym (append-nil h);
   stops = subst (λ n. ReplayStops config h lines n stop) (omega arith) stops;
 }
+
+-- The first line is bad.
+pub bad_here : (config : SpaceConfig) (h h2 : List Event) (lines : List ℕ) (number : ℕ) → h2 ≡ h → lines ≢ [] → ((e : Event) → BeginsWith config lines e → ⊥) → Goes config h lines number (Err (BadLine number)) h2
+bad_here config h h2 lines number same some none =
+    subst (λ (g : List Event). Goes config h lines number (Err (BadLine number)) g) (sym same) (stops_here config h lines number (Err (BadLine number)) (some, none, refl))
+
+-- There was no memory for the first line.
+pub memory_here : (config : SpaceConfig) (h h2 : List Event) (lines : List ℕ) (number : ℕ) → h2 ≡ h → Goes config h lines number (Err OutOfMemory) h2
+memory_here config h h2 lines number same =
+    subst (λ (g : List Event). Goes config h lines number (Err OutOfMemory) g) (sym same) (stops_here config h lines number (Err OutOfMemory) tt)
+
+-- The first line's event is not taken.
+pub halts_here : (config : SpaceConfig) (h h2 : List Event) (lines more : List ℕ) (e : Event) (number : ℕ) (fault : ReplayFault) → h2 ≡ h → TakesLine config lines e more → Halts config h e fault
+    → Goes config h lines number (Err fault) h2
+halts_here config h h2 lines more e number (BadLine n) same t halt = absurd halt
+halts_here config h h2 lines more e number RefusedTurn same (line, spells, is) cause =
+    subst (λ (g : List Event). Goes config h lines number (Err RefusedTurn) g) (sym same) (stops_here config h lines number (Err RefusedTurn) (e, (line, more, spells, is), cause))
+halts_here config h h2 lines more e number OutOfMemory same t halt = memory_here config h h2 lines number same
 
 -- ---- the first of some lines
 

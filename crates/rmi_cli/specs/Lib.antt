@@ -1,5 +1,5 @@
 pub mod Answer
-pub mod Batches
+pub mod Taking
 pub mod Command
 pub mod Drilled
 pub mod Limits

@@ -1,17 +1,13 @@
 //! `replay`: the outline of the history that a journal spells.
-ghost use Rattle.std.specs.Prelude.{◌≡◌, ◌≢◌, ◌<◌, ◌≤◌, ◌+◌, ◌^◌, [], true, false, IfOk, IfErr, OnOk, Err, length};
-ghost use Rattle.std.specs.List.{AllByRecursion};
-ghost use Rattle.rmi_cli.specs.Replay.{FirstLineIsBad, Goes, Replays};
-ghost use Rattle.rmi_cli.specs.Batches.{TakesLine, WasBad, HasRead, AreTaken, Halts, TakesTo, fault_of};
+ghost use Rattle.std.specs.Prelude.{◌≡◌, ◌≢◌, ◌<◌, ◌+◌, ◌^◌, [], IfOk, IfErr, OnOk, OnErr, Err, length};
+ghost use Rattle.rmi_cli.specs.Replay.{Goes, Replays};
+ghost use Rattle.rmi_cli.specs.Taking.{TakesLine, WasBad, IsTakenTo, Halts, TakesTo, fault_of};
 
 use history::{Event, Refused, SpaceConfig};
 use journal::lines::{read_event, read_first_line, split_line};
 use mod_utf::list::ByteList;
 use space::{Space, outline};
 use std::alloc::{AllocError, Global};
-
-/// How many lines are read before their turns are made: so few that what they take is what the allocator had back from those before.
-const BATCH: usize = 8;
 
 /// Why a journal has no outline.
 #[derive(Clone, Copy, Debug, PartialEq, Eq)]
@@ -67,91 +63,35 @@ fn take_lines(
     let mut rest = lines;
     let mut number: u64 = 2;
     while !rest.is_empty() {
-        let (next, more) = take_batch(alloc, space, config, rest, number)?;
-        number = next;
-        rest = more;
+        rest = take_line(alloc, space, config, rest, number)?;
+        number += 1;
     }
     Ok(())
 }
 
-/// Makes the turns of some of these lines, from the first on, which has this number. It answers the number of the first
-/// line after them, and the lines from there on.
-fn take_batch<'a>(
+/// Makes the turn of the first of these lines, which has this number, and answers the lines after it.
+fn take_line<'a>(
     alloc: Global,
     space: &mut Space,
     config: &SpaceConfig,
     lines: &'a [u8],
     number: u64,
-) -> Result<(u64, &'a [u8]), ReplayFault>
+) -> Result<&'a [u8], ReplayFault>
     requires some { lines.now ≢ [] }
-    requires size { number + length lines.now < 2 ^ 33 }
     requires space { space.old.configuration ≡ config.now }
-    ensures next { IfOk result (λ p. TakesTo config.now space.old.events lines.now number p.1.now p.0 space.new.events) }
+    ensures next { IfOk result (λ more. TakesTo config.now space.old.events lines.now number more.now (number + 1) space.new.events) }
     ensures stops { IfErr result (λ fault. Goes config.now space.old.events lines.now number (Err fault) space.new.events) }
-    ensures fewer { IfOk result (λ p. length p.1.now < length lines.now) }
-    ensures size { IfOk result (λ p. p.0 + length p.1.now ≤ number + length lines.now) }
+    ensures fewer { IfOk result (λ more. length more.now < length lines.now) }
     ensures config { space.new.configuration ≡ config.now }
 {
-    let batch = read_batch(alloc, config, lines)?;
-    let Batch {
-        events,
-        rest,
-        is_bad,
-    } = batch;
-    let next = number + events.len() as u64;
-    make_turns(space, events)?;
-    if is_bad {
-        Err(ReplayFault::BadLine { line: next })
-    } else {
-        Ok((next, rest))
-    }
-}
-
-/// Lines that were read.
-struct Batch<'a> {
-    /// The events that they spell.
-    events: Vec<Event>,
-    /// The lines after them.
-    rest: &'a [u8],
-    /// Whether the first line after them is bad.
-    is_bad: bool,
-}
-
-/// Reads lines, from the first on, up to a bad one, or as many as a batch has.
-fn read_batch<'a>(
-    alloc: Global,
-    config: &SpaceConfig,
-    lines: &'a [u8],
-) -> Result<Batch<'a>, AllocError>
-    requires { lines.now ≢ [] }
-    ensures read { IfOk result (λ batch. HasRead config.now lines.now batch.events.items batch.rest.now) }
-    ensures bad { IfOk result (λ batch. batch.is_bad ≡ true → FirstLineIsBad config.now batch.rest.now) }
-    ensures fewer { IfOk result (λ batch. batch.is_bad ≡ false → length batch.rest.now < length lines.now) }
-    ensures size { IfOk result (λ batch. length batch.events.items + length batch.rest.now ≤ length lines.now) }
-{
-    let mut events = Vec::with_capacity(alloc, BATCH)?;
-    let mut rest = lines;
-    while !rest.is_empty() && events.len() < BATCH {
-        match read_line(alloc, config, rest) {
-            Ok((event, more)) => {
-                events.push(event)?;
-                rest = more;
-            }
-            Err(LineFault::Bad) => {
-                return Ok(Batch {
-                    events,
-                    rest,
-                    is_bad: true,
-                });
-            }
-            Err(LineFault::OutOfMemory) => return Err(AllocError),
+    match read_line(alloc, config, lines) {
+        Ok((event, more)) => {
+            make_turn(space, event)?;
+            Ok(more)
         }
+        Err(LineFault::Bad) => Err(ReplayFault::BadLine { line: number }),
+        Err(LineFault::OutOfMemory) => Err(ReplayFault::OutOfMemory),
     }
-    Ok(Batch {
-        events,
-        rest,
-        is_bad: false,
-    })
 }
 
 /// Why a line gives no event.
@@ -191,17 +131,18 @@ fn read_line<'a>(
     }
 }
 
-/// Makes the turns of events, up to the first that is refused.
-fn make_turns(space: &mut Space, events: Vec<Event>) -> Result<(), ReplayFault>
-    requires { AllByRecursion (λ e. e.moment < 2 ^ 62) events.items }
-    ensures ok { OnOk result (AreTaken space.old.configuration space.old.events events.items space.new.events) }
-    ensures err { IfErr result (λ fault. Halts space.old.configuration space.old.events events.items fault space.new.events) }
+/// Makes the turn of an event.
+fn make_turn(space: &mut Space, event: Event) -> Result<(), ReplayFault>
+    requires { event.moment < 2 ^ 62 }
+    ensures ok { OnOk result (IsTakenTo space.old.configuration space.old.events event space.new.events) }
+    ensures halts { IfErr result (λ fault. Halts space.old.configuration space.old.events event fault) }
+    ensures err { OnErr result (space.new ≡ space.old) }
     ensures config { space.new.configuration ≡ space.old.configuration }
 {
-    let answered = space.turns(events)?;
-    match answered.refused {
-        None => Ok(()),
-        Some(refused) => Err(fault_of(refused)),
+    let Event { by, moment, ask } = event;
+    match space.turn(by, moment, ask) {
+        Ok(_turn) => Ok(()),
+        Err(refused) => Err(fault_of(refused)),
     }
 }
 

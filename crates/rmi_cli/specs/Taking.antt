@@ -1,4 +1,4 @@
--- Some of a journal's lines, and the turns of the events that they spell.
+-- A journal's lines, one after another, and the turns of the events that they spell.
 use Rattle.std.specs.Prelude.{◌≡◌, ℕ, ◌+◌, List, [], ◌∷◌, ◌++◌, length, Some}
 use Rattle.history.specs.declared.asks.SpaceConfig.{SpaceConfig}
 use Rattle.history.specs.declared.asks.Event.{Event}
@@ -24,37 +24,17 @@ abbrev pub WasBad : SpaceConfig → List ℕ → LineFault → Type 0
 WasBad config lines Bad = (e : Event) → BeginsWith config lines e → ⊥
 WasBad config lines NoRoom = Unit {0}
 
--- These lines spell these events, one each.
-abbrev pub SpellsLines : SpaceConfig → List Event → List ℕ → Type 0
-SpellsLines config [] lines = lines ≡ []
-SpellsLines config (e ∷ events) lines = (rest : List ℕ) × TakesLine config lines e rest × SpellsLines config events rest
-
--- A front of these lines spells these events, and `rest` are the lines after it.
-pub record HasRead (config : SpaceConfig) (lines : List ℕ) (events : List Event) (rest : List ℕ) : Type 0 where
-  pub front : List ℕ
-  pub lines_are : lines ≡ front ++ rest
-  pub spelled : SpellsLines config events front
-
 -- ---- turns
 
--- After the history h these events are all taken, and leave the history h2.
-abbrev pub AreTaken : SpaceConfig → List Event → List Event → List Event → Type 0
-AreTaken config h [] h2 = h2 ≡ h
-AreTaken config h (e ∷ events) h2 = EventIsTaken config h e × AreTaken config (h ++ e ∷ []) events h2
+-- After the history h the event is taken, and leaves the history h2.
+abbrev pub IsTakenTo : SpaceConfig → List Event → Event → List Event → Type 0
+IsTakenTo config h e h2 = EventIsTaken config h e × (h2 ≡ h ++ e ∷ [])
 
--- Why none of these events is taken after the history h; want of memory says nothing of it.
-abbrev pub Halt : SpaceConfig → List Event → List Event → ReplayFault → Type 0
-Halt config h events (BadLine line) = ⊥
-Halt config h events RefusedTurn = (e : Event) × (more : List Event) × (events ≡ e ∷ more) × ((cause : Refused) × (refusal limits config (places config h) e ≡ Some cause))
-Halt config h events OutOfMemory = Unit {0}
-
--- After the history h a front of these events is taken, and leaves the history h2, and then no more.
-pub record Halts (config : SpaceConfig) (h events : List Event) (fault : ReplayFault) (h2 : List Event) : Type 0 where
-  pub front : List Event
-  pub rest : List Event
-  pub events_are : events ≡ front ++ rest
-  pub taken : AreTaken config h front h2
-  pub halts : Halt config h2 rest fault
+-- Why the event is not taken after the history h; want of memory says nothing of it.
+abbrev pub Halts : SpaceConfig → List Event → Event → ReplayFault → Type 0
+Halts config h e (BadLine line) = ⊥
+Halts config h e RefusedTurn = (cause : Refused) × (refusal limits config (places config h) e ≡ Some cause)
+Halts config h e OutOfMemory = Unit {0}
 
 -- What a refused turn ends a replay with.
 abbrev pub fault_of : Refused → ReplayFault
