@@ -15,7 +15,6 @@ use Rattle.jrmp_frames.specs.declared.head.CallHead.{CallHead}
 use Rattle.jrmp_frames.specs.Calls.{head_at, BreaksIn}
 use Rattle.jrmp_frames.specs.Frames.{code_byte}
 use Rattle.jrmp_frames.specs.Messages.{head_bytes, wants_of}
-use Rattle.call_dispatch.specs.declared.book.Kind.{Kind}
 use Rattle.call_dispatch.specs.declared.end.ConnEnd.{ConnEnd}
 use Rattle.call_dispatch.specs.declared.end.ConnEnd.TheVariants as ends
 use Rattle.call_dispatch.specs.declared.outcome.Invocation.{Invocation}

@@ -30,7 +30,7 @@ use Rattle.call_dispatch.specs.Progress.{Talked}
 use Rattle.call_dispatch.proofs.OneReading.{chain_first, chain_rest}
 use Rattle.call_dispatch.specs.Results.{finish_with}
 use Rattle.call_dispatch.specs.Served.{Conclusion, finished, denied, faulted, conclusion_acts, Running, unknown, ran, invocation_of, running_acts, IsRunning, absent, refused, begun}
-use Rattle.call_dispatch.specs.Invoked.{invocations_in, IsInvocationOf, IsInvokedOnce, CallIsInvokedOnce, IsCallOf, LeadTo, InvokesEachOnce, DialogueInvokesEachOnce}
+use Rattle.call_dispatch.specs.Invoked.{invocations_in, IsInvokedOnce, CallIsInvokedOnce, IsCallOf, LeadTo, InvokesEachOnce, DialogueInvokesEachOnce}
 use Rattle.call_dispatch.specs.Systems.{System, barred, turned, system_acts}
 use Rattle.call_dispatch.specs.Systems.{unknown as nameless}
 

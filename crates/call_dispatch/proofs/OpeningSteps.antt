@@ -1,7 +1,8 @@
 -- The opening of a dialogue, over plain lists.
-use Rattle.std.proofs.Common.{◌≡◌, ◌≢◌, ℕ, suc, zero, ◌+◌, ◌^◌, ◌<◌, ◌≤◌, List, [], ◌∷◌, ◌++◌, length, take, Option, Ok, Err, refl, ◌∙◌, ap, sym, inl, inr, arith, append-nil, zero-add, length-append, ℤ}
+use Rattle.std.proofs.Common.{◌≡◌, ◌≢◌, ℕ, suc, zero, ◌+◌, ◌<◌, ◌≤◌, List, [], ◌∷◌, ◌++◌, length, take, Option, Ok, Err, refl, ◌∙◌, ap, sym, inl, inr, arith, append-nil, zero-add, length-append, ℤ}
 use Rattle.wire_io.specs.Wire.{with_front-nothing, with_end-nothing}
 use Rattle.wire_io.specs.Pulled.{Place, Takes}
+use Rattle.wire_io.specs.declared.limits.TheConstants.{LAST_POSITION}
 use Rattle.mod_utf.specs.Utf.{utf}
 use Rattle.jrmp_frames.specs.declared.header.Protocol.TheVariants.{Stream, SingleOp}
 use Rattle.jrmp_frames.specs.Frames.{header_start, header, IsInHeader, IsEndpoint, IsInEndpoint, protocol_ack, protocol_not_supported}
@@ -41,7 +42,7 @@ ack_short host port = simp (length-append) (omega arith)
 
 -- The connection ends in the header.
 pub header_ends : (may : Invocation → Outcome → Type 0) (moves : States → Call → States → Type 0) (terms : Terms) (old new : Place) (held : Option (List ℕ)) (side : Side) (drawn : ℕ) (fault : FrameFault)
-    → old.at ≡ 0 → old.stop ≡ 2 ^ 62 → ((byte : ℕ) → fault ≢ UnknownProtocol byte) → GivesHeader old new (Err fault)
+    → old.at ≡ 0 → old.stop ≡ LAST_POSITION → ((byte : ℕ) → fault ≢ UnknownProtocol byte) → GivesHeader old new (Err fault)
     → Talked may moves terms (spot_at old held side drawn) (spot_at new held side drawn) (end_from fault)
 header_ends may moves terms old new held side drawn (BadHeader at) first last told (k, bytes, place, breaks, takes) =
     let same : k ≡ at = omega (arith, place, first) in

@@ -1,5 +1,5 @@
 -- The rows of what calls of the registry and the collector ask for and are answered, one by one.
-use Rattle.std.proofs.Common.{◌≡◌, ℕ, ℤ, pos, true, false, List, [], ◌∷◌, ◌++◌, Some, None, Ok, Err, Option, codes, refl, nat_le, length, slice_get}
+use Rattle.std.proofs.Common.{◌≡◌, ℕ, ℤ, pos, true, false, List, [], ◌∷◌, ◌++◌, Some, None, Ok, Err, codes, refl, nat_le, length, slice_get}
 use Rattle.class_desc.specs.declared.slot.Slot.{Slot}
 use Rattle.ser_values.specs.declared.value.Value.TheVariants as values
 use Rattle.ser_values.specs.declared.graph.Graph.{Graph}
@@ -14,7 +14,6 @@ use Rattle.history.specs.declared.asks.Ask.TheVariants as asks
 use Rattle.history.specs.declared.replies.Reply.{Reply}
 use Rattle.history.specs.declared.replies.Reply.TheVariants as replies
 use Rattle.history.specs.declared.replies.Refused.TheVariants as refusals
-use Rattle.java_shapes.specs.declared.lease_views.LeaseView.{LeaseView}
 use Rattle.java_shapes.specs.declared.ref_views.LiveRef.{LiveRef}
 use Rattle.java_shapes.specs.Ids.{objids_at, lease_at, vmid_at}
 use Rattle.java_shapes.specs.LiveRefs.{live_ref_at}

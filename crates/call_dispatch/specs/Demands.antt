@@ -11,6 +11,7 @@ use Rattle.method_hash.specs.declared.system.CollectorMethod.{CollectorMethod}
 use Rattle.method_hash.specs.declared.system.CollectorMethod.TheVariants as collector
 use Rattle.history.specs.declared.asks.Ask.{Ask}
 use Rattle.history.specs.declared.asks.Ask.TheVariants as asks
+use Rattle.history.specs.declared.limits.TheConstants.{MAX_NAME_UNITS}
 use Rattle.java_shapes.specs.declared.fault.ShapeFault.{ShapeFault}
 use Rattle.java_shapes.specs.declared.fault.ShapeFault.TheVariants.{WrongShape, OutOfMemory}
 use Rattle.java_shapes.specs.declared.lease_views.LeaseView.{LeaseView}
@@ -78,7 +79,7 @@ lease_in arguments n = reference_in arguments n >>= lease_at arguments.graph.nod
 
 -- A name has at most 255 units.
 abbrev pub short_name : List ℕ → Result (List ℕ) Bar
-short_name name = if nat_le (length name) 255 then Ok name else Err NameTooLong
+short_name name = if nat_le (length name) MAX_NAME_UNITS then Ok name else Err NameTooLong
 
 -- The name to look up.
 abbrev pub sought : Option (List ℕ) → Result (List ℕ) Bar

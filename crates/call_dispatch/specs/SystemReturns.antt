@@ -1,5 +1,5 @@
 -- What calls of the registry and the collector are answered (Java RMI Specification, 6.1 and 9.1): the bytes of their Returns.
-use Rattle.std.specs.Prelude.{ℕ, pos, true, codes, List, ◌∷◌, ◌++◌, [], Option, None, Some, Result, Ok, Err, slice_get}
+use Rattle.std.specs.Prelude.{ℕ, pos, true, codes, List, ◌++◌, [], Option, None, Some, Result, Ok, Err, slice_get}
 use Rattle.object_ids.specs.declared.ids.ObjId.{ObjId}
 use Rattle.object_ids.specs.declared.ids.Uid.{Uid}
 use Rattle.history.specs.declared.asks.Ask.{Ask}

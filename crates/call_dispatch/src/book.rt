@@ -1,5 +1,5 @@
 //! The kinds of objects that a connection serves, and how a call finds a method of theirs.
-ghost use Rattle.std.specs.Prelude.{◌≡◌, ◌≤◌, ◌<◌, ◌^◌, ◌||◌, All, None, Some, length, map, option_map, slice_get, IfOk, IfErr};
+ghost use Rattle.std.specs.Prelude.{◌≡◌, ◌≤◌, ◌<◌, ◌^◌, All, None, Some, length, map, option_map, slice_get, IfOk, IfErr};
 ghost use Rattle.std.specs.List.{list_any, position};
 ghost use Rattle.std.specs.Ordering.{int_eq};
 ghost use Rattle.mod_utf.specs.Utf.{utf};

@@ -12,6 +12,7 @@ ghost use Rattle.call_dispatch.specs.Returns.{fault_return};
 ghost use Rattle.call_dispatch.specs.Served.{IsMethodOf, HasNoMethod};
 ghost use Rattle.call_dispatch.specs.Serving.{next_of, RunsOne, IsReady, IsReadyFor, MakesOne, IsSent, IsPending, Finishes, Concludes, IsDenied, IsPrepared, RunsOn, Answers};
 ghost use Rattle.call_dispatch.specs.Terms.{terms_of};
+ghost use Rattle.call_dispatch.specs.declared.results.TheConstants.{RETURN_BYTES};
 
 use crate::book::Book;
 use crate::connection::Connection;
@@ -48,7 +49,7 @@ pub fn told(
     close: Option<ConnEnd>,
 ) -> Result<Answer, ConnEnd>
     ensures prepared { IsPrepared (fault_return uid message.now) close result }
-    ensures short { IfOk result (λ answer. length answer.bytes ≤ 2 ^ 30) }
+    ensures short { IfOk result (λ answer. length answer.bytes ≤ RETURN_BYTES) }
 {
     match exceptional_ascii(alloc, uid, message) {
         Ok(bytes) => Ok(Answer { bytes, close }),
@@ -59,7 +60,7 @@ pub fn told(
 /// What a call is answered whose Finish was refused.
 fn denied(alloc: Global, uid: Uid, refused: Refused) -> Result<Answer, ConnEnd>
     ensures denied { IsDenied uid refused result }
-    ensures short { IfOk result (λ answer. length answer.bytes ≤ 2 ^ 30) }
+    ensures short { IfOk result (λ answer. length answer.bytes ≤ RETURN_BYTES) }
 {
     match refused {
         Refused::HistoryFull => told(alloc, uid, FULL_HISTORY, None),
@@ -78,7 +79,7 @@ pub fn refuse(
     requires time { setup.old.draw.time <ℤ pos (2 ^ 61) }
     requires drawn { setup.old.draw.drawn < 2 ^ 65 }
     ensures prepared { IsPrepared (fault_return (next_of (terms_of [] setup.old) setup.old.draw.drawn) message.now) (Some end) result }
-    ensures short { IfOk result (λ answer. length answer.bytes ≤ 2 ^ 30) }
+    ensures short { IfOk result (λ answer. length answer.bytes ≤ RETURN_BYTES) }
     ensures drawn { setup.new ≡ record setup.old { draw = record setup.old.draw { drawn = setup.old.draw.drawn + 1 } } }
 {
     let uid = next_uid(setup);
@@ -96,7 +97,7 @@ fn finished(
     requires ready { IsReadyFor reply.now sent }
     ensures sends { (kinds : List Kind) (outcome : Outcome) → IsSent (terms_of kinds setup.now) uid outcome sent →
         IsPrepared (normal_return (terms_of kinds setup.now) uid outcome reply.now) None result }
-    ensures short { IfOk result (λ answer. length answer.bytes ≤ 2 ^ 30) }
+    ensures short { IfOk result (λ answer. length answer.bytes ≤ RETURN_BYTES) }
 {
     match sent {
         Sent::Whole(bytes) => Ok(Answer { bytes, close: None }),
@@ -140,7 +141,7 @@ fn finish<S: Source, K: Sink, C: Clock, P: Port, W: Worker>(
         Finishes W.may W.moves (terms_of connection.old.book.now connection.old.setup.now) object uid outcome
         (side_of C.given P.asked W.calls W.seen W.state connection.old)
         (side_of C.given P.asked W.calls W.seen W.state connection.new) result }
-    ensures short { IfOk result (λ answer. length answer.bytes ≤ 2 ^ 30) }
+    ensures short { IfOk result (λ answer. length answer.bytes ≤ RETURN_BYTES) }
     ensures balanced { Balanced (P.asked connection.new.port.now) }
     ensures pull { connection.new.pull ≡ connection.old.pull }
     ensures sink { connection.new.sink ≡ connection.old.sink }
@@ -183,7 +184,7 @@ fn conclude<S: Source, K: Sink, C: Clock, P: Port, W: Worker>(
     ensures concludes { Concludes W.may W.moves (terms_of connection.old.book.now connection.old.setup.now) object (next_of (terms_of connection.old.book.now connection.old.setup.now) connection.old.setup.now.draw.drawn) returned outcome
         (side_of C.given P.asked W.calls W.seen W.state connection.old)
         (side_of C.given P.asked W.calls W.seen W.state connection.new) result }
-    ensures short { IfOk result (λ answer. length answer.bytes ≤ 2 ^ 30) }
+    ensures short { IfOk result (λ answer. length answer.bytes ≤ RETURN_BYTES) }
     ensures balanced { Balanced (P.asked connection.new.port.now) }
     ensures pull { connection.new.pull ≡ connection.old.pull }
     ensures sink { connection.new.sink ≡ connection.old.sink }
@@ -257,7 +258,7 @@ fn run_call<S: Source, K: Sink, C: Clock, P: Port, W: Worker>(
         (side_of C.given P.asked W.calls W.seen W.state connection.old)
         (side_of C.given P.asked W.calls W.seen W.state connection.new)
         connection.old.setup.now.draw.drawn connection.new.setup.now.draw.drawn result }
-    ensures short { IfOk result (λ answer. length answer.bytes ≤ 2 ^ 30) }
+    ensures short { IfOk result (λ answer. length answer.bytes ≤ RETURN_BYTES) }
     ensures balanced { Balanced (P.asked connection.new.port.now) }
     ensures sink { connection.new.sink ≡ connection.old.sink }
     ensures drawn { (connection.old.setup.now.draw.drawn ≤ connection.new.setup.now.draw.drawn) × (connection.new.setup.now.draw.drawn ≤ connection.old.setup.now.draw.drawn + 1) }
@@ -313,7 +314,7 @@ pub fn answer_call<S: Source, K: Sink, C: Clock, P: Port, W: Worker>(
         (side_of C.given P.asked W.calls W.seen W.state connection.old)
         (side_of C.given P.asked W.calls W.seen W.state connection.new)
         connection.old.setup.now.draw.drawn connection.new.setup.now.draw.drawn result }
-    ensures short { IfOk result (λ answer. length answer.bytes ≤ 2 ^ 30) }
+    ensures short { IfOk result (λ answer. length answer.bytes ≤ RETURN_BYTES) }
     ensures balanced { Balanced (P.asked connection.new.port.now) }
     ensures sink { connection.new.sink ≡ connection.old.sink }
     ensures drawn { (connection.old.setup.now.draw.drawn ≤ connection.new.setup.now.draw.drawn) × (connection.new.setup.now.draw.drawn ≤ connection.old.setup.now.draw.drawn + 1) }

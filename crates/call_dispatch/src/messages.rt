@@ -5,10 +5,12 @@ ghost use Rattle.space.specs.Balance.{Balanced};
 ghost use Rattle.jrmp_frames.specs.declared.header.Protocol.TheVariants.{Stream, SingleOp};
 ghost use Rattle.call_dispatch.specs.Faults.{counts_of, Blames, BlamesIn};
 ghost use Rattle.wire_io.specs.Pulled.{place};
+ghost use Rattle.wire_io.specs.declared.limits.TheConstants.{MAX_HOST_BYTES};
 ghost use Rattle.call_dispatch.specs.Spot.{spot_of, side_of, IsLent};
 ghost use Rattle.call_dispatch.specs.Terms.{terms_of};
 ghost use Rattle.call_dispatch.specs.Progress.{GoesOn, Steps, ServesCall};
 ghost use Rattle.call_dispatch.specs.Serving.{Sends, Notes, Acknowledges};
+ghost use Rattle.call_dispatch.specs.declared.results.TheConstants.{RETURN_BYTES};
 
 use crate::answer::write_answer;
 use crate::connection::Connection;
@@ -40,7 +42,7 @@ pub fn serve_messages<S: Source, K: Sink, C: Clock, P: Port, W: Worker>(
 ) -> ConnEnd
     requires at { connection.old.pull.at < 2 ^ 17 }
     requires sent { opened.sent < 2 ^ 17 }
-    requires host { length (utf connection.old.setup.now.host) ≤ 255 }
+    requires host { length (utf connection.old.setup.now.host) ≤ MAX_HOST_BYTES }
     requires time { connection.old.setup.now.draw.time <ℤ pos (2 ^ 61) }
     requires drawn { connection.old.setup.now.draw.drawn < 2 ^ 64 }
     requires ready { P.ready connection.old.port.now }
@@ -70,7 +72,7 @@ fn serve_one<S: Source, K: Sink, C: Clock, P: Port, W: Worker>(
 ) -> ConnEnd
     requires at { connection.old.pull.at < 2 ^ 17 }
     requires sent { before < 2 ^ 17 }
-    requires host { length (utf connection.old.setup.now.host) ≤ 255 }
+    requires host { length (utf connection.old.setup.now.host) ≤ MAX_HOST_BYTES }
     requires time { connection.old.setup.now.draw.time <ℤ pos (2 ^ 61) }
     requires drawn { connection.old.setup.now.draw.drawn < 2 ^ 64 }
     requires ready { P.ready connection.old.port.now }
@@ -100,7 +102,7 @@ fn serve_many<S: Source, K: Sink, C: Clock, P: Port, W: Worker>(
 ) -> ConnEnd
     requires at { connection.old.pull.at < 2 ^ 17 }
     requires sent { before < 2 ^ 17 }
-    requires host { length (utf connection.old.setup.now.host) ≤ 255 }
+    requires host { length (utf connection.old.setup.now.host) ≤ MAX_HOST_BYTES }
     requires time { connection.old.setup.now.draw.time <ℤ pos (2 ^ 61) }
     requires drawn { connection.old.setup.now.draw.drawn < 2 ^ 64 }
     requires ready { P.ready connection.old.port.now }
@@ -138,7 +140,7 @@ fn serve_message<S: Source, K: Sink, C: Clock, P: Port, W: Worker>(
     requires at { connection.old.pull.at < 2 ^ 61 }
     requires sent { sent < 2 ^ 61 }
     requires served { served ≤ 2 ^ 28 }
-    requires host { length (utf connection.old.setup.now.host) ≤ 255 }
+    requires host { length (utf connection.old.setup.now.host) ≤ MAX_HOST_BYTES }
     requires time { connection.old.setup.now.draw.time <ℤ pos (2 ^ 61) }
     requires drawn { connection.old.setup.now.draw.drawn + 1 < 2 ^ 65 }
     requires ready { P.ready connection.old.port.now }
@@ -149,7 +151,7 @@ fn serve_message<S: Source, K: Sink, C: Clock, P: Port, W: Worker>(
         (spot_of S.left K.held C.given P.asked W.calls W.seen W.state connection.old)
         (spot_of S.left K.held C.given P.asked W.calls W.seen W.state connection.new) connection.old.pull.at sent served connection.new.pull.at result }
     ensures going { OnOk result (served < 2 ^ 28) }
-    ensures most { IfOk result (λ after. (after ≤ sent + 2 ^ 30) × (connection.new.pull.at ≤ connection.old.pull.at + 2 ^ 24)) }
+    ensures most { IfOk result (λ after. (after ≤ sent + RETURN_BYTES) × (connection.new.pull.at ≤ connection.old.pull.at + 2 ^ 24)) }
     ensures lent { IsLent connection.old connection.new }
     ensures balanced { Balanced (P.asked connection.new.port.now) }
     ensures ready { P.ready connection.new.port.now }
@@ -240,7 +242,7 @@ fn serve_call<S: Source, K: Sink, C: Clock, P: Port, W: Worker>(
     sent: u64,
 ) -> Result<u64, ConnEnd>
     requires sent { sent < 2 ^ 61 }
-    requires host { length (utf connection.old.setup.now.host) ≤ 255 }
+    requires host { length (utf connection.old.setup.now.host) ≤ MAX_HOST_BYTES }
     requires time { connection.old.setup.now.draw.time <ℤ pos (2 ^ 61) }
     requires drawn { connection.old.setup.now.draw.drawn + 1 < 2 ^ 65 }
     requires ready { P.ready connection.old.port.now }
@@ -250,7 +252,7 @@ fn serve_call<S: Source, K: Sink, C: Clock, P: Port, W: Worker>(
     ensures serves { ServesCall W.may W.moves (terms_of connection.old.book.now connection.old.setup.now)
         (spot_of S.left K.held C.given P.asked W.calls W.seen W.state connection.old)
         (spot_of S.left K.held C.given P.asked W.calls W.seen W.state connection.new) connection.old.pull.at connection.old.pull.stop sent connection.new.pull.at result }
-    ensures most { IfOk result (λ after. (after ≤ sent + 2 ^ 30) × (connection.new.pull.at ≤ connection.old.pull.stop)) }
+    ensures most { IfOk result (λ after. (after ≤ sent + RETURN_BYTES) × (connection.new.pull.at ≤ connection.old.pull.stop)) }
     ensures lent { IsLent connection.old connection.new }
     ensures balanced { Balanced (P.asked connection.new.port.now) }
     ensures ready { P.ready connection.new.port.now }
@@ -272,9 +274,9 @@ fn serve_call<S: Source, K: Sink, C: Clock, P: Port, W: Worker>(
 /// Sends an answer, where so many bytes were sent before. It answers how many were sent by then, or the end of the connection.
 fn send<K: Sink>(sink: &mut K, answer: Answer, sent: u64) -> Result<u64, ConnEnd>
     requires sent { sent < 2 ^ 61 }
-    requires short { length answer.bytes ≤ 2 ^ 30 }
+    requires short { length answer.bytes ≤ RETURN_BYTES }
     ensures sends { Sends (K.held sink.old) (K.held sink.new) (K.faults sink.old) (K.faults sink.new) sent answer result }
-    ensures most { IfOk result (λ after. after ≤ sent + 2 ^ 30) }
+    ensures most { IfOk result (λ after. after ≤ sent + RETURN_BYTES) }
 {
     let after = write_answer(sink, answer.bytes.as_slice(), sent)?;
     match answer.close {

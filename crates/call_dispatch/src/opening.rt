@@ -1,6 +1,7 @@
 //! The opening of a connection.
-ghost use Rattle.std.specs.Prelude.{◌≡◌, ◌≤◌, ◌<◌, ◌^◌, length, Err, IfOk};
+ghost use Rattle.std.specs.Prelude.{◌≡◌, ◌≤◌, length, Err, IfOk};
 ghost use Rattle.wire_io.specs.Wire.{Rose};
+ghost use Rattle.wire_io.specs.declared.limits.TheConstants.{MAX_HOST_BYTES, LAST_POSITION};
 ghost use Rattle.mod_utf.specs.Utf.{utf};
 ghost use Rattle.jrmp_frames.specs.Frames.{protocol_ack};
 ghost use Rattle.call_dispatch.specs.End.{IsWriteFault};
@@ -35,9 +36,9 @@ pub fn open_connection<S: Source, K: Sink, C: Clock, P: Port, W: Worker>(
     alloc: Global,
     connection: &mut Connection<S, K, C, P, W>,
 ) -> Result<Opened, ConnEnd>
-    requires host { length (utf connection.old.setup.now.peer_host) ≤ 255 }
+    requires host { length (utf connection.old.setup.now.peer_host) ≤ MAX_HOST_BYTES }
     requires at { connection.old.pull.at ≡ 0 }
-    requires stop { connection.old.pull.stop ≡ 2 ^ 62 }
+    requires stop { connection.old.pull.stop ≡ LAST_POSITION }
     ensures opens { Opens W.may W.moves (terms_of connection.old.book.now connection.old.setup.now)
         (spot_of S.left K.held C.given P.asked W.calls W.seen W.state connection.old)
         (spot_of S.left K.held C.given P.asked W.calls W.seen W.state connection.new) connection.new.pull.at result }
@@ -62,9 +63,9 @@ fn open_stream<S: Source, K: Sink, C: Clock, P: Port, W: Worker>(
     alloc: Global,
     connection: &mut Connection<S, K, C, P, W>,
 ) -> Result<Opened, ConnEnd>
-    requires host { length (utf connection.old.setup.now.peer_host) ≤ 255 }
+    requires host { length (utf connection.old.setup.now.peer_host) ≤ MAX_HOST_BYTES }
     requires at { connection.old.pull.at ≡ 7 }
-    requires stop { connection.old.pull.stop ≡ 2 ^ 62 }
+    requires stop { connection.old.pull.stop ≡ LAST_POSITION }
     ensures opens { OpensStream W.may W.moves (terms_of connection.old.book.now connection.old.setup.now)
         (spot_of S.left K.held C.given P.asked W.calls W.seen W.state connection.old)
         (spot_of S.left K.held C.given P.asked W.calls W.seen W.state connection.new) connection.new.pull.at result }
@@ -86,7 +87,7 @@ fn open_stream<S: Source, K: Sink, C: Clock, P: Port, W: Worker>(
 
 /// The acknowledgement of a connection's opening.
 fn acknowledgement(alloc: Global, setup: &Setup) -> Result<ByteList, AllocError>
-    requires { length (utf setup.now.peer_host) ≤ 255 }
+    requires { length (utf setup.now.peer_host) ≤ MAX_HOST_BYTES }
     ensures { IfOk result (λ bytes. bytes ≡ protocol_ack setup.now.peer_host setup.now.peer_port) }
 {
     ack_bytes(alloc, &setup.peer_host, setup.peer_port)

@@ -1,8 +1,9 @@
 //! Results that are remote objects, and results that refer to some.
-ghost use Rattle.std.specs.Prelude.{◌≡◌, ◌≤◌, ◌^◌, [], true, false, length, IfOk, IfSome, IfNone};
+ghost use Rattle.std.specs.Prelude.{◌≡◌, ◌≤◌, [], true, false, length, IfOk, IfSome, IfNone};
 ghost use Rattle.call_dispatch.specs.Results.{flagged, graph_return, interface_of, own_return};
 ghost use Rattle.call_dispatch.specs.Returns.{returns_place};
 ghost use Rattle.call_dispatch.specs.Terms.{terms_of};
+ghost use Rattle.call_dispatch.specs.declared.results.TheConstants.{RETURN_BYTES};
 
 use crate::book::Book;
 use crate::fixed_returns::reference_bytes;
@@ -68,7 +69,7 @@ pub fn own_return(
     object: ObjId,
 ) -> Result<ByteList, AllocError>
     ensures written { IfOk result (λ bytes. bytes ≡ own_return (terms_of [] setup.now) uid interface.now object) }
-    ensures short { IfOk result (λ bytes. length bytes ≤ 2 ^ 30) }
+    ensures short { IfOk result (λ bytes. length bytes ≤ RETURN_BYTES) }
 {
     let bytes = reference_bytes(alloc, setup, uid, interface, object)?;
     if bytes.len() > RETURN_BYTES {

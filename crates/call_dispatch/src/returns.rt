@@ -8,6 +8,7 @@ ghost use Rattle.call_dispatch.specs.declared.setup.Setup.{Setup};
 ghost use Rattle.call_dispatch.specs.Returns.{fault_return, is_of, is_one_reference, suits, table_word};
 ghost use Rattle.call_dispatch.specs.Serving.{IsPlain, Prepares, PreparesGraph, PreparesPlain, IsReadyReturn};
 ghost use Rattle.call_dispatch.specs.Terms.{Terms, terms_of};
+ghost use Rattle.call_dispatch.specs.declared.results.TheConstants.{RETURN_BYTES};
 
 use crate::book::Book;
 use crate::end::ConnEnd;
@@ -71,7 +72,7 @@ pub(crate) fn exceptional(alloc: Global, uid: Uid, message: &Units) -> Result<By
 /// The exceptional Return with a message in ASCII. There is no memory for one of more than 2^30 bytes.
 pub fn exceptional_ascii(alloc: Global, uid: Uid, message: &[u8]) -> Result<ByteList, AllocError>
     ensures written { IfOk result (λ bytes. bytes ≡ fault_return uid message.now) }
-    ensures short { IfOk result (λ bytes. length bytes ≤ 2 ^ 30) }
+    ensures short { IfOk result (λ bytes. length bytes ≤ RETURN_BYTES) }
 {
     let message = Units::from_ascii(alloc, message)?;
     let bytes = exceptional(alloc, uid, &message)?;

@@ -1,6 +1,7 @@
 //! Serving a connection from its opening to its end.
 ghost use Rattle.std.specs.Prelude.{◌≡◌, ◌≤◌, ◌<◌, ◌^◌, pos, ◌<ℤ◌, ◌++◌, List, length};
 ghost use Rattle.wire_io.specs.Wire.{Rose};
+ghost use Rattle.wire_io.specs.declared.limits.TheConstants.{MAX_HOST_BYTES, LAST_POSITION};
 ghost use Rattle.mod_utf.specs.Utf.{utf};
 ghost use Rattle.space.specs.Balance.{Balanced};
 ghost use Rattle.space.specs.declared.asked.Asked.{Asked};
@@ -42,8 +43,8 @@ pub fn serve_connection<S: Source, K: Sink, C: Clock, P: Port, W: Worker>(
     book: &Book,
     setup: &mut Setup,
 ) -> ConnEnd
-    requires peer_host { length (utf setup.old.peer_host) ≤ 255 }
-    requires host { length (utf setup.old.host) ≤ 255 }
+    requires peer_host { length (utf setup.old.peer_host) ≤ MAX_HOST_BYTES }
+    requires host { length (utf setup.old.host) ≤ MAX_HOST_BYTES }
     requires time { setup.old.draw.time <ℤ pos (2 ^ 61) }
     requires drawn { setup.old.draw.drawn < 2 ^ 64 }
     requires ready { P.ready port.old }
@@ -93,10 +94,10 @@ fn talk<S: Source, K: Sink, C: Clock, P: Port, W: Worker>(
     alloc: Global,
     connection: &mut Connection<S, K, C, P, W>,
 ) -> ConnEnd
-    requires peer_host { length (utf connection.old.setup.now.peer_host) ≤ 255 }
-    requires host { length (utf connection.old.setup.now.host) ≤ 255 }
+    requires peer_host { length (utf connection.old.setup.now.peer_host) ≤ MAX_HOST_BYTES }
+    requires host { length (utf connection.old.setup.now.host) ≤ MAX_HOST_BYTES }
     requires at { connection.old.pull.at ≡ 0 }
-    requires stop { connection.old.pull.stop ≡ 2 ^ 62 }
+    requires stop { connection.old.pull.stop ≡ LAST_POSITION }
     requires time { connection.old.setup.now.draw.time <ℤ pos (2 ^ 61) }
     requires drawn { connection.old.setup.now.draw.drawn < 2 ^ 64 }
     requires ready { P.ready connection.old.port.now }

@@ -2,6 +2,7 @@
 ghost use Rattle.std.specs.Prelude.{◌≡◌, ◌≢◌, ◌≤◌, ◌<◌, ◌+◌, ◌^◌, pos, ◌<ℤ◌, length, true, false, Err, if◌then◌else◌, IfOk, []};
 ghost use Rattle.mod_utf.specs.Utf.{utf};
 ghost use Rattle.wire_io.specs.Pulled.{Place, place};
+ghost use Rattle.wire_io.specs.declared.limits.TheConstants.{MAX_HOST_BYTES};
 ghost use Rattle.history.specs.declared.replies.Refused.TheVariants.{OutOfMemory};
 ghost use Rattle.space.specs.Balance.{Balanced};
 ghost use Rattle.jrmp_frames.specs.Calls.{ReadsHead, HasHead};
@@ -11,6 +12,7 @@ ghost use Rattle.call_dispatch.specs.ServingSystem.{IsQuiet, AsksTurn, AnswersMe
 ghost use Rattle.call_dispatch.specs.Spot.{side_of, IsLent};
 ghost use Rattle.call_dispatch.specs.Systems.{is_system, params_of};
 ghost use Rattle.call_dispatch.specs.Terms.{terms_of};
+ghost use Rattle.call_dispatch.specs.declared.results.TheConstants.{RETURN_BYTES};
 
 use crate::calls::{NO_METHOD, answer_call, no_such_method, refuse, told};
 use crate::connection::Connection;
@@ -71,7 +73,7 @@ fn ask_turn<S: Source, K: Sink, C: Clock, P: Port, W: Worker>(
     ask: Ask,
     kept: Kept,
 ) -> Result<Answer, ConnEnd>
-    requires host { length (utf connection.old.setup.now.host) ≤ 255 }
+    requires host { length (utf connection.old.setup.now.host) ≤ MAX_HOST_BYTES }
     requires ready { P.ready connection.old.port.now }
     requires room { 0 < P.room_of connection.old.port.now }
     requires balanced { Balanced (P.asked connection.old.port.now) }
@@ -80,7 +82,7 @@ fn ask_turn<S: Source, K: Sink, C: Clock, P: Port, W: Worker>(
     ensures asks { AsksTurn W.may W.moves (terms_of connection.old.book.now connection.old.setup.now) uid ask
         (side_of C.given P.asked W.calls W.seen W.state connection.old)
         (side_of C.given P.asked W.calls W.seen W.state connection.new) result }
-    ensures short { IfOk result (λ answer. length answer.bytes ≤ 2 ^ 30) }
+    ensures short { IfOk result (λ answer. length answer.bytes ≤ RETURN_BYTES) }
     ensures balanced { Balanced (P.asked connection.new.port.now) }
     ensures pull { connection.new.pull ≡ connection.old.pull }
     ensures sink { connection.new.sink ≡ connection.old.sink }
@@ -115,7 +117,7 @@ fn answer_method<S: Source, K: Sink, C: Clock, P: Port, W: Worker>(
     method: SystemMethod,
     arguments: Arguments,
 ) -> Result<Answer, ConnEnd>
-    requires host { length (utf connection.old.setup.now.host) ≤ 255 }
+    requires host { length (utf connection.old.setup.now.host) ≤ MAX_HOST_BYTES }
     requires time { connection.old.setup.now.draw.time <ℤ pos (2 ^ 61) }
     requires drawn { connection.old.setup.now.draw.drawn + 1 < 2 ^ 65 }
     requires ready { P.ready connection.old.port.now }
@@ -125,7 +127,7 @@ fn answer_method<S: Source, K: Sink, C: Clock, P: Port, W: Worker>(
         (side_of C.given P.asked W.calls W.seen W.state connection.old)
         (side_of C.given P.asked W.calls W.seen W.state connection.new)
         connection.old.setup.now.draw.drawn connection.new.setup.now.draw.drawn result }
-    ensures short { IfOk result (λ answer. length answer.bytes ≤ 2 ^ 30) }
+    ensures short { IfOk result (λ answer. length answer.bytes ≤ RETURN_BYTES) }
     ensures balanced { Balanced (P.asked connection.new.port.now) }
     ensures pull { connection.new.pull ≡ connection.old.pull }
     ensures sink { connection.new.sink ≡ connection.old.sink }
@@ -156,7 +158,7 @@ fn answer_system<S: Source, K: Sink, C: Clock, P: Port, W: Worker>(
 ) -> Result<Answer, ConnEnd>
     requires head { HasHead reader }
     requires own { is_system head.id ≡ true }
-    requires host { length (utf connection.old.setup.now.host) ≤ 255 }
+    requires host { length (utf connection.old.setup.now.host) ≤ MAX_HOST_BYTES }
     requires time { connection.old.setup.now.draw.time <ℤ pos (2 ^ 61) }
     requires drawn { connection.old.setup.now.draw.drawn + 1 < 2 ^ 65 }
     requires ready { P.ready connection.old.port.now }
@@ -168,7 +170,7 @@ fn answer_system<S: Source, K: Sink, C: Clock, P: Port, W: Worker>(
         (side_of C.given P.asked W.calls W.seen W.state connection.old)
         (side_of C.given P.asked W.calls W.seen W.state connection.new)
         connection.old.setup.now.draw.drawn connection.new.setup.now.draw.drawn result }
-    ensures short { IfOk result (λ answer. length answer.bytes ≤ 2 ^ 30) }
+    ensures short { IfOk result (λ answer. length answer.bytes ≤ RETURN_BYTES) }
     ensures balanced { Balanced (P.asked connection.new.port.now) }
     ensures sink { connection.new.sink ≡ connection.old.sink }
     ensures drawn { connection.new.setup.now.draw.drawn ≤ connection.old.setup.now.draw.drawn + 2 }
@@ -195,7 +197,7 @@ pub fn answer_any<S: Source, K: Sink, C: Clock, P: Port, W: Worker>(
     reader: Reader,
 ) -> Result<Answer, ConnEnd>
     requires head { HasHead reader }
-    requires host { length (utf connection.old.setup.now.host) ≤ 255 }
+    requires host { length (utf connection.old.setup.now.host) ≤ MAX_HOST_BYTES }
     requires time { connection.old.setup.now.draw.time <ℤ pos (2 ^ 61) }
     requires drawn { connection.old.setup.now.draw.drawn + 1 < 2 ^ 65 }
     requires ready { P.ready connection.old.port.now }
@@ -208,7 +210,7 @@ pub fn answer_any<S: Source, K: Sink, C: Clock, P: Port, W: Worker>(
         (side_of C.given P.asked W.calls W.seen W.state connection.old)
         (side_of C.given P.asked W.calls W.seen W.state connection.new)
         connection.old.setup.now.draw.drawn connection.new.setup.now.draw.drawn result }
-    ensures short { IfOk result (λ answer. length answer.bytes ≤ 2 ^ 30) }
+    ensures short { IfOk result (λ answer. length answer.bytes ≤ RETURN_BYTES) }
     ensures balanced { Balanced (P.asked connection.new.port.now) }
     ensures sink { connection.new.sink ≡ connection.old.sink }
     ensures drawn { connection.new.setup.now.draw.drawn ≤ connection.old.setup.now.draw.drawn + 2 }

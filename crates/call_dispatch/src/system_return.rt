@@ -1,6 +1,7 @@
 //! What calls of the registry and the collector are answered.
-ghost use Rattle.std.specs.Prelude.{◌≡◌, ◌≤◌, ◌^◌, length, [], Some, slice_get, IfOk};
+ghost use Rattle.std.specs.Prelude.{◌≡◌, ◌≤◌, length, [], Some, slice_get, IfOk};
 ghost use Rattle.mod_utf.specs.Utf.{utf};
+ghost use Rattle.wire_io.specs.declared.limits.TheConstants.{MAX_HOST_BYTES};
 ghost use Rattle.history.specs.declared.asks.Ask.{Ask as Asks};
 ghost use Rattle.java_shapes.specs.TextsGraph.{texts_items, texts_nodes};
 ghost use Rattle.call_dispatch.specs.Demands.{kept_of};
@@ -8,6 +9,7 @@ ghost use Rattle.call_dispatch.specs.Returns.{fault_return, full};
 ghost use Rattle.call_dispatch.specs.Results.{graph_return};
 ghost use Rattle.call_dispatch.specs.SystemReturns.{answer_written, bound_return, found_return, kept_return, lease_return, named_fault, reply_return, unbound_return, void_return};
 ghost use Rattle.call_dispatch.specs.Terms.{terms_of};
+ghost use Rattle.call_dispatch.specs.declared.results.TheConstants.{RETURN_BYTES};
 
 use crate::book::{Book, Kind};
 use crate::demand::Kept;
@@ -104,7 +106,7 @@ fn object_return(
     object: ObjId,
     kind: &Kind,
 ) -> Result<ByteList, AllocError>
-    requires { length (utf setup.now.host) ≤ 255 }
+    requires { length (utf setup.now.host) ≤ MAX_HOST_BYTES }
     ensures { IfOk result (λ bytes. bytes ≡ found_return (terms_of [] setup.now) uid object (Some kind.now)) }
 {
     reference_bytes(alloc, setup, uid, &kind.interface, object)
@@ -119,7 +121,7 @@ fn found_return(
     object: ObjId,
     kind: u32,
 ) -> Result<ByteList, AllocError>
-    requires { length (utf setup.now.host) ≤ 255 }
+    requires { length (utf setup.now.host) ≤ MAX_HOST_BYTES }
     ensures { IfOk result (λ bytes. bytes ≡ found_return (terms_of book.now setup.now) uid object (slice_get book.now kind)) }
 {
     match book.kind(kind) {
@@ -139,7 +141,7 @@ fn reply_return(
     kept: &Kept,
     reply: &Reply,
 ) -> Result<ByteList, AllocError>
-    requires { length (utf setup.now.host) ≤ 255 }
+    requires { length (utf setup.now.host) ≤ MAX_HOST_BYTES }
     ensures { IfOk result (λ bytes. bytes ≡ reply_return (terms_of book.now setup.now) uid kept.now reply.now) }
 {
     match reply {
@@ -171,7 +173,7 @@ fn kept_return(
     kept: &Kept,
     answer: &Result<Turn, Refused>,
 ) -> Result<ByteList, AllocError>
-    requires { length (utf setup.now.host) ≤ 255 }
+    requires { length (utf setup.now.host) ≤ MAX_HOST_BYTES }
     ensures { IfOk result (λ bytes. bytes ≡ kept_return (terms_of book.now setup.now) uid kept.now answer.now) }
 {
     match answer {
@@ -191,9 +193,9 @@ pub fn system_return(
     kept: &Kept,
     answer: &Result<Turn, Refused>,
 ) -> Result<ByteList, AllocError>
-    requires host { length (utf setup.now.host) ≤ 255 }
+    requires host { length (utf setup.now.host) ≤ MAX_HOST_BYTES }
     ensures written { (ask : Asks) → kept.now ≡ kept_of ask → IfOk result (λ bytes. bytes ≡ answer_written (terms_of book.now setup.now) uid ask answer.now) }
-    ensures short { IfOk result (λ bytes. length bytes ≤ 2 ^ 30) }
+    ensures short { IfOk result (λ bytes. length bytes ≤ RETURN_BYTES) }
 {
     let bytes = kept_return(alloc, setup, book, uid, kept, answer)?;
     if bytes.len() > RETURN_BYTES {

@@ -1,6 +1,6 @@
 //! Random histories: short ones of few objects, clients, connections and returns, with leases of a few milliseconds, so that calls meet. Each begins
 //! with the opening of a pinned object, a call of it, and a return of two new objects.
-ghost use Rattle.std.specs.Prelude.{◌≤◌, ◌<◌, ◌^◌};
+ghost use Rattle.std.specs.Prelude.{◌≤◌, ◌^◌};
 
 use crate::draws::Draws;
 use history::{Ask, Event, EventList, Name, SpaceConfig};

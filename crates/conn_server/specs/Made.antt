@@ -3,6 +3,7 @@ use Rattle.std.specs.Prelude.{◌≡◌, ℕ, List, [], ◌∷◌, ◌≤◌, �
 use Rattle.mod_utf.specs.Utf.{utf}
 use Rattle.wire_io.specs.Links.{Accepted, accepted_as}
 use Rattle.wire_io.specs.Wire.{Gave}
+use Rattle.wire_io.specs.declared.limits.TheConstants.{MAX_HOST_BYTES}
 use Rattle.object_ids.specs.declared.ids.ObjId.{ObjId}
 use Rattle.history.specs.declared.asks.Ask.TheVariants.{Tick}
 use Rattle.space.specs.declared.asked.Asked.{Asked}
@@ -50,7 +51,7 @@ pub record IsReady {H : Type 0} (calls : H → ℕ) (seen : H → Option (List C
   pub told : calls ready.hand ≡ 0
   pub untold : IsUntold (seen ready.hand)
   pub terms : (kinds : List Kind) → terms_of kinds ready.setup ≡ link_terms kinds plan k peer port
-  pub peer_host : length (utf ready.setup.peer_host) ≤ 255
-  pub host : length (utf ready.setup.host) ≤ 255
+  pub peer_host : length (utf ready.setup.peer_host) ≤ MAX_HOST_BYTES
+  pub host : length (utf ready.setup.host) ≤ MAX_HOST_BYTES
   pub time : ready.setup.draw.time <ℤ pos (2 ^ 61)
   pub drawn : ready.setup.draw.drawn ≡ 0

@@ -1,6 +1,7 @@
 -- What serving a link keeps.
 use Rattle.std.specs.Prelude.{◌≡◌, ℕ, pos, ◌^◌, ◌≤◌, ◌<ℤ◌, length}
 use Rattle.mod_utf.specs.Utf.{utf}
+use Rattle.wire_io.specs.declared.limits.TheConstants.{MAX_HOST_BYTES}
 use Rattle.turn_lock.specs.declared.handles.TurnLock.{TurnLock}
 use Rattle.turn_lock.specs.Handles.{IsBranchOf}
 use Rattle.turn_lock.specs.Rule.{most_turns}
@@ -13,8 +14,8 @@ use Rattle.conn_server.specs.declared.jobs.LinkReport.{LinkReport}
 -- The link can be served: its hand was given no invocation, and no identifier was drawn from its setup.
 pub record IsGuest {I O T H : Type 0} (calls : H → ℕ) (guest : Guest I O T H) : Type 0 where
   pub told : calls guest.hand ≡ 0
-  pub peer_host : length (utf guest.setup.peer_host) ≤ 255
-  pub host : length (utf guest.setup.host) ≤ 255
+  pub peer_host : length (utf guest.setup.peer_host) ≤ MAX_HOST_BYTES
+  pub host : length (utf guest.setup.host) ≤ MAX_HOST_BYTES
   pub time : guest.setup.draw.time <ℤ pos (2 ^ 61)
   pub drawn : guest.setup.draw.drawn ≡ 0
 

@@ -3,6 +3,7 @@ ghost use Rattle.std.specs.Prelude.{◌≡◌, ◌<◌, ◌≤◌, ◌+◌, ◌^
 ghost use Rattle.mod_utf.specs.Utf.{utf};
 ghost use Rattle.wire_io.specs.Links.{accepted_as};
 ghost use Rattle.wire_io.specs.Wire.{Gave};
+ghost use Rattle.wire_io.specs.declared.limits.TheConstants.{MAX_HOST_BYTES};
 ghost use Rattle.history.specs.declared.asks.Ask.TheVariants.{Tick};
 ghost use Rattle.space.specs.Entries.{end_of};
 ghost use Rattle.space.specs.Ports.{entries_of};
@@ -148,12 +149,12 @@ fn prepare<G: Crew, I, O, T>(
     by: u32,
     link: &Link<I, O, T>,
 ) -> Result<Ready<G::Hand>, AllocError>
-    requires host { length (utf plan.now.host) ≤ 255 }
+    requires host { length (utf plan.now.host) ≤ MAX_HOST_BYTES }
     ensures calls { IfOk result (λ r. G.Hand.calls r.hand ≡ 0) }
     ensures untold { IfOk result (λ r. IsUntold (G.Hand.seen r.hand)) }
     ensures terms { IfOk result (λ r. (kinds : List Kind) → terms_of kinds r.setup ≡ link_terms kinds plan.now by link.now.host link.now.port) }
-    ensures peer_host { IfOk result (λ r. length (utf r.setup.peer_host) ≤ 255) }
-    ensures host { IfOk result (λ r. length (utf r.setup.host) ≤ 255) }
+    ensures peer_host { IfOk result (λ r. length (utf r.setup.peer_host) ≤ MAX_HOST_BYTES) }
+    ensures host { IfOk result (λ r. length (utf r.setup.host) ≤ MAX_HOST_BYTES) }
     ensures time { IfOk result (λ r. r.setup.draw.time <ℤ pos (2 ^ 61)) }
     ensures drawn { IfOk result (λ r. r.setup.draw.drawn ≡ 0) }
 {
@@ -170,7 +171,7 @@ fn make_ready<G: Crew, I: Source, O: Sink, T: Clock>(
     link: &Link<I, O, T>,
     accepting: Accepting<I, O, T, G::Hand>,
 ) -> (Accepting<I, O, T, G::Hand>, Option<Ready<G::Hand>>)
-    requires host { length (utf plan.now.host) ≤ 255 }
+    requires host { length (utf plan.now.host) ≤ MAX_HOST_BYTES }
     requires few { vec_len accepting.started < 65535 }
     ensures same { IsSame accepting result.0 }
     ensures room { IfSome result.1 (λ r. HasRoom result.0) }
@@ -380,7 +381,7 @@ pub fn take_in<
 ) -> (Accepting<I, O, T, G::Hand>, bool)
 where
     G::Hand: 's,
-    requires host { length (utf plan.now.host) ≤ 255 }
+    requires host { length (utf plan.now.host) ≤ MAX_HOST_BYTES }
     requires accepting { IsAccepting (TalksOver I.left O.held T.given G.Hand.calls G.Hand.seen G.Hand.state G.Hand.may G.Hand.moves book.now) (IsMadeFor I.left O.held T.given G.Hand.seen G.Hand.state G.Hand.moves plan.now) G.Hand.calls lock.now book.now accepting }
     requires turns { (0 < accepting.root.pass.room) × (vec_len accepting.started < 65535) }
     requires tied { accepting.ticks.items ≡ ticks_of (shown_all I.left O.held T.given accepting.started.items) }

@@ -3,6 +3,7 @@ ghost use Rattle.std.specs.Prelude.{◌≡◌, ◌≤◌, List, [], ◌++◌, le
 ghost use Rattle.mod_utf.specs.Utf.{utf};
 ghost use Rattle.wire_io.specs.Links.{Accepted, Accepts, accepted_as};
 ghost use Rattle.wire_io.specs.Wire.{Rose};
+ghost use Rattle.wire_io.specs.declared.limits.TheConstants.{MAX_HOST_BYTES};
 ghost use Rattle.turn_lock.specs.Handles.{IsRootOf, view_of};
 ghost use Rattle.conn_server.specs.Accepts.{IsAccepting, shown_all, links_of, ticks_of, with_all};
 ghost use Rattle.conn_server.specs.Joins.{IsJoined};
@@ -90,7 +91,7 @@ where
     L::Out: 's,
     L::Ticks: 's,
     G::Hand: 's,
-    requires host { length (utf plan.now.host) ≤ 255 }
+    requires host { length (utf plan.now.host) ≤ MAX_HOST_BYTES }
     requires accepting { IsAccepting (TalksOver L.In.left L.Out.held L.Ticks.given G.Hand.calls G.Hand.seen G.Hand.state G.Hand.may G.Hand.moves book.now) (IsMadeFor L.In.left L.Out.held L.Ticks.given G.Hand.seen G.Hand.state G.Hand.moves plan.now) G.Hand.calls lock.now book.now accepting }
     requires fresh { (accepting.started.items ≡ []) × (accepting.ticks.items ≡ []) }
     requires turns { (plan.now.count ≤ 65535) × (65535 ≤ accepting.root.pass.room) }

@@ -1,6 +1,7 @@
 //! What a server is told beforehand, and what it tells each connection.
 ghost use Rattle.std.specs.Prelude.{◌≡◌, ◌≤◌, ◌<◌, ◌^◌, pos, ◌<ℤ◌, length, List, IfOk};
 ghost use Rattle.mod_utf.specs.Utf.{utf};
+ghost use Rattle.wire_io.specs.declared.limits.TheConstants.{MAX_HOST_BYTES};
 ghost use Rattle.call_dispatch.specs.Terms.{terms_of};
 ghost use Rattle.call_dispatch.specs.declared.book.Kind.{Kind};
 ghost use Rattle.conn_server.specs.Plans.{low_signed, link_terms};
@@ -36,10 +37,10 @@ pub fn setup_for<I, O, T>(
     by: u32,
     link: &Link<I, O, T>,
 ) -> Result<Setup, AllocError>
-    requires host { length (utf plan.now.host) ≤ 255 }
+    requires host { length (utf plan.now.host) ≤ MAX_HOST_BYTES }
     ensures terms { IfOk result (λ setup. (kinds : List Kind) → terms_of kinds setup ≡ link_terms kinds plan.now by link.now.host link.now.port) }
-    ensures peer_host { IfOk result (λ setup. length (utf setup.peer_host) ≤ 255) }
-    ensures host { IfOk result (λ setup. length (utf setup.host) ≤ 255) }
+    ensures peer_host { IfOk result (λ setup. length (utf setup.peer_host) ≤ MAX_HOST_BYTES) }
+    ensures host { IfOk result (λ setup. length (utf setup.host) ≤ MAX_HOST_BYTES) }
     ensures time { IfOk result (λ setup. setup.draw.time <ℤ pos (2 ^ 61)) }
     ensures drawn { IfOk result (λ setup. setup.draw.drawn ≡ 0) }
 {

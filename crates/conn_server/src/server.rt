@@ -3,6 +3,7 @@ ghost use Rattle.std.specs.Prelude.{◌≡◌, ◌<◌, ◌≤◌, ℕ, List, []
 ghost use Rattle.mod_utf.specs.Utf.{utf};
 ghost use Rattle.wire_io.specs.Links.{Accepted};
 ghost use Rattle.wire_io.specs.Wire.{Rose};
+ghost use Rattle.wire_io.specs.declared.limits.TheConstants.{MAX_HOST_BYTES};
 ghost use Rattle.history.specs.Steps.{IsLegal};
 ghost use Rattle.space.specs.Lists.{CollectsEach};
 ghost use Rattle.space.specs.declared.asked.Asked.{Asked};
@@ -74,7 +75,7 @@ where
     G::Hand: 's,
     requires fresh { IsFresh lock.now root }
     requires few { plan.now.count ≤ 65535 }
-    requires host { length (utf plan.now.host) ≤ 255 }
+    requires host { length (utf plan.now.host) ≤ MAX_HOST_BYTES }
     ensures served { (served : List (Accepted × Asked)) × IsOutcome (IsLinkOf L.In.left L.Out.held L.Ticks.given G.Hand.calls G.Hand.seen G.Hand.state G.Hand.may G.Hand.moves book.now plan.now) lock.now served result
         × ((lost : List Accepted) × (L.accepted listener.new ≡ with_all (L.accepted listener.old) (links_of served ++ lost)) × Stopped result.stop plan.now.count (length result.links.items) lost) }
     ensures fault { result.stop ≡ Stop.AcceptFault → Rose (L.faults listener.old) (L.faults listener.new) }
@@ -122,7 +123,7 @@ pub fn serve<R: Threads + Wait + Sync, L: Listener, G: Crew>(
 ) -> Report<L::In, L::Out, L::Ticks, G::Hand>
     requires fresh { IsFresh lock root }
     requires few { plan.now.count ≤ 65535 }
-    requires host { length (utf plan.now.host) ≤ 255 }
+    requires host { length (utf plan.now.host) ≤ MAX_HOST_BYTES }
 
     // The history that is left is legal and goes on from the lock's, and at each of its events the collector kept what there was a reason to
     // keep, and withdrew the rest.
@@ -155,7 +156,7 @@ pub fn serve<R: Threads + Wait + Sync, L: Listener, G: Crew>(
         thread::scope_env(),
         rt,
         move |scope| -> (&mut L, Outcome<L::In, L::Out, L::Ticks, G::Hand>)
-            requires { IsFresh shared.now root × (plan.now.count ≤ 65535) × (length (utf plan.now.host) ≤ 255) }
+            requires { IsFresh shared.now root × (plan.now.count ≤ 65535) × (length (utf plan.now.host) ≤ MAX_HOST_BYTES) }
             ensures left { (result.0.ghost_name ≡ listener.entry.ghost_name) }
             ensures served { (served : List (Accepted × Asked)) × IsOutcome (IsLinkOf L.In.left L.Out.held L.Ticks.given G.Hand.calls G.Hand.seen G.Hand.state G.Hand.may G.Hand.moves book.entry.now plan.entry.now) shared.entry.now served result.1
                 × ((lost : List Accepted) × (L.accepted result.0.now ≡ with_all (L.accepted listener.entry.now) (links_of served ++ lost)) × Stopped result.1.stop plan.entry.now.count (length result.1.links.items) lost) }

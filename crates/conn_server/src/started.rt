@@ -1,5 +1,5 @@
 //! Links that are being served.
-ghost use Rattle.std.specs.Prelude.{◌≡◌, ◌<◌, ◌+◌};
+ghost use Rattle.std.specs.Prelude.{◌≡◌, ◌+◌};
 ghost use Rattle.turn_lock.specs.Handles.{IsRootOf, view_of};
 ghost use Rattle.turn_lock.specs.declared.view.View.{View};
 ghost use Rattle.conn_server.specs.Serves.{IsJob, Serves};

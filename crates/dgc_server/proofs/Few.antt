@@ -115,17 +115,17 @@ few-with q none e (d ∷ es) order =
         other false y = refl
         other true y = absurd (let s : client_cmp e.client d.client ≡ Equal = ap (client_cmp e.client) (same_client-equal d.client e.client y) ∙ client_cmp-self e.client in cc)
 
-pub few-noted : (m at lease : ℕ) (kind : CallKind) (c : Client) (n : ℤ) (os : List ObjId) (es : List Entry) (most : ℕ) → m ≤ at → is_in_order es ≡ true → length (filter (has_time_left m) es) ≤ most →
-    (IsTrue (is_dirty_kind kind) → clients_after es c at ≤ most) →
-    length (filter (has_time_left at) (after_lapse at (with_entry (entry_after lease kind n os at (entry_of es c)) es))) ≤ most
-few-noted m at lease kind c n os es most le order few room =
-    few-lapse at at (with_entry (entry_after lease kind n os at (entry_of es c)) es) most (omega arith) (go kind room)
+pub few-noted : (m time lease : ℕ) (kind : CallKind) (c : Client) (n : ℤ) (os : List ObjId) (es : List Entry) (most : ℕ) → m ≤ time → is_in_order es ≡ true → length (filter (has_time_left m) es) ≤ most →
+    (IsTrue (is_dirty_kind kind) → clients_after es c time ≤ most) →
+    length (filter (has_time_left time) (after_lapse time (with_entry (entry_after lease kind n os time (entry_of es c)) es))) ≤ most
+few-noted m time lease kind c n os es most le order few room =
+    few-lapse time time (with_entry (entry_after lease kind n os time (entry_of es c)) es) most (omega arith) (go kind room)
   where
-    counted : (k : CallKind) → length (filter (has_time_left at) (with_entry (entry_after lease k n os at (entry_of es c)) es)) + (if has_time_left at (entry_of es c) then 1 else 0)
-        ≡ length (filter (has_time_left at) es) + (if has_time_left at (entry_after lease k n os at (entry_of es c)) then 1 else 0)
+    counted : (k : CallKind) → length (filter (has_time_left time) (with_entry (entry_after lease k n os time (entry_of es c)) es)) + (if has_time_left time (entry_of es c) then 1 else 0)
+        ≡ length (filter (has_time_left time) es) + (if has_time_left time (entry_after lease k n os time (entry_of es c)) then 1 else 0)
     counted k =
-        ap (λ d. length (filter (has_time_left at) (with_entry (entry_after lease k n os at (entry_of es c)) es)) + (if has_time_left at (entry_of es d) then 1 else 0)) (sym (client-of es c))
-        ∙ few-with (has_time_left at) (λ d. no_time at) (entry_after lease k n os at (entry_of es c)) es order
+        ap (λ d. length (filter (has_time_left time) (with_entry (entry_after lease k n os time (entry_of es c)) es)) + (if has_time_left time (entry_of es d) then 1 else 0)) (sym (client-of es c))
+        ∙ few-with (has_time_left time) (λ d. no_time time) (entry_after lease k n os time (entry_of es c)) es order
 
     same : (x y : ℕ) (b : Bool) → x + (if b then 1 else 0) ≡ y + (if b then 1 else 0) → x ≡ y
     same x y true h = omega arith
@@ -137,22 +137,22 @@ few-noted m at lease kind c n os es most le order few room =
     within x y false true h k = omega arith
     within x y false false h k = omega arith
 
-    clean : (k : CallKind) → is_dirty_kind k ≡ false → length (filter (has_time_left at) (with_entry (entry_after lease k n os at (entry_of es c)) es)) ≤ most
+    clean : (k : CallKind) → is_dirty_kind k ≡ false → length (filter (has_time_left time) (with_entry (entry_after lease k n os time (entry_of es c)) es)) ≤ most
     clean k d =
-        let same_time : has_time_left at (entry_after lease k n os at (entry_of es c)) ≡ has_time_left at (entry_of es c) = ap (λ b. nat_lt at (if b then at + lease else (entry_of es c).until)) d in
-        let e = same (length (filter (has_time_left at) (with_entry (entry_after lease k n os at (entry_of es c)) es))) (length (filter (has_time_left at) es)) (has_time_left at (entry_of es c))
-        (counted k ∙ ap (λ b. length (filter (has_time_left at) es) + (if b then 1 else 0)) same_time) in
-        let f = fewer (has_time_left at) (has_time_left m) (λ e x. earlier m at e.until le x) es in
+        let same_time : has_time_left time (entry_after lease k n os time (entry_of es c)) ≡ has_time_left time (entry_of es c) = ap (λ b. nat_lt time (if b then time + lease else (entry_of es c).until)) d in
+        let e = same (length (filter (has_time_left time) (with_entry (entry_after lease k n os time (entry_of es c)) es))) (length (filter (has_time_left time) es)) (has_time_left time (entry_of es c))
+        (counted k ∙ ap (λ b. length (filter (has_time_left time) es) + (if b then 1 else 0)) same_time) in
+        let f = fewer (has_time_left time) (has_time_left m) (λ e x. earlier m time e.until le x) es in
         omega (arith, e, f, few)
 
-    go : (k : CallKind) → (IsTrue (is_dirty_kind k) → clients_after es c at ≤ most) → length (filter (has_time_left at) (with_entry (entry_after lease k n os at (entry_of es c)) es)) ≤ most
+    go : (k : CallKind) → (IsTrue (is_dirty_kind k) → clients_after es c time ≤ most) → length (filter (has_time_left time) (with_entry (entry_after lease k n os time (entry_of es c)) es)) ≤ most
     go Dirty r =
-        within (length (filter (has_time_left at) (with_entry (entry_after lease Dirty n os at (entry_of es c)) es))) (length (filter (has_time_left at) es)) (has_time_left at (entry_of es c)) (has_time_left at (entry_after lease Dirty n os at (entry_of es c)))
+        within (length (filter (has_time_left time) (with_entry (entry_after lease Dirty n os time (entry_of es c)) es))) (length (filter (has_time_left time) es)) (has_time_left time (entry_of es c)) (has_time_left time (entry_after lease Dirty n os time (entry_of es c)))
         (counted Dirty) (r refl)
     go Weak r = clean Weak refl
     go Strong r = clean Strong refl
 
 -- No more hold an object than have time left.
-pub few-holders : (m at : ℕ) (o : ObjId) (es : List Entry) (most : ℕ) → m ≤ at → length (filter (has_time_left m) es) ≤ most → length (filter (entry_holds at o) es) ≤ most
-few-holders m at o es most le few =
-    let a = fewer (entry_holds at o) (has_time_left m) (λ e h. earlier m at e.until le (and_parts (has_time_left at e) _ h).0) es in omega (arith, a, few)
+pub few-holders : (m time : ℕ) (o : ObjId) (es : List Entry) (most : ℕ) → m ≤ time → length (filter (has_time_left m) es) ≤ most → length (filter (entry_holds time o) es) ≤ most
+few-holders m time o es most le few =
+    let a = fewer (entry_holds time o) (has_time_left m) (λ e h. earlier m time e.until le (and_parts (has_time_left time e) _ h).0) es in omega (arith, a, few)

@@ -272,13 +272,13 @@ all-with P e (d ∷ es) p a = go (client_cmp e.client d.client) (all-with P e es
     go Equal rest = (p, a.1)
     go Greater rest = (a.0, rest)
 
-pub settled-with : (m n at : ℕ) (e : Entry) (es : List Entry) → m ≤ at → (m < n → AllByRecursion (IsSettled m n) es) →
-    m < (if has_time_left at e then min n e.until else 0) → AllByRecursion (IsSettled m (if has_time_left at e then min n e.until else 0)) (with_entry e es)
-settled-with m n at e es le inv = go (nat_lt at e.until) refl
+pub settled-with : (m n time : ℕ) (e : Entry) (es : List Entry) → m ≤ time → (m < n → AllByRecursion (IsSettled m n) es) →
+    m < (if has_time_left time e then min n e.until else 0) → AllByRecursion (IsSettled m (if has_time_left time e then min n e.until else 0)) (with_entry e es)
+settled-with m n time e es le inv = go (nat_lt time e.until) refl
   where
-    go : (b : Bool) → nat_lt at e.until ≡ b → m < (if b then min n e.until else 0) → AllByRecursion (IsSettled m (if b then min n e.until else 0)) (with_entry e es)
+    go : (b : Bool) → nat_lt time e.until ≡ b → m < (if b then min n e.until else 0) → AllByRecursion (IsSettled m (if b then min n e.until else 0)) (with_entry e es)
     go true l h =
-        let left : nat_lt m e.until ≡ true = lt-ltb m e.until (let x = ltb-true at e.until l in omega arith) in
+        let left : nat_lt m e.until ≡ true = lt-ltb m e.until (let x = ltb-true time e.until l in omega arith) in
         all-with (IsSettled m (min n e.until)) e es
         (record { forgotten = ap (λ b. if b then e else record e { objects = tenure_forgotten e.objects }) left; kept = ap (λ b. b || not (is_empty e.objects)) left; later = λ k. omega arith })
         (all-lower m n (min n e.until) es (omega arith) (inv (omega arith)))

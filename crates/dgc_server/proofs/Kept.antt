@@ -87,11 +87,11 @@ once-without o es h = each-map is_once (entry_without o) (λ e x. once-filter (�
 pub once-entry : (es : List Entry) (c : Client) → all_objects_once es ≡ true → each_once (entry_of es c).objects ≡ true
 once-entry es c h = each-entry is_once es c refl h
 
-pub once-noted : (at lease : ℕ) (kind : CallKind) (c : Client) (n : ℤ) (os : List ObjId) (es : List Entry) → all_objects_once es ≡ true →
-    all_objects_once (after_lapse at (with_entry (entry_after lease kind n os at (entry_of es c)) es)) ≡ true
-once-noted at lease kind c n os es h =
-    once-lapse at (with_entry (entry_after lease kind n os at (entry_of es c)) es)
-    (each-with is_once (entry_after lease kind n os at (entry_of es c)) es (once-after (has_time_left at (entry_of es c)) kind n os (entry_of es c).objects (once-entry es c h)) h)
+pub once-noted : (time lease : ℕ) (kind : CallKind) (c : Client) (n : ℤ) (os : List ObjId) (es : List Entry) → all_objects_once es ≡ true →
+    all_objects_once (after_lapse time (with_entry (entry_after lease kind n os time (entry_of es c)) es)) ≡ true
+once-noted time lease kind c n os es h =
+    once-lapse time (with_entry (entry_after lease kind n os time (entry_of es c)) es)
+    (each-with is_once (entry_after lease kind n os time (entry_of es c)) es (once-after (has_time_left time (entry_of es c)) kind n os (entry_of es c).objects (once-entry es c h)) h)
 
 -- ---- some number of each object
 
@@ -165,15 +165,15 @@ numbered-lapse k es h = each-filtered is_numbered (is_entry_kept k) (map (lapsed
 pub numbered-without : (o : ObjId) (es : List Entry) → all_numbered es ≡ true → all_numbered (map (entry_without o) es) ≡ true
 numbered-without o es h = each-map is_numbered (entry_without o) (λ e x. each-filtered has_number (λ y. not (same_id y.object o)) e.objects x) es h
 
-pub numbered-with-noted : (at lease : ℕ) (kind : CallKind) (c : Client) (n : ℤ) (os : List ObjId) (es : List Entry) → all_numbered es ≡ true →
-    all_numbered (with_entry (entry_after lease kind n os at (entry_of es c)) es) ≡ true
-numbered-with-noted at lease kind c n os es h =
-    each-with is_numbered (entry_after lease kind n os at (entry_of es c)) es (numbered-after (has_time_left at (entry_of es c)) kind n os (entry_of es c).objects (each-entry is_numbered es c refl h)) h
+pub numbered-with-noted : (time lease : ℕ) (kind : CallKind) (c : Client) (n : ℤ) (os : List ObjId) (es : List Entry) → all_numbered es ≡ true →
+    all_numbered (with_entry (entry_after lease kind n os time (entry_of es c)) es) ≡ true
+numbered-with-noted time lease kind c n os es h =
+    each-with is_numbered (entry_after lease kind n os time (entry_of es c)) es (numbered-after (has_time_left time (entry_of es c)) kind n os (entry_of es c).objects (each-entry is_numbered es c refl h)) h
 
-pub numbered-noted : (at lease : ℕ) (kind : CallKind) (c : Client) (n : ℤ) (os : List ObjId) (es : List Entry) → all_numbered es ≡ true →
-    all_numbered (after_lapse at (with_entry (entry_after lease kind n os at (entry_of es c)) es)) ≡ true
-numbered-noted at lease kind c n os es h =
-    numbered-lapse at (with_entry (entry_after lease kind n os at (entry_of es c)) es) (numbered-with-noted at lease kind c n os es h)
+pub numbered-noted : (time lease : ℕ) (kind : CallKind) (c : Client) (n : ℤ) (os : List ObjId) (es : List Entry) → all_numbered es ≡ true →
+    all_numbered (after_lapse time (with_entry (entry_after lease kind n os time (entry_of es c)) es)) ≡ true
+numbered-noted time lease kind c n os es h =
+    numbered-lapse time (with_entry (entry_after lease kind n os time (entry_of es c)) es) (numbered-with-noted time lease kind c n os es h)
 
 -- ---- fewer pairs
 
@@ -373,11 +373,11 @@ sum-with f none e (d ∷ es) order =
         other true y = absurd (let s : client_cmp e.client d.client ≡ Equal = ap (client_cmp e.client) (same_client-equal d.client e.client y) ∙ client_cmp-self e.client in cc)
 
 -- THE PAIRS AFTER A CALL are no more than are counted before it.
-pub remembered-noted : (at lease : ℕ) (kind : CallKind) (c : Client) (n : ℤ) (os : List ObjId) (es : List Entry) → is_in_order es ≡ true → all_objects_once es ≡ true →
-    remembered at (after_lapse at (with_entry (entry_after lease kind n os at (entry_of es c)) es)) ≤ pairs_after at es c kind os
-remembered-noted at lease kind c n os es order once =
-    let next = entry_after lease kind n os at (entry_of es c) in
-    let own : remembered at (with_entry next es) + remembered_of at (entry_of es c) ≡ remembered at es + remembered_of at next =
-    ap (λ d. remembered at (with_entry next es) + remembered_of at (entry_of es d)) (sym (client-of es c)) ∙ sum-with (remembered_of at) (λ d. refl) next es order in
-    let more = remembered-entry lease at kind n os (entry_of es c) (once-entry es c once) in
-    let fewer = remembered-lapse at at (with_entry next es) (omega arith) in omega arith
+pub remembered-noted : (time lease : ℕ) (kind : CallKind) (c : Client) (n : ℤ) (os : List ObjId) (es : List Entry) → is_in_order es ≡ true → all_objects_once es ≡ true →
+    remembered time (after_lapse time (with_entry (entry_after lease kind n os time (entry_of es c)) es)) ≤ pairs_after time es c kind os
+remembered-noted time lease kind c n os es order once =
+    let next = entry_after lease kind n os time (entry_of es c) in
+    let own : remembered time (with_entry next es) + remembered_of time (entry_of es c) ≡ remembered time es + remembered_of time next =
+    ap (λ d. remembered time (with_entry next es) + remembered_of time (entry_of es d)) (sym (client-of es c)) ∙ sum-with (remembered_of time) (λ d. refl) next es order in
+    let more = remembered-entry lease time kind n os (entry_of es c) (once-entry es c once) in
+    let fewer = remembered-lapse time time (with_entry next es) (omega arith) in omega arith

@@ -147,9 +147,9 @@ pub not-dirty : (es : List ObjectEntry) (o : ObjId) → each_once es ≡ true �
 not-dirty es o h = ap is_dirty_highest (numbers-forgotten es o h)
 
 -- What an entry holds after a call is what its objects say: it has time left, or no dirty is left.
-pub holds-after : (lease : ℕ) (kind : CallKind) (n : ℤ) (os : List ObjId) (at from : ℕ) (e : Entry) → from ≤ at → 1 ≤ lease → each_once e.objects ≡ true → (o : ObjId) →
-    dirty_in (entry_after lease kind n os at e).objects o ≡ entry_holds from o (entry_after lease kind n os at e)
-holds-after lease kind n os at from e le some once o = go kind (nat_lt at e.until) refl
+pub holds-after : (lease : ℕ) (kind : CallKind) (n : ℤ) (os : List ObjId) (time from : ℕ) (e : Entry) → from ≤ time → 1 ≤ lease → each_once e.objects ≡ true → (o : ObjId) →
+    dirty_in (entry_after lease kind n os time e).objects o ≡ entry_holds from o (entry_after lease kind n os time e)
+holds-after lease kind n os time from e le some once o = go kind (nat_lt time e.until) refl
   where
     dirty : CallKind → Bool → Bool
     dirty k left = dirty_in (objects_after left k n os e.objects) o
@@ -163,12 +163,12 @@ holds-after lease kind n os at from e le some once o = go kind (nat_lt at e.unti
         over Strong true f = refl
         over Strong false f = refl
 
-    other : (k : CallKind) (left : Bool) → is_dirty_kind k ≡ false → nat_lt at e.until ≡ left → dirty k left ≡ (nat_lt from e.until && dirty k left)
-    other k true f x = ap (λ b. b && dirty k true) (sym (earlier from at e.until le x))
+    other : (k : CallKind) (left : Bool) → is_dirty_kind k ≡ false → nat_lt time e.until ≡ left → dirty k left ≡ (nat_lt from e.until && dirty k left)
+    other k true f x = ap (λ b. b && dirty k true) (sym (earlier from time e.until le x))
     other k false f x = none k f ∙ sym (ap (λ b. nat_lt from e.until && b) (none k f) ∙ and_false (nat_lt from e.until))
 
-    go : (k : CallKind) (left : Bool) → nat_lt at e.until ≡ left → dirty k left ≡ (nat_lt from (if is_dirty_kind k then at + lease else e.until) && dirty k left)
-    go Dirty left x = ap (λ b. b && dirty Dirty left) (sym (lt-ltb from (at + lease) (omega arith)))
+    go : (k : CallKind) (left : Bool) → nat_lt time e.until ≡ left → dirty k left ≡ (nat_lt from (if is_dirty_kind k then time + lease else e.until) && dirty k left)
+    go Dirty left x = ap (λ b. b && dirty Dirty left) (sym (lt-ltb from (time + lease) (omega arith)))
     go Weak left x = other Weak left refl x
     go Strong left x = other Strong left refl x
 

@@ -1,10 +1,11 @@
 //! The clients of a lease table, in the order of clients. They stand in chunks, so that a new client moves few others.
-ghost use Rattle.std.specs.Prelude.{◌≡◌, ℕ, [], ◌∷◌, ◌+◌, ◌++◌, ◌<◌, ◌≤◌, ◌^◌, length, filter, map, IsTrue, IfOk, OnOk, OnErr, true, vec_len, vec_capacity, slice_index_or, reverse as reversed, unwrap_or};
+ghost use Rattle.std.specs.Prelude.{◌≡◌, ℕ, [], ◌+◌, ◌++◌, ◌<◌, ◌≤◌, ◌^◌, length, filter, map, IsTrue, IfOk, OnOk, OnErr, true, vec_len, vec_capacity, slice_index_or, reverse as reversed, unwrap_or};
 ghost use Rattle.std.specs.List.{list_all, AllByRecursion};
 ghost use Rattle.std.specs.Option.{option_copied};
 ghost use Rattle.std.specs.Ordering.{is_lt};
 ghost use Rattle.object_ids.specs.declared.ids.ObjId.{ObjId};
 ghost use Rattle.object_ids.specs.Client.{client_cmp};
+ghost use Rattle.history.specs.declared.limits.TheConstants.{END_OF_TIME, MAX_DURATION, MAX_PAIRS};
 ghost use Rattle.dgc_server.specs.Entry.{Entry, each_has_number, entry_without, is_entry_kept, is_in};
 ghost use Rattle.dgc_server.specs.Stands.{each_once, is_in_order, entry_after};
 ghost use Rattle.dgc_server.specs.Index.{Way, counted_at, has_count, is_counted, is_named, one_if, entry_names, with_only, objects_in, sums_at, bound_of, IsIndexed, IsNoted};
@@ -129,30 +130,30 @@ impl Clients {
         call: &LeaseCall<'_>,
         lease: u64,
     ) -> Result<Noted, AllocError>
-        requires later { self.old.moment ≤ call.now.at }
-        requires early { call.now.at < 2 ^ 62 }
+        requires later { self.old.moment ≤ call.now.time }
+        requires early { call.now.time < END_OF_TIME }
         requires some { 1 ≤ lease }
-        requires short { lease ≤ 2 ^ 40 }
+        requires short { lease ≤ MAX_DURATION }
         requires numbered { IsTrue (list_all (λ e. each_has_number e.objects) self.old.entries) }
         requires ordered { IsTrue (is_in_order self.old.entries) }
         requires once { IsTrue (list_all (λ e. each_once e.objects) self.old.entries) }
-        requires few { (w : Way) (o : ObjId) → length (filter (is_counted w self.old.moment o) self.old.entries) ≤ 262144 }
+        requires few { (w : Way) (o : ObjId) → length (filter (is_counted w self.old.moment o) self.old.entries) ≤ MAX_PAIRS }
         requires has { (o : ObjId) → is_in o call.now.objects.now ≡ true → has_count counts.old o ≡ true }
         requires counted { (w : Way) (o : ObjId) → counted_at w counts.old o ≡ length (filter (is_counted w self.old.moment o) self.old.entries) }
         ensures ok { OnOk result (self.new.entries ≡ with_entry
-            (entry_after lease call.now.kind call.now.number.now call.now.objects.now call.now.at (entry_of self.old.entries client.now)) self.old.entries) }
+            (entry_after lease call.now.kind call.now.number.now call.now.objects.now call.now.time (entry_of self.old.entries client.now)) self.old.entries) }
         ensures moment { OnOk result (self.new.moment ≡ self.old.moment) }
-        ensures next { IfOk result (λ noted. self.new.next ≡ bound_of call.now.at self.old.next noted.until) }
+        ensures next { IfOk result (λ noted. self.new.next ≡ bound_of call.now.time self.old.next noted.until) }
         ensures counted { OnOk result ((w : Way) (o : ObjId) →
             counted_at w counts.new o ≡ length (filter (is_counted w self.old.moment o) self.new.entries)) }
         ensures noted { IfOk result (λ noted. let own = entry_of self.old.entries client.now in
-            IsNoted self.old.moment own (entry_after lease call.now.kind call.now.number.now call.now.objects.now call.now.at own) noted) }
+            IsNoted self.old.moment own (entry_after lease call.now.kind call.now.number.now call.now.objects.now call.now.time own) noted) }
         ensures err { OnErr result (self.new ≡ self.old) }
         ensures same { OnErr result (counts.new ≡ counts.old) }
     {
         let from = self.moment;
         let noted = note_call(alloc, &mut self.chunks, counts, client, call, lease, from)?;
-        self.next = table::bound_with(self.next, noted.until, call.at);
+        self.next = table::bound_with(self.next, noted.until, call.time);
         Ok(noted)
     }
 
@@ -160,7 +161,7 @@ impl Clients {
     /// clients of the chunks in which something may be. It takes no memory.
     pub fn pass(&mut self, counts: &mut Counts, sums: Sums, to: u64) -> Sums
         requires later { self.old.moment ≤ to }
-        requires early { to < 2 ^ 62 }
+        requires early { to < END_OF_TIME }
         requires once { IsTrue (list_all (λ e. each_once e.objects) self.old.entries) }
         requires numbered { IsTrue (list_all (λ e. each_has_number e.objects) self.old.entries) }
         requires indexed { IsIndexed self.old.moment self.old.next counts.old self.old.entries }
@@ -196,8 +197,8 @@ impl Clients {
         if clients == 0 {
             return;
         }
-        let at = self.moment;
-        drops::drop_object(&mut self.chunks, object, clients, place, at);
+        let time = self.moment;
+        drops::drop_object(&mut self.chunks, object, clients, place, time);
     }
 
     /// Forgets what is kept of the objects that have no count any more, and the clients of which nothing is left then. So many pairs go. It looks
@@ -213,8 +214,8 @@ impl Clients {
         if pairs == 0 {
             return;
         }
-        let at = self.moment;
-        drops::drop_objects(&mut self.chunks, counts, pairs, place, at);
+        let time = self.moment;
+        drops::drop_objects(&mut self.chunks, counts, pairs, place, time);
     }
 }
 
@@ -339,25 +340,25 @@ fn note_call(
     lease: u64,
     from: u64,
 ) -> Result<Noted, AllocError>
-    requires later { from ≤ call.now.at }
-    requires early { call.now.at < 2 ^ 62 }
+    requires later { from ≤ call.now.time }
+    requires early { call.now.time < END_OF_TIME }
     requires some { 1 ≤ lease }
-    requires short { lease ≤ 2 ^ 40 }
+    requires short { lease ≤ MAX_DURATION }
     requires numbered { IsTrue (list_all (λ e. each_has_number e.objects) (all_of chunks.old.items)) }
     requires ordered { IsTrue (is_in_order (all_of chunks.old.items)) }
     requires once { IsTrue (list_all (λ e. each_once e.objects) (all_of chunks.old.items)) }
-    requires few { (w : Way) (o : ObjId) → length (filter (is_counted w from o) (all_of chunks.old.items)) ≤ 262144 }
+    requires few { (w : Way) (o : ObjId) → length (filter (is_counted w from o) (all_of chunks.old.items)) ≤ MAX_PAIRS }
     requires has { (o : ObjId) → is_in o call.now.objects.now ≡ true → has_count counts.old o ≡ true }
     requires counted { (w : Way) (o : ObjId) → counted_at w counts.old o ≡ length (filter (is_counted w from o) (all_of chunks.old.items)) }
     requires filled { IsTrue (list_all is_filled chunks.old.items) }
     ensures ok { OnOk result (all_of chunks.new.items ≡ with_entry
-        (entry_after lease call.now.kind call.now.number.now call.now.objects.now call.now.at (entry_of (all_of chunks.old.items) client.now)) (all_of chunks.old.items)) }
+        (entry_after lease call.now.kind call.now.number.now call.now.objects.now call.now.time (entry_of (all_of chunks.old.items) client.now)) (all_of chunks.old.items)) }
     ensures counted { OnOk result ((w : Way) (o : ObjId) → counted_at w counts.new o ≡ length (filter (is_counted w from o) (all_of chunks.new.items))) }
     ensures noted { IfOk result (λ noted. let own = entry_of (all_of chunks.old.items) client.now in
-        IsNoted from own (entry_after lease call.now.kind call.now.number.now call.now.objects.now call.now.at own) noted) }
+        IsNoted from own (entry_after lease call.now.kind call.now.number.now call.now.objects.now call.now.time own) noted) }
     ensures filled { IsTrue (list_all is_filled chunks.new.items) }
     ensures bounded { IfOk result (λ noted. (n : ℕ) → n < 2 ^ 64 → AllByRecursion (IsBounded from n) chunks.old.items →
-        AllByRecursion (IsBounded from (bound_of call.now.at n noted.until)) chunks.new.items) }
+        AllByRecursion (IsBounded from (bound_of call.now.time n noted.until)) chunks.new.items) }
     ensures err { OnErr result (all_of chunks.new.items ≡ all_of chunks.old.items) }
     ensures still { OnErr result ((n : ℕ) → AllByRecursion (IsBounded from n) chunks.old.items → AllByRecursion (IsBounded from n) chunks.new.items) }
     ensures same { OnErr result (counts.new ≡ counts.old) }
@@ -380,22 +381,22 @@ fn note_first(
     from: u64,
 ) -> Result<Noted, AllocError>
     requires none { chunks.old.items ≡ [] }
-    requires later { from ≤ call.now.at }
-    requires early { call.now.at < 2 ^ 62 }
+    requires later { from ≤ call.now.time }
+    requires early { call.now.time < END_OF_TIME }
     requires some { 1 ≤ lease }
-    requires short { lease ≤ 2 ^ 40 }
+    requires short { lease ≤ MAX_DURATION }
     requires has { (o : ObjId) → is_in o call.now.objects.now ≡ true → has_count counts.old o ≡ true }
     requires few { (w : Way) (o : ObjId) → counted_at w counts.old o + 1 < 2 ^ 31 }
     ensures ok { OnOk result (all_of chunks.new.items ≡ with_entry
-        (entry_after lease call.now.kind call.now.number.now call.now.objects.now call.now.at (entry_of (all_of chunks.old.items) client.now)) (all_of chunks.old.items)) }
+        (entry_after lease call.now.kind call.now.number.now call.now.objects.now call.now.time (entry_of (all_of chunks.old.items) client.now)) (all_of chunks.old.items)) }
     ensures counts { OnOk result ((w : Way) (o : ObjId) → let own = entry_of (all_of chunks.old.items) client.now in
         counted_at w counts.new o + one_if (is_counted w from o own)
         ≡ counted_at w counts.old o
-        + one_if (is_counted w from o (entry_after lease call.now.kind call.now.number.now call.now.objects.now call.now.at own))) }
+        + one_if (is_counted w from o (entry_after lease call.now.kind call.now.number.now call.now.objects.now call.now.time own))) }
     ensures noted { IfOk result (λ noted. let own = entry_of (all_of chunks.old.items) client.now in
-        IsNoted from own (entry_after lease call.now.kind call.now.number.now call.now.objects.now call.now.at own) noted) }
+        IsNoted from own (entry_after lease call.now.kind call.now.number.now call.now.objects.now call.now.time own) noted) }
     ensures filled { IsTrue (list_all is_filled chunks.new.items) }
-    ensures bounded { IfOk result (λ noted. (n : ℕ) → n < 2 ^ 64 → AllByRecursion (IsBounded from (bound_of call.now.at n noted.until)) chunks.new.items) }
+    ensures bounded { IfOk result (λ noted. (n : ℕ) → n < 2 ^ 64 → AllByRecursion (IsBounded from (bound_of call.now.time n noted.until)) chunks.new.items) }
     ensures err { OnErr result (chunks.new.items ≡ chunks.old.items) }
     ensures same { OnErr result (counts.new ≡ counts.old) }
 {
@@ -420,10 +421,10 @@ fn note_own(
     from: u64,
 ) -> Result<Noted, AllocError>
     requires some_chunk { 0 < length chunks.old.items }
-    requires later { from ≤ call.now.at }
-    requires early { call.now.at < 2 ^ 62 }
+    requires later { from ≤ call.now.time }
+    requires early { call.now.time < END_OF_TIME }
     requires some { 1 ≤ lease }
-    requires short { lease ≤ 2 ^ 40 }
+    requires short { lease ≤ MAX_DURATION }
     requires numbered { IsTrue (list_all (λ e. each_has_number e.objects) (all_of chunks.old.items)) }
     requires ordered { IsTrue (is_in_order (all_of chunks.old.items)) }
     requires once { IsTrue (list_all (λ e. each_once e.objects) (all_of chunks.old.items)) }
@@ -432,16 +433,16 @@ fn note_own(
     requires few { (w : Way) (o : ObjId) → counted_at w counts.old o + 1 < 2 ^ 31 }
     requires filled { IsTrue (list_all is_filled chunks.old.items) }
     ensures ok { OnOk result (all_of chunks.new.items ≡ with_entry
-        (entry_after lease call.now.kind call.now.number.now call.now.objects.now call.now.at (entry_of (all_of chunks.old.items) client.now)) (all_of chunks.old.items)) }
+        (entry_after lease call.now.kind call.now.number.now call.now.objects.now call.now.time (entry_of (all_of chunks.old.items) client.now)) (all_of chunks.old.items)) }
     ensures counts { OnOk result ((w : Way) (o : ObjId) → let own = entry_of (all_of chunks.old.items) client.now in
         counted_at w counts.new o + one_if (is_counted w from o own)
         ≡ counted_at w counts.old o
-        + one_if (is_counted w from o (entry_after lease call.now.kind call.now.number.now call.now.objects.now call.now.at own))) }
+        + one_if (is_counted w from o (entry_after lease call.now.kind call.now.number.now call.now.objects.now call.now.time own))) }
     ensures noted { IfOk result (λ noted. let own = entry_of (all_of chunks.old.items) client.now in
-        IsNoted from own (entry_after lease call.now.kind call.now.number.now call.now.objects.now call.now.at own) noted) }
+        IsNoted from own (entry_after lease call.now.kind call.now.number.now call.now.objects.now call.now.time own) noted) }
     ensures filled { IsTrue (list_all is_filled chunks.new.items) }
     ensures bounded { IfOk result (λ noted. (n : ℕ) → AllByRecursion (IsBounded from n) chunks.old.items →
-        AllByRecursion (IsBounded from (bound_of call.now.at n noted.until)) chunks.new.items) }
+        AllByRecursion (IsBounded from (bound_of call.now.time n noted.until)) chunks.new.items) }
     ensures err { OnErr result (all_of chunks.new.items ≡ all_of chunks.old.items) }
     ensures still { OnErr result ((n : ℕ) → AllByRecursion (IsBounded from n) chunks.old.items → AllByRecursion (IsBounded from n) chunks.new.items) }
     ensures same { OnErr result (counts.new ≡ counts.old) }
@@ -470,10 +471,10 @@ fn note_in(
     from: u64,
     at_chunk: usize,
 ) -> Result<Noted, AllocError>
-    requires later { from ≤ call.now.at }
-    requires early { call.now.at < 2 ^ 62 }
+    requires later { from ≤ call.now.time }
+    requires early { call.now.time < END_OF_TIME }
     requires some { 1 ≤ lease }
-    requires short { lease ≤ 2 ^ 40 }
+    requires short { lease ≤ MAX_DURATION }
     requires numbered { IsTrue (list_all (λ e. each_has_number e.objects) chunk.old.entries.items) }
     requires ordered { IsTrue (is_in_order chunk.old.entries.items) }
     requires once { IsTrue (list_all (λ e. each_once e.objects) chunk.old.entries.items) }
@@ -481,14 +482,14 @@ fn note_in(
     requires enough { (w : Way) (o : ObjId) → one_if (is_counted w from o (entry_of chunk.old.entries.items client.now)) ≤ counted_at w counts.old o }
     requires few { (w : Way) (o : ObjId) → counted_at w counts.old o + 1 < 2 ^ 31 }
     ensures ok { OnOk result (chunk.new.entries.items ≡ with_entry
-        (entry_after lease call.now.kind call.now.number.now call.now.objects.now call.now.at (entry_of chunk.old.entries.items client.now)) chunk.old.entries.items) }
+        (entry_after lease call.now.kind call.now.number.now call.now.objects.now call.now.time (entry_of chunk.old.entries.items client.now)) chunk.old.entries.items) }
     ensures counts { OnOk result ((w : Way) (o : ObjId) → let own = entry_of chunk.old.entries.items client.now in
         counted_at w counts.new o + one_if (is_counted w from o own)
         ≡ counted_at w counts.old o
-        + one_if (is_counted w from o (entry_after lease call.now.kind call.now.number.now call.now.objects.now call.now.at own))) }
+        + one_if (is_counted w from o (entry_after lease call.now.kind call.now.number.now call.now.objects.now call.now.time own))) }
     ensures noted { IfOk result (λ noted. let own = entry_of chunk.old.entries.items client.now in
-        IsNoted from own (entry_after lease call.now.kind call.now.number.now call.now.objects.now call.now.at own) noted) }
-    ensures least { IfOk result (λ noted. chunk.new.least ≡ bound_of call.now.at chunk.old.least noted.until) }
+        IsNoted from own (entry_after lease call.now.kind call.now.number.now call.now.objects.now call.now.time own) noted) }
+    ensures least { IfOk result (λ noted. chunk.new.least ≡ bound_of call.now.time chunk.old.least noted.until) }
     ensures err { OnErr result (chunk.new.entries.items ≡ chunk.old.entries.items) }
     ensures still { OnErr result (chunk.new.least ≡ chunk.old.least) }
     ensures same { OnErr result (counts.new ≡ counts.old) }
@@ -503,6 +504,6 @@ fn note_in(
         from,
         at_chunk,
     )?;
-    chunk.least = table::bound_with(chunk.least, noted.until, call.at);
+    chunk.least = table::bound_with(chunk.least, noted.until, call.time);
     Ok(noted)
 }

@@ -1,5 +1,5 @@
 //! Objects that are forgotten, and clients of which nothing is left, chunk by chunk.
-ghost use Rattle.std.specs.Prelude.{◌≡◌, ℕ, ◌+◌, ◌<◌, length, filter, map, IsTrue};
+ghost use Rattle.std.specs.Prelude.{◌≡◌, ℕ, ◌+◌, length, filter, map, IsTrue};
 ghost use Rattle.std.specs.List.{list_all, AllByRecursion};
 ghost use Rattle.dgc_server.specs.Entry.{entry_without, is_entry_kept};
 ghost use Rattle.dgc_server.specs.Index.{entry_names, is_named, with_only, objects_in};
@@ -41,16 +41,16 @@ pub fn keep_filled(chunks: &mut Vec<Chunk>)
 
 /// Forgets what is kept of an object that so many clients name, and a client of which nothing is left then. It begins to look at this place,
 /// as a count notes it, and stops as soon as all that name the object were met. It takes no memory.
-pub fn drop_object(chunks: &mut Vec<Chunk>, object: &ObjId, clients: u32, place: Place, at: u64)
-    requires kept { IsTrue (list_all (is_entry_kept at) (all_of chunks.old.items)) }
+pub fn drop_object(chunks: &mut Vec<Chunk>, object: &ObjId, clients: u32, place: Place, time: u64)
+    requires kept { IsTrue (list_all (is_entry_kept time) (all_of chunks.old.items)) }
     requires counted { clients ≡ length (filter (entry_names object.now) (all_of chunks.old.items)) }
-    ensures entries { all_of chunks.new.items ≡ filter (is_entry_kept at) (map (entry_without object.now) (all_of chunks.old.items)) }
+    ensures entries { all_of chunks.new.items ≡ filter (is_entry_kept time) (map (entry_without object.now) (all_of chunks.old.items)) }
     ensures filled { IsTrue (list_all is_filled chunks.new.items) }
-    ensures bounded { (n : ℕ) → AllByRecursion (IsBounded at n) chunks.old.items → AllByRecursion (IsBounded at n) chunks.new.items }
+    ensures bounded { (n : ℕ) → AllByRecursion (IsBounded time n) chunks.old.items → AllByRecursion (IsBounded time n) chunks.new.items }
 {
     let chunk = place.chunk as usize;
-    let to_go = walk(chunks, object, clients, chunk, place.index as usize, at);
-    walk(chunks, object, to_go, 0, 0, at);
+    let to_go = walk(chunks, object, clients, chunk, place.index as usize, time);
+    walk(chunks, object, to_go, 0, 0, time);
     keep_filled(chunks);
 }
 
@@ -62,16 +62,16 @@ fn walk(
     clients: u32,
     chunk: usize,
     client: usize,
-    at: u64,
+    time: u64,
 ) -> u32
-    requires kept { IsTrue (list_all (is_entry_kept at) (all_of chunks.old.items)) }
+    requires kept { IsTrue (list_all (is_entry_kept time) (all_of chunks.old.items)) }
     requires counted { clients ≡ length (filter (entry_names object.now) (all_of chunks.old.items)) }
-    ensures same { filter (is_entry_kept at) (map (entry_without object.now) (all_of chunks.new.items))
-        ≡ filter (is_entry_kept at) (map (entry_without object.now) (all_of chunks.old.items)) }
-    ensures kept { IsTrue (list_all (is_entry_kept at) (all_of chunks.new.items)) }
+    ensures same { filter (is_entry_kept time) (map (entry_without object.now) (all_of chunks.new.items))
+        ≡ filter (is_entry_kept time) (map (entry_without object.now) (all_of chunks.old.items)) }
+    ensures kept { IsTrue (list_all (is_entry_kept time) (all_of chunks.new.items)) }
     ensures counted { result ≡ length (filter (entry_names object.now) (all_of chunks.new.items)) }
     ensures all { chunk ≡ 0 → client ≡ 0 → result ≡ 0 }
-    ensures bounded { (n : ℕ) → AllByRecursion (IsBounded at n) chunks.old.items → AllByRecursion (IsBounded at n) chunks.new.items }
+    ensures bounded { (n : ℕ) → AllByRecursion (IsBounded time n) chunks.old.items → AllByRecursion (IsBounded time n) chunks.new.items }
 {
     let mut to_go = clients;
     let mut first = client;
@@ -80,7 +80,7 @@ fn walk(
         if to_go == 0 {
             return 0;
         }
-        to_go = table::walk(&mut chunks[i].entries, object, to_go, first, at);
+        to_go = table::walk(&mut chunks[i].entries, object, to_go, first, time);
         first = 0;
         i += 1;
     }
@@ -90,16 +90,16 @@ fn walk(
 /// Forgets what is kept of the objects that have no count any more, and the clients of which nothing is left then. So many pairs go. It looks at
 /// all objects of the clients from this place on, as a count notes it, and then from the first on, until as many went, and then once at each
 /// client's end. It takes no memory.
-pub fn drop_objects(chunks: &mut Vec<Chunk>, counts: &Counts, pairs: u128, place: Place, at: u64)
+pub fn drop_objects(chunks: &mut Vec<Chunk>, counts: &Counts, pairs: u128, place: Place, time: u64)
     requires { pairs + objects_in (map (with_only (is_named counts.now)) (all_of chunks.old.items)) ≡ objects_in (all_of chunks.old.items) }
-    ensures entries { all_of chunks.new.items ≡ filter (is_entry_kept at) (map (with_only (is_named counts.now)) (all_of chunks.old.items)) }
+    ensures entries { all_of chunks.new.items ≡ filter (is_entry_kept time) (map (with_only (is_named counts.now)) (all_of chunks.old.items)) }
     ensures filled { IsTrue (list_all is_filled chunks.new.items) }
-    ensures bounded { (n : ℕ) → AllByRecursion (IsBounded at n) chunks.old.items → AllByRecursion (IsBounded at n) chunks.new.items }
+    ensures bounded { (n : ℕ) → AllByRecursion (IsBounded time n) chunks.old.items → AllByRecursion (IsBounded time n) chunks.new.items }
 {
     let chunk = place.chunk as usize;
     let to_go = keep_named(chunks, counts, pairs, chunk, place.index as usize);
     keep_named(chunks, counts, to_go, 0, 0);
-    keep(chunks, at);
+    keep(chunks, time);
 }
 
 /// From the client of this index in the chunk of this index on keeps of each client the objects that are named, where so many pairs are to go, and answers how

@@ -1,5 +1,5 @@
 //! The objects that clients hold whose leases end as time passes.
-ghost use Rattle.std.specs.Prelude.{◌≡◌, ◌++◌, ◌∷◌, [], ◌<◌, ◌≤◌, flat_map, OnOk, IfOk, if◌then◌else◌};
+ghost use Rattle.std.specs.Prelude.{◌≡◌, ◌++◌, ◌∷◌, [], ◌≤◌, flat_map, OnOk, IfOk, if◌then◌else◌};
 ghost use Rattle.dgc_server.specs.Numbers.{is_dirty_highest};
 ghost use Rattle.dgc_server.specs.Entry.{object_entries, dirty_objects};
 ghost use Rattle.std.specs.List.{AllByRecursion};

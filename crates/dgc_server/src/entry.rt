@@ -1,7 +1,8 @@
 //! What a lease table keeps of one client.
-ghost use Rattle.std.specs.Prelude.{◌≡◌, ◌+◌, ◌<◌, ◌≤◌, ◌^◌, length, ◌&&◌, IsTrue, IfOk, OnOk, OnErr, true, if◌then◌else◌};
+ghost use Rattle.std.specs.Prelude.{◌≡◌, ◌+◌, ◌<◌, ◌≤◌, ◌^◌, length, IsTrue, IfOk, OnOk, OnErr, true, if◌then◌else◌};
 ghost use Rattle.object_ids.specs.declared.ids.ObjId.{ObjId};
 ghost use Rattle.history.specs.Leases.{is_dirty_kind};
+ghost use Rattle.history.specs.declared.limits.TheConstants.{END_OF_TIME, MAX_DURATION};
 ghost use Rattle.dgc_server.specs.Numbers.{is_dirty_highest};
 ghost use Rattle.dgc_server.specs.Entry.{has_time_left, each_has_number, entry_holds, remembered_of, fresh_of, numbers_of, has_object, is_in, lapsed, entry_without, is_entry_kept, object_entries};
 ghost use Rattle.dgc_server.specs.Stands.{each_once, entry_after};
@@ -22,7 +23,7 @@ pub struct LeaseCall<'a> {
     pub kind: CallKind,
     pub number: &'a i64,
     pub objects: &'a [ObjId],
-    pub at: u64,
+    pub time: u64,
 }
 
 /// A client with the end of its lease and the objects that it named. Contracts see it as an `Entry`. It is small, so that a list of many
@@ -104,10 +105,10 @@ impl ClientEntry {
     }
 
     /// Whether the lease ends after this moment.
-    pub fn has_time_left(&self, at: u64) -> bool
-        ensures { result ≡ has_time_left at self.now }
+    pub fn has_time_left(&self, time: u64) -> bool
+        ensures { result ≡ has_time_left time self.now }
     {
-        at < self.until
+        time < self.until
     }
 
     /// The numbers that count for an object.
@@ -125,26 +126,26 @@ impl ClientEntry {
     }
 
     /// Whether the client holds an object at this moment.
-    pub fn holds(&self, object: &ObjId, at: u64) -> bool
-        ensures { result ≡ entry_holds at object.now self.now }
+    pub fn holds(&self, object: &ObjId, time: u64) -> bool
+        ensures { result ≡ entry_holds time object.now self.now }
     {
-        self.has_time_left(at) && self.numbers_of(object).is_dirty_highest()
+        self.has_time_left(time) && self.numbers_of(object).is_dirty_highest()
     }
 
     /// How many objects make a remembered pair with the client at this moment.
-    pub fn remembered(&self, at: u64) -> usize
+    pub fn remembered(&self, time: u64) -> usize
         requires { IsTrue (each_has_number self.now.objects) }
-        ensures { result ≡ remembered_of at self.now }
+        ensures { result ≡ remembered_of time self.now }
     {
-        marks::remembered_in(&self.kept.objects, at < self.until)
+        marks::remembered_in(&self.kept.objects, time < self.until)
     }
 
     /// How many of these objects don't make a remembered pair with the client at this moment, each
     /// counted once.
-    pub fn fresh_among(&self, alloc: Global, named: &[ObjId], at: u64) -> usize
-        ensures { result ≡ fresh_of at self.now named.now }
+    pub fn fresh_among(&self, alloc: Global, named: &[ObjId], time: u64) -> usize
+        ensures { result ≡ fresh_of time self.now named.now }
     {
-        marks::fresh_count(alloc, &self.kept.objects, named, at < self.until)
+        marks::fresh_count(alloc, &self.kept.objects, named, time < self.until)
     }
 
     /// Notes a call, by which a lease of this duration begins if it is a dirty. The counts are those of the moment `from`, and change
@@ -158,25 +159,25 @@ impl ClientEntry {
         from: u64,
         place: Place,
     ) -> Result<(), AllocError>
-        requires later { from ≤ call.now.at }
-        requires early { call.now.at < 2 ^ 62 }
+        requires later { from ≤ call.now.time }
+        requires early { call.now.time < END_OF_TIME }
         requires some { 1 ≤ lease }
-        requires short { lease ≤ 2 ^ 40 }
+        requires short { lease ≤ MAX_DURATION }
         requires once { IsTrue (each_once self.old.objects) }
         requires has { (o : ObjId) → is_in o call.now.objects.now ≡ true → has_count counts.old o ≡ true }
         requires enough { (w : Way) (o : ObjId) → one_if (is_counted w from o self.old) ≤ counted_at w counts.old o }
         requires few { (w : Way) (o : ObjId) → counted_at w counts.old o + 1 < 2 ^ 31 }
-        ensures ok { OnOk result (self.new ≡ entry_after lease call.now.kind call.now.number.now call.now.objects.now call.now.at self.old) }
+        ensures ok { OnOk result (self.new ≡ entry_after lease call.now.kind call.now.number.now call.now.objects.now call.now.time self.old) }
         ensures counts { OnOk result ((w : Way) (o : ObjId) → counted_at w counts.new o + one_if (is_counted w from o self.old)
             ≡ counted_at w counts.old o + one_if (is_counted w from o self.new)) }
         ensures err { OnErr result (self.new ≡ self.old) }
         ensures same { OnErr result (counts.new ≡ counts.old) }
     {
         let kept = &mut *self.kept;
-        let left = call.at < self.until;
+        let left = call.time < self.until;
         marks::make_room(&mut kept.objects, call.objects, left)?;
         let held = from < self.until;
-        let until = until_after(call.kind, call.at + lease, self.until);
+        let until = until_after(call.kind, call.time + lease, self.until);
         marks::note(
             &mut kept.objects,
             counts,

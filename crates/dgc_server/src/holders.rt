@@ -1,5 +1,5 @@
 //! For each object how many clients hold it and how many name it.
-ghost use Rattle.std.specs.Prelude.{◌≡◌, ◌+◌, ◌<◌, ◌≤◌, ◌^◌, ◌||◌, IsTrue, OnOk, true, if◌then◌else◌};
+ghost use Rattle.std.specs.Prelude.{◌≡◌, ◌+◌, ◌≤◌, ◌^◌, ◌||◌, IsTrue, OnOk, true, if◌then◌else◌};
 ghost use Rattle.object_ids.specs.declared.ids.ObjId.{ObjId};
 ghost use Rattle.object_ids.specs.Same.{same_id};
 ghost use Rattle.dgc_server.specs.Entry.{object_entries, each_has_number, is_in, has_time_left, remembered_of, lapsed};

@@ -1,6 +1,7 @@
 //! What changes in the clients as time passes.
 ghost use Rattle.std.specs.Prelude.{◌≡◌, ◌+◌, ◌<◌, ◌≤◌, ◌^◌, map, IsTrue};
 ghost use Rattle.std.specs.List.{list_all, AllByRecursion};
+ghost use Rattle.history.specs.declared.limits.TheConstants.{END_OF_TIME};
 ghost use Rattle.dgc_server.specs.Entry.{each_has_number, lapsed};
 ghost use Rattle.dgc_server.specs.Table.{after_lapse};
 ghost use Rattle.dgc_server.specs.Stands.{each_once};
@@ -23,7 +24,7 @@ fn pass_each(
     to: u64,
 ) -> Passed
     requires later { from ≤ to }
-    requires early { to < 2 ^ 62 }
+    requires early { to < END_OF_TIME }
     requires once { IsTrue (list_all (λ e. each_once e.objects) entries.old) }
     requires numbered { IsTrue (list_all (λ e. each_has_number e.objects) entries.old) }
     requires enough { (k : Tally) → tally_in k from entries.old ≤ tally_at k counts.old sums }
@@ -54,7 +55,7 @@ fn pass_each(
 /// and others, and answers the moment before which no lease of these ends. It takes no memory.
 fn pass_entries(chunk: &mut Chunk, counts: &mut Counts, sums: Sums, from: u64, to: u64) -> Passed
     requires later { from ≤ to }
-    requires early { to < 2 ^ 62 }
+    requires early { to < END_OF_TIME }
     requires once { IsTrue (list_all (λ e. each_once e.objects) chunk.old.entries.items) }
     requires numbered { IsTrue (list_all (λ e. each_has_number e.objects) chunk.old.entries.items) }
     requires enough { (k : Tally) → tally_in k from chunk.old.entries.items ≤ tally_at k counts.old sums }
@@ -75,7 +76,7 @@ fn pass_entries(chunk: &mut Chunk, counts: &mut Counts, sums: Sums, from: u64, t
 fn pass_chunk(chunk: &mut Chunk, counts: &mut Counts, passed: Passed, from: u64, to: u64) -> Passed
     requires later { from ≤ to }
     requires before { to < passed.next }
-    requires early { to < 2 ^ 62 }
+    requires early { to < END_OF_TIME }
     requires once { IsTrue (list_all (λ e. each_once e.objects) chunk.old.entries.items) }
     requires numbered { IsTrue (list_all (λ e. each_has_number e.objects) chunk.old.entries.items) }
     requires enough { (k : Tally) → tally_in k from chunk.old.entries.items ≤ tally_at k counts.old passed.sums }
@@ -115,7 +116,7 @@ pub fn pass_all(
     to: u64,
 ) -> Passed
     requires later { from ≤ to }
-    requires early { to < 2 ^ 62 }
+    requires early { to < END_OF_TIME }
     requires once { IsTrue (list_all (λ e. each_once e.objects) (all_of chunks.old.items)) }
     requires numbered { IsTrue (list_all (λ e. each_has_number e.objects) (all_of chunks.old.items)) }
     requires tallies { (k : Tally) → tally_at k counts.old sums ≡ tally_in k from (all_of chunks.old.items) }

@@ -1,9 +1,9 @@
 //! The lease table.
-ghost use Rattle.std.specs.Prelude.{◌≡◌, ◌≢◌, ◌<◌, ◌≤◌, ◌^◌, ◌↔◌, [], ◌∷◌, true, false, length, map, max, IsTrue, OnOk, OnErr, IfOk};
+ghost use Rattle.std.specs.Prelude.{◌≡◌, ◌≢◌, ◌<◌, ◌≤◌, ◌↔◌, [], ◌∷◌, true, false, length, map, max, IsTrue, OnOk, OnErr, IfOk};
 ghost use Rattle.std.specs.List.{list_any};
 ghost use Rattle.object_ids.specs.declared.ids.ObjId.{ObjId};
 ghost use Rattle.object_ids.specs.Same.{same_id};
-ghost use Rattle.history.specs.declared.limits.TheConstants.{MAX_CLIENTS, MAX_PAIRS};
+ghost use Rattle.history.specs.declared.limits.TheConstants.{MAX_CLIENTS, MAX_PAIRS, END_OF_TIME, MAX_DURATION};
 ghost use Rattle.history.specs.Leases.{is_dirty_kind, is_held, holders, pairs, lease_rows};
 ghost use Rattle.dgc_server.specs.Counts.{dirty_call, clean_call, clean_kind, without, without_all, clients_with_call, pairs_with_call};
 ghost use Rattle.dgc_server.specs.Stands.{IsSound, IsTrimmed, StandsFor, ForEachLog, table_after};
@@ -98,7 +98,7 @@ impl Leases {
     /// The table of no calls. Each lease lasts for `lease_ms` milliseconds.
     pub fn fresh(alloc: Global, lease_ms: u64) -> Leases
         requires some { 1 ≤ lease_ms }
-        requires short { lease_ms ≤ 2 ^ 40 }
+        requires short { lease_ms ≤ MAX_DURATION }
         ensures { StandsFor lease_ms result 0 [] }
     {
         Leases {
@@ -116,13 +116,13 @@ impl Leases {
     /// Notes that time has passed. What ended is forgotten: each client whose lease is over, with all its
     /// numbers but those of strong cleans.
     pub fn lapse(&mut self, now: u64)
-        requires { now < 2 ^ 62 }
+        requires { now < END_OF_TIME }
         ensures freed { IsTrimmed self.new }
         ensures stands { ForEachLog self.old (λ lease moment calls. StandsFor lease self.new (max now moment) calls) }
     {
         let moment = self.clients.moment();
-        let at = now.max(moment);
-        let sums = self.clients.pass(&mut self.counts, self.sums, at);
+        let time = now.max(moment);
+        let sums = self.clients.pass(&mut self.counts, self.sums, time);
         self.sums = sums;
     }
 
@@ -136,9 +136,9 @@ impl Leases {
         objects: &ObjIds,
         now: u64,
     ) -> Result<u64, LeaseFault>
-        requires { now < 2 ^ 62 }
-        ensures ok { OnOk result (ForEachLog self.old (λ lease moment calls. let at = max now moment in
-            StandsFor lease self.new at (dirty_call at client.now number objects.now ∷ calls))) }
+        requires { now < END_OF_TIME }
+        ensures ok { OnOk result (ForEachLog self.old (λ lease moment calls. let time = max now moment in
+            StandsFor lease self.new time (dirty_call time client.now number objects.now ∷ calls))) }
         ensures freed { OnOk result (IsTrimmed self.new) }
         ensures granted { IfOk result (λ granted. ForEachLog self.old (λ lease moment calls. granted ≡ lease)) }
 
@@ -151,12 +151,12 @@ impl Leases {
             ↔ ((clients_with_call lease (max now moment) calls client.now ≤ MAX_CLIENTS) × (MAX_PAIRS < pairs_with_call lease calls x))) }
         ensures err { OnErr result (self.new ≡ self.old) }
     {
-        let at = self.at(now);
-        let sums = self.sums_by(at);
-        if scans::is_past_clients(&self.clients, client, at, sums.leased) {
+        let time = self.time(now);
+        let sums = self.sums_by(time);
+        if scans::is_past_clients(&self.clients, client, time, sums.leased) {
             return Err(LeaseFault::Clients);
         }
-        self.note(client, &number, objects, CallKind::Dirty, at)?;
+        self.note(client, &number, objects, CallKind::Dirty, time)?;
         Ok(self.lease)
     }
 
@@ -170,9 +170,9 @@ impl Leases {
         strong: bool,
         now: u64,
     ) -> Result<(), LeaseFault>
-        requires { now < 2 ^ 62 }
-        ensures ok { OnOk result (ForEachLog self.old (λ lease moment calls. let at = max now moment in
-            StandsFor lease self.new at (clean_call at client.now number objects.now strong ∷ calls))) }
+        requires { now < END_OF_TIME }
+        ensures ok { OnOk result (ForEachLog self.old (λ lease moment calls. let time = max now moment in
+            StandsFor lease self.new time (clean_call time client.now number objects.now strong ∷ calls))) }
         ensures freed { OnOk result (IsTrimmed self.new) }
         ensures clients { result ≢ Err LeaseFault.Clients }
         ensures pairs { ForEachLog self.old (λ lease moment calls.
@@ -180,8 +180,8 @@ impl Leases {
             (result ≡ Err LeaseFault.Pairs) ↔ (MAX_PAIRS < pairs_with_call lease calls x)) }
         ensures err { OnErr result (self.new ≡ self.old) }
     {
-        let at = self.at(now);
-        self.note(client, &number, objects, clean_kind(strong), at)
+        let time = self.time(now);
+        self.note(client, &number, objects, clean_kind(strong), time)
     }
 
     /// Whether some client holds an object at this moment. A moment before the greatest one is read as the
@@ -189,11 +189,11 @@ impl Leases {
     pub fn is_held(&self, object: ObjId, now: u64) -> bool
         ensures { ForEachLog self.now (λ lease moment calls. result ≡ is_held lease (max now moment) calls object) }
     {
-        let at = self.at(now);
-        if at < self.clients.next() {
+        let time = self.time(now);
+        if time < self.clients.next() {
             count_of(&self.counts, &object).holders > 0
         } else {
-            scans::is_held(&self.clients, &object, at)
+            scans::is_held(&self.clients, &object, time)
         }
     }
 
@@ -205,7 +205,7 @@ impl Leases {
         ensures held { IfOk result (λ os. ForEachLog self.now (λ lease moment calls. (o : ObjId) → list_any (same_id o) os.items ≡ true
             → is_held lease moment calls o ≡ true)) }
     {
-        ended::freed(alloc, &self.clients, self.at(now))
+        ended::freed(alloc, &self.clients, self.time(now))
     }
 
     /// Whether a lease may end as time passes to `now`. Where none may, each object that a client holds at the greatest moment so far is held then, too.
@@ -214,8 +214,8 @@ impl Leases {
         ensures { result ≡ false → ForEachLog self.now (λ lease moment calls. (o : ObjId) → is_held lease moment calls o ≡ true
             → is_held lease (max now moment) calls o ≡ true) }
     {
-        let at = self.at(now);
-        if at < self.clients.next() {
+        let time = self.time(now);
+        if time < self.clients.next() {
             return false;
         }
         true
@@ -227,11 +227,11 @@ impl Leases {
         ensures { ForEachLog self.now (λ lease moment calls.
             result ≡ length (holders lease (max now moment) calls object)) }
     {
-        let at = self.at(now);
-        if at < self.clients.next() {
+        let time = self.time(now);
+        if time < self.clients.next() {
             count_of(&self.counts, &object).holders
         } else {
-            scans::holders(&self.clients, &object, at) as u32
+            scans::holders(&self.clients, &object, time) as u32
         }
     }
 
@@ -270,7 +270,7 @@ impl Leases {
         ensures { ForEachLog self.now (λ lease moment calls.
             result ≡ length (pairs lease (max now moment) calls)) }
     {
-        self.sums_by(self.at(now)).pairs as u32
+        self.sums_by(self.time(now)).pairs as u32
     }
 
     /// The clients that have time left at this moment, in the order of clients, with the ends of their
@@ -279,7 +279,7 @@ impl Leases {
         ensures { IfOk result (λ rows. ForEachLog self.now (λ lease moment calls.
             rows ≡ lease_rows lease (max now moment) calls)) }
     {
-        scans::rows(alloc, &self.clients, self.at(now))
+        scans::rows(alloc, &self.clients, self.time(now))
     }
 
     /// Forgets that calls named these objects, one after another.
@@ -306,9 +306,9 @@ impl Leases {
     }
 
     /// The greater of a moment and the greatest one so far.
-    fn at(&self, now: u64) -> u64
+    fn time(&self, now: u64) -> u64
         ensures value { result ≡ max now self.now.moment }
-        ensures early { now < 2 ^ 62 → result < 2 ^ 62 }
+        ensures early { now < END_OF_TIME → result < END_OF_TIME }
         ensures sound { IsSound self.now.lease self.now.moment self.now.entries }
     {
         now.max(self.clients.moment())
@@ -316,12 +316,12 @@ impl Leases {
 
     /// How many clients have time left at a moment that is no earlier than the greatest one, and how many pairs
     /// are remembered. Where nothing is due it looks at no client.
-    fn sums_by(&self, at: u64) -> Sums
-        requires { self.now.moment ≤ at }
-        ensures value { result ≡ sums_at at self.now.entries }
-        ensures few { (result.leased ≤ 65536) × (result.pairs ≤ 262144) }
+    fn sums_by(&self, time: u64) -> Sums
+        requires { self.now.moment ≤ time }
+        ensures value { result ≡ sums_at time self.now.entries }
+        ensures few { (result.leased ≤ MAX_CLIENTS) × (result.pairs ≤ MAX_PAIRS) }
     {
-        scans::sums_by(&self.clients, self.sums, at)
+        scans::sums_by(&self.clients, self.sums, time)
     }
 
     /// Notes a call at a moment, if the pairs that it brings can be remembered.
@@ -331,22 +331,22 @@ impl Leases {
         number: &i64,
         objects: &ObjIds,
         kind: CallKind,
-        at: u64,
+        time: u64,
     ) -> Result<(), LeaseFault>
-        requires early { at < 2 ^ 62 }
-        requires late { self.old.moment ≤ at }
+        requires early { time < END_OF_TIME }
+        requires late { self.old.moment ≤ time }
         requires room { IsTrue (is_dirty_kind kind)
-            → clients_after self.old.entries client.now at ≤ MAX_CLIENTS }
+            → clients_after self.old.entries client.now time ≤ MAX_CLIENTS }
         ensures ok { OnOk result (
-            self.new ≡ table_after kind client.now number.now objects.now at self.old) }
+            self.new ≡ table_after kind client.now number.now objects.now time self.old) }
         ensures clients { result ≢ Err LeaseFault.Clients }
         ensures pairs { (result ≡ Err LeaseFault.Pairs)
-            ↔ (MAX_PAIRS < pairs_after at self.old.entries client.now kind objects.now) }
+            ↔ (MAX_PAIRS < pairs_after time self.old.entries client.now kind objects.now) }
         ensures err { OnErr result (self.new ≡ self.old) }
     {
         let named = objects.as_slice();
-        let pairs = self.sums_by(at).pairs;
-        if scans::is_past_pairs(self.alloc, &self.clients, client, kind, named, at, pairs) {
+        let pairs = self.sums_by(time).pairs;
+        if scans::is_past_pairs(self.alloc, &self.clients, client, kind, named, time, pairs) {
             return Err(LeaseFault::Pairs);
         }
         touch_all(&mut self.counts, named)?;
@@ -354,13 +354,13 @@ impl Leases {
             kind,
             number,
             objects: named,
-            at,
+            time,
         };
         let noted = self
             .clients
             .note(self.alloc, &mut self.counts, client, &call, self.lease)?;
         let with = table::sums_with(self.sums, noted.before, noted.after);
-        let sums = self.clients.pass(&mut self.counts, with, at);
+        let sums = self.clients.pass(&mut self.counts, with, time);
         self.sums = sums;
         Ok(())
     }

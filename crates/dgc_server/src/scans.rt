@@ -1,5 +1,5 @@
 //! What is asked of the clients, chunk by chunk where it is asked of all.
-ghost use Rattle.std.specs.Prelude.{◌≡◌, ◌+◌, ◌<◌, ◌≤◌, ◌↔◌, length, filter, map, IfOk, IsTrue};
+ghost use Rattle.std.specs.Prelude.{◌≡◌, ◌<◌, ◌≤◌, ◌↔◌, length, filter, map, IfOk, IsTrue};
 ghost use Rattle.std.specs.List.{list_any, list_all, AllByRecursion};
 ghost use Rattle.history.specs.declared.limits.TheConstants.{MAX_CLIENTS, MAX_PAIRS};
 ghost use Rattle.dgc_server.specs.Entry.{each_has_number, entry_holds, has_time_left, row_of};
@@ -30,12 +30,12 @@ pub fn len(clients: &Clients) -> u128
 }
 
 /// Whether some client holds an object.
-pub fn is_held(clients: &Clients, object: &ObjId, at: u64) -> bool
-    ensures { result ≡ list_any (entry_holds at object.now) clients.now.entries }
+pub fn is_held(clients: &Clients, object: &ObjId, time: u64) -> bool
+    ensures { result ≡ list_any (entry_holds time object.now) clients.now.entries }
 {
     let chunks = clients.chunks();
     for chunk in chunks {
-        if table::is_held(&chunk.entries, object, at) {
+        if table::is_held(&chunk.entries, object, time) {
             return true;
         }
     }
@@ -43,26 +43,26 @@ pub fn is_held(clients: &Clients, object: &ObjId, at: u64) -> bool
 }
 
 /// How many clients hold an object.
-pub fn holders(clients: &Clients, object: &ObjId, at: u64) -> u128
-    ensures { result ≡ length (filter (entry_holds at object.now) clients.now.entries) }
+pub fn holders(clients: &Clients, object: &ObjId, time: u64) -> u128
+    ensures { result ≡ length (filter (entry_holds time object.now) clients.now.entries) }
 {
     let chunks = clients.chunks();
     let mut sum: u128 = 0;
     for chunk in chunks {
-        sum += table::holders(&chunk.entries, object, at) as u128;
+        sum += table::holders(&chunk.entries, object, time) as u128;
     }
     sum
 }
 
 /// The sums over all clients at a moment that is no earlier than their own, where `sums` are those at their own. It looks at the clients of the
 /// chunks in which a lease may end by then.
-pub fn sums_by(clients: &Clients, sums: Sums, at: u64) -> Sums
-    requires later { clients.now.moment ≤ at }
+pub fn sums_by(clients: &Clients, sums: Sums, time: u64) -> Sums
+    requires later { clients.now.moment ≤ time }
     requires numbered { IsTrue (list_all (λ e. each_has_number e.objects) clients.now.entries) }
     requires sums { sums ≡ sums_at clients.now.moment clients.now.entries }
-    ensures { result ≡ sums_at at clients.now.entries }
+    ensures { result ≡ sums_at time clients.now.entries }
 {
-    sums_in(clients.chunks(), sums, clients.next(), clients.moment(), at)
+    sums_in(clients.chunks(), sums, clients.next(), clients.moment(), time)
 }
 
 /// The sums over the clients of these chunks at the moment `to`, where `sums` are those at `from`. It passes over chunks in which nothing is due.
@@ -87,13 +87,13 @@ fn sums_in(chunks: &[Chunk], sums: Sums, next: u64, from: u64, to: u64) -> Sums
 }
 
 /// The clients with time left, in order, with the ends of their leases.
-pub fn rows(alloc: Global, clients: &Clients, at: u64) -> Result<LeaseList, AllocError>
-    ensures { IfOk result (λ rows. rows ≡ map row_of (filter (has_time_left at) clients.now.entries)) }
+pub fn rows(alloc: Global, clients: &Clients, time: u64) -> Result<LeaseList, AllocError>
+    ensures { IfOk result (λ rows. rows ≡ map row_of (filter (has_time_left time) clients.now.entries)) }
 {
     let chunks = clients.chunks();
     let mut rows = LeaseList::new(alloc);
     for chunk in chunks {
-        table::append_rows(alloc, &mut rows, &chunk.entries, at)?;
+        table::append_rows(alloc, &mut rows, &chunk.entries, time)?;
     }
     Ok(rows)
 }
@@ -101,24 +101,24 @@ pub fn rows(alloc: Global, clients: &Clients, at: u64) -> Result<LeaseList, Allo
 // ---- one client
 
 /// Whether a client has time left.
-fn is_leased(clients: &Clients, client: &Vmid, at: u64) -> bool
+fn is_leased(clients: &Clients, client: &Vmid, time: u64) -> bool
     requires { IsTrue (is_in_order clients.now.entries) }
-    ensures { result ≡ has_time_left at (entry_of clients.now.entries client.now) }
+    ensures { result ≡ has_time_left time (entry_of clients.now.entries client.now) }
 {
     match clients.find(client) {
-        Some(entry) => entry.has_time_left(at),
+        Some(entry) => entry.has_time_left(time),
         None => false,
     }
 }
 
 /// How many clients have time left after a dirty of this one, where so many have now.
-fn clients_after(clients: &Clients, client: &Vmid, at: u64, leased: usize) -> usize
+fn clients_after(clients: &Clients, client: &Vmid, time: u64, leased: usize) -> usize
     requires ordered { IsTrue (is_in_order clients.now.entries) }
-    requires counted { leased ≡ length (filter (has_time_left at) clients.now.entries) }
-    requires few { leased ≤ 65536 }
-    ensures { result ≡ clients_after clients.now.entries client.now at }
+    requires counted { leased ≡ length (filter (has_time_left time) clients.now.entries) }
+    requires few { leased ≤ MAX_CLIENTS }
+    ensures { result ≡ clients_after clients.now.entries client.now time }
 {
-    if is_leased(clients, client, at) {
+    if is_leased(clients, client, time) {
         leased
     } else {
         leased + 1
@@ -127,13 +127,13 @@ fn clients_after(clients: &Clients, client: &Vmid, at: u64, leased: usize) -> us
 
 /// Whether more clients have time left after a dirty of this one than can be, where so many have now. It looks for the client only where as
 /// many have as can be.
-pub fn is_past_clients(clients: &Clients, client: &Vmid, at: u64, leased: usize) -> bool
+pub fn is_past_clients(clients: &Clients, client: &Vmid, time: u64, leased: usize) -> bool
     requires ordered { IsTrue (is_in_order clients.now.entries) }
-    requires counted { leased ≡ length (filter (has_time_left at) clients.now.entries) }
-    requires few { leased ≤ 65536 }
-    ensures { IsTrue result ↔ (MAX_CLIENTS < clients_after clients.now.entries client.now at) }
+    requires counted { leased ≡ length (filter (has_time_left time) clients.now.entries) }
+    requires few { leased ≤ MAX_CLIENTS }
+    ensures { IsTrue result ↔ (MAX_CLIENTS < clients_after clients.now.entries client.now time) }
 {
-    leased as u64 >= MAX_CLIENTS && clients_after(clients, client, at, leased) as u64 > MAX_CLIENTS
+    leased as u64 >= MAX_CLIENTS && clients_after(clients, client, time, leased) as u64 > MAX_CLIENTS
 }
 
 /// How many pairs a call of this kind brings that were not remembered.
@@ -143,14 +143,14 @@ fn fresh_pairs(
     client: &Vmid,
     kind: CallKind,
     named: &[ObjId],
-    at: u64,
+    time: u64,
 ) -> usize
     requires { IsTrue (is_in_order clients.now.entries) }
-    ensures { result ≡ fresh_pairs at clients.now.entries client.now kind named.now }
+    ensures { result ≡ fresh_pairs time clients.now.entries client.now kind named.now }
 {
     match clients.find(client) {
-        Some(entry) if counts_for(kind, entry.has_time_left(at)) => {
-            entry.fresh_among(alloc, named, at)
+        Some(entry) if counts_for(kind, entry.has_time_left(time)) => {
+            entry.fresh_among(alloc, named, time)
         }
         Some(_) => 0,
         None if counts_for(kind, false) => fresh_count(alloc, &Marks::new(alloc), named, false),
@@ -165,15 +165,15 @@ fn pairs_after(
     client: &Vmid,
     kind: CallKind,
     named: &[ObjId],
-    at: u64,
+    time: u64,
     remembered: u128,
 ) -> u128
     requires ordered { IsTrue (is_in_order clients.now.entries) }
-    requires counted { remembered ≡ remembered_at at clients.now.entries }
-    requires few { remembered ≤ 262144 }
-    ensures { result ≡ pairs_after at clients.now.entries client.now kind named.now }
+    requires counted { remembered ≡ remembered_at time clients.now.entries }
+    requires few { remembered ≤ MAX_PAIRS }
+    ensures { result ≡ pairs_after time clients.now.entries client.now kind named.now }
 {
-    remembered + fresh_pairs(alloc, clients, client, kind, named, at) as u128
+    remembered + fresh_pairs(alloc, clients, client, kind, named, time) as u128
 }
 
 /// Whether more pairs are remembered after a call of this kind than can be, where so many are now. It looks for the client only where there would
@@ -184,15 +184,15 @@ pub fn is_past_pairs(
     client: &Vmid,
     kind: CallKind,
     named: &[ObjId],
-    at: u64,
+    time: u64,
     remembered: u128,
 ) -> bool
     requires ordered { IsTrue (is_in_order clients.now.entries) }
-    requires counted { remembered ≡ remembered_at at clients.now.entries }
-    requires few { remembered ≤ 262144 }
-    ensures { IsTrue result ↔ (MAX_PAIRS < pairs_after at clients.now.entries client.now kind named.now) }
+    requires counted { remembered ≡ remembered_at time clients.now.entries }
+    requires few { remembered ≤ MAX_PAIRS }
+    ensures { IsTrue result ↔ (MAX_PAIRS < pairs_after time clients.now.entries client.now kind named.now) }
 {
     let most = MAX_PAIRS as u128;
     remembered + named.len() as u128 > most
-        && pairs_after(alloc, clients, client, kind, named, at, remembered) > most
+        && pairs_after(alloc, clients, client, kind, named, time, remembered) > most
 }

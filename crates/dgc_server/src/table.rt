@@ -3,6 +3,7 @@ ghost use Rattle.std.specs.Prelude.{◌≡◌, ℕ, true, ◌++◌, ◌+◌, ◌
 ghost use Rattle.std.specs.List.{list_any, list_all, AllByRecursion};
 ghost use Rattle.std.specs.Option.{option_copied};
 ghost use Rattle.object_ids.specs.declared.ids.ObjId.{ObjId};
+ghost use Rattle.history.specs.declared.limits.TheConstants.{END_OF_TIME, MAX_DURATION};
 ghost use Rattle.dgc_server.specs.Entry.{Entry, each_has_number, is_in, entry_without, is_entry_kept, has_time_left, entry_holds, row_of};
 ghost use Rattle.dgc_server.specs.Stands.{each_once, is_in_order, entry_after};
 ghost use Rattle.dgc_server.specs.Index.{Way, counted_at, has_count, is_counted, is_named, with_only, object_count, objects_in, one_if, entry_names, entry_sums, bound_of, IsSettled, IsCalm, IsNoted};
@@ -75,10 +76,10 @@ pub fn note(
     from: u64,
     at_chunk: usize,
 ) -> Result<Noted, AllocError>
-    requires later { from ≤ call.now.at }
-    requires early { call.now.at < 2 ^ 62 }
+    requires later { from ≤ call.now.time }
+    requires early { call.now.time < END_OF_TIME }
     requires some { 1 ≤ lease }
-    requires short { lease ≤ 2 ^ 40 }
+    requires short { lease ≤ MAX_DURATION }
     requires numbered { IsTrue (list_all (λ e. each_has_number e.objects) entries.old.items) }
     requires ordered { IsTrue (is_in_order entries.old.items) }
     requires once { IsTrue (list_all (λ e. each_once e.objects) entries.old.items) }
@@ -86,13 +87,13 @@ pub fn note(
     requires enough { (w : Way) (o : ObjId) → one_if (is_counted w from o (entry_of entries.old.items client.now)) ≤ counted_at w counts.old o }
     requires few { (w : Way) (o : ObjId) → counted_at w counts.old o + 1 < 2 ^ 31 }
     ensures ok { OnOk result (entries.new.items ≡ with_entry
-        (entry_after lease call.now.kind call.now.number.now call.now.objects.now call.now.at (entry_of entries.old.items client.now)) entries.old.items) }
+        (entry_after lease call.now.kind call.now.number.now call.now.objects.now call.now.time (entry_of entries.old.items client.now)) entries.old.items) }
     ensures counts { OnOk result ((w : Way) (o : ObjId) → let own = entry_of entries.old.items client.now in
         counted_at w counts.new o + one_if (is_counted w from o own)
         ≡ counted_at w counts.old o
-        + one_if (is_counted w from o (entry_after lease call.now.kind call.now.number.now call.now.objects.now call.now.at own))) }
+        + one_if (is_counted w from o (entry_after lease call.now.kind call.now.number.now call.now.objects.now call.now.time own))) }
     ensures noted { IfOk result (λ noted. let own = entry_of entries.old.items client.now in
-        IsNoted from own (entry_after lease call.now.kind call.now.number.now call.now.objects.now call.now.at own) noted) }
+        IsNoted from own (entry_after lease call.now.kind call.now.number.now call.now.objects.now call.now.time own) noted) }
     ensures err { OnErr result (entries.new.items ≡ entries.old.items) }
     ensures same { OnErr result (counts.new ≡ counts.old) }
 {
@@ -131,16 +132,16 @@ fn note_entry(
     from: u64,
     place: Place,
 ) -> Result<Noted, AllocError>
-    requires later { from ≤ call.now.at }
-    requires early { call.now.at < 2 ^ 62 }
+    requires later { from ≤ call.now.time }
+    requires early { call.now.time < END_OF_TIME }
     requires some { 1 ≤ lease }
-    requires short { lease ≤ 2 ^ 40 }
+    requires short { lease ≤ MAX_DURATION }
     requires numbered { IsTrue (each_has_number entry.old.objects) }
     requires once { IsTrue (each_once entry.old.objects) }
     requires has { (o : ObjId) → is_in o call.now.objects.now ≡ true → has_count counts.old o ≡ true }
     requires enough { (w : Way) (o : ObjId) → one_if (is_counted w from o entry.old) ≤ counted_at w counts.old o }
     requires few { (w : Way) (o : ObjId) → counted_at w counts.old o + 1 < 2 ^ 31 }
-    ensures ok { OnOk result (entry.new ≡ entry_after lease call.now.kind call.now.number.now call.now.objects.now call.now.at entry.old) }
+    ensures ok { OnOk result (entry.new ≡ entry_after lease call.now.kind call.now.number.now call.now.objects.now call.now.time entry.old) }
     ensures counts { OnOk result ((w : Way) (o : ObjId) → counted_at w counts.new o + one_if (is_counted w from o entry.old)
         ≡ counted_at w counts.old o + one_if (is_counted w from o entry.new)) }
     ensures noted { IfOk result (λ noted. IsNoted from entry.old entry.new noted) }
@@ -168,12 +169,12 @@ pub fn insert_within<T: Drop>(list: &mut Vec<T>, place: usize, element: T)
     }
 }
 
-/// A moment before which no lease ends, where none ends before `bound` and one that ends at `until` was noted at the moment `at`; 0 where that one
+/// A moment before which no lease ends, where none ends before `bound` and one that ends at `until` was noted at the moment `time`; 0 where that one
 /// has no time left.
-pub fn bound_with(bound: u64, until: u64, at: u64) -> u64
-    ensures { result ≡ bound_of at bound until }
+pub fn bound_with(bound: u64, until: u64, time: u64) -> u64
+    ensures { result ≡ bound_of time bound until }
 {
-    if at < until { bound.min(until) } else { 0 }
+    if time < until { bound.min(until) } else { 0 }
 }
 
 /// From a place on forgets what is kept of an object that at most so many clients name, and answers how many are left of that number.
@@ -182,17 +183,17 @@ pub fn walk(
     object: &ObjId,
     clients: u32,
     first: usize,
-    at: u64,
+    time: u64,
 ) -> u32
-    requires kept { IsTrue (list_all (is_entry_kept at) entries.old.items) }
+    requires kept { IsTrue (list_all (is_entry_kept time) entries.old.items) }
     requires enough { length (filter (entry_names object.now) entries.old.items) ≤ clients }
-    ensures same { filter (is_entry_kept at) (map (entry_without object.now) entries.new.items)
-        ≡ filter (is_entry_kept at) (map (entry_without object.now) entries.old.items) }
-    ensures kept { IsTrue (list_all (is_entry_kept at) entries.new.items) }
+    ensures same { filter (is_entry_kept time) (map (entry_without object.now) entries.new.items)
+        ≡ filter (is_entry_kept time) (map (entry_without object.now) entries.old.items) }
+    ensures kept { IsTrue (list_all (is_entry_kept time) entries.new.items) }
     ensures counted { result + length (filter (entry_names object.now) entries.old.items)
         ≡ clients + length (filter (entry_names object.now) entries.new.items) }
     ensures all { first ≡ 0 → length (filter (entry_names object.now) entries.new.items) ≡ 0 }
-    ensures settled { (n : ℕ) → AllByRecursion (IsSettled at n) entries.old.items → AllByRecursion (IsSettled at n) entries.new.items }
+    ensures settled { (n : ℕ) → AllByRecursion (IsSettled time n) entries.old.items → AllByRecursion (IsSettled time n) entries.new.items }
 {
     let mut to_go = clients;
     let mut i = first;
@@ -201,7 +202,7 @@ pub fn walk(
             return 0;
         }
         if entries[i].names(object) {
-            drop_at(entries, object, i, at);
+            drop_at(entries, object, i, time);
             to_go -= 1;
             continue;
         }
@@ -247,13 +248,13 @@ fn keep_at(entries: &mut Vec<ClientEntry>, counts: &Counts, i: usize) -> u128
 }
 
 /// Forgets what is kept of an object at one client, and the client, if nothing is left of it.
-fn drop_at(entries: &mut Vec<ClientEntry>, object: &ObjId, i: usize, at: u64)
+fn drop_at(entries: &mut Vec<ClientEntry>, object: &ObjId, i: usize, time: u64)
     requires { i < vec_len entries.old }
     ensures { (d : Entry) → let next = entry_without object.now (slice_index_or entries.old.items i d) in
-        entries.new.items ≡ (if is_entry_kept at next then slice_set entries.old.items i next else remove entries.old.items i) }
+        entries.new.items ≡ (if is_entry_kept time next then slice_set entries.old.items i next else remove entries.old.items i) }
 {
     entries[i].drop_object(object);
-    if !entries[i].is_entry_kept(at) {
+    if !entries[i].is_entry_kept(time) {
         entries.remove(i);
     }
 }
@@ -266,43 +267,43 @@ pub fn keep(entries: &mut Vec<ClientEntry>, now: u64)
 }
 
 /// Whether some client holds an object.
-pub fn is_held(entries: &[ClientEntry], object: &ObjId, at: u64) -> bool
-    ensures { result ≡ list_any (entry_holds at object.now) entries.now }
+pub fn is_held(entries: &[ClientEntry], object: &ObjId, time: u64) -> bool
+    ensures { result ≡ list_any (entry_holds time object.now) entries.now }
 {
-    entries.iter().any(|entry| entry.holds(object, at))
+    entries.iter().any(|entry| entry.holds(object, time))
 }
 
 /// How many clients hold an object.
-pub fn holders(entries: &[ClientEntry], object: &ObjId, at: u64) -> usize
-    ensures { result ≡ length (filter (entry_holds at object.now) entries.now) }
+pub fn holders(entries: &[ClientEntry], object: &ObjId, time: u64) -> usize
+    ensures { result ≡ length (filter (entry_holds time object.now) entries.now) }
 {
     entries
         .iter()
-        .filter(|entry| entry.holds(object, at))
+        .filter(|entry| entry.holds(object, time))
         .count()
 }
 
 /// How many clients have time left.
-pub fn with_time_left(entries: &[ClientEntry], at: u64) -> usize
-    ensures value { result ≡ length (filter (has_time_left at) entries.now) }
+pub fn with_time_left(entries: &[ClientEntry], time: u64) -> usize
+    ensures value { result ≡ length (filter (has_time_left time) entries.now) }
     ensures within { result ≤ length entries.now }
 {
     entries
         .iter()
-        .filter(|entry| entry.has_time_left(at))
+        .filter(|entry| entry.has_time_left(time))
         .count()
 }
 
 /// What a client's entry adds to the sums.
-pub fn sums_of(entry: &ClientEntry, at: u64) -> Sums
+pub fn sums_of(entry: &ClientEntry, time: u64) -> Sums
     requires { IsTrue (each_has_number entry.now.objects) }
-    ensures value { result ≡ entry_sums at entry.now }
+    ensures value { result ≡ entry_sums time entry.now }
     ensures small { (result.leased ≤ 1) × (result.pairs < 2 ^ 64) }
 {
-    let leased = if entry.has_time_left(at) { 1 } else { 0 };
+    let leased = if entry.has_time_left(time) { 1 } else { 0 };
     Sums {
         leased,
-        pairs: entry.remembered(at) as u128,
+        pairs: entry.remembered(time) as u128,
     }
 }
 
@@ -322,14 +323,14 @@ pub fn sums_with(sums: Sums, before: Sums, after: Sums) -> Sums
 }
 
 /// How many pairs of a client and an object are remembered.
-pub fn remembered_pairs(entries: &[ClientEntry], at: u64) -> u128
+pub fn remembered_pairs(entries: &[ClientEntry], time: u64) -> u128
     requires { IsTrue (list_all (λ e. each_has_number e.objects) entries.now) }
-    ensures value { result ≡ remembered at entries.now }
+    ensures value { result ≡ remembered time entries.now }
     ensures small { result < 2 ^ 127 }
 {
     let mut sum: u128 = 0;
     for entry in entries {
-        sum += entry.remembered(at) as u128;
+        sum += entry.remembered(time) as u128;
     }
     sum
 }
@@ -370,12 +371,12 @@ pub fn append_rows(
     alloc: Global,
     rows: &mut LeaseList,
     entries: &[ClientEntry],
-    at: u64,
+    time: u64,
 ) -> Result<(), AllocError>
-    ensures { OnOk result (rows.new ≡ rows.old ++ map row_of (filter (has_time_left at) entries.now)) }
+    ensures { OnOk result (rows.new ≡ rows.old ++ map row_of (filter (has_time_left time) entries.now)) }
 {
     for entry in entries {
-        if entry.has_time_left(at) {
+        if entry.has_time_left(time) {
             rows.push(LeaseRow {
                 client: entry.client().copy(alloc)?,
                 until: entry.until(),

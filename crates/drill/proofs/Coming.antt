@@ -1,5 +1,5 @@
 -- Drills in a space, round by round.
-use Rattle.std.specs.Prelude.{◌≡◌, ◌≤◌, ◌<◌, ℕ, zero, suc, ◌+◌, ◌-◌, List, [], ◌∷◌, ◌++◌, length, Some, ◌⊎◌}
+use Rattle.std.specs.Prelude.{◌≡◌, ◌<◌, ℕ, zero, suc, ◌+◌, ◌-◌, List, [], ◌∷◌, ◌++◌, Some}
 use Rattle.std.proofs.Common.{inl, inr, refl, ap, sym, subst, ◌∙◌, arith, append_assoc, append-nil}
 use Rattle.history.specs.declared.asks.SpaceConfig.{SpaceConfig}
 use Rattle.history.specs.declared.asks.Event.{Event}
@@ -8,7 +8,7 @@ use Rattle.history.specs.Limits.{limits, refusal}
 use Rattle.history.specs.Steps.{IsLegal}
 use Rattle.history.specs.Table.{places}
 use Rattle.drill.specs.Rounds.{Stand, events_in, events_from, after_round}
-use Rattle.drill.specs.Runs.{StopsIn, EndsIn, CameTo}
+use Rattle.drill.specs.Runs.{EndsIn, CameTo}
 
 -- One round of those that are left.
 pub one_round : (i : ℕ) (s : Stand) (n : ℕ) → 0 < n → events_from i s n ≡ events_in i s ++ events_from (i + 1) (after_round s) (n - 1)

@@ -1,5 +1,5 @@
 -- The events of a drill, which a seed and a number of rounds decide: one client holds, gives up and renews after another what one object makes.
-use Rattle.std.specs.Prelude.{ℕ, ℤ, pos, zero, suc, ◌+◌, ◌-◌, ◌-ℤ◌, ◌/◌, ◌%◌, min, Bool, true, false, nat_eq, List, [], ◌∷◌, ◌++◌, map, if◌then◌else◌}
+use Rattle.std.specs.Prelude.{ℕ, ℤ, pos, zero, suc, ◌+◌, ◌-◌, ◌-ℤ◌, ◌/◌, ◌%◌, min, true, false, nat_eq, List, [], ◌∷◌, ◌++◌, map, if◌then◌else◌}
 use Rattle.object_ids.specs.declared.ids.ObjId.{ObjId}
 use Rattle.object_ids.specs.declared.ids.Uid.{Uid}
 use Rattle.object_ids.specs.Client.{Client}

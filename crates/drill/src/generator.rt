@@ -1,5 +1,5 @@
 //! The generator of a drill's numbers.
-ghost use Rattle.std.specs.Prelude.{◌≡◌, ◌<◌, ◌^◌, ◌%◌};
+ghost use Rattle.std.specs.Prelude.{◌≡◌, ◌<◌, ◌^◌};
 ghost use Rattle.drill.specs.Generator.{next_state, drawn_with, choice_of, draws_after};
 
 /// What a round of a drill does.

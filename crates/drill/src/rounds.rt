@@ -2,6 +2,7 @@
 ghost use Rattle.std.specs.Prelude.{◌≡◌, ◌+◌, ◌<◌, ◌^◌, pos, ◌-ℤ◌, ◌∷◌, ◌++◌, [], map, IfOk, OnOk};
 ghost use Rattle.std.specs.List.{AllByRecursion};
 ghost use Rattle.history.specs.declared.asks.Ask.TheVariants.{Begin, Finish, Dirty, Clean};
+ghost use Rattle.history.specs.declared.limits.TheConstants.{END_OF_TIME};
 ghost use Rattle.drill.specs.Rounds.{uid_at, object_at, drill_config, opening, client_in, object_in, made_by, asks_by, asked_at, start, after_round, events_in};
 
 use crate::generator::{Choice, Draws, draws_after};
@@ -276,7 +277,7 @@ impl Drill {
     pub fn round(&mut self, alloc: Global) -> Result<Vec<Event>, AllocError>
         requires { self.old.round < 2 ^ 32 }
         ensures events { IfOk result (λ events. events.items ≡ events_in self.old.round self.old.stand) }
-        ensures moments { IfOk result (λ events. AllByRecursion (λ e. e.moment < 2 ^ 62) events.items) }
+        ensures moments { IfOk result (λ events. AllByRecursion (λ e. e.moment < END_OF_TIME) events.items) }
         ensures next { OnOk result (self.new ≡ record { round = self.old.round + 1; stand = after_round self.old.stand }) }
     {
         let draws = draws_after(self.state);

@@ -1,6 +1,7 @@
 //! A drill in a space.
 ghost use Rattle.std.specs.Prelude.{◌≡◌, ◌++◌, ◌≤◌, ◌<◌, ◌^◌, [], IfOk, IfErr, OnOk};
 ghost use Rattle.std.specs.List.{AllByRecursion};
+ghost use Rattle.history.specs.declared.limits.TheConstants.{END_OF_TIME};
 ghost use Rattle.drill.specs.Rounds.{drill_config, start, events_from, drilled};
 ghost use Rattle.drill.specs.Runs.{EndsIn};
 
@@ -11,7 +12,7 @@ use std::alloc::Global;
 
 /// Takes events, one after another, up to the first that is refused.
 fn take_all(space: &mut Space, events: Vec<Event>) -> Result<(), Refused>
-    requires { AllByRecursion (λ e. e.moment < 2 ^ 62) events.items }
+    requires { AllByRecursion (λ e. e.moment < END_OF_TIME) events.items }
     ensures ok { OnOk result (space.new.events ≡ space.old.events ++ events.items) }
     ensures err { IfErr result (EndsIn space.old.configuration space.old.events events.items) }
     ensures config { space.new.configuration ≡ space.old.configuration }

@@ -3,11 +3,12 @@ ghost use Rattle.std.specs.Prelude.{◌≤◌, length, IfSome};
 ghost use Rattle.std.specs.List.{AllByRecursion};
 ghost use Rattle.mod_utf.specs.Utf.{utf};
 ghost use Rattle.wire_io.specs.Links.{IsNew};
+ghost use Rattle.wire_io.specs.declared.limits.TheConstants.{MAX_HOST_BYTES};
 
 use mod_utf::list::{ByteList, Kinds, MomentList, Units};
 use mod_utf::utf::encoded_len;
 use std::alloc::Global;
-use wire_io::{Link, MemClock, MemLinks, MemSink, MemSource};
+use wire_io::{Link, MAX_HOST_BYTES, MemClock, MemLinks, MemSink, MemSource};
 
 /// The opening of a connection: the magic number and the version, the stream protocol, and the client's own host and port, which are empty.
 const OPENING: &[u8] = b"JRMI\x00\x02K\x00\x00\x00\x00\x00\x00";
@@ -60,10 +61,10 @@ pub const ASKING: [&[u8]; 5] = [OPENING, CALL, REGISTRY, LOOKUP, b"t\x00\x06clos
 
 /// The host of all: `127.0.0.1`, which takes few enough bytes. None where there is no memory.
 pub fn this_host(alloc: Global) -> Option<Units>
-    ensures { IfSome result (λ host. length (utf host) ≤ 255) }
+    ensures { IfSome result (λ host. length (utf host) ≤ MAX_HOST_BYTES) }
 {
     let host = Units::from_ascii(alloc, b"127.0.0.1").ok()?;
-    if encoded_len(&host) > 255 {
+    if encoded_len(&host) > MAX_HOST_BYTES {
         return None;
     }
     Some(host)

@@ -7,6 +7,7 @@ mod ledger;
 
 ghost use Rattle.std.specs.Prelude.{◌≡◌, ◌≤◌, [], length, IfSome};
 ghost use Rattle.mod_utf.specs.Utf.{utf};
+ghost use Rattle.wire_io.specs.declared.limits.TheConstants.{MAX_HOST_BYTES};
 ghost use Rattle.history.specs.Steps.{IsLegal};
 ghost use Rattle.space.specs.Lists.{CollectsEach};
 
@@ -80,7 +81,7 @@ fn listener(alloc: Global) -> Option<MemListener> {
 /// What the server is told beforehand. None where there is no memory.
 fn plan(alloc: Global) -> Option<ServePlan>
     ensures count { IfSome result (λ plan. plan.count ≡ 2) }
-    ensures host { IfSome result (λ plan. length (utf plan.host) ≤ 255) }
+    ensures host { IfSome result (λ plan. length (utf plan.host) ≤ MAX_HOST_BYTES) }
 {
     Some(ServePlan {
         count: 2,
@@ -103,7 +104,7 @@ fn serve_space<'t, R: Threads + Wait + Sync>(
     plan: &ServePlan,
 ) -> Option<LedgerReport<'t, R>>
     requires few { plan.now.count ≤ 65535 }
-    requires host { length (utf plan.now.host) ≤ 255 }
+    requires host { length (utf plan.now.host) ≤ MAX_HOST_BYTES }
     ensures legal { IfSome result (λ report. IsLegal report.space.configuration report.space.events) }
     ensures collects { IfSome result (λ report. CollectsEach report.space.configuration [] report.space.events report.space.events) }
 {

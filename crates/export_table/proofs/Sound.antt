@@ -1,5 +1,5 @@
 -- What holds of each table stays as rows and waits change.
-use Rattle.std.proofs.Common.{◌≡◌, inl, inr, ℕ, ◌+◌, ◌<◌, ◌≤◌, ◌^◌, List, [], ◌∷◌, ◌++◌, length, map, refl, ap, sym, subst, ◌∙◌, arith, cond, suc, length-append}
+use Rattle.std.proofs.Common.{◌≡◌, inl, inr, ℕ, ◌+◌, ◌<◌, ◌≤◌, List, [], ◌∷◌, ◌++◌, length, map, refl, ap, sym, subst, ◌∙◌, arith, cond, suc, length-append}
 use Rattle.std.specs.Prelude.{ℤ, pos, negsuc, max, Bool, true, false, ◌&&◌, ◌||◌, not, filter, int_lt, if◌then◌else◌}
 use Rattle.std.specs.List.{list_any, list_all}
 use Rattle.std.proofs.lemmas.Bool.{and_parts, and_from, lt-ltb, ltb-true}
@@ -9,7 +9,7 @@ use Rattle.object_ids.specs.declared.ids.Uid.{Uid}
 use Rattle.object_ids.specs.declared.ids.ObjId.{ObjId}
 use Rattle.object_ids.specs.Same.{same_id, same_uid}
 use Rattle.object_ids.proofs.Exact.{same_id-equal, same_id-self, same_uid-equal, same_uid-self}
-use Rattle.history.specs.declared.limits.TheConstants.{MAX_EXPORTS, MAX_AWAITING}
+use Rattle.history.specs.declared.limits.TheConstants.{MAX_EXPORTS, MAX_AWAITING, END_OF_NUMBERS}
 use Rattle.history.specs.Places.{id_at}
 use Rattle.history.proofs.ListLemmas.{list_any-filter}
 use Rattle.export_table.specs.declared.rows.Export.{Export}
@@ -75,7 +75,7 @@ rising-push space k (o ∷ os) g r =
     and_from (list_all (λ p. int_lt o.number p.number) (os ++ id_at space k ∷ [])) (is_rising (os ++ id_at space k ∷ []))
     (all-push (λ p. int_lt o.number p.number) os (id_at space k) two.0 (and_parts (same_uid o.space space) (int_lt o.number (pos (16 + k))) own.0).1) (rising-push space k os own.1 two.1)
 
-pub sound-added : (space : Uid) (ack k : ℕ) (rows : List Export) (waits : List Wait) (kind : ℕ) (pinned : Bool) → k < 2 ^ 62 → length rows < MAX_EXPORTS →
+pub sound-added : (space : Uid) (ack k : ℕ) (rows : List Export) (waits : List Wait) (kind : ℕ) (pinned : Bool) → k < END_OF_NUMBERS → length rows < MAX_EXPORTS →
     IsSound space ack k rows waits → IsSound space ack (k + 1) (rows ++ new_row (id_at space k) kind pinned ∷ []) waits
 sound-added space ack k rows waits kind pinned early room s =
     let x = new_row (id_at space k) kind pinned in

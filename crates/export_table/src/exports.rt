@@ -1,6 +1,6 @@
 //! The export table.
 ghost use Rattle.std.specs.Prelude.{◌≡◌, ◌≢◌, ◌⊎◌, ◌<◌, ◌≤◌, ◌+◌, ◌^◌, ◌↔◌, ◌++◌, ◌∷◌, [], false, max, length, map, filter, not, IsTrue, OnOk, OnErr, IfOk, IfErr, vec_len, vec_capacity};
-ghost use Rattle.history.specs.declared.limits.TheConstants.{MAX_EXPORTS, MAX_AWAITING};
+ghost use Rattle.history.specs.declared.limits.TheConstants.{MAX_EXPORTS, MAX_AWAITING, END_OF_NUMBERS, END_OF_TIME, MAX_DURATION};
 ghost use Rattle.history.specs.Places.{id_at};
 ghost use Rattle.object_ids.specs.declared.ids.FullKind.TheVariants.{Exports as FullExports, Awaiting as FullAwaiting};
 ghost use Rattle.dgc_server.specs.Counts.{without_all};
@@ -96,7 +96,7 @@ impl Exports {
     /// `ack_ms` milliseconds.
     pub fn fresh(alloc: Global, uid: Uid, ack_ms: u64) -> Exports
         requires some { 1 ≤ ack_ms }
-        requires short { ack_ms ≤ 2 ^ 40 }
+        requires short { ack_ms ≤ MAX_DURATION }
         ensures { result ≡ record { space = uid; ack = ack_ms; added = 0; rows = []; waits = []; room = no_room } }
     {
         Exports {
@@ -110,7 +110,7 @@ impl Exports {
     /// Adds an object of this kind. The k-th addition of a table, from 0, has the number 16 + k, also where earlier
     /// objects were withdrawn. Full(Exports) comes exactly where 65,536 objects are exported; after a refusal all is as it was.
     pub fn add(&mut self, kind: u32, pinned: bool) -> Result<ObjId, ExportFault>
-        requires { self.old.added < 2 ^ 62 }
+        requires { self.old.added < END_OF_NUMBERS }
         ensures id { IfOk result (λ id. id ≡ id_at self.old.space self.old.added) }
         ensures ok { OnOk result (let rows = self.old.rows ++ new_row (id_at self.old.space self.old.added) kind pinned ∷ [] in
             self.new ≡ record self.old { added = self.old.added + 1; rows = rows; room = self.new.room }) }
@@ -225,7 +225,7 @@ impl Exports {
     /// references await at this moment and this one isn't among them; after a refusal all is as it was.
     pub fn wait_for(&mut self, id: ObjId, uid: Uid, now: u64) -> Result<(), ExportFault>
         requires exported { IsTrue (is_exported self.old.rows id) }
-        requires early { now < 2 ^ 62 }
+        requires early { now < END_OF_TIME }
         ensures ok { OnOk result (let waits = listed self.old.ack now id uid self.old.waits in
             self.new ≡ record self.old { waits = waits; room = self.new.room }) }
         ensures full { (result ≡ Err (ExportFault.Full FullAwaiting))

@@ -1,5 +1,6 @@
 //! The table of exported objects, by rising number.
 ghost use Rattle.std.specs.Prelude.{◌≡◌, ◌++◌, ◌∷◌, [], ◌+◌, ◌<◌, ◌≤◌, ◌^◌, pos, max, length, map, filter, not, IsOk, IfOk, OnOk, OnErr, vec_len, vec_capacity};
+ghost use Rattle.history.specs.declared.limits.TheConstants.{END_OF_NUMBERS, MAX_AWAITING};
 ghost use Rattle.dgc_server.specs.Stands.{ForEachLog};
 ghost use Rattle.export_table.specs.Rows.{is_exported, kind_of, running_of, pins_of, ids, changed, begun, ended, pinned_once, unpinned_once, is_row_kept, stays_among, held_by, row_at, IsPart};
 
@@ -85,7 +86,7 @@ impl RowTable {
     pub fn put(&mut self, row: Export)
         requires room { 0 < self.old.room }
         requires number { row.id.number ≡ pos (16 + self.old.added) }
-        requires early { self.old.added < 2 ^ 62 }
+        requires early { self.old.added < END_OF_NUMBERS }
         ensures rows { let rows = self.old.rows ++ row ∷ [] in
             self.new ≡ record self.old { rows = rows; added = self.old.added + 1; room = self.new.room } }
         ensures room { self.new.room + 1 ≡ self.old.room }
@@ -139,7 +140,7 @@ impl RowTable {
 
     /// The rows as they are at a moment, of which at most 65,536 references await.
     pub fn list(&self, alloc: Global, waits: &WaitList, now: u64) -> Result<RowList, AllocError>
-        requires { length waits.now.waits ≤ 65536 }
+        requires { length waits.now.waits ≤ MAX_AWAITING }
         ensures { IfOk result (λ list. list ≡ map (row_at now waits.now.waits) self.now.rows) }
     {
         slots::list(alloc, &self.slots, waits, now)

@@ -1,6 +1,7 @@
 //! Slots of exported objects, by rising number: where an object went, a gap stays.
 ghost use Rattle.std.specs.Prelude.{◌≡◌, ◌++◌, ◌∷◌, [], ◌^◌, ℕ, ◌⊎◌, ◌+◌, ◌<◌, ◌≤◌, max, length, map, filter, not, true, false, IsTrue, IfOk, OnOk, MatchOption, int_lt, take, drop, vec_len, vec_capacity};
 ghost use Rattle.std.specs.List.{list_all};
+ghost use Rattle.history.specs.declared.limits.TheConstants.{MAX_AWAITING};
 ghost use Rattle.dgc_server.specs.Stands.{ForEachLog};
 ghost use Rattle.export_table.specs.Rows.{is_exported, running_of, pins_of, ids, is_rising, changed, begun, ended, pinned_once, unpinned_once, is_row_kept, stays_among, held_by, row_at};
 ghost use Rattle.export_table.specs.Slots.{is_here, is_leaving, all_rows, rows_here, rows_leaving, slot_of, going, marked, swept, none_leaving, AreMarked, AreSlots, IsSlotOf};
@@ -234,7 +235,7 @@ pub fn list(
     waits: &WaitList,
     now: u64,
 ) -> Result<RowList, AllocError>
-    requires { length waits.now.waits ≤ 65536 }
+    requires { length waits.now.waits ≤ MAX_AWAITING }
     ensures { IfOk result (λ list. list ≡ map (row_at now waits.now.waits) (rows_here slots.now)) }
 {
     let mut list = RowList::new(alloc);
@@ -246,7 +247,7 @@ pub fn list(
 
 /// Appends the row of a slot as it is at a moment, if its object is exported.
 fn show(list: &mut RowList, slot: &Slot, waits: &WaitList, now: u64) -> Result<(), AllocError>
-    requires { length waits.now.waits ≤ 65536 }
+    requires { length waits.now.waits ≤ MAX_AWAITING }
     ensures { OnOk result (list.new ≡ list.old ++ map (row_at now waits.now.waits) (rows_here (slot.now ∷ []))) }
 {
     if !slot.is_here() {

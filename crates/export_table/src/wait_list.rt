@@ -88,41 +88,41 @@ impl WaitList {
     }
 
     /// How many references await at a moment.
-    pub fn count(&self, at: u64) -> usize
-        ensures value { result ≡ length (waiting at self.now.waits) }
+    pub fn count(&self, time: u64) -> usize
+        ensures value { result ≡ length (waiting time self.now.waits) }
         ensures within { result ≤ length self.now.waits }
     {
-        self.queue.waits().len() - waits::count_over(self.queue.due(at), at)
+        self.queue.waits().len() - waits::count_over(self.queue.due(time), time)
     }
 
     /// How many references to an object await at a moment.
-    pub fn count_of(&self, object: &ObjId, at: u64) -> usize
-        ensures value { result ≡ length (awaiting_of at object.now self.now.waits) }
+    pub fn count_of(&self, object: &ObjId, time: u64) -> usize
+        ensures value { result ≡ length (awaiting_of time object.now self.now.waits) }
         ensures within { result ≤ length self.now.waits }
     {
-        let over = waits::count_over_of(self.queue.due(at), object, at);
+        let over = waits::count_over_of(self.queue.due(time), object, time);
         count_of(&self.counts, object) as usize - over
     }
 
     /// Whether some reference to an object awaits at a moment.
-    pub fn is_awaited(&self, object: &ObjId, at: u64) -> bool
-        ensures { result ≡ is_awaited at object.now self.now.waits }
+    pub fn is_awaited(&self, object: &ObjId, time: u64) -> bool
+        ensures { result ≡ is_awaited time object.now self.now.waits }
     {
-        self.count_of(object, at) > 0
+        self.count_of(object, time) > 0
     }
 
     /// Whether this reference awaits at a moment.
-    pub fn is_waiting(&self, object: &ObjId, uid: &Uid, at: u64) -> bool
-        ensures { result ≡ is_waiting at object.now uid.now self.now.waits }
+    pub fn is_waiting(&self, object: &ObjId, uid: &Uid, time: u64) -> bool
+        ensures { result ≡ is_waiting time object.now uid.now self.now.waits }
     {
-        has(&self.references, object, uid) && !waits::is_over(self.queue.due(at), object, uid, at)
+        has(&self.references, object, uid) && !waits::is_over(self.queue.due(time), object, uid, time)
     }
 
     /// Whether as many references await at a moment as can be, and this one isn't among them.
-    pub fn is_full(&self, object: &ObjId, uid: &Uid, at: u64) -> bool
-        ensures { IsTrue result ↔ ((MAX_AWAITING ≤ length (waiting at self.now.waits)) × (is_waiting at object.now uid.now self.now.waits ≡ false)) }
+    pub fn is_full(&self, object: &ObjId, uid: &Uid, time: u64) -> bool
+        ensures { IsTrue result ↔ ((MAX_AWAITING ≤ length (waiting time self.now.waits)) × (is_waiting time object.now uid.now self.now.waits ≡ false)) }
     {
-        self.count(at) as u64 >= MAX_AWAITING && !self.is_waiting(object, uid, at)
+        self.count(time) as u64 >= MAX_AWAITING && !self.is_waiting(object, uid, time)
     }
 
     /// The moment at which this reference ceases to wait, 0 where it is not listed.
@@ -176,17 +176,17 @@ impl WaitList {
     }
 
     /// Whether some wait has ended at a moment.
-    pub fn has_ended(&self, at: u64) -> bool
-        ensures { result ≡ list_any (λ w. not (goes_on at w)) self.now.waits }
+    pub fn has_ended(&self, time: u64) -> bool
+        ensures { result ≡ list_any (λ w. not (goes_on time w)) self.now.waits }
     {
-        waits::has_ended(self.queue.due(at), at)
+        waits::has_ended(self.queue.due(time), time)
     }
 
     /// The objects of the waits that have ended at a moment. Where none has, it looks at no wait; where the ends rise, at those and at one more.
-    pub fn ended(&self, alloc: Global, at: u64) -> Result<Vec<ObjId>, AllocError>
-        ensures { IfOk result (λ os. os.items ≡ objects (over at self.now.waits)) }
+    pub fn ended(&self, alloc: Global, time: u64) -> Result<Vec<ObjId>, AllocError>
+        ensures { IfOk result (λ os. os.items ≡ objects (over time self.now.waits)) }
     {
-        waits::objects_that_go(alloc, self.queue.due(at), &Stays::After(at))
+        waits::objects_that_go(alloc, self.queue.due(time), &Stays::After(time))
     }
 
     /// The objects of the waits of a return. It looks at those that were listed since the first of them, or at those that were listed before the last of them.

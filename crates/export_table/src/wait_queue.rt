@@ -75,25 +75,25 @@ impl WaitQueue {
     }
 
     /// Waits at the front, among which are all that have ended at a moment: none where none has, and no others where the ends rise.
-    pub fn due(&self, at: u64) -> &[Wait]
+    pub fn due(&self, time: u64) -> &[Wait]
         ensures front { result.now ≡ take (length result.now) self.now.waits }
-        ensures rest { waiting at (drop (length result.now) self.now.waits) ≡ drop (length result.now) self.now.waits }
-        ensures over { over at result.now ≡ over at self.now.waits }
+        ensures rest { waiting time (drop (length result.now) self.now.waits) ≡ drop (length result.now) self.now.waits }
+        ensures over { over time result.now ≡ over time self.now.waits }
         ensures within { length result.now ≤ length self.now.waits }
     {
-        let upto = self.due_upto(at);
+        let upto = self.due_upto(time);
         &self.waits()[..upto]
     }
 
     /// A place behind all waits that have ended at a moment.
-    fn due_upto(&self, at: u64) -> usize
+    fn due_upto(&self, time: u64) -> usize
         ensures within { result ≤ length self.now.waits }
-        ensures rest { waiting at (drop result self.now.waits) ≡ drop result self.now.waits }
+        ensures rest { waiting time (drop result self.now.waits) ≡ drop result self.now.waits }
     {
-        if at < self.next {
+        if time < self.next {
             0
         } else if self.rising {
-            waits::due_front(waits::behind(&self.waits, self.gone), at)
+            waits::due_front(waits::behind(&self.waits, self.gone), time)
         } else {
             self.waits.len() - self.gone
         }

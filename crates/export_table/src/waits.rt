@@ -45,37 +45,37 @@ impl Wait {
     }
 
     /// Whether it goes on after a moment.
-    pub fn goes_on(&self, at: u64) -> bool
-        ensures { result ≡ goes_on at self.now }
+    pub fn goes_on(&self, time: u64) -> bool
+        ensures { result ≡ goes_on time self.now }
     {
-        at < self.until
+        time < self.until
     }
 }
 
 /// How many waits have ended at a moment.
-pub fn count_over(waits: &[Wait], at: u64) -> usize
-    ensures { result ≡ length (over at waits.now) }
+pub fn count_over(waits: &[Wait], time: u64) -> usize
+    ensures { result ≡ length (over time waits.now) }
 {
-    waits.iter().filter(|wait| !wait.goes_on(at)).count()
+    waits.iter().filter(|wait| !wait.goes_on(time)).count()
 }
 
 /// How many waits of an object have ended at a moment.
-pub fn count_over_of(waits: &[Wait], object: &ObjId, at: u64) -> usize
-    ensures { result ≡ length (filter (λ w. not (goes_on at w) && same_id w.object object.now) waits.now) }
+pub fn count_over_of(waits: &[Wait], object: &ObjId, time: u64) -> usize
+    ensures { result ≡ length (filter (λ w. not (goes_on time w) && same_id w.object object.now) waits.now) }
 {
     waits
         .iter()
-        .filter(|wait| !wait.goes_on(at) && wait.is_of_object(object))
+        .filter(|wait| !wait.goes_on(time) && wait.is_of_object(object))
         .count()
 }
 
 /// Whether the wait of this reference has ended at a moment.
-pub fn is_over(waits: &[Wait], object: &ObjId, uid: &Uid, at: u64) -> bool
-    ensures { result ≡ list_any (λ w. not (goes_on at w) && is_wait_of object.now uid.now w) waits.now }
+pub fn is_over(waits: &[Wait], object: &ObjId, uid: &Uid, time: u64) -> bool
+    ensures { result ≡ list_any (λ w. not (goes_on time w) && is_wait_of object.now uid.now w) waits.now }
 {
     waits
         .iter()
-        .any(|wait| !wait.goes_on(at) && wait.is_of(object, uid))
+        .any(|wait| !wait.goes_on(time) && wait.is_of(object, uid))
 }
 
 /// The moment at which this reference ceases to wait, 0 where it is not listed.
@@ -117,7 +117,7 @@ impl Stays {
         ensures { result ≡ stays self.now wait.now }
     {
         match self {
-            Stays::After(at) => wait.goes_on(*at),
+            Stays::After(time) => wait.goes_on(*time),
             Stays::OtherReferences(object, uid) => !wait.is_of(object, uid),
             Stays::OtherReturns(uid) => !wait.is_of_return(uid),
         }
@@ -140,10 +140,10 @@ pub fn objects_that_go(
 }
 
 /// Whether some wait has ended at a moment.
-pub fn has_ended(waits: &[Wait], at: u64) -> bool
-    ensures { result ≡ list_any (λ w. not (goes_on at w)) waits.now }
+pub fn has_ended(waits: &[Wait], time: u64) -> bool
+    ensures { result ≡ list_any (λ w. not (goes_on time w)) waits.now }
 {
-    waits.iter().any(|wait| !wait.goes_on(at))
+    waits.iter().any(|wait| !wait.goes_on(time))
 }
 
 /// A part of the waits, from its first place up to the second, that has all of a return, of which there are so many: it ends with the list or begins with it,
@@ -258,13 +258,13 @@ pub fn drop_front(waits: &mut Vec<Wait>, count: usize)
 }
 
 /// How many waits have ended at a moment, where their ends rise. It looks at these, and at one more.
-pub fn due_front(waits: &[Wait], at: u64) -> usize
+pub fn due_front(waits: &[Wait], time: u64) -> usize
     requires { EndsRise waits.now }
     ensures within { result ≤ length waits.now }
-    ensures rest { waiting at waits.now ≡ drop result waits.now }
+    ensures rest { waiting time waits.now ≡ drop result waits.now }
 {
     for i in 0..waits.len() {
-        if waits[i].goes_on(at) {
+        if waits[i].goes_on(time) {
             return i;
         }
     }

@@ -1,8 +1,7 @@
 -- How many names stand for an object, from one event to the next.
 use Rattle.std.proofs.Common.{◌≡◌, ℕ, ◌+◌, List, [], ◌∷◌, ◌++◌, length, refl, ap, sym, subst, ◌∙◌, arith, cond, Option, Some, None, append-nil, length-append}
-use Rattle.std.specs.Prelude.{Bool, true, false, ◌&&◌, ◌||◌, not, filter, is_none, is_some, option_and_then, option_to_list, if◌then◌else◌}
+use Rattle.std.specs.Prelude.{Bool, true, false, ◌&&◌, ◌||◌, not, filter, is_none, is_some, option_and_then, if◌then◌else◌}
 use Rattle.std.specs.List.{list_any}
-use Rattle.std.proofs.lemmas.Bool.{or_parts}
 use Rattle.std.proofs.lemmas.List.Elements.{filter-append}
 use Rattle.object_ids.specs.declared.ids.ObjId.{ObjId}
 use Rattle.object_ids.specs.Same.{same_id, same_bytes}
@@ -11,7 +10,6 @@ use Rattle.history.specs.declared.asks.SpaceConfig.{SpaceConfig}
 use Rattle.history.specs.declared.asks.Event.{Event}
 use Rattle.history.specs.declared.asks.Ask.{Ask}
 use Rattle.history.specs.declared.asks.Ask.TheVariants.{Bind, Rebind, Unbind, Lookup}
-use Rattle.history.specs.declared.places.Place.{Place}
 use Rattle.history.specs.Names.{name_in, object_bound, is_name_change, is_name_of, names, names_of, stands_for}
 use Rattle.history.specs.Table.{is_effective, place_of, places}
 use Rattle.history.proofs.ListLemmas.{IsEquality, every-always, filter-same, filter-filter, and_true, and_false}

@@ -19,6 +19,8 @@ pub const MAX_UNITS: u64 = 4_194_304;
 pub const MAX_DURATION: u64 = 1 << 40;
 /// Each event's moment is below this one, in milliseconds.
 pub const END_OF_TIME: u64 = 1 << 62;
+/// The exported objects of a whole history are fewer.
+pub const END_OF_NUMBERS: u64 = 1 << 62;
 
 /// The most entries of each table, and the most units of a history.
 #[derive(Clone, Copy, Debug, PartialEq, Eq)]

@@ -1,5 +1,6 @@
 //! The names of a registry.
 ghost use Rattle.std.specs.Prelude.{◌≡◌, ◌≤◌, ◌↔◌, length, IfOk, IsOk, IfErr};
+ghost use Rattle.history.specs.declared.limits.TheConstants.{MAX_NAME_UNITS};
 
 use crate::limits::MAX_NAME_UNITS;
 use mod_utf::list::{Same, TryCopy, Units};
@@ -15,12 +16,13 @@ pub struct Name {
 
 impl Model for Name {
     ghost use Rattle.std.specs.Prelude.{List, ℕ, ◌≤◌, length};
+    ghost use Rattle.history.specs.declared.limits.TheConstants.{MAX_NAME_UNITS};
 
     ghost Value = { List ℕ };
 
     ghost view = { λ n. n.units };
 
-    ghost invariant = { λ n. length n.units ≤ 255 };
+    ghost invariant = { λ n. length n.units ≤ MAX_NAME_UNITS };
 }
 
 /// More units than a name has.
@@ -34,7 +36,7 @@ impl Name {
     /// The name of these units. It is refused exactly where there are more than 255 of them; the refusal
     /// hands them back.
     pub fn new(units: Units) -> Result<Name, NameTooLong>
-        ensures short { IsOk result ↔ (length units ≤ 255) }
+        ensures short { IsOk result ↔ (length units ≤ MAX_NAME_UNITS) }
         ensures value { IfOk result (λ name. name ≡ units) }
         ensures back { IfErr result (λ refused. refused.units ≡ units) }
     {
@@ -48,7 +50,7 @@ impl Name {
     /// The units of the name, at most 255.
     pub fn units(&self) -> &Units
         ensures value { result.now ≡ self.now }
-        ensures short { length result.now ≤ 255 }
+        ensures short { length result.now ≤ MAX_NAME_UNITS }
     {
         &self.units
     }

@@ -7,6 +7,7 @@ use Rattle.class_desc.specs.declared.field.TypeCode.TheVariants as types
 use Rattle.object_ids.specs.declared.ids.Uid.{Uid}
 use Rattle.object_ids.specs.declared.ids.ObjId.{ObjId}
 use Rattle.object_ids.specs.Client.{Client}
+use Rattle.object_ids.specs.declared.limits.TheConstants.{MAX_ADDRESS_BYTES}
 use Rattle.ser_values.specs.declared.value.Value.{Value}
 use Rattle.ser_values.specs.declared.value.Value.TheVariants as values
 use Rattle.ser_values.specs.declared.value.Part.{Part}
@@ -46,7 +47,7 @@ objids_at nodes s = as_refs (array_at nodes (codes "[Ljava.rmi.server.ObjID;") s
 -- ---- clients and leases
 
 abbrev pub short_client : List ℕ → Uid → Option Client
-short_client addr uid = if nat_le (length addr) 255 then Some (record { addr = addr; uid = uid }) else None
+short_client addr uid = if nat_le (length addr) MAX_ADDRESS_BYTES then Some (record { addr = addr; uid = uid }) else None
 
 -- the address and the identifier in a VMID's fields
 unfoldable pub vmid_parts : List Node → Held → Option (List ℕ × Uid)

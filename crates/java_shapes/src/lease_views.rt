@@ -10,7 +10,7 @@ use crate::fault::ShapeFault;
 use crate::id_views::uid_at;
 use class_desc::{Slot, TypeCode};
 use mod_utf::list::ByteList;
-use object_ids::{Uid, Vmid};
+use object_ids::{MAX_ADDRESS_BYTES, Uid, Vmid};
 use ser_values::{Graph, Node, Value};
 use std::alloc::Global;
 
@@ -45,7 +45,7 @@ impl LeaseView {
 fn client_of(alloc: Global, addr: &ByteList, uid: Uid) -> Result<Vmid, ShapeFault>
     ensures { Views result (short_client addr.now uid) }
 {
-    if addr.len() > 255 {
+    if addr.len() > MAX_ADDRESS_BYTES {
         return Err(ShapeFault::WrongShape);
     }
     match Vmid::new(ByteList::from_slice(alloc, addr.as_slice())?, uid) {

@@ -1,5 +1,6 @@
 //! Clients and their leases among the loose nodes of a builder.
 ghost use Rattle.std.specs.Prelude.{◌≡◌, ◌≤◌, ◌∷◌, [], Some, length, IfOk, IfErr, OnOk, OnErr};
+ghost use Rattle.object_ids.specs.declared.limits.TheConstants.{MAX_ADDRESS_BYTES};
 ghost use Rattle.ser_values.specs.declared.value.Value.TheVariants as values;
 ghost use Rattle.java_shapes.specs.Ids.{vmid_at, lease_at};
 ghost use Rattle.java_shapes.specs.Put.{Grows, IsPutRefusal, Puts};
@@ -67,7 +68,7 @@ fn put_client(alloc: Global, b: &mut Builder, addr: ByteList, uid: &Uid) -> Resu
 /// Puts a client; a refusal may leave some of its nodes.
 fn put_some_vmid(alloc: Global, b: &mut Builder, vmid: &Vmid) -> Result<Slot, BuildFault>
     ensures puts { Puts 11 (λ nodes s. VmidAt nodes vmid.now s) b.old b.new result }
-    ensures short { length vmid.now.addr ≤ 255 }
+    ensures short { length vmid.now.addr ≤ MAX_ADDRESS_BYTES }
 {
     let addr = vmid.addr().copy(alloc)?;
     let uid = vmid.uid();
@@ -89,7 +90,7 @@ fn put_some_lease(
     vmid: &Vmid,
 ) -> Result<Slot, BuildFault>
     ensures puts { Puts 16 (λ nodes s. LeaseAt nodes value.now vmid.now s) b.old b.new result }
-    ensures short { length vmid.now.addr ≤ 255 }
+    ensures short { length vmid.now.addr ≤ MAX_ADDRESS_BYTES }
 {
     let client = put_some_vmid(alloc, b, vmid)?;
     let class = put_class(alloc, b, KnownClass::Lease, Slot::Null)?;

@@ -1,5 +1,5 @@
 //! The graph of a reference to a remote object.
-ghost use Rattle.std.specs.Prelude.{◌≡◌, ◌≤◌, ◌<◌, ◌++◌, [], Some, length, IfOk, OnOk};
+ghost use Rattle.std.specs.Prelude.{◌≡◌, ◌≤◌, ◌++◌, [], Some, length, IfOk, OnOk};
 ghost use Rattle.class_desc.specs.declared.slot.Slot.TheVariants as slots;
 ghost use Rattle.mod_utf.specs.Utf.{utf};
 ghost use Rattle.java_shapes.specs.LiveRefs.{live_ref_at};

@@ -1,5 +1,5 @@
 //! The graph of a list of texts.
-ghost use Rattle.std.specs.Prelude.{◌≡◌, ◌≤◌, ◌<◌, ◌++◌, [], All, Some, length, IfOk, OnOk, IsTrue};
+ghost use Rattle.std.specs.Prelude.{◌≡◌, ◌≤◌, ◌++◌, [], All, Some, length, IfOk, OnOk, IsTrue};
 ghost use Rattle.class_desc.specs.declared.slot.Slot.TheVariants as slots;
 ghost use Rattle.java_shapes.specs.Ids.{texts_at};
 ghost use Rattle.java_shapes.specs.TextsGraph.{CanBeText, array_first, slots_from, text_nodes, texts_items, texts_nodes};

@@ -18,6 +18,7 @@ use Rattle.history.specs.declared.asks.Ask.{Ask}
 use Rattle.history.specs.declared.asks.Ask.TheVariants.{Open, Begin, Finish, Abandon, Dirty, Clean, Ack, Bind, Rebind, Unbind, Lookup, Tick}
 use Rattle.history.specs.declared.asks.Ask.TheVariants.{List as ListNames}
 use Rattle.history.specs.Texts.{hex_byte, is_plain_unit, unit_text}
+use Rattle.history.specs.declared.limits.TheConstants.{END_OF_TIME}
 use Rattle.journal.specs.Parts.{Lacks}
 use Rattle.journal.specs.Grammar.{◌▸◌, End, Is, SpellsSigned, SpellsNumber, SpellsMoment, SpellsDuration, SpellsUid, SpellsObject, SpellsClient, SpellsName, SpellsList, SpellsKinds, SpellsObjects, SpellsPinned, SpellsStrong, SpellsAsk, EventWords, ConfigWords}
 use Rattle.journal.proofs.Bytes.{Within, within_append, within_wider, within_lacks, lacks_append, signed_within, number_within}
@@ -66,7 +67,7 @@ pub number : (n : ℕ) → IsGraphic (SpellsNumber n)
 number n = record { within = λ word is. within_wider 48 57 33 126 (omega arith) (omega arith) word (number_within (2 ^ 32) n word (omega arith) is) }
 
 pub moment : (n : ℕ) → IsGraphic (SpellsMoment n)
-moment n = record { within = λ word is. within_wider 48 57 33 126 (omega arith) (omega arith) word (number_within (2 ^ 62) n word (omega arith) is) }
+moment n = record { within = λ word is. within_wider 48 57 33 126 (omega arith) (omega arith) word (number_within END_OF_TIME n word (omega arith) is) }
 
 pub duration : (n : ℕ) → IsGraphic (SpellsDuration n)
 duration n = record { within = λ word is. within_wider 48 57 33 126 (omega arith) (omega arith) word (number_within (2 ^ 64) n word (omega arith) (omega (arith, is.1), is.2)) }

@@ -7,6 +7,7 @@ use Rattle.history.specs.declared.asks.Event.{Event}
 use Rattle.history.specs.declared.asks.Ask.{Ask}
 use Rattle.history.specs.declared.asks.Ask.TheVariants.{Open, Begin, Finish, Abandon, Dirty, Clean, Ack, Bind, Rebind, Unbind, Lookup, Tick}
 use Rattle.history.specs.declared.asks.Ask.TheVariants.{List as ListNames}
+use Rattle.history.specs.declared.limits.TheConstants.{END_OF_TIME}
 use Rattle.std.proofs.lemmas.Bool.{false≢true}
 use Rattle.journal.specs.Parts.{parts, Lacks}
 use Rattle.journal.specs.Grammar.{◌▸◌, End, Is, SpellsNumber, SpellsMoment, SpellsDuration, SpellsSigned, SpellsPinned, SpellsStrong, SpellsUid, SpellsObject, SpellsKinds, SpellsObjects, SpellsClient, SpellsName, SpellsAsk, SpellsEvent, SpellsConfig, SpellsFront, SpellsEvents, BeginsBadly, JournalText}
@@ -95,7 +96,7 @@ pub event_once : (space : Uid) (a b : Event) (line : List ℕ) → SpellsEvent s
 event_once space a b line of_a of_b =
     let first = same_first SpellsNumber (below_once (2 ^ 32) (omega arith)) (SpellsMoment a.moment ▸ SpellsAsk space a.ask) (SpellsMoment b.moment ▸ SpellsAsk space b.ask)
     (parts 32 line) a.by b.by (event_to_parts space a line of_a) (event_to_parts space b line of_b) in
-    let second = same_first SpellsMoment (below_once (2 ^ 62) (omega arith)) (SpellsAsk space a.ask) (SpellsAsk space b.ask) first.1.0 a.moment b.moment first.1.1 first.1.2 in
+    let second = same_first SpellsMoment (below_once END_OF_TIME (omega arith)) (SpellsAsk space a.ask) (SpellsAsk space b.ask) first.1.0 a.moment b.moment first.1.1 first.1.2 in
     event_is a b first.0 second.0 (ask_once space a.ask b.ask second.1.0 second.1.1 second.1.2)
 
 uid_is : (a b : Uid) → a.unique ≡ b.unique → a.time ≡ b.time → a.count ≡ b.count → a ≡ b

@@ -8,6 +8,7 @@ use mir.Syntax.{Width}
 use Rattle.object_ids.specs.declared.ids.Uid.{Uid}
 use Rattle.object_ids.specs.declared.ids.ObjId.{ObjId}
 use Rattle.object_ids.specs.Client.{Client}
+use Rattle.object_ids.specs.declared.limits.TheConstants.{MAX_ADDRESS_BYTES}
 use Rattle.history.specs.declared.asks.SpaceConfig.{SpaceConfig}
 use Rattle.history.specs.declared.asks.Event.{Event}
 use Rattle.history.specs.declared.asks.Ask.{Ask}
@@ -62,7 +63,7 @@ SpellsObject space object word = ((object.space ≡ space) × SpellsSigned w64 o
 -- An address has at most 255 bytes.
 pub record IsAddress (addr : List ℕ) : Type 0 where
   pub bytes : AllByRecursion (λ b. b < 2 ^ 8) addr
-  pub short : length addr ≤ 255
+  pub short : length addr ≤ MAX_ADDRESS_BYTES
 
 -- An address in hexadecimal digits; the empty one is `-`.
 abbrev pub SpellsAddress : List ℕ → List ℕ → Type 0

@@ -1,5 +1,4 @@
 //! Bytes as hexadecimal digits in lower case.
-ghost use Rattle.std.specs.Prelude.{◌<◌};
 ghost use Rattle.journal.specs.Reading.{Finds, Reads};
 ghost use Rattle.journal.specs.Hex.{IsHexDigit, BeginsWithByte, SpellsBytes};
 

@@ -1,5 +1,5 @@
 //! Endpoints: a host and a port.
-ghost use Rattle.std.specs.Prelude.{◌≡◌, ◌≤◌, ◌*◌, ◌+◌, length, IfOk};
+ghost use Rattle.std.specs.Prelude.{◌≡◌, ◌≤◌, length, IfOk};
 ghost use Rattle.wire_io.specs.Pulled.{place};
 ghost use Rattle.mod_utf.specs.Utf.{utf};
 ghost use Rattle.jrmp_frames.specs.Frames.{protocol_ack};

@@ -1,8 +1,7 @@
 -- A call that is begun and ended.
-use Rattle.std.proofs.Common.{◌≡◌, ◌<◌, ℕ, ◌+◌, Bool, true, false, List, [], ◌∷◌, ◌++◌, length, refl, sym, ap, ◌∙◌, subst, append-nil, arith}
-use Rattle.std.specs.Prelude.{Result, Ok, Err, filter, ◌&&◌}
+use Rattle.std.proofs.Common.{◌≡◌, ℕ, ◌+◌, true, false, List, [], ◌∷◌, ◌++◌, refl, ap, ◌∙◌, append-nil, arith}
+use Rattle.std.specs.Prelude.{Result, Ok, Err, ◌&&◌}
 use Rattle.object_ids.specs.declared.ids.ObjId.{ObjId}
-use Rattle.object_ids.specs.Same.{same_id}
 use Rattle.object_ids.proofs.Exact.{same_id-self}
 use Rattle.history.specs.declared.asks.Ask.TheVariants.{Begin}
 use Rattle.history.specs.declared.replies.Refused.{Refused}

@@ -1,5 +1,5 @@
 //! Identifiers that are drawn one after the other, none of them twice.
-ghost use Rattle.std.specs.Prelude.{◌≡◌, ◌≢◌, ℕ, ◌+◌, ◌/◌, ◌^◌, ◌<◌, ◌↔◌, pos, ◌≤ℤ◌, ◌<ℤ◌, IsNone, IfSome, OnSome, IfNone};
+ghost use Rattle.std.specs.Prelude.{◌≡◌, ◌≢◌, ℕ, ◌+◌, ◌^◌, ◌<◌, ◌↔◌, pos, ◌≤ℤ◌, ◌<ℤ◌, IsNone, IfSome, OnSome, IfNone};
 ghost use Rattle.object_ids.specs.Draw.{Draws, uid_drawn, moment_drawn};
 
 use crate::ids::Uid;

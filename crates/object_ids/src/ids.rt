@@ -1,7 +1,9 @@
 //! Identifiers as plain data, with their equality.
-ghost use Rattle.std.specs.Prelude.{◌≡◌, ◌≤◌, ◌<◌, ◌↔◌, length, IfOk, IsSome, IfSome};
+ghost use Rattle.std.specs.Prelude.{◌≡◌, ◌≤◌, ◌↔◌, length, IfOk, IsSome, IfSome};
 ghost use Rattle.object_ids.specs.Client.{Client, client_cmp};
+ghost use Rattle.object_ids.specs.declared.limits.TheConstants.{MAX_ADDRESS_BYTES};
 
+use crate::limits::MAX_ADDRESS_BYTES;
 use mod_utf::list::{ByteList, Same, Sequence, TryCopy};
 use std::alloc::{AllocError, Global};
 use std::cmp::Ordering;
@@ -37,12 +39,13 @@ pub struct Vmid {
 impl Model for Vmid {
     ghost use Rattle.std.specs.Prelude.{◌≤◌, length};
     ghost use Rattle.object_ids.specs.Client.{Client};
+    ghost use Rattle.object_ids.specs.declared.limits.TheConstants.{MAX_ADDRESS_BYTES};
 
     ghost Value = { Client };
 
     ghost view = { λ v. record { addr = v.addr; uid = v.uid } };
 
-    ghost invariant = { λ v. length v.addr ≤ 255 };
+    ghost invariant = { λ v. length v.addr ≤ MAX_ADDRESS_BYTES };
 }
 
 /// A list of object identifiers.
@@ -95,10 +98,10 @@ impl Vmid {
     /// The identifier of the machine at this address that has this identifier there. It is None
     /// exactly where the address is longer than 255 bytes.
     pub fn new(addr: ByteList, uid: Uid) -> Option<Vmid>
-        ensures short { IsSome result ↔ (length addr ≤ 255) }
+        ensures short { IsSome result ↔ (length addr ≤ MAX_ADDRESS_BYTES) }
         ensures value { IfSome result (λ vmid. vmid ≡ record { addr = addr; uid = uid }) }
     {
-        if addr.len() <= 255 {
+        if addr.len() <= MAX_ADDRESS_BYTES {
             Some(Vmid { addr, uid })
         } else {
             None
@@ -118,7 +121,7 @@ impl Vmid {
     /// The bytes of the machine's address, at most 255.
     pub fn addr(&self) -> &ByteList
         ensures value { result.now ≡ self.now.addr }
-        ensures short { length result.now ≤ 255 }
+        ensures short { length result.now ≤ MAX_ADDRESS_BYTES }
     {
         &self.addr
     }

@@ -5,6 +5,7 @@ use Rattle.std.proofs.lemmas.Bool.Decides.{Decides-eqb}
 use Rattle.std.proofs.lemmas.Fmt.{decimal_injective}
 use Rattle.object_ids.proofs.Exact.{and_true}
 use Rattle.object_ids.specs.Same.{same_bytes}
+use Rattle.history.specs.declared.limits.TheConstants.{MAX_DURATION}
 use Rattle.rmi_cli.proofs.DrillWords.{one_drill}
 use Rattle.rmi_cli.specs.Command.{AskFor, IsAnswer, IsServe, IsWordOfDrill, word_of_text}
 use Rattle.rmi_cli.specs.Terms.{AreGivenBy, IsInRange, IsServed, IsBindingOf, IsDurationOf, SpellsUpTo}
@@ -17,7 +18,7 @@ use Rattle.rmi_cli.specs.declared.words.DrillText.TheVariants.{Summary, Journal}
 
 -- ---- ranges
 
-duration_in_range : (default n : ℕ) (word : Option (List ℕ)) → 1 ≤ default → default ≤ 2 ^ 40 → IsDurationOf default n word → (1 ≤ n) × (n ≤ 2 ^ 40)
+duration_in_range : (default n : ℕ) (word : Option (List ℕ)) → 1 ≤ default → default ≤ MAX_DURATION → IsDurationOf default n word → (1 ≤ n) × (n ≤ MAX_DURATION)
 duration_in_range default n (Some word) some short spells = (spells.0, spells.1)
 duration_in_range default n None some short is = (omega (arith, is, some), omega (arith, is, short))
 
@@ -55,7 +56,7 @@ same_number : (most a b : ℕ) (word : List ℕ) → most < 2 ^ 64 → SpellsUpT
 same_number most a b word fits x y = decimal_injective a b (omega (arith, fits, x.1)) (omega (arith, fits, y.1)) (sym x.2 ∙ y.2)
 
 same_duration : (default a b : ℕ) (word : Option (List ℕ)) → IsDurationOf default a word → IsDurationOf default b word → a ≡ b
-same_duration default a b (Some word) x y = same_number (2 ^ 40) a b word (omega arith) x y
+same_duration default a b (Some word) x y = same_number MAX_DURATION a b word (omega arith) x y
 same_duration default a b None x y = x ∙ sym y
 
 abbrev terms_with : Bool → ℕ → ℕ → Terms

@@ -1,6 +1,6 @@
 -- How a run that served links ends.
 use Rattle.std.proofs.Common.{◌≡◌, ◌≢◌, ℕ, ◌≤◌, List, Option, Result, Ok, Err, refl, ap, sym, ◌∙◌, arith, inl, inr}
-use Rattle.std.specs.Prelude.{Bool, true, false, is_err}
+use Rattle.std.specs.Prelude.{false, is_err}
 use Rattle.wire_io.specs.Links.{Listens, with_next}
 use Rattle.wire_io.specs.Wire.{Rose}
 use Rattle.conn_server.specs.declared.accepts.Stop.{Stop}

@@ -1,5 +1,5 @@
 -- What is said of the command that words ask for.
-use Rattle.std.proofs.Common.{◌≡◌, ℕ, ◌≤◌, List, Option, Some, None, refl, ap, sym, subst, ◌∙◌}
+use Rattle.std.proofs.Common.{◌≡◌, ℕ, List, Option, sym, subst, ◌∙◌}
 use Rattle.std.specs.Prelude.{IfSome}
 use Rattle.wire_io.specs.Wire.{Wires}
 use Rattle.conn_server.specs.declared.server.Report.{Report}

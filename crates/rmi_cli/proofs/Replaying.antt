@@ -1,5 +1,5 @@
 -- Replays, line after line.
-use Rattle.std.proofs.Common.{◌≡◌, ℕ, ◌+◌, ◌≤◌, ◌<◌, ◌^◌, List, [], ◌∷◌, ◌++◌, length, Option, Some, None, Result, Ok, Err, false, refl, ap, sym, subst, ◌∙◌, inl, inr, arith, append_assoc, append-nil, length-append}
+use Rattle.std.proofs.Common.{◌≡◌, ℕ, ◌+◌, ◌≤◌, ◌<◌, List, [], ◌∷◌, ◌++◌, length, Option, Some, None, Result, Ok, Err, false, refl, ap, sym, subst, ◌∙◌, inl, inr, arith, append_assoc, append-nil, length-append}
 use Rattle.std.specs.Prelude.{◌==◌, ◌≢◌}
 use Rattle.object_ids.specs.declared.ids.Uid.{Uid}
 use Rattle.history.specs.declared.asks.SpaceConfig.{SpaceConfig}
@@ -17,6 +17,7 @@ use Rattle.space.proofs.ListLaws.{taken-after}
 use Rattle.rmi_cli.specs.declared.outlines.ReplayFault.{ReplayFault}
 use Rattle.rmi_cli.specs.declared.outlines.ReplayFault.TheVariants.{BadLine, Refused as RefusedTurn, OutOfMemory}
 use Rattle.history.specs.Outline.{outline}
+use Rattle.history.specs.declared.limits.TheConstants.{END_OF_TIME}
 use Rattle.rmi_cli.specs.Replay.{EventIsTaken, TakesLines, BeginsWith, Opens, ReplayStops, Goes, AllTaken, IsJournalUpTo, Outlines, Replays}
 use Rattle.rmi_cli.specs.Taking.{TakesLine, IsTakenTo, Halts, fault_of, TakesTo}
 
@@ -52,13 +53,13 @@ no_line (b ∷ lines) (c ∷ line) rest p is = no_line lines line rest p.1 (grin
 pub line_shorter : (config : SpaceConfig) (lines more : List ℕ) (e : Event) → TakesLine config lines e more → length more + 1 ≤ length lines
 line_shorter config lines more e (line, spells, is) = omega (arith, ap length is, length-append line (10 ∷ more))
 
-moment_of : (uid : Uid) (e : Event) (line : List ℕ) → SpellsEvent uid e line → e.moment < 2 ^ 62
+moment_of : (uid : Uid) (e : Event) (line : List ℕ) → SpellsEvent uid e line → e.moment < END_OF_TIME
 moment_of uid e line ([], words, is) = absurd words
 moment_of uid e line (a ∷ [], words, is) = absurd words.1
 moment_of uid e line (a ∷ b ∷ more, words, is) = words.1.0.0
 
 -- The event that a line spells is not too late.
-pub line_moment : (config : SpaceConfig) (lines more : List ℕ) (e : Event) → TakesLine config lines e more → e.moment < 2 ^ 62
+pub line_moment : (config : SpaceConfig) (lines more : List ℕ) (e : Event) → TakesLine config lines e more → e.moment < END_OF_TIME
 line_moment config lines more e (line, spells, is) = moment_of config.uid e line spells
 
 -- ---- turns

@@ -1,9 +1,9 @@
 -- The words that give terms.
-use Rattle.std.proofs.Common.{◌≡◌, ℕ, ◌≤◌, List, [], ◌∷◌, length, get_or, map, take, drop, ◌-◌, codes, Option, Some, None, refl, ap, sym, subst, ◌∙◌, arith}
+use Rattle.std.proofs.Common.{◌≡◌, ℕ, ◌≤◌, List, [], ◌∷◌, length, get_or, map, take, drop, ◌-◌, codes, Option, Some, None, ap, sym, subst, ◌∙◌, arith}
 use Rattle.std.proofs.lemmas.List.{take_all}
 use Rattle.journal.specs.Reading.{Finds}
 use Rattle.rmi_cli.specs.Command.{IsAnswer, IsServe, IsToldBy}
-use Rattle.rmi_cli.specs.Terms.{AreGivenBy, IsInRange}
+use Rattle.rmi_cli.specs.Terms.{AreGivenBy}
 use Rattle.rmi_cli.specs.declared.terms.ServeWords.{ServeWords}
 use Rattle.rmi_cli.specs.declared.terms.Terms.{Terms}
 

@@ -1,14 +1,15 @@
 -- The terms on which a space is served, as the words may give them.
-use Rattle.std.specs.Prelude.{◌≡◌, ℕ, ◌≤◌, ◌^◌, Bool, true, false, Option, Some, None, List, length, codes, decimal, slice_get}
+use Rattle.std.specs.Prelude.{◌≡◌, ℕ, ◌≤◌, Bool, true, false, Option, Some, None, List, length, codes, decimal, slice_get}
+use Rattle.history.specs.declared.limits.TheConstants.{MAX_DURATION}
 use Rattle.rmi_cli.specs.declared.terms.Terms.{Terms}
 use Rattle.rmi_cli.specs.declared.terms.ServeWords.{ServeWords}
 
 -- A lease, and the wait for an acknowledgement, last 1 to 2^40 milliseconds.
 pub record IsInRange (terms : Terms) : Type 0 where
   pub some_lease : 1 ≤ terms.lease_ms
-  pub short_lease : terms.lease_ms ≤ 2 ^ 40
+  pub short_lease : terms.lease_ms ≤ MAX_DURATION
   pub some_ack : 1 ≤ terms.ack_ms
-  pub short_ack : terms.ack_ms ≤ 2 ^ 40
+  pub short_ack : terms.ack_ms ≤ MAX_DURATION
 
 -- The terms where the words give none.
 abbrev pub default_terms : Terms
@@ -34,7 +35,7 @@ SpellsUpTo most n word = (1 ≤ n) × (n ≤ most) × (word ≡ decimal n)
 
 -- The word spells the duration, 1 to 2^40 milliseconds; where there is none, it is the default.
 abbrev pub IsDurationOf : ℕ → ℕ → Option (List ℕ) → Type 0
-IsDurationOf default duration (Some word) = SpellsUpTo (2 ^ 40) duration word
+IsDurationOf default duration (Some word) = SpellsUpTo MAX_DURATION duration word
 IsDurationOf default duration None = duration ≡ default
 
 -- At most three words give the terms: BINDING, LEASE and ACK, in this order. Those that are left out, at the end, are the default's.

@@ -1,5 +1,6 @@
 //! Decimal numbers on the command line, without needless zeros or signs.
 ghost use Rattle.std.specs.Prelude.{◌≡◌, ◌↔◌, ◌^◌, ℕ, decimal, IsTrue, IfSome, IfNone};
+ghost use Rattle.history.specs.declared.limits.TheConstants.{MAX_DURATION};
 ghost use Rattle.journal.specs.Numbers.{BeginsPlainly};
 ghost use Rattle.journal.specs.Reading.{Finds};
 ghost use Rattle.journal.specs.Grammar.{SpellsBelow};
@@ -68,7 +69,7 @@ fn read_up_to(word: &str, most: u64) -> Option<u64>
 
 /// The number of milliseconds, 1 to 2^40, that a word spells.
 pub(crate) fn read_duration(word: &str) -> Option<u64>
-    ensures { Finds (SpellsUpTo (2 ^ 40)) result word.now }
+    ensures { Finds (SpellsUpTo MAX_DURATION) result word.now }
 {
     read_up_to(word, MAX_DURATION)
 }

@@ -1,5 +1,6 @@
 //! `replay`: the outline of the history that a journal spells.
 ghost use Rattle.std.specs.Prelude.{◌≡◌, ◌≢◌, ◌<◌, ◌+◌, ◌^◌, [], IfOk, IfErr, OnOk, OnErr, Err, length};
+ghost use Rattle.history.specs.declared.limits.TheConstants.{END_OF_TIME};
 ghost use Rattle.rmi_cli.specs.Replay.{Goes, Replays};
 ghost use Rattle.rmi_cli.specs.Taking.{TakesLine, WasBad, IsTakenTo, Halts, TakesTo, fault_of};
 
@@ -133,7 +134,7 @@ fn read_line<'a>(
 
 /// Makes the turn of an event.
 fn make_turn(space: &mut Space, event: Event) -> Result<(), ReplayFault>
-    requires { event.moment < 2 ^ 62 }
+    requires { event.moment < END_OF_TIME }
     ensures ok { OnOk result (IsTakenTo space.old.configuration space.old.events event space.new.events) }
     ensures halts { IfErr result (λ fault. Halts space.old.configuration space.old.events event fault) }
     ensures err { OnErr result (space.new ≡ space.old) }

@@ -2,6 +2,7 @@
 ghost use Rattle.std.specs.Prelude.{◌≡◌, ◌≢◌, ◌≤◌, length, IfOk, IfSome};
 ghost use Rattle.mod_utf.specs.Utf.{utf};
 ghost use Rattle.wire_io.specs.Wire.{Rose};
+ghost use Rattle.wire_io.specs.declared.limits.TheConstants.{MAX_HOST_BYTES};
 ghost use Rattle.history.specs.Outline.{outline};
 ghost use Rattle.turn_lock.specs.Handles.{IsFresh, opening_of};
 ghost use Rattle.sample_app.specs.Kinds.{sample_kinds};
@@ -79,7 +80,7 @@ fn serve_on<'t, R: Threads + Wait + Sync, L: Listener, K: Sink>(
 ) -> Served<L::In, L::Out, L::Ticks, SampleHand<'t, R>>
     requires fresh { IsFresh stage.lock stage.root }
     requires few { stage.plan.count ≤ 65535 }
-    requires host { length (utf stage.plan.host) ≤ 255 }
+    requires host { length (utf stage.plan.host) ≤ MAX_HOST_BYTES }
     requires book { stage.book ≡ sample_kinds }
     ensures served { IfSome result.report (ServesLinks (IsSampleLink L.In.left L.Out.held L.Ticks.given stage.entry.plan)
         (opening_of stage.entry.lock) stage.entry.plan.count (L.accepted listener.old) (L.accepted listener.new)) }
@@ -109,7 +110,7 @@ fn serve_links<'t, R: Threads + Wait + Sync, L: Listener>(
 ) -> Report<L::In, L::Out, L::Ticks, SampleHand<'t, R>>
     requires fresh { IsFresh stage.lock stage.root }
     requires few { stage.plan.count ≤ 65535 }
-    requires host { length (utf stage.plan.host) ≤ 255 }
+    requires host { length (utf stage.plan.host) ≤ MAX_HOST_BYTES }
     requires book { stage.book ≡ sample_kinds }
     ensures served { ServesLinks (IsSampleLink L.In.left L.Out.held L.Ticks.given stage.entry.plan)
         (opening_of stage.entry.lock) stage.entry.plan.count (L.accepted listener.old) (L.accepted listener.new) result }

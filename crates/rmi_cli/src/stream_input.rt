@@ -1,5 +1,5 @@
 //! `show` over the program's input and output.
-ghost use Rattle.std.specs.Prelude.{◌≡◌, ◌≢◌, ◌<◌, IfOk, IfErr};
+ghost use Rattle.std.specs.Prelude.{◌≡◌, ◌≢◌, IfOk, IfErr};
 ghost use Rattle.wire_io.specs.Wire.{Rose, wires};
 ghost use Rattle.ser_read.specs.Here.{Caused};
 ghost use Rattle.rmi_cli.specs.Line.{status_of_run};

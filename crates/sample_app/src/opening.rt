@@ -1,8 +1,9 @@
 //! The space of the sample.
-ghost use Rattle.std.specs.Prelude.{◌≡◌, ◌≤◌, ◌^◌, ◌++◌, ◌∷◌, [], None, length, IfOk, IfErr, OnOk};
+ghost use Rattle.std.specs.Prelude.{◌≡◌, ◌≤◌, ◌++◌, ◌∷◌, [], None, length, IfOk, IfErr, OnOk};
 ghost use Rattle.history.specs.declared.replies.Refused.TheVariants.{OutOfMemory};
 ghost use Rattle.history.specs.Limits.{limits, refusal};
 ghost use Rattle.history.specs.Table.{places};
+ghost use Rattle.history.specs.declared.limits.TheConstants.{MAX_DURATION, MAX_NAME_UNITS};
 ghost use Rattle.sample_app.specs.Opened.{opened, bound, sample_events};
 
 use history::{Ask, Name, Refused, SpaceConfig};
@@ -22,9 +23,9 @@ use std::alloc::{AllocError, Global};
 /// It is refused only for want of memory.
 pub fn sample_space(alloc: Global, config: &SpaceConfig) -> Result<Space, Refused>
     requires some_lease { 1 ≤ config.now.lease_ms }
-    requires short_lease { config.now.lease_ms ≤ 2 ^ 40 }
+    requires short_lease { config.now.lease_ms ≤ MAX_DURATION }
     requires some_ack { 1 ≤ config.now.ack_ms }
-    requires short_ack { config.now.ack_ms ≤ 2 ^ 40 }
+    requires short_ack { config.now.ack_ms ≤ MAX_DURATION }
     ensures ok { IfOk result (λ space. space ≡ record { configuration = config.now; events = sample_events config.now }) }
     ensures err { IfErr result (λ refused. refused ≡ OutOfMemory) }
 {
@@ -65,7 +66,7 @@ fn open(space: &mut Space, kind: u32) -> Result<(), Refused>
 
 /// A name of at most 255 characters in ASCII.
 fn name_of(alloc: Global, name: &[u8]) -> Result<Name, AllocError>
-    requires { length name.now ≤ 255 }
+    requires { length name.now ≤ MAX_NAME_UNITS }
     ensures { IfOk result (λ named. named ≡ name.now) }
 {
     match Name::new(Units::from_ascii(alloc, name)?) {
@@ -76,7 +77,7 @@ fn name_of(alloc: Global, name: &[u8]) -> Result<Name, AllocError>
 
 /// What binds a name to the object of the space with this number.
 fn binding(alloc: Global, config: &SpaceConfig, name: &[u8], number: i64) -> Result<Ask, AllocError>
-    requires { length name.now ≤ 255 }
+    requires { length name.now ≤ MAX_NAME_UNITS }
     ensures { IfOk result (λ ask. ask ≡ (bound config.now name.now number).ask) }
 {
     Ok(Ask::Bind {
@@ -96,7 +97,7 @@ fn bind(
     name: &[u8],
     number: i64,
 ) -> Result<(), Refused>
-    requires short { length name.now ≤ 255 }
+    requires short { length name.now ≤ MAX_NAME_UNITS }
     requires free { refusal limits space.old.configuration (places space.old.configuration space.old.events) (bound config.now name.now number) ≡ None }
     ensures ok { OnOk result (space.new ≡ record space.old { events = space.old.events ++ bound config.now name.now number ∷ [] }) }
     ensures err { IfErr result (λ refused. refused ≡ OutOfMemory) }

@@ -1,5 +1,5 @@
 //! Numbers and truth values, each of a fixed number of bytes.
-ghost use Rattle.std.specs.Prelude.{◌≡◌, ◌-◌, ◌*◌, ◌≤◌, ◌<◌, ◌++◌, ℕ, List, length, OnOk, true};
+ghost use Rattle.std.specs.Prelude.{◌≡◌, ◌*◌, ◌≤◌, ◌++◌, ℕ, List, length, OnOk, true};
 ghost use Rattle.std.specs.Int.{w16, w32, w64};
 ghost use Rattle.class_desc.specs.declared.slot.Slot.{Slot};
 ghost use Rattle.class_desc.specs.TypeCode.{is_primitive};

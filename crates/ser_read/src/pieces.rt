@@ -1,5 +1,5 @@
 //! Codes, handles, names and items by themselves.
-ghost use Rattle.std.specs.Prelude.{◌≡◌, ◌≢◌, ◌-◌, ◌<◌, List, ℕ, IfOk, OnOk};
+ghost use Rattle.std.specs.Prelude.{◌≡◌, ◌≢◌, List, ℕ, IfOk, OnOk};
 ghost use Rattle.class_desc.specs.declared.slot.Slot.TheVariants.{Null};
 ghost use Rattle.ser_values.specs.declared.node.Place.TheVariants.{Text};
 ghost use Rattle.ser_values.specs.declared.node.Node.TheVariants.{Desc};

@@ -1,5 +1,5 @@
 -- A running call is ended, by what its parts answered.
-use Rattle.std.proofs.Common.{◌≡◌, ℕ, suc, ◌+◌, ◌<◌, ◌≤◌, ◌^◌, List, [], ◌∷◌, ◌++◌, length, refl, ap, sym, subst, ◌∙◌, map, max, arith, None, Ok, length-append}
+use Rattle.std.proofs.Common.{◌≡◌, ℕ, suc, ◌+◌, ◌<◌, ◌≤◌, List, [], ◌∷◌, ◌++◌, length, refl, ap, sym, subst, ◌∙◌, map, max, arith, None, Ok, length-append}
 use Rattle.std.specs.Prelude.{Bool, true, false, ◌||◌, if◌then◌else◌}
 use Rattle.std.specs.List.{list_any}
 use Rattle.std.proofs.lemmas.Bool.{lt-ltb, le-ltb}
@@ -7,7 +7,7 @@ use Rattle.object_ids.specs.declared.ids.ObjId.{ObjId}
 use Rattle.history.specs.declared.asks.SpaceConfig.{SpaceConfig}
 use Rattle.history.specs.declared.asks.Event.{Event}
 use Rattle.history.specs.declared.asks.Ask.TheVariants.{Abandon}
-use Rattle.history.specs.declared.limits.TheConstants.{MAX_UNITS, MAX_EXPORTS}
+use Rattle.history.specs.declared.limits.TheConstants.{MAX_UNITS, MAX_EXPORTS, END_OF_TIME}
 use Rattle.history.specs.declared.places.Withdrawal.{Withdrawal}
 use Rattle.history.specs.Running.{running}
 use Rattle.history.specs.Steps.{Step, turn_of}
@@ -82,7 +82,7 @@ rows-length config events leases exports runs withdrawn told opened used moment 
 -- ---- once it has acted
 
 pub end-acted : (config : SpaceConfig) (events : List Event) (by m : ℕ) (o : ObjId) (leases leases1 : LeaseTable) (exports t : ExportTable) (runs : List Run) (withdrawn : List Withdrawal) (told opened used moment time : ℕ) →
-    Keeps config events leases exports runs withdrawn told opened used moment → 0 < running (places config events) by o → m < 2 ^ 62 → time ≡ max m moment →
+    Keeps config events leases exports runs withdrawn told opened used moment → 0 < running (places config events) by o → m < END_OF_TIME → time ≡ max m moment →
     ForEachLog leases (λ lease n calls. StandsFor lease leases1 (max time n) calls) → t ≡ record exports { rows = changed ended o exports.rows } →
     HasActed config events (event_of by m (Abandon o)) leases leases1 exports t runs withdrawn told opened used moment true
 end-acted config events by m o leases leases1 exports t runs withdrawn told opened used moment time k r early at lapsed act = record {

@@ -1,5 +1,5 @@
 -- What is kept after one more event, and what a turn answers.
-use Rattle.std.proofs.Common.{◌≡◌, ℕ, suc, ◌+◌, ◌<◌, ◌≤◌, ◌^◌, inl, inr, List, [], ◌∷◌, ◌++◌, length, refl, ap, sym, subst, ◌∙◌, cond, map, arith, max, drop, Some, None, Ok, Err, length-append}
+use Rattle.std.proofs.Common.{◌≡◌, ℕ, suc, ◌+◌, ◌<◌, ◌≤◌, inl, inr, List, [], ◌∷◌, ◌++◌, length, refl, ap, sym, subst, ◌∙◌, cond, map, arith, max, drop, Some, None, Ok, Err, length-append}
 use Rattle.std.specs.Prelude.{Bool, true, false, not, ◌&&◌, ◌||◌, filter, find, nat_lt, if◌then◌else◌, Option, is_none, is_some, option_map, unwrap_or}
 use Rattle.std.specs.List.{list_any, AllByRecursion}
 use Rattle.std.proofs.lemmas.List.{map-append, drop-append-le, drop_all}
@@ -52,6 +52,7 @@ use Rattle.export_table.proofs.WaitLaws.{refs-await, waiting_refs}
 use Rattle.export_table.proofs.StandLaws.{names_for, waits-going, kind-is, exported-has}
 use Rattle.history.specs.Awaiting.{awaits}
 use Rattle.history.specs.Running.{running, running_calls}
+use Rattle.history.specs.declared.limits.TheConstants.{END_OF_TIME}
 use Rattle.export_table.proofs.WaitLaws.{numbered-place}
 
 -- ---- lists
@@ -253,7 +254,7 @@ step-agrees config events e refused (inl r) = step-refused config events e refus
 step-agrees config events e refused (inr m) = inr (ap (λ x. Err x) m, refl)
 
 pub keeps-push : (config : SpaceConfig) (events : List Event) (e : Event) (leases leases1 leases2 : LeaseTable) (exports t : ExportTable) (runs runs1 : List Run) (withdrawn : List Withdrawal) (told opened used moment : ℕ) (effective : Bool) → effective ≡ is_effective config (places config events) e.by e.ask →
-    Keeps config events leases exports runs withdrawn told opened used moment → e.moment < 2 ^ 62 → refusal limits config (places config events) e ≡ None →
+    Keeps config events leases exports runs withdrawn told opened used moment → e.moment < END_OF_TIME → refusal limits config (places config events) e ≡ None →
     IsActed config events e leases1 t runs1 → t.space ≡ config.uid → t.ack ≡ config.ack_ms → t.added ≡ opened + opens effective e.ask →
     StandsFor config.lease_ms leases2 (max e.moment (now (places config events))) (map (without_all (going_now config events e t)) (told_calls config events e)) →
     Keeps config (events ++ e ∷ []) leases2 (left config events e t) runs1 (withdrawn_then config events e t withdrawn)

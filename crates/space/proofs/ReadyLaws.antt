@@ -5,7 +5,7 @@ use Rattle.object_ids.specs.declared.ids.Uid.{Uid}
 use Rattle.object_ids.specs.declared.ids.ObjId.{ObjId}
 use Rattle.history.specs.declared.asks.Ask.TheVariants.{Finish, Abandon, Lookup}
 use Rattle.history.specs.declared.asks.Event.{Event}
-use Rattle.history.specs.declared.limits.TheConstants.{MAX_EXPORTS, MAX_AWAITING}
+use Rattle.history.specs.declared.limits.TheConstants.{MAX_EXPORTS, MAX_AWAITING, END_OF_NUMBERS, END_OF_TIME}
 use Rattle.history.specs.declared.places.Withdrawal.{Withdrawal}
 use Rattle.history.specs.LeaseCalls.{call_with}
 use Rattle.history.specs.Limits.{units_of}
@@ -44,7 +44,7 @@ use Rattle.space.proofs.TurnLaws.{HasActed, HasWithdrawn, IsAsked, is-effective,
 
 -- WHAT A TURN MAY RELY ON, by what its parts answered of the tables `t`: these were told of the event, and room was made in them.
 pub is-ready : (t : Tables) {e : Event} {a : Admitted} {p : Prepared} {noted : Bool} {time counted : ℕ} {events : EventRecord} {runs : RunTable} {withdrawn : WithdrawalTable} {exports : ExportTable} {leases : LeaseTable} {bindings : List Binding} →
-    IsWhole t → e.moment < 2 ^ 62 → time ≡ max e.moment t.moment →
+    IsWhole t → e.moment < END_OF_TIME → time ≡ max e.moment t.moment →
     a.stood ≡ option_and_then (object_of t.names) (name_in e.ask) → a.effective ≡ effective_by t.exports.rows t.runs.items a.stood e.by e.ask → room_refusal t.units (length t.runs.items) (length t.exports.rows) a.effective e.ask ≡ None →
     p.opened ≡ opens a.effective e.ask → p.objects ≡ length t.exports.rows + opens a.effective e.ask → p.listed.references.items ≡ returned_by t.config.uid t.added t.exports.rows a.stood a.effective e.ask →
     AreInDoubt t.leases time t.exports.waits (taken_by t.exports.waits (id_at t.config.uid t.added) a.stood p.listed.references.items e.ask) p.listed.doubtful.items →
@@ -155,7 +155,7 @@ abandoned-when-ready {t} {e} {a} r o f s = abandon-counted t.config t.events.ite
 pub finished-when-ready : {t : Tables} {e : Event} {a : Admitted} {p : Prepared} {noted : Bool} → IsReady t e a p noted → (o : ObjId) (made : List ℕ) (listed : List ObjId) (u : Uid) → a.effective ≡ true → e.ask ≡ Finish o made listed u → 0 < running_of t.exports.rows o
 finished-when-ready {t} {e} {a} r o made listed u f s = finish-counted t.config t.events.items e r.before t.exports t.runs.items t.withdrawn.items t.told t.added t.units t.moment a.effective (asked-when-ready r) o made listed u f s
 
-pub countable-when-ready : {t : Tables} {e : Event} {a : Admitted} {p : Prepared} {noted : Bool} → IsReady t e a p noted → t.exports.added + opens a.effective e.ask < 2 ^ 62
+pub countable-when-ready : {t : Tables} {e : Event} {a : Admitted} {p : Prepared} {noted : Bool} → IsReady t e a p noted → t.exports.added + opens a.effective e.ask < END_OF_NUMBERS
 countable-when-ready {t} {e} {a} r =
     let within = r.keeps.stands.within.history in let few = r.keeps.few_opened in let used = r.keeps.stands.used_is in let added = r.keeps.stands.added_is in
     let exported = room-exports t.units (length t.runs.items) (length t.exports.rows) a.effective e.ask r.unfilled in
@@ -164,7 +164,7 @@ countable-when-ready {t} {e} {a} r =
 pub within-when-ready : {t : Tables} {e : Event} {a : Admitted} {p : Prepared} {noted : Bool} → IsReady t e a p noted → length t.exports.rows + opens a.effective e.ask ≤ MAX_EXPORTS
 within-when-ready {t} {e} {a} r = room-exports t.units (length t.runs.items) (length t.exports.rows) a.effective e.ask r.unfilled
 
-pub early-when-ready : {t : Tables} {e : Event} {a : Admitted} {p : Prepared} {noted : Bool} {time : ℕ} → IsReady t e a p noted → time ≡ max e.moment t.moment → time < 2 ^ 62
+pub early-when-ready : {t : Tables} {e : Event} {a : Admitted} {p : Prepared} {noted : Bool} {time : ℕ} → IsReady t e a p noted → time ≡ max e.moment t.moment → time < END_OF_TIME
 early-when-ready r at = let before = r.keeps.early in let early = r.early in omega (arith, at, before, early)
 
 pub some-when-ready : {t : Tables} {e : Event} {a : Admitted} {p : Prepared} {noted : Bool} → IsReady t e a p noted → 1 ≤ t.exports.ack

@@ -23,7 +23,7 @@ use Rattle.history.proofs.Partitions.{one_if}
 use Rattle.space.specs.declared.runs.Run.{Run}
 use Rattle.space.specs.RunTable.{AreSame, calls_of, LacksOneOf}
 use Rattle.space.specs.Runs.{is_run, is_run_on, without_first, RunsStand, caller_of, object_of}
-use Rattle.space.proofs.RunSteps.{count-last, count-without, without-none}
+use Rattle.space.proofs.RunSteps.{count-last, count-without}
 
 -- ---- the same calls
 

@@ -1,5 +1,5 @@
 -- The summary and the journal, by what is kept.
-use Rattle.std.proofs.Common.{◌≡◌, ℕ, suc, ◌<◌, ◌^◌, List, [], ◌∷◌, ◌++◌, length, refl, ap, sym, subst, ◌∙◌, arith, map, max, flat_map}
+use Rattle.std.proofs.Common.{◌≡◌, ℕ, suc, ◌<◌, List, [], ◌∷◌, ◌++◌, length, refl, ap, sym, subst, ◌∙◌, arith, map, max, flat_map}
 use Rattle.std.specs.Prelude.{pos}
 use Rattle.std.specs.List.{AllByRecursion}
 use Rattle.history.specs.declared.asks.SpaceConfig.{SpaceConfig}
@@ -125,21 +125,21 @@ journalled config events start first second s v empty one two =
     subst P v (two ∙ ap (λ (t : List ℕ). t ++ flat_map (event_line config.uid) events) (one ∙ ap (λ (t : List ℕ). t ++ ended (config_text config)) empty))
 
 -- No event of a history is of a later moment than its greatest.
-moments-early : (config : SpaceConfig) (events : List Event) → now (places config events) < 2 ^ 62 → AllByRecursion (λ e. e.moment < END_OF_TIME) events
-moments-early config = by-events (λ events. now (places config events) < 2 ^ 62 → AllByRecursion (λ e. e.moment < END_OF_TIME) events) (λ early. tt) more
+moments-early : (config : SpaceConfig) (events : List Event) → now (places config events) < END_OF_TIME → AllByRecursion (λ e. e.moment < END_OF_TIME) events
+moments-early config = by-events (λ events. now (places config events) < END_OF_TIME → AllByRecursion (λ e. e.moment < END_OF_TIME) events) (λ early. tt) more
   where
     last : (es : List Event) (e : Event) → AllByRecursion (λ x. x.moment < END_OF_TIME) es → e.moment < END_OF_TIME → AllByRecursion (λ x. x.moment < END_OF_TIME) (es ++ e ∷ [])
     last [] e all one = (one, tt)
     last (x ∷ es) e all one = (all.0, last es e all.1 one)
 
-    more : (events : List Event) (e : Event) → (now (places config events) < 2 ^ 62 → AllByRecursion (λ x. x.moment < END_OF_TIME) events) →
-        now (places config (events ++ e ∷ [])) < 2 ^ 62 → AllByRecursion (λ x. x.moment < END_OF_TIME) (events ++ e ∷ [])
+    more : (events : List Event) (e : Event) → (now (places config events) < END_OF_TIME → AllByRecursion (λ x. x.moment < END_OF_TIME) events) →
+        now (places config (events ++ e ∷ [])) < END_OF_TIME → AllByRecursion (λ x. x.moment < END_OF_TIME) (events ++ e ∷ [])
     more events e rest early =
         let time : now (places config (events ++ e ∷ [])) ≡ max e.moment (now (places config events)) = ap now (places-push config events e) ∙ now-push config (places config events) e in
         last events e (rest (omega (arith, time, early))) (omega (arith, time, early))
 
 -- The numbers of its events are within their ranges, where their moments bound them.
-pub events-fit : (config : SpaceConfig) (events : List Event) (moment : ℕ) → moment ≡ now (places config events) → moment < 2 ^ 62
+pub events-fit : (config : SpaceConfig) (events : List Event) (moment : ℕ) → moment ≡ now (places config events) → moment < END_OF_TIME
     → AllByRecursion (λ e. e.moment < END_OF_TIME → EventFits e) events → AllByRecursion EventFits events
 events-fit config events moment is early fit = both events (moments-early config events (omega (arith, is, early))) fit
   where

@@ -1,5 +1,5 @@
 -- A turn, by what its parts answered.
-use Rattle.std.proofs.Common.{◌≡◌, ℕ, ◌+◌, ◌<◌, ◌^◌, List, [], ◌∷◌, ◌++◌, length, inl, inr, refl, ap, sym, subst, ◌∙◌, arith, map, max, Option, Some, None, Ok, Err}
+use Rattle.std.proofs.Common.{◌≡◌, ℕ, ◌+◌, ◌<◌, List, [], ◌∷◌, ◌++◌, length, inl, inr, refl, ap, sym, subst, ◌∙◌, arith, map, max, Option, Some, None, Ok, Err}
 use Rattle.std.specs.Prelude.{Bool, true, Result, OnErr, drop}
 use Rattle.history.specs.declared.asks.SpaceConfig.{SpaceConfig}
 use Rattle.history.specs.declared.asks.Event.{Event}
@@ -30,6 +30,7 @@ use Rattle.std.proofs.Math.Seq.{drop-append_seam}
 use Rattle.history.specs.declared.asks.Ask.{Ask}
 use Rattle.history.specs.declared.asks.Ask.TheVariants.{Open, Begin, Finish, Abandon, Dirty, Clean, Ack, Bind, Rebind, Unbind, Lookup, List as ListNames, Tick}
 use Rattle.history.specs.declared.calls.Call.{Call}
+use Rattle.history.specs.declared.limits.TheConstants.{END_OF_TIME}
 use Rattle.export_table.specs.declared.rows.Export.{Export}
 use Rattle.export_table.specs.declared.waits.Wait.{Wait}
 use Rattle.space.specs.Runs.{RunsStand, caller_of, object_of}
@@ -125,7 +126,7 @@ taken config events e leases exports runs withdrawn told opened used moment effe
 -- WHAT IS KNOWN once it has acted, and nothing is withdrawn yet.
 pub record HasActed (config : SpaceConfig) (events : List Event) (e : Event) (leases leases1 : LeaseTable) (exports t : ExportTable) (runs : List Run) (withdrawn : List Withdrawal) (told opened used moment : ℕ) (effective : Bool) : Type 0 where
   pub asked : IsAsked config events e leases exports runs withdrawn told opened used moment effective
-  pub early : e.moment < 2 ^ 62
+  pub early : e.moment < END_OF_TIME
   pub room : room_refusal used (length runs) (length exports.rows) effective e.ask ≡ None
   pub fit : await_refusal (max e.moment moment) exports.rows exports.waits (stood_for (places config events) e.ask) effective e.ask ≡ None
   pub unrefused : ForEachLogBy (max e.moment moment) leases (λ lease calls. told_refusal lease (max e.moment moment) calls (call_with (is_exported exports.rows) (max e.moment moment) e.ask) (length (names (places config events))) (stood_for (places config events) e.ask) effective e.ask ≡ None)

@@ -1,10 +1,10 @@
 -- What a space keeps beside its history.
-use Rattle.std.specs.Prelude.{◌≡◌, ℕ, ◌+◌, ◌≤◌, ◌<◌, ◌^◌, List, length, filter, map, drop}
+use Rattle.std.specs.Prelude.{◌≡◌, ℕ, ◌+◌, ◌≤◌, ◌<◌, List, length, filter, map, drop}
 use Rattle.object_ids.specs.Same.{same_client}
 use Rattle.history.specs.declared.asks.SpaceConfig.{SpaceConfig}
 use Rattle.history.specs.declared.asks.Event.{Event}
 use Rattle.history.specs.declared.calls.Call.{Call}
-use Rattle.history.specs.declared.limits.TheConstants.{MAX_EXPORTS, MAX_AWAITING, MAX_CLIENTS, MAX_PAIRS, MAX_NAMES, MAX_UNITS}
+use Rattle.history.specs.declared.limits.TheConstants.{MAX_EXPORTS, MAX_AWAITING, MAX_CLIENTS, MAX_PAIRS, MAX_NAMES, MAX_UNITS, END_OF_TIME, MAX_DURATION}
 use Rattle.history.specs.declared.places.Place.{Place}
 use Rattle.history.specs.declared.places.Exported.{Exported}
 use Rattle.history.specs.declared.places.Withdrawal.{Withdrawal}
@@ -34,9 +34,9 @@ live_calls objects calls = map (live_call objects) calls
 -- The durations of a configuration: from 1 to 2^40 milliseconds.
 pub record HasDurations (config : SpaceConfig) : Type 0 where
   pub some_lease : 1 ≤ config.lease_ms
-  pub short_lease : config.lease_ms ≤ 2 ^ 40
+  pub short_lease : config.lease_ms ≤ MAX_DURATION
   pub some_ack : 1 ≤ config.ack_ms
-  pub short_ack : config.ack_ms ≤ 2 ^ 40
+  pub short_ack : config.ack_ms ≤ MAX_DURATION
 
 -- The tables of a history have no more entries than their limits.
 pub record IsWithin (config : SpaceConfig) (h : List Place) : Type 0 where
@@ -69,7 +69,7 @@ pub record Stands (config : SpaceConfig) (h : List Place) (leases : LeaseTable) 
 pub record Keeps (config : SpaceConfig) (events : List Event) (leases : LeaseTable) (exports : ExportTable) (runs : List Run) (withdrawn : List Withdrawal) (told opened used moment : ℕ) : Type 0 where
   pub durations : HasDurations config
   pub stands : Stands config (places config events) leases exports runs withdrawn told opened used moment
-  pub early : moment < 2 ^ 62
+  pub early : moment < END_OF_TIME
   pub few_events : length events ≤ used
   pub few_opened : opened ≤ used
   pub legal : IsLegal config events

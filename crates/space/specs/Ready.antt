@@ -1,10 +1,11 @@
 -- What a turn may rely on once nothing can refuse it any more.
-use Rattle.std.specs.Prelude.{◌≡◌, ◌+◌, ◌≤◌, ◌<◌, ◌^◌, ◌++◌, ◌∷◌, [], true, Bool, None, length, map, max, drop, option_and_then, vec_len, vec_capacity}
+use Rattle.std.specs.Prelude.{◌≡◌, ◌+◌, ◌≤◌, ◌<◌, ◌++◌, ◌∷◌, [], true, Bool, None, length, map, max, drop, option_and_then, vec_len, vec_capacity}
 use Rattle.history.specs.declared.asks.Event.{Event}
 use Rattle.history.specs.LeaseCalls.{call_with}
 use Rattle.history.specs.Names.{name_in, names, stands_for}
 use Rattle.history.specs.Places.{id_at}
 use Rattle.history.specs.Table.{places}
+use Rattle.history.specs.declared.limits.TheConstants.{END_OF_TIME}
 use Rattle.dgc_server.specs.Stands.{LeaseTable, StandsFor}
 use Rattle.export_table.specs.Rows.{is_exported}
 use Rattle.rmi_registry.specs.Stands.{AreBindings}
@@ -25,7 +26,7 @@ pub record IsReady (t : Tables) (e : Event) (a : Admitted) (p : Prepared) (noted
       StandsFor lease t.leases (max e.moment t.moment) (call_with (is_exported t.exports.rows) (max e.moment t.moment) e.ask ++ calls))
   pub names_told : AreBindings (places t.config (t.events.items ++ e ∷ [])) t.names
   -- what was admitted
-  pub early : e.moment < 2 ^ 62
+  pub early : e.moment < END_OF_TIME
   pub stood_is : a.stood ≡ option_and_then (stands_for (places t.config t.events.items)) (name_in e.ask)
   pub effective_is : a.effective ≡ effective_by t.exports.rows t.runs.items a.stood e.by e.ask
   pub unfilled : room_refusal t.units (length t.runs.items) (length t.exports.rows) a.effective e.ask ≡ None

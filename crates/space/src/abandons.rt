@@ -1,10 +1,11 @@
 //! Calls that end without an answer.
-ghost use Rattle.std.specs.Prelude.{◌≡◌, ◌<◌, ◌^◌, ◌++◌, ◌∷◌, [], Ok};
+ghost use Rattle.std.specs.Prelude.{◌≡◌, ◌<◌, ◌++◌, ◌∷◌, [], Ok};
 ghost use Rattle.history.specs.declared.asks.Ask.TheVariants.{Abandon};
 ghost use Rattle.history.specs.Collector.{Collects};
 ghost use Rattle.history.specs.Running.{running};
 ghost use Rattle.history.specs.Steps.{Step, turn_of};
 ghost use Rattle.history.specs.Table.{places};
+ghost use Rattle.history.specs.declared.limits.TheConstants.{END_OF_TIME};
 ghost use Rattle.space.specs.Acts.{event_of};
 
 use crate::acts::put_event;
@@ -17,7 +18,7 @@ impl Space {
     /// Ends a call of an object that connection `by` runs, at a moment, in milliseconds, without an answer. It
     /// takes no memory and is never refused. The objects that it withdraws are told by the next turn.
     pub fn abandon(&mut self, by: u32, moment: u64, object: ObjId)
-        requires moment { moment < 2 ^ 62 }
+        requires moment { moment < END_OF_TIME }
         requires running { 0 < running (places self.old.configuration self.old.events) by object }
         ensures events { self.new.events ≡ self.old.events ++ event_of by moment (Abandon object) ∷ [] }
         ensures config { self.new.configuration ≡ self.old.configuration }

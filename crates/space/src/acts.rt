@@ -3,7 +3,7 @@ ghost use Rattle.std.specs.Prelude.{◌≡◌, ◌⊎◌, ◌≤◌, ◌<◌, �
 ghost use Rattle.std.specs.List.{AllByRecursion};
 ghost use Rattle.object_ids.specs.declared.ids.ObjId.{ObjId};
 ghost use Rattle.object_ids.specs.declared.ids.Uid.{Uid};
-ghost use Rattle.history.specs.declared.limits.TheConstants.{MAX_EXPORTS, MAX_AWAITING};
+ghost use Rattle.history.specs.declared.limits.TheConstants.{MAX_EXPORTS, MAX_AWAITING, END_OF_NUMBERS, END_OF_TIME};
 ghost use Rattle.history.specs.declared.asks.Ask.TheVariants.{Abandon, Finish, Lookup};
 ghost use Rattle.history.specs.Names.{object_bound};
 ghost use Rattle.event_log.specs.Rows.{IsPlain};
@@ -32,9 +32,9 @@ pub(crate) fn act(
     requires few { (o : ObjId) → running_of exports.old.rows o < 2 ^ 31 }
     requires runs { (o : ObjId) → effective ≡ true → ask.now ≡ Abandon o → 0 < running_of exports.old.rows o }
     requires returns { (o : ObjId) (made : List ℕ) (listed : List ObjId) (u : Uid) → effective ≡ true → ask.now ≡ Finish o made listed u → 0 < running_of exports.old.rows o }
-    requires countable { exports.old.added + opens effective ask.now < 2 ^ 62 }
+    requires countable { exports.old.added + opens effective ask.now < END_OF_NUMBERS }
     requires within { length exports.old.rows + opens effective ask.now ≤ MAX_EXPORTS }
-    requires early { now < 2 ^ 62 }
+    requires early { now < END_OF_TIME }
     requires some { 1 ≤ exports.old.ack }
     requires once { waits_once reference_of exports.old.waits }
     requires returned { returned.now ≡ returned_by exports.old.space exports.old.added exports.old.rows stood effective ask.now }
@@ -122,9 +122,9 @@ fn end_with(
     uid: &Uid,
 )
     requires runs { 0 < running_of exports.old.rows object.now }
-    requires countable { exports.old.added + length made.now < 2 ^ 62 }
+    requires countable { exports.old.added + length made.now < END_OF_NUMBERS }
     requires within { length exports.old.rows + length made.now ≤ MAX_EXPORTS }
-    requires early { now < 2 ^ 62 }
+    requires early { now < END_OF_TIME }
     requires some { 1 ≤ exports.old.ack }
     requires once { waits_once reference_of exports.old.waits }
     requires exported { AllByRecursion (λ o. is_exported (exports.old.rows ++ new_rows exports.old.space exports.old.added made.now) o ≡ true) returned.now }
@@ -140,7 +140,7 @@ fn end_with(
 
 /// Adds an object, for which there is room.
 fn add(exports: &mut Exports, kind: u32, pinned: bool)
-    requires countable { exports.old.added < 2 ^ 62 }
+    requires countable { exports.old.added < END_OF_NUMBERS }
     requires room { 1 ≤ exports.old.room.exports }
     requires within { length exports.old.rows < MAX_EXPORTS }
     ensures value { let rows = exports.old.rows ++ new_row (id_at exports.old.space exports.old.added) kind pinned ∷ [] in
@@ -156,7 +156,7 @@ fn add(exports: &mut Exports, kind: u32, pinned: bool)
 
 /// Adds objects of these kinds, for which there is room.
 fn add_all(exports: &mut Exports, made: &[u32])
-    requires countable { exports.old.added + length made.now < 2 ^ 62 }
+    requires countable { exports.old.added + length made.now < END_OF_NUMBERS }
     requires room { length made.now ≤ exports.old.room.exports }
     requires within { length exports.old.rows + length made.now ≤ MAX_EXPORTS }
     ensures value { let rows = exports.old.rows ++ new_rows exports.old.space exports.old.added made.now in
@@ -171,7 +171,7 @@ fn add_all(exports: &mut Exports, made: &[u32])
 /// Has references to exported objects await, as listed in a return at a moment. There is room for them.
 fn await_all(exports: &mut Exports, now: u64, objects: &[ObjId], uid: &Uid)
     requires exported { AllByRecursion (λ o. is_exported exports.old.rows o ≡ true) objects.now }
-    requires early { now < 2 ^ 62 }
+    requires early { now < END_OF_TIME }
     requires some { 1 ≤ exports.old.ack }
     requires once { waits_once reference_of exports.old.waits }
     requires awaiting { awaiting_with now uid.now objects.now exports.old.waits ≤ MAX_AWAITING }

@@ -1,6 +1,6 @@
 //! Whether an ask is effective, whether there is room for it, and what it is answered.
-ghost use Rattle.std.specs.Prelude.{◌≡◌, ◌+◌, ◌<◌, ◌^◌, option_and_then, if◌then◌else◌, IfOk};
-ghost use Rattle.history.specs.declared.limits.TheConstants.{MAX_UNITS};
+ghost use Rattle.std.specs.Prelude.{◌≡◌, ◌+◌, ◌<◌, ◌^◌, option_and_then, IfOk};
+ghost use Rattle.history.specs.declared.limits.TheConstants.{MAX_UNITS, END_OF_NUMBERS};
 ghost use Rattle.history.specs.Names.{name_in};
 ghost use Rattle.export_table.specs.Rows.{is_exported};
 ghost use Rattle.rmi_registry.specs.Named.{names_in, object_of};
@@ -125,7 +125,7 @@ pub(crate) fn reply_at(
     effective: bool,
     ask: &Ask,
 ) -> Result<Reply, AllocError>
-    requires { k + opens effective ask.now < 2 ^ 62 }
+    requires { k + opens effective ask.now < END_OF_NUMBERS }
     ensures { IfOk result (λ reply. reply ≡ reply_at config.now k exports.now.rows (names_in names.now) stood effective ask.now) }
 {
     Ok(match ask {

@@ -1,7 +1,8 @@
 //! What the lease table is told of an ask.
-ghost use Rattle.std.specs.Prelude.{◌≡◌, ◌<◌, ◌^◌, ◌++◌, ◌∷◌, filter, true, IfOk, OnOk, OnErr};
+ghost use Rattle.std.specs.Prelude.{◌≡◌, ◌<◌, ◌++◌, ◌∷◌, filter, true, IfOk, OnOk, OnErr};
 ghost use Rattle.std.specs.List.{list_all};
 ghost use Rattle.history.specs.LeaseCalls.{call_with};
+ghost use Rattle.history.specs.declared.limits.TheConstants.{END_OF_TIME};
 ghost use Rattle.export_table.specs.Rows.{is_exported};
 ghost use Rattle.dgc_server.specs.Counts.{dirty_call, clean_call};
 ghost use Rattle.dgc_server.specs.Stands.{StandsFor};
@@ -23,7 +24,7 @@ pub(crate) fn tell(
     now: u64,
     ask: &Ask,
 ) -> Result<(), Refused>
-    requires { now < 2 ^ 62 }
+    requires { now < END_OF_TIME }
     ensures ok { OnOk result (ForEachLogBy now leases.old (λ lease calls.
         StandsFor lease leases.new now (call_with (is_exported exports.now.rows) now ask.now ++ calls))) }
     ensures refusal { ForEachLogBy now leases.old (λ lease calls.
@@ -59,7 +60,7 @@ fn tell_dirty(
     number: &i64,
     named: &ObjIds,
 ) -> Result<(), Refused>
-    requires { now < 2 ^ 62 }
+    requires { now < END_OF_TIME }
     ensures ok { OnOk result (ForEachLogBy now leases.old (λ lease calls.
         StandsFor lease leases.new now (dirty_call now client.now number.now (filter (is_exported exports.now.rows) named.now) ∷ calls))) }
     ensures refusal { ForEachLogBy now leases.old (λ lease calls.
@@ -81,7 +82,7 @@ fn take_dirty(
     number: &i64,
     live: &ObjIds,
 ) -> Result<(), Refused>
-    requires { now < 2 ^ 62 }
+    requires { now < END_OF_TIME }
     ensures ok { OnOk result (ForEachLogBy now leases.old (λ lease calls.
         StandsFor lease leases.new now (dirty_call now client.now number.now live.now ∷ calls))) }
     ensures refusal { ForEachLogBy now leases.old (λ lease calls.
@@ -104,7 +105,7 @@ fn tell_clean(
     named: &ObjIds,
     strong: bool,
 ) -> Result<(), Refused>
-    requires { now < 2 ^ 62 }
+    requires { now < END_OF_TIME }
     ensures ok { OnOk result (ForEachLogBy now leases.old (λ lease calls.
         StandsFor lease leases.new now (clean_call now client.now number.now (filter (is_exported exports.now.rows) named.now) strong ∷ calls))) }
     ensures refusal { ForEachLogBy now leases.old (λ lease calls.
@@ -127,7 +128,7 @@ fn take_clean(
     live: &ObjIds,
     strong: bool,
 ) -> Result<(), Refused>
-    requires { now < 2 ^ 62 }
+    requires { now < END_OF_TIME }
     ensures ok { OnOk result (ForEachLogBy now leases.old (λ lease calls.
         StandsFor lease leases.new now (clean_call now client.now number.now live.now strong ∷ calls))) }
     ensures refusal { ForEachLogBy now leases.old (λ lease calls.

@@ -1,9 +1,10 @@
 //! Whole lists of events, and what they leave exported.
-ghost use Rattle.std.specs.Prelude.{◌≡◌, ◌≢◌, ◌≤◌, ◌<◌, ◌^◌, [], length, map, take, Err, IfOk, OnErr};
+ghost use Rattle.std.specs.Prelude.{◌≡◌, ◌≢◌, ◌≤◌, ◌<◌, [], length, map, take, Err, IfOk, OnErr};
 ghost use Rattle.std.specs.List.{AllByRecursion};
 ghost use Rattle.history.specs.Steps.{Steps, IsLegal, answers as answers_to};
 ghost use Rattle.history.specs.Limits.{limits};
 ghost use Rattle.history.specs.Table.{places, table};
+ghost use Rattle.history.specs.declared.limits.TheConstants.{END_OF_TIME, MAX_DURATION};
 ghost use Rattle.space.specs.Lists.{CollectsEach, TakesFront, kind_among, with_kind, row_kind};
 
 use crate::turns::Space;
@@ -39,10 +40,10 @@ impl Space {
         events: Vec<Event>,
     ) -> Result<(Space, Turns), AllocError>
         requires some_lease { 1 ≤ config.now.lease_ms }
-        requires short_lease { config.now.lease_ms ≤ 2 ^ 40 }
+        requires short_lease { config.now.lease_ms ≤ MAX_DURATION }
         requires some_ack { 1 ≤ config.now.ack_ms }
-        requires short_ack { config.now.ack_ms ≤ 2 ^ 40 }
-        requires moments { AllByRecursion (λ e. e.moment < 2 ^ 62) events.items }
+        requires short_ack { config.now.ack_ms ≤ MAX_DURATION }
+        requires moments { AllByRecursion (λ e. e.moment < END_OF_TIME) events.items }
         ensures collector { IfOk result (λ p. CollectsEach config.now [] (take (length p.1.turns.items) events.items) p.0.events) }
         ensures taken { IfOk result (λ p. TakesFront config.now [] events.items p.1.turns.items p.1.refused p.0.events) }
         ensures config { IfOk result (λ p. p.0.configuration ≡ config.now) }
@@ -58,7 +59,7 @@ impl Space {
     /// Takes events, the one after the other, up to the first that is refused. It fails only where there is no
     /// memory for the list of the turns; then no event was taken.
     pub fn turns(&mut self, events: Vec<Event>) -> Result<Turns, AllocError>
-        requires moments { AllByRecursion (λ e. e.moment < 2 ^ 62) events.items }
+        requires moments { AllByRecursion (λ e. e.moment < END_OF_TIME) events.items }
         ensures collector { IfOk result (λ t. CollectsEach self.old.configuration self.old.events (take (length t.turns.items) events.items) self.new.events) }
         ensures taken { IfOk result (λ t. TakesFront self.old.configuration self.old.events events.items t.turns.items t.refused self.new.events) }
         ensures config { self.new.configuration ≡ self.old.configuration }
@@ -86,7 +87,7 @@ impl Space {
     /// Asks events, the one after the other, also after one that is refused, and answers them in their order. It fails only where there is no
     /// memory for the list of the answers; then none was asked.
     pub fn answers(&mut self, events: Vec<Event>) -> Result<Vec<Result<Turn, Refused>>, AllocError>
-        requires moments { AllByRecursion (λ e. e.moment < 2 ^ 62) events.items }
+        requires moments { AllByRecursion (λ e. e.moment < END_OF_TIME) events.items }
         ensures answered { IfOk result (λ answers. Steps self.old.configuration self.old.events events.items answers.items self.new.events) }
 
         // No memory wanting, there is one list of answers.

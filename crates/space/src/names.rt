@@ -1,7 +1,8 @@
 //! What an ask does to the leases and to the names, in the last step that may be refused.
-ghost use Rattle.std.specs.Prelude.{◌≡◌, ◌<◌, ◌^◌, ◌++◌, length, true, option_and_then, OnOk, OnErr};
+ghost use Rattle.std.specs.Prelude.{◌≡◌, ◌<◌, ◌++◌, length, true, option_and_then, OnOk, OnErr};
 ghost use Rattle.history.specs.LeaseCalls.{call_with};
 ghost use Rattle.history.specs.Names.{name_in, is_name_change};
+ghost use Rattle.history.specs.declared.limits.TheConstants.{END_OF_TIME};
 ghost use Rattle.dgc_server.specs.Stands.{StandsFor};
 ghost use Rattle.export_table.specs.Rows.{is_exported};
 ghost use Rattle.rmi_registry.specs.Named.{object_of, rebound};
@@ -26,7 +27,7 @@ pub(crate) fn settle(
     now: u64,
     ask: &Ask,
 ) -> Result<(), Refused>
-    requires { now < 2 ^ 62 }
+    requires { now < END_OF_TIME }
     ensures ok { OnOk result (ForEachLogBy now leases.old (λ lease calls.
         StandsFor lease leases.new now (call_with (is_exported exports.now.rows) now ask.now ++ calls))) }
     ensures names { OnOk result (names.new ≡ acted_names effective ask.now names.old) }

@@ -1,5 +1,5 @@
 //! Turns with their entries.
-ghost use Rattle.std.specs.Prelude.{◌≡◌, ◌≢◌, ◌≤◌, ◌<◌, ◌^◌, ℕ, List, length, Err, IfOk, OnOk, OnErr, vec_capacity};
+ghost use Rattle.std.specs.Prelude.{◌≡◌, ◌≢◌, ◌≤◌, ◌<◌, ℕ, List, length, Err, IfOk, OnOk, OnErr, vec_capacity};
 ghost use Rattle.object_ids.specs.declared.ids.ObjId.{ObjId};
 ghost use Rattle.history.specs.declared.asks.Ask.TheVariants.{List as ListNames};
 ghost use Rattle.history.specs.declared.replies.Reply.TheVariants.{Finished, Names as NamesReply};
@@ -7,6 +7,7 @@ ghost use Rattle.history.specs.Collector.{Collects};
 ghost use Rattle.history.specs.Running.{running};
 ghost use Rattle.history.specs.Steps.{Step};
 ghost use Rattle.history.specs.Table.{places};
+ghost use Rattle.history.specs.declared.limits.TheConstants.{END_OF_TIME};
 ghost use Rattle.space.specs.Acts.{event_of};
 ghost use Rattle.space.specs.Entries.{entry_of};
 ghost use Rattle.space.specs.Noted.{Fits, made_by, turned};
@@ -31,7 +32,7 @@ impl Space {
         moment: u64,
         ask: Ask,
     ) -> Result<(Result<Turn, Refused>, Asked), AllocError>
-        requires moment { moment < 2 ^ 62 }
+        requires moment { moment < END_OF_TIME }
         ensures step { IfOk result (λ x. Step self.old.configuration self.old.events (event_of by moment ask) x.0 self.new.events) }
         ensures collector { IfOk result (λ x. OnOk x.0 (Collects self.old.configuration self.old.events (event_of by moment ask) self.new.events)) }
         ensures noted { IfOk result (λ x. x.1 ≡ entry_of moment ask x.0) }

@@ -1,5 +1,6 @@
 //! Where a connection makes its turns.
-ghost use Rattle.std.specs.Prelude.{◌≡◌, ℕ, ◌+◌, ◌<◌, ◌≤◌, ◌^◌, ◌++◌, ◌∷◌, [], List};
+ghost use Rattle.std.specs.Prelude.{◌≡◌, ℕ, ◌+◌, ◌<◌, ◌≤◌, ◌++◌, ◌∷◌, [], List};
+ghost use Rattle.history.specs.declared.limits.TheConstants.{END_OF_TIME};
 ghost use Rattle.space.specs.declared.asked.Asked.{Asked};
 ghost use Rattle.space.specs.Ports.{abandoned_at, entries_of, Shows, IsAnswerTo};
 
@@ -25,7 +26,7 @@ pub trait Port {
     fn turn(&mut self, moment: u64, ask: Ask) -> Result<Turn, Refused>
         requires ready { ready self.old }
         requires room { 0 < room_of self.old }
-        requires moment { moment < 2 ^ 62 }
+        requires moment { moment < END_OF_TIME }
         ensures asked { asked self.new ≡ asked self.old ++ entries_of moment ask result }
         ensures answer { IsAnswerTo (Shows (asked self.old)) ask result }
         ensures room { room_of self.old ≤ room_of self.new + 1 }
@@ -36,7 +37,7 @@ pub trait Port {
     fn abandon(&mut self, moment: u64, object: ObjId)
         requires ready { ready self.old }
         requires room { 0 < room_of self.old }
-        requires moment { moment < 2 ^ 62 }
+        requires moment { moment < END_OF_TIME }
         requires runs { Shows (asked self.old) object }
         ensures asked { (place : ℕ) × (asked self.new ≡ asked self.old ++ abandoned_at moment object place ∷ []) }
         ensures room { room_of self.old ≤ room_of self.new + 1 }

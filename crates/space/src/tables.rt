@@ -1,6 +1,7 @@
 //! What a space keeps, and what a turn does to it.
-ghost use Rattle.std.specs.Prelude.{◌≡◌, ◌<◌, ◌^◌, ◌++◌, ◌∷◌, [], true, Ok, Err, IfOk, IfErr, OnOk, OnErr};
+ghost use Rattle.std.specs.Prelude.{◌≡◌, ◌<◌, ◌++◌, ◌∷◌, [], true, Ok, Err, IfOk, IfErr, OnOk, OnErr};
 ghost use Rattle.history.specs.Steps.{Step};
+ghost use Rattle.history.specs.declared.limits.TheConstants.{END_OF_TIME};
 ghost use Rattle.space.specs.Acts.{event_of};
 ghost use Rattle.space.specs.Ready.{IsReady};
 ghost use Rattle.space.specs.Whole.{IsWhole, IsWholeWith};
@@ -60,7 +61,7 @@ impl Tables {
         ask: &Ask,
         noted: bool,
     ) -> Result<(Turn, ObjIds), Refused>
-        requires moment { moment < 2 ^ 62 }
+        requires moment { moment < END_OF_TIME }
         requires whole { IsWhole self.old }
         ensures taken { IfOk result (λ x. let e = event_of by moment ask.now in
             Step self.old.config self.old.events.items e (Ok x.0) (self.old.events.items ++ e ∷ [])) }

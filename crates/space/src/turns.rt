@@ -1,10 +1,11 @@
 //! The space, turn by turn.
-ghost use Rattle.std.specs.Prelude.{◌≡◌, ◌≤◌, ◌<◌, ◌^◌, [], true, length, IfOk, OnOk, OnErr};
+ghost use Rattle.std.specs.Prelude.{◌≡◌, ◌≤◌, ◌<◌, [], true, length, IfOk, OnOk, OnErr};
 ghost use Rattle.history.specs.Collector.{Collects};
 ghost use Rattle.history.specs.Places as place_words;
 ghost use Rattle.history.specs.Running.{running};
 ghost use Rattle.history.specs.Steps.{Step, IsLegal};
 ghost use Rattle.history.specs.Table.{places};
+ghost use Rattle.history.specs.declared.limits.TheConstants.{END_OF_TIME, MAX_DURATION};
 ghost use Rattle.space.specs.Acts.{event_of};
 ghost use Rattle.space.specs.Noted.{turned};
 
@@ -60,9 +61,9 @@ impl Space {
     /// The space without events. Its leases and its times to acknowledge last from 1 to 2^40 milliseconds.
     pub fn fresh(alloc: Global, config: &SpaceConfig) -> Space
         requires some_lease { 1 ≤ config.now.lease_ms }
-        requires short_lease { config.now.lease_ms ≤ 2 ^ 40 }
+        requires short_lease { config.now.lease_ms ≤ MAX_DURATION }
         requires some_ack { 1 ≤ config.now.ack_ms }
-        requires short_ack { config.now.ack_ms ≤ 2 ^ 40 }
+        requires short_ack { config.now.ack_ms ≤ MAX_DURATION }
         ensures { result ≡ record { configuration = config.now; events = [] } }
     {
         Space {
@@ -88,7 +89,7 @@ impl Space {
     /// would pass their limit; else Full(Exports), Full(Awaiting), Full(Clients), Full(Pairs) and Full(Names), in
     /// this order, exactly where the entries of these tables would. OutOfMemory may come in place of any answer.
     pub fn turn(&mut self, by: u32, moment: u64, ask: Ask) -> Result<Turn, Refused>
-        requires moment { moment < 2 ^ 62 }
+        requires moment { moment < END_OF_TIME }
         ensures step { Step self.old.configuration self.old.events (record { by = by; moment = moment; ask = ask }) result self.new.events }
 
         // The history's table keeps what there is a reason to keep, and the rest is withdrawn. This follows from `step`; that the
@@ -109,7 +110,7 @@ impl Space {
         ask: Ask,
         noted: bool,
     ) -> Result<(Turn, ObjIds), Refused>
-        requires moment { moment < 2 ^ 62 }
+        requires moment { moment < END_OF_TIME }
         ensures step { Step self.old.configuration self.old.events (event_of by moment ask) (turned result) self.new.events }
         ensures copy { IfOk result (λ x. noted ≡ true → x.1 ≡ x.0.gone) }
         ensures collector { OnOk result (Collects self.old.configuration self.old.events (event_of by moment ask) self.new.events) }
@@ -148,7 +149,7 @@ impl Space {
     pub fn len(&self) -> u64
         ensures value { result ≡ length self.now.events }
         ensures legal { IsLegal self.now.configuration self.now.events }
-        ensures early { place_words.now (places self.now.configuration self.now.events) < 2 ^ 62 }
+        ensures early { place_words.now (places self.now.configuration self.now.events) < END_OF_TIME }
     {
         self.tables.events.len() as u64
     }

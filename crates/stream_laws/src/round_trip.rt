@@ -1,5 +1,6 @@
 //! The round trip of streams.
-ghost use Rattle.std.specs.Prelude.{◌≤◌, ◌^◌, length};
+ghost use Rattle.std.specs.Prelude.{◌≤◌, length};
+ghost use Rattle.wire_io.specs.declared.limits.TheConstants.{LAST_POSITION};
 ghost use Rattle.ser_write.specs.Canonical.{canonical};
 ghost use Rattle.ser_read.specs.Whole.{AnswersGraph};
 
@@ -14,7 +15,7 @@ use wire_io::pull::Pull;
 /// Writes a graph as a stream, and reads the stream. What is read is the same graph, with all that is shared in it; it is
 /// refused only for want of memory.
 pub fn read_back(alloc: Global, graph: &Graph) -> Result<Graph, StreamFault>
-    ensures same { length (canonical graph.now.nodes graph.now.items) ≤ 2 ^ 62 → ∥ AnswersGraph graph.now.nodes graph.now.items result ∥₁ }
+    ensures same { length (canonical graph.now.nodes graph.now.items) ≤ LAST_POSITION → ∥ AnswersGraph graph.now.nodes graph.now.items result ∥₁ }
 {
     let written = write_stream(alloc, graph)?;
     let mut source = MemSource::new(written, Kinds::new(alloc), Kinds::new(alloc));

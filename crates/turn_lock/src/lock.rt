@@ -1,9 +1,10 @@
 //! What callers do with a lock.
-ghost use Rattle.std.specs.Prelude.{◌≡◌, ◌≢◌, ◌+◌, ◌<◌, ◌^◌, length, MatchResult, Ok, Err, IfOk};
+ghost use Rattle.std.specs.Prelude.{◌≡◌, ◌≢◌, ◌+◌, ◌<◌, length, MatchResult, Ok, Err, IfOk};
 ghost use Rattle.history.specs.declared.asks.Ask.TheVariants.{Abandon};
 ghost use Rattle.history.specs.Running.{running};
 ghost use Rattle.history.specs.Steps.{turn_of};
 ghost use Rattle.history.specs.Table.{places};
+ghost use Rattle.history.specs.declared.limits.TheConstants.{END_OF_TIME};
 ghost use Rattle.space.specs.Acts.{event_of};
 ghost use Rattle.space.specs.Entries.{entry_of};
 ghost use Rattle.turn_lock.specs.Rule.{Events, InOrder, TurnedAt, TurnedBy, Settled, StartsWith, left_of, most_passes, most_turns, right_of, joined_of};
@@ -148,7 +149,7 @@ impl Pass {
     ) -> Result<(Result<Turn, Refused>, Asked), AllocError>
         requires own { IsPassOf lock.now self.old }
         requires room { 0 < self.old.room }
-        requires moment { moment < 2 ^ 62 }
+        requires moment { moment < END_OF_TIME }
         ensures pass { IsPassOf lock.now self.new × (self.new.room + 1 ≡ self.old.room) × (self.new.seat.id ≡ self.old.seat.id) × (self.new.number ≡ self.old.number) }
         ensures turned { MatchResult result (λ x. TurnedBy (view_of self.old) self.old.number moment ask x.0 (view_of self.new))
             (λ refused. TurnedBy (view_of self.old) self.old.number moment ask (Err Refused.OutOfMemory) (view_of self.new)) }
@@ -178,7 +179,7 @@ impl Pass {
     ) -> u64
         requires own { IsPassOf lock.now self.old }
         requires room { 0 < self.old.room }
-        requires moment { moment < 2 ^ 62 }
+        requires moment { moment < END_OF_TIME }
         requires runs { 0 < running (places (view_of self.old).config (view_of self.old).seen) self.old.number object }
         ensures pass { IsPassOf lock.now self.new × (self.new.room + 1 ≡ self.old.room) × (self.new.seat.id ≡ self.old.seat.id) × (self.new.number ≡ self.old.number) }
         ensures turned { (before : Events) × TurnedAt (view_of self.old) before (event_of self.old.number moment (Abandon object)) (Ok (turn_of (view_of self.old).config before (event_of self.old.number moment (Abandon object)))) (view_of self.new)

@@ -1,6 +1,7 @@
 //! The root's own pass.
-ghost use Rattle.std.specs.Prelude.{◌≡◌, ◌+◌, ◌<◌, ◌≤◌, ◌^◌, []};
+ghost use Rattle.std.specs.Prelude.{◌≡◌, ◌+◌, ◌<◌, ◌≤◌, []};
 ghost use Rattle.std.specs.Borrow.{sem};
+ghost use Rattle.history.specs.declared.limits.TheConstants.{END_OF_TIME};
 ghost use Rattle.space.specs.Ties.{IsTied};
 ghost use Rattle.space.specs.Ports.{entries_of};
 ghost use Rattle.turn_lock.specs.Handles.{IsPassOf, IsRootOf, opening_of, seen_space, view_of};
@@ -51,7 +52,7 @@ impl Root {
     ) -> (Result<Turn, Refused>, PortEntries)
         requires own { IsRootOf lock.now self.old }
         requires room { 0 < self.old.pass.room }
-        requires moment { moment < 2 ^ 62 }
+        requires moment { moment < END_OF_TIME }
         ensures root { IsRootOf lock.now self.new }
         ensures counts { (self.new.made ≡ self.old.made) × (self.new.out ≡ self.old.out) }
         ensures went { PassWent self.old.pass self.new.pass result.1 }
@@ -74,7 +75,7 @@ fn turned<R: Wait>(
 ) -> (Result<Turn, Refused>, PortEntries)
     requires own { IsPassOf lock.now pass.old }
     requires room { 0 < pass.old.room }
-    requires moment { moment < 2 ^ 62 }
+    requires moment { moment < END_OF_TIME }
     ensures own { IsPassOf lock.now pass.new }
     ensures went { PassWent pass.old pass.new result.1 }
     ensures asked { result.1 ≡ entries_of moment ask result.0 }

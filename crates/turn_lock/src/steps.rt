@@ -1,10 +1,11 @@
 //! The steps of one seat.
-ghost use Rattle.std.specs.Prelude.{◌≡◌, ◌≢◌, ℕ, ◌+◌, ◌*◌, ◌<◌, ◌^◌, ◌∷◌, ◌++◌, [], Ok, Err, None, length, IfOk};
+ghost use Rattle.std.specs.Prelude.{◌≡◌, ◌≢◌, ℕ, ◌+◌, ◌*◌, ◌<◌, ◌∷◌, ◌++◌, [], Ok, Err, None, length, IfOk};
 ghost use Rattle.history.specs.declared.asks.Ask.TheVariants.{Abandon};
 ghost use Rattle.history.specs.declared.asks.Event.{Event};
 ghost use Rattle.history.specs.Running.{running};
 ghost use Rattle.history.specs.Steps.{turn_of};
 ghost use Rattle.history.specs.Table.{places};
+ghost use Rattle.history.specs.declared.limits.TheConstants.{END_OF_TIME};
 ghost use Rattle.space.specs.Acts.{event_of};
 ghost use Rattle.space.specs.Entries.{entry_of};
 ghost use Rattle.space.specs.Ports.{IsAnswerTo};
@@ -158,7 +159,7 @@ pub(crate) fn turn<R: Wait>(
     requires table { (seat.old.table_id ≡ shared.now.table_id) × (shared.now.table_id.words ≡ 3) × (shared.now.table_id.slots ≡ 1) }
     requires idle { (seat.old.me.0.stage ≡ Idle) × (seat.old.me.1 ≡ []) × (seat.old.me.0.drawn < most_turns * seat.old.me.0.parts) }
     requires number { by ≡ seat.old.me.0.number }
-    requires moment { moment < 2 ^ 62 }
+    requires moment { moment < END_OF_TIME }
     ensures seat { (seat.new.table_id ≡ seat.old.table_id) × (seat.new.id ≡ seat.old.id) × (seat.new.me.1 ≡ []) }
     ensures turned { (before : Events) × TurnedAt seat.old.me.0 before (event_of by moment ask) (answer_of result) seat.new.me.0
         × IfOk result (λ x. IsAnswerTo (λ o. 0 < running (places seat.old.me.0.config before) by o) ask x.0) }
@@ -184,7 +185,7 @@ pub(crate) fn abandon<R: Wait>(
     requires table { (seat.old.table_id ≡ shared.now.table_id) × (shared.now.table_id.words ≡ 3) × (shared.now.table_id.slots ≡ 1) }
     requires idle { (seat.old.me.0.stage ≡ Idle) × (seat.old.me.1 ≡ []) × (seat.old.me.0.drawn < most_turns * seat.old.me.0.parts) }
     requires number { by ≡ seat.old.me.0.number }
-    requires moment { moment < 2 ^ 62 }
+    requires moment { moment < END_OF_TIME }
     requires runs { 0 < running (places seat.old.me.0.config seat.old.me.0.seen) by object }
     ensures seat { (seat.new.table_id ≡ seat.old.table_id) × (seat.new.id ≡ seat.old.id) × (seat.new.me.1 ≡ []) }
     ensures turned { (before : Events) × TurnedAt seat.old.me.0 before (event_of by moment (Abandon object)) (Ok (turn_of seat.old.me.0.config before (event_of by moment (Abandon object)))) seat.new.me.0

@@ -1,9 +1,7 @@
 //! Where moments come from.
-ghost use Rattle.std.specs.Prelude.{◌<◌, ◌^◌, ℕ, List, [], ◌∷◌, Option};
+ghost use Rattle.std.specs.Prelude.{◌≤◌, ℕ, List, [], ◌∷◌, Option};
 ghost use Rattle.wire_io.specs.Wire.{Gave};
-
-/// The greatest moment, in milliseconds.
-pub const LAST_MOMENT: u64 = (1 << 62) - 1;
+ghost use Rattle.wire_io.specs.declared.limits.TheConstants.{LAST_MOMENT};
 
 /// A clock that is read.
 pub trait Clock {
@@ -11,8 +9,8 @@ pub trait Clock {
     // may cease to tell them.
     ghost given: { Self → Option (List ℕ) };
 
-    /// The present moment, in milliseconds and below 2^62. A moment may be earlier than one before it.
+    /// The present moment, in milliseconds. A moment may be earlier than one before it.
     fn now(&mut self) -> u64
-        ensures bound { result < 2 ^ 62 }
+        ensures bound { result ≤ LAST_MOMENT }
         ensures given { Gave (given self.old) (given self.new) (result ∷ []) };
 }

@@ -1,9 +1,11 @@
 //! Sources, sinks and clocks in memory, whose calls are known exactly.
-ghost use Rattle.std.specs.Prelude.{◌≡◌, ◌↔◌, [], ◌++◌, ◌<◌, ◌^◌, ◌∷◌, length, take, drop, min, Some, IfOk, OnOk, OnErr, IsErr, IsTrue, Contains, slice_get};
+ghost use Rattle.std.specs.Prelude.{◌≡◌, ◌↔◌, [], ◌++◌, ◌∷◌, length, take, drop, min, Some, IfOk, OnOk, OnErr, IsErr, IsTrue, Contains, slice_get};
 ghost use Rattle.wire_io.specs.Wire.{Read, Written, Gave};
 ghost use Rattle.wire_io.specs.Mem.{most_given, count_given, after_read, after_failed_read, after_write, after_failed_write, moment_at, moments_given, after_call};
+ghost use Rattle.wire_io.specs.declared.limits.TheConstants.{LAST_MOMENT};
 
-use crate::clock::{Clock, LAST_MOMENT};
+use crate::clock::Clock;
+use crate::limits::LAST_MOMENT;
 use crate::sink::Sink;
 use crate::source::{Failed, Source};
 use mod_utf::list::{ByteList, Kinds, MomentList};
@@ -297,7 +299,7 @@ impl Clock for MemClock {
     ghost given = { moments_given };
 
     fn now(&mut self) -> u64
-        ensures bound { result < 2 ^ 62 }
+        ensures bound { result ≤ LAST_MOMENT }
         ensures given { Gave (moments_given self.old) (moments_given self.new) (result ∷ []) }
         ensures moment { result ≡ moment_at self.old.moments self.old.calls }
         ensures after { self.new ≡ after_call self.old }

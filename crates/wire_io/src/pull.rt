@@ -1,12 +1,11 @@
 //! Taking bytes one after the other, with their positions.
-ghost use Rattle.std.specs.Prelude.{◌≡◌, ◌+◌, ◌<◌, ◌≤◌, ◌^◌, ◌++◌, length, max, min, replicate, OnOk, OnErr, vec_len, vec_capacity};
+ghost use Rattle.std.specs.Prelude.{◌≡◌, ◌+◌, ◌<◌, ◌≤◌, ◌++◌, length, max, min, replicate, OnOk, OnErr, vec_len, vec_capacity};
+ghost use Rattle.wire_io.specs.declared.limits.TheConstants.{LAST_POSITION};
 
+use crate::limits::LAST_POSITION;
 use crate::source::Source;
 use mod_utf::list::ByteList;
 use std::alloc::{AllocError, Global};
-
-/// The greatest position.
-const LAST: u64 = 1 << 62;
 
 /// The most bytes that `take` makes room for ahead of what it read.
 const AHEAD: usize = 4096;
@@ -16,7 +15,7 @@ const AHEAD: usize = 4096;
 pub enum PullEnd {
     /// The input ends at this position. It comes exactly there, also where a message's limit is reached there.
     End { at: u64 },
-    /// The message already has as many bytes as it may have, or the position is 2^62, and the input goes on. It comes
+    /// The message already has as many bytes as it may have, or the position is the last, and the input goes on. It comes
     /// exactly there. The byte that shows it was taken from the source and dropped, and the position stayed.
     Limit { at: u64 },
     /// The source failed. It comes only where the source's count of faults rose.
@@ -27,15 +26,15 @@ pub enum PullEnd {
 
 /// Takes bytes from a source and counts them.
 ///
-/// `at` is the position: how many bytes of the connection or input were taken. No byte is taken at `stop`, which is 2^62,
-/// or where the present message's limit ends, if that is earlier.
+/// `at` is the position: how many bytes of the connection or input were taken. No byte is taken at `stop`, which is
+/// [`LAST_POSITION`], or where the present message's limit ends, if that is earlier.
 #[derive(Drop)]
 pub struct Pull<'s, S> {
     pub source: &'s mut S,
     pub at: u64,
     pub stop: u64,
     ghost within: { at ≤ stop },
-    ghost small: { stop ≤ 2 ^ 62 },
+    ghost small: { stop ≤ LAST_POSITION },
 }
 
 impl<'s, S: Source> Pull<'s, S> {
@@ -46,23 +45,23 @@ impl<'s, S: Source> Pull<'s, S> {
         ensures lent { result.source.ghost_name ≡ source.entry.ghost_name }
         ensures source { result.source.now ≡ source.old }
         ensures at { result.at ≡ 0 }
-        ensures stop { result.stop ≡ 2 ^ 62 }
+        ensures stop { result.stop ≡ LAST_POSITION }
     {
         Pull::resume(source, 0)
     }
 
     /// At position `at`, with no mark.
     pub fn resume(source: &'s mut S, at: u64) -> Pull<'s, S>
-        requires { at ≤ 2 ^ 62 }
+        requires { at ≤ LAST_POSITION }
         ensures lent { result.source.ghost_name ≡ source.entry.ghost_name }
         ensures source { result.source.now ≡ source.old }
         ensures at { result.at ≡ at }
-        ensures stop { result.stop ≡ 2 ^ 62 }
+        ensures stop { result.stop ≡ LAST_POSITION }
     {
         Pull {
             source,
             at,
-            stop: LAST,
+            stop: LAST_POSITION,
         }
     }
 
@@ -79,9 +78,9 @@ impl<'s, S: Source> Pull<'s, S> {
         ensures lent { self.new.source.ghost_name ≡ self.old.source.ghost_name }
         ensures source { self.new.source.now ≡ self.old.source.now }
         ensures at { self.new.at ≡ self.old.at }
-        ensures stop { self.new.stop ≡ min (self.old.at + limit) (2 ^ 62) }
+        ensures stop { self.new.stop ≡ min (self.old.at + limit) LAST_POSITION }
     {
-        self.stop = self.at.saturating_add(limit).min(LAST);
+        self.stop = self.at.saturating_add(limit).min(LAST_POSITION);
     }
 
     /// The next byte. The source is asked for this byte and for no more.

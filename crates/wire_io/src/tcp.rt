@@ -3,9 +3,11 @@ ghost use Rattle.std.specs.Prelude.{◌≡◌, ◌≤◌, length, None, IfOk, On
 ghost use Rattle.mod_utf.specs.Utf.{utf};
 ghost use Rattle.wire_io.specs.Links.{accepted_as, Listens, Accepts};
 ghost use Rattle.wire_io.specs.Wire.{Read, Written, next_count};
+ghost use Rattle.wire_io.specs.declared.limits.TheConstants.{MAX_HOST_BYTES};
 
 use crate::ahead::Ahead;
 use crate::edge::StdClock;
+use crate::limits::MAX_HOST_BYTES;
 use crate::link::Link;
 use crate::listener::Listener;
 use crate::sink::Sink;
@@ -247,11 +249,11 @@ where
 
 /// The numbers of an address as a text.
 fn host_of(alloc: Global, peer: SocketAddr) -> io::Result<Units>
-    ensures { IfOk result (λ host. length (utf host) ≤ 255) }
+    ensures { IfOk result (λ host. length (utf host) ≤ MAX_HOST_BYTES) }
 {
     let text = peer.ip().to_string(alloc)?;
     let host = Units::from_ascii(alloc, text.as_bytes())?;
-    if encoded_len(&host) > 255 {
+    if encoded_len(&host) > MAX_HOST_BYTES {
         return Err(io::Error::from(io::ErrorKind::InvalidInput));
     }
     Ok(host)

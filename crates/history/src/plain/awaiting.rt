@@ -91,14 +91,14 @@ fn until_of(alloc: Global, ack: u64, places: &[Place], r: &Returned) -> Result<u
 pub fn awaits(
     alloc: Global,
     ack: u64,
-    at: u64,
+    time: u64,
     places: &[Place],
     r: &Returned,
 ) -> Result<bool, AllocError>
-    ensures { IfOk result (λ waits. waits ≡ words.awaits ack at places.now r.now) }
+    ensures { IfOk result (λ waits. waits ≡ words.awaits ack time places.now r.now) }
 {
     let until = until_of(alloc, ack, places, r)?;
-    Ok(u128::from(at) < until)
+    Ok(u128::from(time) < until)
 }
 
 /// The references that were ever returned.
@@ -120,17 +120,17 @@ fn all_returned(alloc: Global, places: &[Place]) -> Result<Vec<Returned>, AllocE
 fn those_awaiting(
     alloc: Global,
     ack: u64,
-    at: u64,
+    time: u64,
     places: &[Place],
     references: &[Returned],
 ) -> Result<Vec<Returned>, AllocError>
-    ensures { IfOk result (λ left. left.items ≡ filter (words.awaits ack at places.now) references.now) }
+    ensures { IfOk result (λ left. left.items ≡ filter (words.awaits ack time places.now) references.now) }
 {
     match references {
         [] => Ok(Vec::new(alloc)),
         [r, rest @ ..] => {
-            let is_left = awaits(alloc, ack, at, places, r)?;
-            let mut left = those_awaiting(alloc, ack, at, places, rest)?;
+            let is_left = awaits(alloc, ack, time, places, r)?;
+            let mut left = those_awaiting(alloc, ack, time, places, rest)?;
             if is_left {
                 left.insert(0, *r)?;
             }
@@ -166,13 +166,13 @@ pub fn each_once(alloc: Global, references: &[Returned]) -> Result<Vec<Returned>
 pub fn awaiting(
     alloc: Global,
     ack: u64,
-    at: u64,
+    time: u64,
     places: &[Place],
 ) -> Result<Vec<Returned>, AllocError>
-    ensures { IfOk result (λ left. left.items ≡ words.awaiting ack at places.now) }
+    ensures { IfOk result (λ left. left.items ≡ words.awaiting ack time places.now) }
 {
     let all = all_returned(alloc, places)?;
-    let left = those_awaiting(alloc, ack, at, places, all.as_slice())?;
+    let left = those_awaiting(alloc, ack, time, places, all.as_slice())?;
     each_once(alloc, left.as_slice())
 }
 
@@ -181,12 +181,12 @@ pub fn awaiting(
 pub fn is_awaited(
     alloc: Global,
     ack: u64,
-    at: u64,
+    time: u64,
     places: &[Place],
     object: ObjId,
 ) -> Result<bool, AllocError>
-    ensures { IfOk result (λ waits. waits ≡ words.is_awaited ack at places.now object) }
+    ensures { IfOk result (λ waits. waits ≡ words.is_awaited ack time places.now object) }
 {
-    let left = awaiting(alloc, ack, at, places)?;
+    let left = awaiting(alloc, ack, time, places)?;
     Ok(left.as_slice().iter().any(|r| equal_ids(r.object, object)))
 }

@@ -33,10 +33,10 @@ fn is_naming(object: ObjId, x: &Call) -> bool
 }
 
 /// Whether a lease that began with this call lasts at a moment.
-fn lasts(lease: u64, at: u64, x: &Call) -> bool
-    ensures { result ≡ nat_lt at (x.now.moment + lease) }
+fn lasts(lease: u64, time: u64, x: &Call) -> bool
+    ensures { result ≡ nat_lt time (x.now.moment + lease) }
 {
-    u128::from(at) < u128::from(x.moment) + u128::from(lease)
+    u128::from(time) < u128::from(x.moment) + u128::from(lease)
 }
 
 fn is_higher(x: &Call, y: &Call) -> bool
@@ -49,16 +49,16 @@ fn is_higher(x: &Call, y: &Call) -> bool
 
 /// Whether the client has time left at a moment.
 #[tactic(auto, unfolding(crate::specs::Leases::lease_end))]
-pub fn has_time_left(lease: u64, at: u64, own: &[Call]) -> bool
-    ensures { result ≡ words.has_time_left lease at own.now }
+pub fn has_time_left(lease: u64, time: u64, own: &[Call]) -> bool
+    ensures { result ≡ words.has_time_left lease time own.now }
 {
     match own {
         [] => false,
         [x, before @ ..] => {
             if is_dirty(x) {
-                lasts(lease, at, x)
+                lasts(lease, time, x)
             } else {
-                has_time_left(lease, at, before)
+                has_time_left(lease, time, before)
             }
         }
     }
@@ -163,14 +163,14 @@ pub fn highest_is_dirty(calls: &[Call]) -> bool
 pub fn holds(
     alloc: Global,
     lease: u64,
-    at: u64,
+    time: u64,
     own: &[Call],
     object: ObjId,
 ) -> Result<bool, AllocError>
-    ensures { IfOk result (λ held. held ≡ words.holds lease at own.now object) }
+    ensures { IfOk result (λ held. held ≡ words.holds lease time own.now object) }
 {
     let calls = counting_calls(alloc, lease, own, object)?;
-    Ok(has_time_left(lease, at, own) && highest_is_dirty(calls.as_slice()))
+    Ok(has_time_left(lease, time, own) && highest_is_dirty(calls.as_slice()))
 }
 
 fn some_name(object: ObjId, calls: &[Call]) -> bool
@@ -184,15 +184,15 @@ fn some_name(object: ObjId, calls: &[Call]) -> bool
 pub fn is_remembered(
     alloc: Global,
     lease: u64,
-    at: u64,
+    time: u64,
     own: &[Call],
     object: ObjId,
 ) -> Result<bool, AllocError>
-    ensures { IfOk result (λ remembered. remembered ≡ words.is_remembered lease at own.now object) }
+    ensures { IfOk result (λ remembered. remembered ≡ words.is_remembered lease time own.now object) }
 {
     let calls = tenure(alloc, lease, own)?;
     let strong = strong_cleans(alloc, own)?;
-    let in_tenure = has_time_left(lease, at, own) && some_name(object, calls.as_slice());
+    let in_tenure = has_time_left(lease, time, own) && some_name(object, calls.as_slice());
     Ok(in_tenure || some_name(object, strong.as_slice()))
 }
 
@@ -274,31 +274,31 @@ pub fn clients(alloc: Global, calls: &[Call]) -> Result<Vec<Vmid>, AllocError>
 fn client_has_time(
     alloc: Global,
     lease: u64,
-    at: u64,
+    time: u64,
     calls: &[Call],
     client: &Vmid,
 ) -> Result<bool, AllocError>
-    ensures { IfOk result (λ left. left ≡ words.has_time_left lease at (words.calls_of client.now calls.now)) }
+    ensures { IfOk result (λ left. left ≡ words.has_time_left lease time (words.calls_of client.now calls.now)) }
 {
     let own = calls_of(alloc, client, calls)?;
-    Ok(has_time_left(lease, at, own.as_slice()))
+    Ok(has_time_left(lease, time, own.as_slice()))
 }
 
 /// Those of some clients that have time left at a moment.
 fn with_time_left(
     alloc: Global,
     lease: u64,
-    at: u64,
+    time: u64,
     calls: &[Call],
     clients: &[Vmid],
 ) -> Result<Vec<Vmid>, AllocError>
-    ensures { IfOk result (λ left. left.items ≡ filter (λ c. words.has_time_left lease at (words.calls_of c calls.now)) clients.now) }
+    ensures { IfOk result (λ left. left.items ≡ filter (λ c. words.has_time_left lease time (words.calls_of c calls.now)) clients.now) }
 {
     match clients {
         [] => Ok(Vec::new(alloc)),
         [client, rest @ ..] => {
-            let has_time = client_has_time(alloc, lease, at, calls, client)?;
-            let left = with_time_left(alloc, lease, at, calls, rest)?;
+            let has_time = client_has_time(alloc, lease, time, calls, client)?;
+            let left = with_time_left(alloc, lease, time, calls, rest)?;
             if has_time {
                 in_front(alloc, client, left)
             } else {
@@ -313,34 +313,34 @@ fn with_time_left(
 pub fn clients_with_time_left(
     alloc: Global,
     lease: u64,
-    at: u64,
+    time: u64,
     calls: &[Call],
 ) -> Result<Vec<Vmid>, AllocError>
-    ensures { IfOk result (λ left. left.items ≡ words.clients_with_time_left lease at calls.now) }
+    ensures { IfOk result (λ left. left.items ≡ words.clients_with_time_left lease time calls.now) }
 {
     let all = clients(alloc, calls)?;
-    with_time_left(alloc, lease, at, calls, all.as_slice())
+    with_time_left(alloc, lease, time, calls, all.as_slice())
 }
 
 /// Whether one of some clients holds an object at a moment.
 fn some_hold(
     alloc: Global,
     lease: u64,
-    at: u64,
+    time: u64,
     calls: &[Call],
     object: ObjId,
     clients: &[Vmid],
 ) -> Result<bool, AllocError>
-    ensures { IfOk result (λ held. held ≡ list_any (λ c. words.holds lease at (words.calls_of c calls.now) object) clients.now) }
+    ensures { IfOk result (λ held. held ≡ list_any (λ c. words.holds lease time (words.calls_of c calls.now) object) clients.now) }
 {
     match clients {
         [] => Ok(false),
         [client, rest @ ..] => {
             let own = calls_of(alloc, client, calls)?;
-            if holds(alloc, lease, at, own.as_slice(), object)? {
+            if holds(alloc, lease, time, own.as_slice(), object)? {
                 return Ok(true);
             }
-            some_hold(alloc, lease, at, calls, object, rest)
+            some_hold(alloc, lease, time, calls, object, rest)
         }
     }
 }
@@ -350,14 +350,14 @@ fn some_hold(
 pub fn is_held(
     alloc: Global,
     lease: u64,
-    at: u64,
+    time: u64,
     calls: &[Call],
     object: ObjId,
 ) -> Result<bool, AllocError>
-    ensures { IfOk result (λ held. held ≡ words.is_held lease at calls.now object) }
+    ensures { IfOk result (λ held. held ≡ words.is_held lease time calls.now object) }
 {
     let all = clients(alloc, calls)?;
-    some_hold(alloc, lease, at, calls, object, all.as_slice())
+    some_hold(alloc, lease, time, calls, object, all.as_slice())
 }
 
 // ---- pairs
@@ -384,17 +384,17 @@ fn pairs_of(alloc: Global, client: &Vmid, objects: &[ObjId]) -> Result<Vec<Pair>
 fn remembered(
     alloc: Global,
     lease: u64,
-    at: u64,
+    time: u64,
     own: &[Call],
     objects: &[ObjId],
 ) -> Result<Vec<ObjId>, AllocError>
-    ensures { IfOk result (λ kept. kept.items ≡ filter (words.is_remembered lease at own.now) objects.now) }
+    ensures { IfOk result (λ kept. kept.items ≡ filter (words.is_remembered lease time own.now) objects.now) }
 {
     match objects {
         [] => Ok(Vec::new(alloc)),
         [object, rest @ ..] => {
-            let mut kept = remembered(alloc, lease, at, own, rest)?;
-            if is_remembered(alloc, lease, at, own, *object)? {
+            let mut kept = remembered(alloc, lease, time, own, rest)?;
+            if is_remembered(alloc, lease, time, own, *object)? {
                 kept.insert(0, *object)?;
             }
             Ok(kept)
@@ -406,15 +406,15 @@ fn remembered(
 fn pairs_of_client(
     alloc: Global,
     lease: u64,
-    at: u64,
+    time: u64,
     calls: &[Call],
     objects: &[ObjId],
     client: &Vmid,
 ) -> Result<Vec<Pair>, AllocError>
-    ensures { IfOk result (λ pairs. pairs.items ≡ words.pairs_of client.now (filter (words.is_remembered lease at (words.calls_of client.now calls.now)) objects.now)) }
+    ensures { IfOk result (λ pairs. pairs.items ≡ words.pairs_of client.now (filter (words.is_remembered lease time (words.calls_of client.now calls.now)) objects.now)) }
 {
     let own = calls_of(alloc, client, calls)?;
-    let kept = remembered(alloc, lease, at, own.as_slice(), objects)?;
+    let kept = remembered(alloc, lease, time, own.as_slice(), objects)?;
     pairs_of(alloc, client, kept.as_slice())
 }
 
@@ -422,18 +422,18 @@ fn pairs_of_client(
 fn pairs_among(
     alloc: Global,
     lease: u64,
-    at: u64,
+    time: u64,
     calls: &[Call],
     objects: &[ObjId],
     clients: &[Vmid],
 ) -> Result<Vec<Pair>, AllocError>
-    ensures { IfOk result (λ pairs. pairs.items ≡ flat_map (λ c. words.pairs_of c (filter (words.is_remembered lease at (words.calls_of c calls.now)) objects.now)) clients.now) }
+    ensures { IfOk result (λ pairs. pairs.items ≡ flat_map (λ c. words.pairs_of c (filter (words.is_remembered lease time (words.calls_of c calls.now)) objects.now)) clients.now) }
 {
     match clients {
         [] => Ok(Vec::new(alloc)),
         [client, rest @ ..] => {
-            let mut pairs = pairs_of_client(alloc, lease, at, calls, objects, client)?;
-            let mut others = pairs_among(alloc, lease, at, calls, objects, rest)?;
+            let mut pairs = pairs_of_client(alloc, lease, time, calls, objects, client)?;
+            let mut others = pairs_among(alloc, lease, time, calls, objects, rest)?;
             pairs.append(&mut others)?;
             Ok(pairs)
         }
@@ -445,14 +445,14 @@ fn pairs_among(
 pub fn pairs_with(
     alloc: Global,
     lease: u64,
-    at: u64,
+    time: u64,
     calls: &[Call],
     objects: &[ObjId],
 ) -> Result<Vec<Pair>, AllocError>
-    ensures { IfOk result (λ pairs. pairs.items ≡ words.pairs_with lease at calls.now objects.now) }
+    ensures { IfOk result (λ pairs. pairs.items ≡ words.pairs_with lease time calls.now objects.now) }
 {
     let all = clients(alloc, calls)?;
-    pairs_among(alloc, lease, at, calls, objects, all.as_slice())
+    pairs_among(alloc, lease, time, calls, objects, all.as_slice())
 }
 
 /// The pairs that a call brings.

@@ -2,6 +2,7 @@
 ghost use Rattle.std.specs.Prelude.{◌≡◌, ◌+◌, ◌<◌, ◌^◌, length, filter, IfOk};
 ghost use Rattle.history.specs.Places as words;
 ghost use Rattle.history.specs.Replies.{ids as ids_of};
+ghost use Rattle.history.specs.declared.limits.TheConstants.{END_OF_NUMBERS};
 
 use crate::places::{Exported, Place};
 use crate::plain::same::equal_ids;
@@ -69,7 +70,7 @@ pub fn next(alloc: Global, places: &[Place]) -> Result<u64, AllocError>
 
 /// The identifier of the k-th object, from 0, that a space exports.
 pub fn id_at(space: Uid, k: u64) -> ObjId
-    requires { k < 2 ^ 62 }
+    requires { k < END_OF_NUMBERS }
     ensures { result ≡ words.id_at space k }
 {
     ObjId {
@@ -87,7 +88,7 @@ pub fn exported_from(
     pinned: bool,
     kinds: &[u32],
 ) -> Result<Vec<Exported>, AllocError>
-    requires { k + length kinds.now < 2 ^ 62 }
+    requires { k + length kinds.now < END_OF_NUMBERS }
     ensures { IfOk result (λ objects. objects.items ≡ words.exported_from space k place pinned kinds.now) }
 {
     match kinds {

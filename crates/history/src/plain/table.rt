@@ -1,5 +1,5 @@
 //! The collector's table, and the places of a list of events.
-ghost use Rattle.std.specs.Prelude.{◌≡◌, ◌+◌, ◌<◌, ◌++◌, ◌∷◌, ◌||◌, ◌&&◌, filter, not, option_to_list, option_and_then, if◌then◌else◌, [], IfOk};
+ghost use Rattle.std.specs.Prelude.{◌≡◌, ◌+◌, ◌++◌, ◌∷◌, filter, not, option_to_list, option_and_then, if◌then◌else◌, [], IfOk};
 ghost use Rattle.history.specs.LeaseCalls as call_words;
 ghost use Rattle.history.specs.Names as name_words;
 ghost use Rattle.history.specs.Places as place_words;
@@ -117,11 +117,11 @@ pub fn is_kept(
 ) -> Result<bool, AllocError>
     ensures { IfOk result (λ kept. kept ≡ words.is_kept config.now places.now x.now) }
 {
-    let at = now(places);
+    let time = now(places);
     let pinned = is_pinned(alloc, places, x)?;
-    let waits = is_awaited(alloc, config.ack_ms, at, places, x.id)?;
+    let waits = is_awaited(alloc, config.ack_ms, time, places, x.id)?;
     let calls = lease_calls(alloc, places)?;
-    let held = is_held(alloc, config.lease_ms, at, calls.as_slice(), x.id)?;
+    let held = is_held(alloc, config.lease_ms, time, calls.as_slice(), x.id)?;
     Ok(pinned || waits || held)
 }
 

@@ -1,5 +1,5 @@
 //! Replies, refusals and whole runs.
-ghost use Rattle.std.specs.Prelude.{◌≡◌, ◌<◌, ◌∷◌, ◌++◌, map, if◌then◌else◌, IfOk};
+ghost use Rattle.std.specs.Prelude.{◌≡◌, ◌∷◌, ◌++◌, map, if◌then◌else◌, IfOk};
 ghost use Rattle.history.specs.Limits.{refusal as cause_of};
 ghost use Rattle.history.specs.Names as name_words;
 ghost use Rattle.history.specs.Places as place_words;

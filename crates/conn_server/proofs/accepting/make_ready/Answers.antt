@@ -1,7 +1,6 @@
-use Rattle.std.proofs.Common.{◌∙◌, ◌+◌, ap, sym, subst, ℕ, List}
+use Rattle.std.proofs.Common.{◌∙◌, ◌+◌, ap, subst, ℕ}
 use Rattle.std.specs.Prelude.{◌≡◌}
 use Rattle.call_dispatch.specs.Terms.{terms_of}
-use Rattle.call_dispatch.specs.declared.book.Kind.{Kind}
 use Rattle.conn_server.specs.Plans.{link_terms}
 use Rattle.conn_server.proofs.accepting.make_ready.Goals as goal
 

@@ -26,12 +26,12 @@ returns-clause-counted c = both_ok c.note_own.result c.note_own.ensures.ok c.not
     let client = c.args.client.now in
     let call = c.args.call.now in
     let whole : all_of c.split_full.new.chunks.items ≡ es = c.split_full.ensures.same in
-    let next : Entry = entry_after c.args.lease call.kind call.number.now call.objects.now call.at (entry_of es client) in
+    let next : Entry = entry_after c.args.lease call.kind call.number.now call.objects.now call.time (entry_of es client) in
     let P : List Entry → Type 0 = λ l. (w : Way) (o : ObjId) → counted_at w c.note_own.new.counts o + one_if (is_counted w c.args.from o (entry_of l client))
-    ≡ counted_at w c.args.counts.now o + one_if (is_counted w c.args.from o (entry_after c.args.lease call.kind call.number.now call.objects.now call.at (entry_of l client))) in
+    ≡ counted_at w c.args.counts.now o + one_if (is_counted w c.args.from o (entry_after c.args.lease call.kind call.number.now call.objects.now call.time (entry_of l client))) in
     let moved : P es = subst P whole counts in
     all-counted c.args.from es next (λ w o. counted_at w c.args.counts.now o) (λ w o. counted_at w c.note_own.new.counts o) (all_of c.note_own.new.chunks.items) c.requires.ordered c.requires.counted
-    (ok ∙ ap (λ l. with_entry (entry_after c.args.lease call.kind call.number.now call.objects.now call.at (entry_of l client)) l) whole)
+    (ok ∙ ap (λ l. with_entry (entry_after c.args.lease call.kind call.number.now call.objects.now call.time (entry_of l client)) l) whole)
     (λ w o. ap (λ d. counted_at w c.note_own.new.counts o + one_if (is_counted w c.args.from o (entry_of es d))) (client-of es client) ∙ moved w o))
 
 pub returns-clause-bounded : goal.returns-clause-bounded

@@ -55,10 +55,10 @@ returns-clause-ok c = on_ok c.note_in.result c.note_in.ensures.ok (λ e.
     ∙ ap (λ (z : Chunk). entry_of z.entries.items client) (sym c.index_mut.ensures.value) in
     let y = c.note_in.new.chunk in
     let bound : i < length cs = (let bound = c.chunk_of-at_chunk.ensures.bound in let e = ap (λ (l : List Chunk). length l) c.deref.ensures.value in omega arith) in
-    let next : Entry = entry_after c.args.lease call.kind call.number.now call.objects.now call.at (entry_of (all_of cs) client) in
+    let next : Entry = entry_after c.args.lease call.kind call.number.now call.objects.now call.time (entry_of (all_of cs) client) in
     let here : x ≡ get_or cs i y = c.index_mut.ensures.value ∙ get_or_default cs i x y bound in
     let put : y.entries.items ≡ with_entry next (get_or cs i y).entries.items =
-    e ∙ ap (λ (d : Entry). with_entry (entry_after c.args.lease call.kind call.number.now call.objects.now call.at d) x.entries.items) (sym own) ∙ ap (λ (z : Chunk). with_entry next z.entries.items) here in
+    e ∙ ap (λ (d : Entry). with_entry (entry_after c.args.lease call.kind call.number.now call.objects.now call.time d) x.entries.items) (sym own) ∙ ap (λ (z : Chunk). with_entry next z.entries.items) here in
     let P : List Chunk → Type 0 = λ l. IsChunkOf l client i in
     sym (subst P c.deref.ensures.value c.chunk_of-at_chunk.ensures.place next y (client-of (all_of cs) client) put))
 
@@ -73,7 +73,7 @@ returns-clause-counts c = on_ok c.note_in.result c.note_in.ensures.counts (λ co
     ap (λ l. entry_of (all_of l) client) (sym c.deref.ensures.value) ∙ c.chunk_of-at_chunk.ensures.entry x ∙ ap (λ l. entry_of (get_or l i x).entries.items client) c.deref.ensures.value
     ∙ ap (λ (z : Chunk). entry_of z.entries.items client) (sym c.index_mut.ensures.value) in
     let P : Entry → Type 0 = λ e. (w : Way) (o : ObjId) → counted_at w c.note_in.new.counts o + one_if (is_counted w c.args.from o e)
-    ≡ counted_at w c.args.counts.now o + one_if (is_counted w c.args.from o (entry_after c.args.lease call.kind call.number.now call.objects.now call.at e)) in
+    ≡ counted_at w c.args.counts.now o + one_if (is_counted w c.args.from o (entry_after c.args.lease call.kind call.number.now call.objects.now call.time e)) in
     subst P (sym own) counts)
 
 pub returns-clause-noted : goal.returns-clause-noted
@@ -86,7 +86,7 @@ returns-clause-noted c = if_ok c.note_in.result c.note_in.ensures.noted (λ note
     let own : entry_of (all_of cs) client ≡ entry_of x.entries.items client =
     ap (λ l. entry_of (all_of l) client) (sym c.deref.ensures.value) ∙ c.chunk_of-at_chunk.ensures.entry x ∙ ap (λ l. entry_of (get_or l i x).entries.items client) c.deref.ensures.value
     ∙ ap (λ (z : Chunk). entry_of z.entries.items client) (sym c.index_mut.ensures.value) in
-    let P : Entry → Type 0 = λ e. IsNoted c.args.from e (entry_after c.args.lease call.kind call.number.now call.objects.now call.at e) noted in
+    let P : Entry → Type 0 = λ e. IsNoted c.args.from e (entry_after c.args.lease call.kind call.number.now call.objects.now call.time e) noted in
     subst P (sym own) is)
 
 pub returns-clause-err : goal.returns-clause-err
@@ -112,10 +112,10 @@ returns-clause-bounded c = three_ok c.note_in.result c.note_in.ensures.noted c.n
     let x = c.index_mut.result.now in
     let y = c.note_in.new.chunk in
     let call = c.args.call.now in
-    let next : Entry = entry_after c.args.lease call.kind call.number.now call.objects.now call.at (entry_of x.entries.items c.args.client.now) in
+    let next : Entry = entry_after c.args.lease call.kind call.number.now call.objects.now call.time (entry_of x.entries.items c.args.client.now) in
     let bound : i < length cs = (let bound = c.chunk_of-at_chunk.ensures.bound in let e = ap (λ (l : List Chunk). length l) c.deref.ensures.value in omega arith) in
     let own : IsBounded c.args.from n x = subst (IsBounded c.args.from n) (sym c.index_mut.ensures.value) (every-at (IsBounded c.args.from n) cs i x bound a) in
-    all-noted c.args.from n call.at noted.until cs i y a (noted-bounded c.args.from n call.at noted.until next x y c.requires.later is.until own ok least))
+    all-noted c.args.from n call.time noted.until cs i y a (noted-bounded c.args.from n call.time noted.until next x y c.requires.later is.until own ok least))
 
 pub returns-clause-still : goal.returns-clause-still
 returns-clause-still c = two_err c.note_in.result c.note_in.ensures.err c.note_in.ensures.still (λ e least n a.

@@ -12,7 +12,7 @@ pub returns-clause-entries : goal.returns-clause-entries
 returns-clause-entries c =
     let cs = c.walk.new.chunks.items in
     let none : length (filter (entry_names c.args.object.now) (all_of cs)) ≡ 0 = sym c.walk.ensures.counted ∙ c.walk.ensures.all refl refl in
-    ap all_of c.keep_filled.ensures ∙ filled-all cs ∙ sym (walked-all c.args.object.now c.args.at (all_of cs) none c.walk.ensures.kept)
+    ap all_of c.keep_filled.ensures ∙ filled-all cs ∙ sym (walked-all c.args.object.now c.args.time (all_of cs) none c.walk.ensures.kept)
     ∙ c.walk.ensures.same ∙ c.walk-to_go.ensures.same
 
 pub returns-clause-filled : goal.returns-clause-filled
@@ -20,5 +20,5 @@ returns-clause-filled c = rw (c.keep_filled.ensures) (all-filled c.walk.new.chun
 
 pub returns-clause-bounded : goal.returns-clause-bounded
 returns-clause-bounded c = λ n a.
-    subst (AllByRecursion (IsBounded c.args.at n)) (sym c.keep_filled.ensures)
-    (every-filter (IsBounded c.args.at n) is_filled c.walk.new.chunks.items (c.walk.ensures.bounded n (c.walk-to_go.ensures.bounded n a)))
+    subst (AllByRecursion (IsBounded c.args.time n)) (sym c.keep_filled.ensures)
+    (every-filter (IsBounded c.args.time n) is_filled c.walk.new.chunks.items (c.walk.ensures.bounded n (c.walk-to_go.ensures.bounded n a)))

@@ -6,8 +6,8 @@ use Rattle.dgc_server.proofs.drops.drop_objects.Goals as goal
 
 pub returns-clause-entries : goal.returns-clause-entries
 returns-clause-entries c =
-    c.keep.ensures.entries ∙ ap (filter (is_entry_kept c.args.at)) (c.keep_named.ensures.all refl refl ∙ c.keep_named-to_go.ensures.same)
+    c.keep.ensures.entries ∙ ap (filter (is_entry_kept c.args.time)) (c.keep_named.ensures.all refl refl ∙ c.keep_named-to_go.ensures.same)
 
 pub returns-clause-bounded : goal.returns-clause-bounded
 returns-clause-bounded c = λ n a.
-    c.keep.ensures.bounded n (c.keep_named.ensures.calm c.args.at n (c.keep_named-to_go.ensures.calm c.args.at n (all-calm-of c.args.at n c.args.chunks.now.items a)))
+    c.keep.ensures.bounded n (c.keep_named.ensures.calm c.args.time n (c.keep_named-to_go.ensures.calm c.args.time n (all-calm-of c.args.time n c.args.chunks.now.items a)))

@@ -18,8 +18,8 @@ loop-i-init c = record { same = refl; kept = c.requires.kept; counted = c.requir
 pub walk-to_go-requires-clause-kept : goal.walk-to_go-requires-clause-kept
 walk-to_go-requires-clause-kept c =
     let wide : vec_len c.loop-i.chunks ≡ length c.loop-i.chunks.items = search rules in let test = c.loop-i-test.true in let len = c.len.ensures in
-    ap (λ (x : Chunk). list_all (is_entry_kept c.args.at) x.entries.items) c.index_mut.ensures.value
-    ∙ all-part (is_entry_kept c.args.at) c.loop-i.chunks.items c.loop-i.i c.index_mut.result.now (omega arith) c.loop-i.invariant.kept
+    ap (λ (x : Chunk). list_all (is_entry_kept c.args.time) x.entries.items) c.index_mut.ensures.value
+    ∙ all-part (is_entry_kept c.args.time) c.loop-i.chunks.items c.loop-i.i c.index_mut.result.now (omega arith) c.loop-i.invariant.kept
 
 pub walk-to_go-requires-clause-enough : goal.walk-to_go-requires-clause-enough
 walk-to_go-requires-clause-enough c =
@@ -44,13 +44,13 @@ loop-i-preserved c =
     let parted : length (filter names (all_of (take (i + 1) (slice_set cs i y)))) ≡ length (filter names (all_of (take i cs))) + length (filter names y.entries.items) =
     ap (λ l. length (filter names (all_of l))) (take-set-next cs i y here) ∙ ap (λ l. length (filter names l)) (all-append (take i cs) (y ∷ []))
     ∙ ap (λ l. length (filter names (all_of (take i cs) ++ l))) (append-nil y.entries.items) ∙ many-append names (all_of (take i cs)) y.entries.items in record {
-      same = set-same (rest_of c.args.object.now c.args.at) (rest-append c.args.object.now c.args.at) cs i y x here
-          (c.walk-to_go.ensures.same ∙ ap (λ (z : Chunk). rest_of c.args.object.now c.args.at z.entries.items) c.index_mut.ensures.value) ∙ c.loop-i.invariant.same;
-      kept = set-all (is_entry_kept c.args.at) cs i y here c.loop-i.invariant.kept c.walk-to_go.ensures.kept;
+      same = set-same (rest_of c.args.object.now c.args.time) (rest-append c.args.object.now c.args.time) cs i y x here
+          (c.walk-to_go.ensures.same ∙ ap (λ (z : Chunk). rest_of c.args.object.now c.args.time z.entries.items) c.index_mut.ensures.value) ∙ c.loop-i.invariant.same;
+      kept = set-all (is_entry_kept c.args.time) cs i y here c.loop-i.invariant.kept c.walk-to_go.ensures.kept;
       counted = omega (arith, set, same, counted, walked);
       bounded = λ n a. (let all = c.loop-i.invariant.bounded n a in
-          let own : IsBounded c.args.at n x = subst (IsBounded c.args.at n) (sym c.index_mut.ensures.value) (every-at (IsBounded c.args.at n) cs i x here all) in
-          every-set (IsBounded c.args.at n) cs i y all (part-bounded c.args.at n x y (λ s. c.walk-to_go.ensures.settled x.least s) refl own));
+          let own : IsBounded c.args.time n x = subst (IsBounded c.args.time n) (sym c.index_mut.ensures.value) (every-at (IsBounded c.args.time n) cs i x here all) in
+          every-set (IsBounded c.args.time n) cs i y all (part-bounded c.args.time n x y (λ s. c.walk-to_go.ensures.settled x.least s) refl own));
       first = λ z. refl;
       front = λ z y0. (let none : length (filter names y.entries.items) ≡ 0 = c.walk-to_go.ensures.all (c.loop-i.invariant.first y0) in
           let front = c.loop-i.invariant.front z y0 in omega (arith, parted, none, front));

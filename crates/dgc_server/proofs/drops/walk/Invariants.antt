@@ -12,10 +12,10 @@ decreases-loop-i l = length l.chunks.items - l.i
 abbrev pub invariant-loop-i : goal.invariant-loop-i
 invariant-loop-i l =
     record {
-      same : rest_of l.object l.at (all_of l.chunks.items) ≡ rest_of l.object l.at (all_of l.initial.chunks.items);
-      kept : list_all (is_entry_kept l.at) (all_of l.chunks.items) ≡ true;
+      same : rest_of l.object l.time (all_of l.chunks.items) ≡ rest_of l.object l.time (all_of l.initial.chunks.items);
+      kept : list_all (is_entry_kept l.time) (all_of l.chunks.items) ≡ true;
       counted : l.to_go ≡ length (filter (entry_names l.object) (all_of l.chunks.items));
-      bounded : (n : ℕ) → AllByRecursion (IsBounded l.at n) l.initial.chunks.items → AllByRecursion (IsBounded l.at n) l.chunks.items;
+      bounded : (n : ℕ) → AllByRecursion (IsBounded l.time n) l.initial.chunks.items → AllByRecursion (IsBounded l.time n) l.chunks.items;
       first : l.client ≡ 0 → l.first ≡ 0;
       front : l.chunk ≡ 0 → l.client ≡ 0 → length (filter (entry_names l.object) (all_of (take l.i l.chunks.items))) ≡ 0;
     }

@@ -9,7 +9,7 @@ pub loop-chunk-preserved : goal.loop-chunk-preserved
 loop-chunk-preserved c =
     let cs = c.chunks-chunks.result.now in
     let x = c.chunk-item.result in
-    let p = entry_holds c.args.at c.args.object.now in
+    let p = entry_holds c.args.time c.args.object.now in
     let front = all_of (take c.loop-chunk.chunk-index cs) in
     let own = (get_or cs c.loop-chunk.chunk-index x).entries.items in
     let this : c.holders.result ≡ length (filter p own) =

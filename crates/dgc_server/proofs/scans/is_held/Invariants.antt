@@ -5,4 +5,4 @@ use Rattle.dgc_server.specs.Chunks.{all_of}
 use Rattle.dgc_server.proofs.scans.is_held.Given as goal
 
 abbrev pub invariant-loop-chunk : goal.invariant-loop-chunk
-invariant-loop-chunk l = list_any (entry_holds l.at l.object) (all_of (drop l.chunk-index l.chunks)) ≡ list_any (entry_holds l.at l.object) (all_of l.chunks)
+invariant-loop-chunk l = list_any (entry_holds l.time l.object) (all_of (drop l.chunk-index l.chunks)) ≡ list_any (entry_holds l.time l.object) (all_of l.chunks)

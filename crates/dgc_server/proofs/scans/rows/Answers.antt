@@ -11,7 +11,7 @@ pub loop-chunk-preserved : goal.loop-chunk-preserved
 loop-chunk-preserved c =
     let cs = c.chunks-chunks.result.now in
     let x = c.chunk-item.result in
-    let t = c.args.at in
+    let t = c.args.time in
     let front = all_of (take c.loop-chunk.chunk-index cs) in
     let own = (get_or cs c.loop-chunk.chunk-index x).entries.items in
     c.in_ok-append_rows.ensures

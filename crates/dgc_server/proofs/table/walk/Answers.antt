@@ -8,7 +8,7 @@ use Rattle.dgc_server.proofs.table.walk.Goals as goal
 pub loop-i-preserved-then-names : goal.loop-i-preserved-then-names
 loop-i-preserved-then-names c =
     let o = c.args.object.now in
-    let m = c.args.at in
+    let m = c.args.time in
     let es = c.loop-i.entries.items in
     let i = c.loop-i.i in
     let d = c.index.result.now in

@@ -11,10 +11,10 @@ decreases-loop-i l = (length l.entries.items - l.i) + l.to_go
 abbrev pub invariant-loop-i : goal.invariant-loop-i
 invariant-loop-i l =
     record {
-      same : rest_of l.object l.at l.entries.items ≡ rest_of l.object l.at l.initial.entries.items;
-      kept : list_all (is_entry_kept l.at) l.entries.items ≡ true;
+      same : rest_of l.object l.time l.entries.items ≡ rest_of l.object l.time l.initial.entries.items;
+      kept : list_all (is_entry_kept l.time) l.entries.items ≡ true;
       counted : l.to_go + length (filter (entry_names l.object) l.initial.entries.items) ≡ l.clients + length (filter (entry_names l.object) l.entries.items);
       enough : length (filter (entry_names l.object) l.entries.items) ≤ l.to_go;
-      settled : (n : ℕ) → AllByRecursion (IsSettled l.at n) l.initial.entries.items → AllByRecursion (IsSettled l.at n) l.entries.items;
+      settled : (n : ℕ) → AllByRecursion (IsSettled l.time n) l.initial.entries.items → AllByRecursion (IsSettled l.time n) l.entries.items;
       front : l.first ≡ 0 → length (filter (entry_names l.object) (take l.i l.entries.items)) ≡ 0;
     }

@@ -3,4 +3,4 @@ use Rattle.export_table.specs.Waits.{waiting}
 use Rattle.export_table.proofs.waits.due_front.Given as goal
 
 abbrev pub invariant-loop-i : goal.invariant-loop-i
-invariant-loop-i l = waiting l.at l.waits ≡ waiting l.at (drop l.i l.waits)
+invariant-loop-i l = waiting l.time l.waits ≡ waiting l.time (drop l.i l.waits)

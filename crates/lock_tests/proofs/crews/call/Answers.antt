@@ -1,6 +1,6 @@
-use Rattle.std.proofs.Common.{◌≡◌, ◌∙◌, sym, true, false, rules}
+use Rattle.std.proofs.Common.{◌≡◌, true, rules}
 use Rattle.lock_tests.specs.Started.{started_by}
-use Rattle.lock_tests.proofs.Calls.{shown, ended_not_begun, ended_abandoned}
+use Rattle.lock_tests.proofs.Calls.{shown}
 use Rattle.lock_tests.proofs.crews.call.Goals as goal
 
 pub abandon-requires-clause-runs : goal.abandon-requires-clause-runs

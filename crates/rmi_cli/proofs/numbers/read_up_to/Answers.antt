@@ -1,4 +1,4 @@
-use Rattle.std.proofs.Common.{ℕ, ◌≡◌, inl, inr, arith}
+use Rattle.std.proofs.Common.{◌≡◌, inl, inr, arith}
 use Rattle.journal.proofs.Decimals.{same_number}
 use Rattle.rmi_cli.proofs.numbers.read_up_to.Goals as goal
 

@@ -1,4 +1,4 @@
-use Rattle.std.proofs.Common.{◌≡◌, None, refl, rules}
+use Rattle.std.proofs.Common.{rules}
 use Rattle.rmi_cli.specs.Terms.{AreGivenBy, IsBindingOf, IsDurationOf}
 use Rattle.rmi_cli.proofs.TermWords.{not_found}
 use Rattle.rmi_cli.proofs.terms.read_terms.Goals as goal

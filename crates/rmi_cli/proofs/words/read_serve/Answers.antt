@@ -1,4 +1,4 @@
-use Rattle.std.proofs.Common.{◌≡◌, None, refl, rules}
+use Rattle.std.proofs.Common.{refl, rules}
 use Rattle.rmi_cli.specs.Command.{IsToldBy}
 use Rattle.rmi_cli.specs.Terms.{AreGivenBy}
 use Rattle.rmi_cli.proofs.TermWords.{not_found}

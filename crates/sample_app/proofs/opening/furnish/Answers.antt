@@ -1,10 +1,6 @@
-use Rattle.std.proofs.Common.{◌≡◌, sym, subst, None, [], ◌∷◌, ◌++◌, ◌∙◌, ap}
+use Rattle.std.proofs.Common.{sym, subst, ◌∙◌, ap}
 use Rattle.std.proofs.Math.Dec.{lit≤}
 use Rattle.std.specs.Prelude.{codes, pos}
-use Rattle.history.specs.declared.asks.Event.{Event}
-use Rattle.history.specs.Limits.{limits, refusal}
-use Rattle.history.specs.Table.{places}
-use Rattle.space.specs.Built.{SpaceHistory}
 use Rattle.sample_app.specs.Opened.{opened, bound}
 use Rattle.sample_app.proofs.FreeOpens.{IsFree, one_more, first_is_free, second_is_free, third_is_free, first_name_is_free, second_name_is_free, third_name_is_free}
 use Rattle.sample_app.proofs.opening.furnish.Goals as goal

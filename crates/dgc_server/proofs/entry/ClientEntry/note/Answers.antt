@@ -14,15 +14,15 @@ pub returns-clause-counts : goal.returns-clause-counts
 returns-clause-counts c = λ w o.
     let call = c.args.call.now in
     let e : Entry = record { client = (box_value c.self.inside.kept).client; until = c.self.inside.until; objects = object_entries (box_value c.self.inside.kept).objects.entries } in
-    let until = if is_dirty_kind call.kind then call.at + c.args.lease else c.self.inside.until in
-    let after = objects_after (nat_lt call.at c.self.inside.until) call.kind call.number.now call.objects.now (object_entries (box_value c.self.inside.kept).objects.entries) in
+    let until = if is_dirty_kind call.kind then call.time + c.args.lease else c.self.inside.until in
+    let after = objects_after (nat_lt call.time c.self.inside.until) call.kind call.number.now call.objects.now (object_entries (box_value c.self.inside.kept).objects.entries) in
     let P : Entry → Type 0 = λ x. each_once x.objects ≡ true in
     let before : c.make_room.new.objects.entries ≡ (box_value c.self.inside.kept).objects.entries = c.make_room.ensures.entries ∙ ap (λ (k : Kept). k.objects.entries) c.deref_mut-kept.ensures.value in
     let objects : object_entries c.note.new.objects.entries ≡ after =
-    c.note.ensures.objects ∙ ap (λ l. objects_after (nat_lt call.at c.self.inside.until) call.kind call.number.now call.objects.now (object_entries l)) before in
+    c.note.ensures.objects ∙ ap (λ l. objects_after (nat_lt call.time c.self.inside.until) call.kind call.number.now call.objects.now (object_entries l)) before in
     let holds : dirty_in (object_entries c.note.new.objects.entries) o ≡ (nat_lt c.args.from c.until_after-until.result && dirty_in (object_entries c.note.new.objects.entries) o) =
     ap (λ l. dirty_in l o) objects
-    ∙ holds-after c.args.lease call.kind call.number.now call.objects.now call.at c.args.from e c.requires.later c.requires.some (subst P (sym c.self.view_is) c.requires.once) o
+    ∙ holds-after c.args.lease call.kind call.number.now call.objects.now call.time c.args.from e c.requires.later c.requires.some (subst P (sym c.self.view_is) c.requires.once) o
     ∙ sym (ap (λ u. nat_lt c.args.from u && dirty_in (object_entries c.note.new.objects.entries) o) c.until_after-until.ensures ∙ ap (λ l. nat_lt c.args.from until && dirty_in l o) objects) in
     let counts : counts_in w true (object_entries c.note.new.objects.entries) o ≡ counts_in w (nat_lt c.args.from c.until_after-until.result) (object_entries c.note.new.objects.entries) o =
     each-way (λ v. counts_in v true (object_entries c.note.new.objects.entries) o ≡ counts_in v (nat_lt c.args.from c.until_after-until.result) (object_entries c.note.new.objects.entries) o) holds refl w in

@@ -13,5 +13,5 @@ remembered_in-requires c =
 pub returns : goal.returns
 returns c =
     c.remembered_in.ensures
-    ∙ ap (λ (k : Kept). length (filter (λ (x : ObjectEntry). is_remembered (nat_lt c.args.at c.self.inside.until) x.numbers) (object_entries k.objects.entries))) c.deref.ensures
-    ∙ ap (λ (e : Entry). remembered_of c.args.at e) c.self.view_is
+    ∙ ap (λ (k : Kept). length (filter (λ (x : ObjectEntry). is_remembered (nat_lt c.args.time c.self.inside.until) x.numbers) (object_entries k.objects.entries))) c.deref.ensures
+    ∙ ap (λ (e : Entry). remembered_of c.args.time e) c.self.view_is

@@ -12,18 +12,18 @@ use Rattle.dgc_server.proofs.leases.Leases.lapse.Goals as goal
 
 pub invariant_of-self : goal.invariant_of-self
 invariant_of-self c =
-    let at : c.max-at.result ≡ max c.args.now c.self.inside.clients.moment = c.max-at.ensures ∙ ap (max c.args.now) c.moment-moment.ensures in
+    let time : c.max-time.result ≡ max c.args.now c.self.inside.clients.moment = c.max-time.ensures ∙ ap (max c.args.now) c.moment-moment.ensures in
     let moment = c.pass-sums.ensures.moment in
     let early = c.self.invariant.0.early in (
       rw (moment, c.pass-sums.ensures.entries) record {
         some = c.self.invariant.0.some;
         short = c.self.invariant.0.short;
         early = omega arith;
-        ordered = order-lapse c.max-at.result c.self.inside.clients.entries c.self.invariant.0.ordered;
-        few = few-lapse c.self.inside.clients.moment c.max-at.result c.self.inside.clients.entries _ (omega arith) c.self.invariant.0.few;
-        once = once-lapse c.max-at.result c.self.inside.clients.entries c.self.invariant.0.once;
-        noted = numbered-lapse c.max-at.result c.self.inside.clients.entries c.self.invariant.0.noted;
-        small = (let fewer = remembered-lapse c.self.inside.clients.moment c.max-at.result c.self.inside.clients.entries (omega arith) in let small = c.self.invariant.0.small in omega arith);
+        ordered = order-lapse c.max-time.result c.self.inside.clients.entries c.self.invariant.0.ordered;
+        few = few-lapse c.self.inside.clients.moment c.max-time.result c.self.inside.clients.entries _ (omega arith) c.self.invariant.0.few;
+        once = once-lapse c.max-time.result c.self.inside.clients.entries c.self.invariant.0.once;
+        noted = numbered-lapse c.max-time.result c.self.inside.clients.entries c.self.invariant.0.noted;
+        small = (let fewer = remembered-lapse c.self.inside.clients.moment c.max-time.result c.self.inside.clients.entries (omega arith) in let small = c.self.invariant.0.small in omega arith);
       },
       rw moment c.pass-sums.ensures.indexed,
       rw moment c.pass-sums.ensures.sums,
@@ -42,10 +42,10 @@ pub returns-clause-stands : goal.returns-clause-stands
 returns-clause-stands c lease moment calls s =
     let P : LeaseTable → Type 0 = λ t. is_in_order t.entries ≡ true in
     let m : c.self.inside.clients.moment ≡ moment = ap (λ (t : LeaseTable). t.moment) c.self.view_is ∙ s.is_moment in
-    let at : c.max-at.result ≡ max c.args.now moment = c.max-at.ensures ∙ ap (max c.args.now) (c.moment-moment.ensures ∙ m) in
+    let time : c.max-time.result ≡ max c.args.now moment = c.max-time.ensures ∙ ap (max c.args.now) (c.moment-moment.ensures ∙ m) in
     table-lapsed lease moment (max c.args.now moment) c.args.self.now _ calls s (subst P c.self.view_is c.self.invariant.0.ordered) (omega arith)
-    (ap (λ (t : LeaseTable). t.lease) c.self.view_is) (c.pass-sums.ensures.moment ∙ at)
-    (c.pass-sums.ensures.entries ∙ ap (λ k. after_lapse k c.self.inside.clients.entries) at ∙ ap (λ (t : LeaseTable). after_lapse (max c.args.now moment) t.entries) c.self.view_is)
+    (ap (λ (t : LeaseTable). t.lease) c.self.view_is) (c.pass-sums.ensures.moment ∙ time)
+    (c.pass-sums.ensures.entries ∙ ap (λ k. after_lapse k c.self.inside.clients.entries) time ∙ ap (λ (t : LeaseTable). after_lapse (max c.args.now moment) t.entries) c.self.view_is)
 
 pub returns-clause-freed : goal.returns-clause-freed
-returns-clause-freed c = rw (c.pass-sums.ensures.moment, c.pass-sums.ensures.entries) (trimmed-lapse c.max-at.result c.self.inside.clients.entries)
+returns-clause-freed c = rw (c.pass-sums.ensures.moment, c.pass-sums.ensures.entries) (trimmed-lapse c.max-time.result c.self.inside.clients.entries)

@@ -55,22 +55,22 @@ pub pass-sums-requires-clause-once : goal.pass-sums-requires-clause-once
 pass-sums-requires-clause-once c =
     let es = c.self.inside.clients.entries in
     let client = c.args.client.now in
-    let next : Entry = entry_after c.self.inside.lease c.args.kind c.args.number.now c.as_slice-named.result.now c.args.at (entry_of es client) in
+    let next : Entry = entry_after c.self.inside.lease c.args.kind c.args.number.now c.as_slice-named.result.now c.args.time (entry_of es client) in
     let entries : c.note.new.self.entries ≡ with_entry next es = c.in_ok-noted.ensures.ok in
     ap all_objects_once entries
-    ∙ each-with is_once next es (once-after (has_time_left c.args.at (entry_of es client)) c.args.kind c.args.number.now c.as_slice-named.result.now (entry_of es client).objects (once-entry es client c.self.invariant.0.once)) c.self.invariant.0.once
+    ∙ each-with is_once next es (once-after (has_time_left c.args.time (entry_of es client)) c.args.kind c.args.number.now c.as_slice-named.result.now (entry_of es client).objects (once-entry es client c.self.invariant.0.once)) c.self.invariant.0.once
 
 pub pass-sums-requires-clause-indexed : goal.pass-sums-requires-clause-indexed
 pass-sums-requires-clause-indexed c =
     let es = c.self.inside.clients.entries in
     let client = c.args.client.now in
-    let next : Entry = entry_after c.self.inside.lease c.args.kind c.args.number.now c.as_slice-named.result.now c.args.at (entry_of es client) in
+    let next : Entry = entry_after c.self.inside.lease c.args.kind c.args.number.now c.as_slice-named.result.now c.args.time (entry_of es client) in
     let entries : c.note.new.self.entries ≡ with_entry next es = c.in_ok-noted.ensures.ok in
-    let late : c.self.inside.clients.moment ≤ c.args.at = (let P : LeaseTable → Type 0 = λ t. t.moment ≤ c.args.at in subst P (sym c.self.view_is) c.requires.late) in
-    let bound_is : c.note.new.self.next ≡ (if has_time_left c.args.at next then min c.self.inside.clients.next next.until else 0) =
-    c.in_ok-noted.ensures.next ∙ ap (λ u. if nat_lt c.args.at u then min c.self.inside.clients.next u else 0) c.in_ok-noted.ensures.noted.until in
+    let late : c.self.inside.clients.moment ≤ c.args.time = (let P : LeaseTable → Type 0 = λ t. t.moment ≤ c.args.time in subst P (sym c.self.view_is) c.requires.late) in
+    let bound_is : c.note.new.self.next ≡ (if has_time_left c.args.time next then min c.self.inside.clients.next next.until else 0) =
+    c.in_ok-noted.ensures.next ∙ ap (λ u. if nat_lt c.args.time u then min c.self.inside.clients.next u else 0) c.in_ok-noted.ensures.noted.until in
     rw (c.in_ok-noted.ensures.moment, entries, bound_is) record {
-      settled = settled-with c.self.inside.clients.moment c.self.inside.clients.next c.args.at next es late c.self.invariant.1.settled;
+      settled = settled-with c.self.inside.clients.moment c.self.inside.clients.next c.args.time next es late c.self.invariant.1.settled;
       counted = λ w o. c.in_ok-noted.ensures.counted w o ∙ ap (λ l. length (filter (is_counted w c.self.inside.clients.moment o) l)) entries;
     }
 
@@ -78,9 +78,9 @@ pub pass-sums-requires-clause-numbered : goal.pass-sums-requires-clause-numbered
 pass-sums-requires-clause-numbered c =
     let es = c.self.inside.clients.entries in
     let client = c.args.client.now in
-    let next : Entry = entry_after c.self.inside.lease c.args.kind c.args.number.now c.as_slice-named.result.now c.args.at (entry_of es client) in
+    let next : Entry = entry_after c.self.inside.lease c.args.kind c.args.number.now c.as_slice-named.result.now c.args.time (entry_of es client) in
     let entries : c.note.new.self.entries ≡ with_entry next es = c.in_ok-noted.ensures.ok in
-    ap all_numbered entries ∙ numbered-with-noted c.args.at c.self.inside.lease c.args.kind client c.args.number.now c.as_slice-named.result.now es c.self.invariant.0.noted
+    ap all_numbered entries ∙ numbered-with-noted c.args.time c.self.inside.lease c.args.kind client c.args.number.now c.as_slice-named.result.now es c.self.invariant.0.noted
 
 pub pass-sums-requires-clause-few : goal.pass-sums-requires-clause-few
 pass-sums-requires-clause-few c =
@@ -98,7 +98,7 @@ pub pass-sums-requires-clause-sums : goal.pass-sums-requires-clause-sums
 pass-sums-requires-clause-sums c =
     let es = c.self.inside.clients.entries in
     let client = c.args.client.now in
-    let next : Entry = entry_after c.self.inside.lease c.args.kind c.args.number.now c.as_slice-named.result.now c.args.at (entry_of es client) in
+    let next : Entry = entry_after c.self.inside.lease c.args.kind c.args.number.now c.as_slice-named.result.now c.args.time (entry_of es client) in
     let entries : c.note.new.self.entries ≡ with_entry next es = c.in_ok-noted.ensures.ok in
     let m = c.self.inside.clients.moment in
     let before : c.in_ok-noted.noted.before ≡ entry_sums m (entry_of es client) = c.in_ok-noted.ensures.noted.before in
@@ -116,24 +116,24 @@ pub invariant_of-self-2 : goal.invariant_of-self-2
 invariant_of-self-2 c =
     let es = c.self.inside.clients.entries in
     let client = c.args.client.now in
-    let next : Entry = entry_after c.self.inside.lease c.args.kind c.args.number.now c.as_slice-named.result.now c.args.at (entry_of es client) in
+    let next : Entry = entry_after c.self.inside.lease c.args.kind c.args.number.now c.as_slice-named.result.now c.args.time (entry_of es client) in
     let noted_entries : c.note.new.self.entries ≡ with_entry next es = c.in_ok-noted.ensures.ok in
-    let late : c.self.inside.clients.moment ≤ c.args.at = (let P : LeaseTable → Type 0 = λ t. t.moment ≤ c.args.at in subst P (sym c.self.view_is) c.requires.late) in
-    let room : IsTrue (is_dirty_kind c.args.kind) → clients_after es c.args.client.now c.args.at ≤ MAX_CLIENTS =
-    (let P : LeaseTable → Type 0 = λ t. IsTrue (is_dirty_kind c.args.kind) → clients_after t.entries c.args.client.now c.args.at ≤ MAX_CLIENTS in subst P (sym c.self.view_is) c.requires.room) in
-    let entries : c.pass-sums.new.self.entries ≡ after_lapse c.args.at (with_entry next es) = c.pass-sums.ensures.entries ∙ ap (after_lapse c.args.at) noted_entries in
+    let late : c.self.inside.clients.moment ≤ c.args.time = (let P : LeaseTable → Type 0 = λ t. t.moment ≤ c.args.time in subst P (sym c.self.view_is) c.requires.late) in
+    let room : IsTrue (is_dirty_kind c.args.kind) → clients_after es c.args.client.now c.args.time ≤ MAX_CLIENTS =
+    (let P : LeaseTable → Type 0 = λ t. IsTrue (is_dirty_kind c.args.kind) → clients_after t.entries c.args.client.now c.args.time ≤ MAX_CLIENTS in subst P (sym c.self.view_is) c.requires.room) in
+    let entries : c.pass-sums.new.self.entries ≡ after_lapse c.args.time (with_entry next es) = c.pass-sums.ensures.entries ∙ ap (after_lapse c.args.time) noted_entries in
     let moment = c.pass-sums.ensures.moment in
-    let P : List Entry → Type 0 = λ l. IsSound c.self.inside.lease c.args.at l in (
+    let P : List Entry → Type 0 = λ l. IsSound c.self.inside.lease c.args.time l in (
       rw moment (subst P (sym entries) record {
         some = c.self.invariant.0.some;
         short = c.self.invariant.0.short;
         early = c.requires.early;
-        ordered = order-lapse c.args.at (with_entry next es) (order-with next es c.self.invariant.0.ordered);
-        few = few-noted c.self.inside.clients.moment c.args.at c.self.inside.lease c.args.kind c.args.client.now c.args.number.now c.as_slice-named.result.now es MAX_CLIENTS late c.self.invariant.0.ordered c.self.invariant.0.few room;
-        once = once-noted c.args.at c.self.inside.lease c.args.kind c.args.client.now c.args.number.now c.as_slice-named.result.now es c.self.invariant.0.once;
-        noted = numbered-noted c.args.at c.self.inside.lease c.args.kind c.args.client.now c.args.number.now c.as_slice-named.result.now es c.self.invariant.0.noted;
-        small = (let fewer = remembered-noted c.args.at c.self.inside.lease c.args.kind c.args.client.now c.args.number.now c.as_slice-named.result.now es c.self.invariant.0.ordered c.self.invariant.0.once in
-            let few : pairs_after c.args.at es c.args.client.now c.args.kind c.as_slice-named.result.now ≤ MAX_PAIRS =
+        ordered = order-lapse c.args.time (with_entry next es) (order-with next es c.self.invariant.0.ordered);
+        few = few-noted c.self.inside.clients.moment c.args.time c.self.inside.lease c.args.kind c.args.client.now c.args.number.now c.as_slice-named.result.now es MAX_CLIENTS late c.self.invariant.0.ordered c.self.invariant.0.few room;
+        once = once-noted c.args.time c.self.inside.lease c.args.kind c.args.client.now c.args.number.now c.as_slice-named.result.now es c.self.invariant.0.once;
+        noted = numbered-noted c.args.time c.self.inside.lease c.args.kind c.args.client.now c.args.number.now c.as_slice-named.result.now es c.self.invariant.0.noted;
+        small = (let fewer = remembered-noted c.args.time c.self.inside.lease c.args.kind c.args.client.now c.args.number.now c.as_slice-named.result.now es c.self.invariant.0.ordered c.self.invariant.0.once in
+            let few : pairs_after c.args.time es c.args.client.now c.args.kind c.as_slice-named.result.now ≤ MAX_PAIRS =
             no-more MAX_PAIRS _ (λ h. (let past = c.is_past_pairs.ensures.1 h in let none = c.if-is_past_pairs.false in absurd (cc))) in omega arith);
       }),
       rw moment c.pass-sums.ensures.indexed,

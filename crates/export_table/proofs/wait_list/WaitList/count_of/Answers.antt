@@ -13,17 +13,17 @@ overflow_sub-result c =
     let ws = c.self.inside.queue.waits in
     let of_it = λ (w : Wait). same_id w.object c.args.object.now in
     let all = c.count_of.ensures ∙ c.self.invariant.index.counted c.args.object.now in
-    let out = c.count_over_of-over.ensures ∙ ap length (over-of c.args.at of_it c.due.result.now ∙ ap (filter of_it) c.due.ensures.over ∙ sym (over-of c.args.at of_it ws)) in
-    let sum = count-on-over c.args.at of_it ws in omega arith
+    let out = c.count_over_of-over.ensures ∙ ap length (over-of c.args.time of_it c.due.result.now ∙ ap (filter of_it) c.due.ensures.over ∙ sym (over-of c.args.time of_it ws)) in
+    let sum = count-on-over c.args.time of_it ws in omega arith
 
 pub returns-clause-value : goal.returns-clause-value
 returns-clause-value c =
     let ws = c.self.inside.queue.waits in
     let of_it = λ (w : Wait). same_id w.object c.args.object.now in
     let all = c.count_of.ensures ∙ c.self.invariant.index.counted c.args.object.now in
-    let out = c.count_over_of-over.ensures ∙ ap length (over-of c.args.at of_it c.due.result.now ∙ ap (filter of_it) c.due.ensures.over ∙ sym (over-of c.args.at of_it ws)) in
-    let sum = count-on-over c.args.at of_it ws in
-    let same = ap (λ (t : WaitTable). length (awaiting_of c.args.at c.args.object.now t.waits)) c.self.view_is in omega arith
+    let out = c.count_over_of-over.ensures ∙ ap length (over-of c.args.time of_it c.due.result.now ∙ ap (filter of_it) c.due.ensures.over ∙ sym (over-of c.args.time of_it ws)) in
+    let sum = count-on-over c.args.time of_it ws in
+    let same = ap (λ (t : WaitTable). length (awaiting_of c.args.time c.args.object.now t.waits)) c.self.view_is in omega arith
 
 pub returns-clause-within : goal.returns-clause-within
 returns-clause-within c =

@@ -8,4 +8,4 @@ use Rattle.export_table.proofs.wait_list.WaitList.ended.Goals as goal
 pub returns : goal.returns
 returns c =
     let P : List ObjId → Type 0 = λ l. IfOk c.objects_that_go.result (λ os. os.items ≡ l) in
-    subst P (ap objects (c.due.ensures.over ∙ ap (λ (t : WaitTable). over c.args.at t.waits) c.self.view_is)) c.objects_that_go.ensures
+    subst P (ap objects (c.due.ensures.over ∙ ap (λ (t : WaitTable). over c.args.time t.waits) c.self.view_is)) c.objects_that_go.ensures

@@ -10,7 +10,7 @@ use Rattle.export_table.proofs.wait_list.WaitList.has_ended.Goals as goal
 pub returns : goal.returns
 returns c =
     c.has_ended.ensures
-    ∙ sym (some-any (λ (w : Wait). not (goes_on c.args.at w)) c.due.result.now)
+    ∙ sym (some-any (λ (w : Wait). not (goes_on c.args.time w)) c.due.result.now)
     ∙ ap (λ l. nat_lt 0 (length l)) c.due.ensures.over
-    ∙ some-any (λ (w : Wait). not (goes_on c.args.at w)) c.self.inside.queue.waits
-    ∙ ap (λ (t : WaitTable). list_any (λ w. not (goes_on c.args.at w)) t.waits) c.self.view_is
+    ∙ some-any (λ (w : Wait). not (goes_on c.args.time w)) c.self.inside.queue.waits
+    ∙ ap (λ (t : WaitTable). list_any (λ w. not (goes_on c.args.time w)) t.waits) c.self.view_is

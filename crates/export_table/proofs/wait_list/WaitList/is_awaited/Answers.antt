@@ -7,4 +7,4 @@ use Rattle.export_table.proofs.Indexing.{some-any}
 use Rattle.export_table.proofs.wait_list.WaitList.is_awaited.Goals as goal
 
 pub returns : goal.returns
-returns c = ap (nat_lt 0) c.count_of.ensures.value ∙ some-any (λ (w : Wait). goes_on c.args.at w && same_id w.object c.args.object.now) c.args.self.now.waits
+returns c = ap (nat_lt 0) c.count_of.ensures.value ∙ some-any (λ (w : Wait). goes_on c.args.time w && same_id w.object c.args.object.now) c.args.self.now.waits

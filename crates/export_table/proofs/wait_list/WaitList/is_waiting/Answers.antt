@@ -10,12 +10,12 @@ pub returns-then-has : goal.returns-then-has
 returns-then-has c =
     let ws = c.self.inside.queue.waits in
     let of_it = is_wait_of c.args.object.now c.args.uid.now in
-    let out : c.is_over.result ≡ list_any (λ w. not (goes_on c.args.at w) && of_it w) ws =
-    c.is_over.ensures ∙ any-over-of c.args.at of_it c.due.result.now ∙ ap (list_any of_it) c.due.ensures.over ∙ sym (any-over-of c.args.at of_it ws) in
+    let out : c.is_over.result ≡ list_any (λ w. not (goes_on c.args.time w) && of_it w) ws =
+    c.is_over.ensures ∙ any-over-of c.args.time of_it c.due.result.now ∙ ap (list_any of_it) c.due.ensures.over ∙ sym (any-over-of c.args.time of_it ws) in
     let there : list_any of_it ws ≡ true = sym (c.self.invariant.index.listed c.args.object.now c.args.uid.now) ∙ sym c.has.ensures ∙ c.if-has.true in
     ap not out
-    ∙ sym (waits-not-over c.args.at c.args.object.now c.args.uid.now ws c.self.invariant.once ∙ ap (λ b. b && not (list_any (λ w. not (goes_on c.args.at w) && of_it w) ws)) there)
-    ∙ ap (λ (t : WaitTable). is_waiting c.args.at c.args.object.now c.args.uid.now t.waits) c.self.view_is
+    ∙ sym (waits-not-over c.args.time c.args.object.now c.args.uid.now ws c.self.invariant.once ∙ ap (λ b. b && not (list_any (λ w. not (goes_on c.args.time w) && of_it w) ws)) there)
+    ∙ ap (λ (t : WaitTable). is_waiting c.args.time c.args.object.now c.args.uid.now t.waits) c.self.view_is
 
 pub returns-else-has : goal.returns-else-has
 returns-else-has c =
@@ -23,5 +23,5 @@ returns-else-has c =
     let of_it = is_wait_of c.args.object.now c.args.uid.now in
     let none : list_any of_it ws ≡ false = sym (c.self.invariant.index.listed c.args.object.now c.args.uid.now) ∙ sym c.has.ensures ∙ c.if-has.false in
     c.if-has.false
-    ∙ sym (waits-not-over c.args.at c.args.object.now c.args.uid.now ws c.self.invariant.once ∙ ap (λ b. b && not (list_any (λ w. not (goes_on c.args.at w) && of_it w) ws)) none)
-    ∙ ap (λ (t : WaitTable). is_waiting c.args.at c.args.object.now c.args.uid.now t.waits) c.self.view_is
+    ∙ sym (waits-not-over c.args.time c.args.object.now c.args.uid.now ws c.self.invariant.once ∙ ap (λ b. b && not (list_any (λ w. not (goes_on c.args.time w) && of_it w) ws)) none)
+    ∙ ap (λ (t : WaitTable). is_waiting c.args.time c.args.object.now c.args.uid.now t.waits) c.self.view_is

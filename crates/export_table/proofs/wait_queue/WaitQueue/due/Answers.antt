@@ -5,5 +5,5 @@ use Rattle.export_table.proofs.wait_queue.WaitQueue.due.Goals as goal
 
 pub returns-clause-over : goal.returns-clause-over
 returns-clause-over c =
-    ap (λ l. over c.args.at (take c.due_upto-upto.result l)) c.waits.ensures
-    ∙ over-front c.args.at c.due_upto-upto.result c.args.self.now.waits c.due_upto-upto.ensures.rest
+    ap (λ l. over c.args.time (take c.due_upto-upto.result l)) c.waits.ensures
+    ∙ over-front c.args.time c.due_upto-upto.result c.args.self.now.waits c.due_upto-upto.ensures.rest

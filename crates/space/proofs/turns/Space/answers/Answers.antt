@@ -1,7 +1,8 @@
-use Rattle.std.proofs.Common.{◌≡◌, ◌+◌, ◌<◌, ◌^◌, ◌∷◌, [], List, length, ap, subst, ◌∙◌, rules, arith, vec_len, length-append}
+use Rattle.std.proofs.Common.{◌≡◌, ◌+◌, ◌<◌, ◌∷◌, [], List, length, ap, subst, ◌∙◌, rules, arith, vec_len, length-append}
 use Rattle.std.specs.List.{AllByRecursion}
 use Rattle.std.specs.Vec.Iter.{into_iter_items, into_iter_len}
 use Rattle.history.specs.declared.asks.Event.{Event}
+use Rattle.history.specs.declared.limits.TheConstants.{END_OF_TIME}
 use Rattle.space.proofs.StepsLaws.{none-left, answered-next, answered-all, answered-exact}
 use Rattle.space.proofs.turns.Space.answers.Goals as goal
 
@@ -15,7 +16,7 @@ loop-event-preserved c =
     let after : vec_len c.push_reserved.new.self ≡ length c.push_reserved.new.self.items = search rules in
     let longer = ap length c.push_reserved.ensures.items ∙ length-append c.loop-event.answers.items (c.turn.result ∷ []) in
     let capacity = c.push_reserved.ensures.capacity in
-    let P : List Event → Type 0 = λ es. AllByRecursion (λ e. e.moment < 2 ^ 62) es in
+    let P : List Event → Type 0 = λ es. AllByRecursion (λ e. e.moment < END_OF_TIME) es in
     record {
       answered = answered-next c.args.self.now.configuration c.loop-event.self.configuration c.args.self.now.events c.args.events.items c.loop-event.answers.items c.push_reserved.new.self.items c.in-Some.event
           (into_iter_items c.loop-event.event-iterator) (into_iter_items c.next.new.self) c.loop-event.self.events c.turn.new.self.events c.turn.result h.config first c.push_reserved.ensures.items h.answered c.turn.ensures.step;

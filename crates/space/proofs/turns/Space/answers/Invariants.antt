@@ -1,6 +1,7 @@
-use Rattle.std.proofs.Common.{◌≡◌, ◌+◌, ◌≤◌, ◌<◌, ◌^◌, length, vec_len, vec_capacity}
+use Rattle.std.proofs.Common.{◌≡◌, ◌+◌, ◌≤◌, ◌<◌, length, vec_len, vec_capacity}
 use Rattle.std.specs.List.{AllByRecursion}
 use Rattle.std.specs.Vec.Iter.{into_iter_items, into_iter_len}
+use Rattle.history.specs.declared.limits.TheConstants.{END_OF_TIME}
 use Rattle.space.proofs.StepsLaws.{HasAnswered}
 use Rattle.space.proofs.turns.Space.answers.Given as goal
 
@@ -8,7 +9,7 @@ abbrev pub invariant-loop-event : goal.invariant-loop-event
 invariant-loop-event l = record {
   answered : HasAnswered l.fn.self.configuration l.fn.self.events l.fn.events.items l.answers.items (into_iter_items l.event-iterator) l.self.events;
   config : l.self.configuration ≡ l.fn.self.configuration;
-  moments : AllByRecursion (λ e. e.moment < 2 ^ 62) (into_iter_items l.event-iterator);
+  moments : AllByRecursion (λ e. e.moment < END_OF_TIME) (into_iter_items l.event-iterator);
   left : into_iter_len l.event-iterator ≡ length (into_iter_items l.event-iterator);
   room : vec_len l.answers + into_iter_len l.event-iterator ≤ vec_capacity l.answers;
 }

@@ -1,7 +1,8 @@
-use Rattle.std.proofs.Common.{◌≡◌, ◌+◌, ◌<◌, ◌^◌, ◌∷◌, List, length, ap, subst, ◌∙◌, rules, arith, [], vec_len, length-append, take, sym}
+use Rattle.std.proofs.Common.{◌≡◌, ◌+◌, ◌<◌, ◌∷◌, List, length, ap, subst, ◌∙◌, rules, arith, [], vec_len, length-append, take, sym}
 use Rattle.std.specs.List.{AllByRecursion}
 use Rattle.std.specs.Vec.Iter.{into_iter_items, into_iter_len}
 use Rattle.history.specs.declared.asks.Event.{Event}
+use Rattle.history.specs.declared.limits.TheConstants.{END_OF_TIME}
 use Rattle.space.specs.Built.{SpaceHistory}
 use Rattle.space.specs.Lists.{CollectsEach}
 use Rattle.space.proofs.CollectLaws.{front-collects}
@@ -14,7 +15,7 @@ loop-event-preserved c =
     let first : into_iter_items c.loop-event.event-iterator ≡ c.in-Some.event ∷ into_iter_items c.next.new.self = c.in-Some.ensures.steps.0 in
     let fewer : into_iter_len c.next.new.self + 1 ≡ into_iter_len c.loop-event.event-iterator = c.in-Some.ensures.steps.1 in
     let count = ap length first in
-    let P : List Event → Type 0 = λ es. AllByRecursion (λ e. e.moment < 2 ^ 62) es in
+    let P : List Event → Type 0 = λ es. AllByRecursion (λ e. e.moment < END_OF_TIME) es in
     record {
       taken = takes-next c.args.self.now.configuration c.loop-event.self.configuration c.args.self.now.events c.args.events.items c.loop-event.turns.items c.push_reserved.new.self.items c.in-Some.event
           (into_iter_items c.loop-event.event-iterator) (into_iter_items c.next.new.self) c.loop-event.self.events c.turn.new.self.events c.in-Ok.turn h.config first c.push_reserved.ensures.items h.taken c.in-Ok.ensures.step;
