@@ -1,7 +1,7 @@
 -- An acknowledgement in its dialogue.
 use Rattle.std.proofs.Common.{ℕ, ◌+◌, ◌^◌, ◌<◌, ◌≤◌, inl, inr, List, [], ◌∷◌, ◌++◌, length, Option, Result, Ok, Err, IfOk, refl, ap, sym, subst, ◌∙◌, arith, add-zero}
 use Rattle.wire_io.specs.Wire.{Rose, with_end-nothing}
-use Rattle.wire_io.specs.Pulled.{Place, Takes}
+use Rattle.wire_io.specs.Pulled.{PullState, Takes}
 use Rattle.wire_io.specs.declared.pull.PullEnd.TheVariants as pulled
 use Rattle.wire_io.proofs.Pulling.{takes_more}
 use Rattle.object_ids.specs.declared.ids.Uid.{Uid}
@@ -35,7 +35,7 @@ use Rattle.call_dispatch.proofs.MessageSteps.{limit_left}
 use Rattle.call_dispatch.proofs.Steps.{spot_at, talks_on, talks_in, stands_more}
 
 -- The input stopped behind some bytes.
-stops_behind : (P Q : List ℕ → Type 0) (old mid new : Place) (fault : StreamFault) (front : List ℕ) → Takes old mid front → StopsIn P mid new fault → ((part : List ℕ) → P part → Q (front ++ part)) → StopsIn Q old new fault
+stops_behind : (P Q : List ℕ → Type 0) (old mid new : PullState) (fault : StreamFault) (front : List ℕ) → Takes old mid front → StopsIn P mid new fault → ((part : List ℕ) → P part → Q (front ++ part)) → StopsIn Q old new fault
 stops_behind P Q old mid new (faults.Truncated at) front takes stops whole = stops_after P Q old mid new (pulled.End at) front takes stops whole
 stops_behind P Q old mid new (faults.TooLarge Bytes at) front takes stops whole = stops_after P Q old mid new (pulled.Limit at) front takes stops whole
 stops_behind P Q old mid new faults.ReadFault front takes stops whole = stops_after P Q old mid new pulled.ReadFault front takes stops whole
@@ -45,7 +45,7 @@ stops_behind P Q old mid new (faults.Bad kind at) front takes stops whole = absu
 stops_behind P Q old mid new faults.OutOfMemory front takes stops whole = absurd stops
 
 -- An acknowledgement was taken and noted, or passed over; or the connection ended in it.
-pub ack_steps : (may : Invocation → Outcome → Type 0) (moves : States → Call → States → Type 0) (terms : Terms) (start : Spot) (first mid now : Place) (held : Option (List ℕ)) (side side2 : Side) (drawn sent : ℕ) (opening : Opening) (exchanges : List Exchange) (result : Result ℕ ConnEnd)
+pub ack_steps : (may : Invocation → Outcome → Type 0) (moves : States → Call → States → Type 0) (terms : Terms) (start : Spot) (first mid now : PullState) (held : Option (List ℕ)) (side side2 : Side) (drawn sent : ℕ) (opening : Opening) (exchanges : List Exchange) (result : Result ℕ ConnEnd)
     → Stands may moves terms start (spot_at first held side drawn) first.at sent (opened opening exchanges) → IsAtCode (opened opening exchanges) → length exchanges < 2 ^ 28 → first.at + 15 ≤ first.stop
     → Takes first mid (code_byte DgcAck ∷ []) → Acknowledges may moves mid now side side2 sent result → StepsTo may moves terms start (spot_at now held side2 drawn) now.at opening exchanges result
 ack_steps may moves terms start first mid now held side side2 drawn sent opening exchanges (Ok sent2) stands code few room coded (same, (uid, moment, answer, fits, noted, takes, led)) =
@@ -92,13 +92,13 @@ ack_steps may moves terms start first mid now held side side2 drawn sent opening
     (λ part inside. omega (arith, room, ap length inside.1, inside.2)) (λ part inside. (λ at truncated. (code, few, inside), inl (code, few, inside)))))
 
 -- An identifier was taken, and then noted.
-pub noted : (may : Invocation → Outcome → Type 0) (moves : States → Call → States → Type 0) (first now : Place) (a b : Side) (uid : Uid) (sent : ℕ) (result : Result ℕ ConnEnd)
+pub noted : (may : Invocation → Outcome → Type 0) (moves : States → Call → States → Type 0) (first now : PullState) (a b : Side) (uid : Uid) (sent : ℕ) (result : Result ℕ ConnEnd)
     → FitsUid uid → Takes first now (bytes_of_uid uid) → Notes may moves uid a b sent result → Acknowledges may moves first now a b sent result
 noted may moves first now a b uid sent (Ok sent2) fits takes (same, (moment, answer, is, led)) = (same, (uid, moment, answer, fits, is, takes, led))
 noted may moves first now a b uid sent (Err end) fits takes (memory, (moment, led)) = inl (memory, (uid, moment, fits, takes, led))
 
 -- The input stopped in an identifier.
-pub stopped : (may : Invocation → Outcome → Type 0) (moves : States → Call → States → Type 0) (first now : Place) (a : Side) (sent : ℕ) (fault : FrameFault)
+pub stopped : (may : Invocation → Outcome → Type 0) (moves : States → Call → States → Type 0) (first now : PullState) (a : Side) (sent : ℕ) (fault : FrameFault)
     → GivesUid first now (Err fault) → Acknowledges may moves first now a a sent (Err (end_from fault))
 stopped may moves first now a sent (frames.Stream fault) h = inr (fault, refl, h, refl)
 stopped may moves first now a sent (frames.BadHeader at) h = absurd h
@@ -106,7 +106,7 @@ stopped may moves first now a sent (frames.UnknownProtocol byte) h = absurd h
 stopped may moves first now a sent (frames.BadMessage byte at) h = absurd h
 
 -- How many bytes an acknowledgement takes, and that none is written.
-pub ack_most : (may : Invocation → Outcome → Type 0) (moves : States → Call → States → Type 0) (first now : Place) (a b : Side) (sent : ℕ) (result : Result ℕ ConnEnd)
+pub ack_most : (may : Invocation → Outcome → Type 0) (moves : States → Call → States → Type 0) (first now : PullState) (a b : Side) (sent : ℕ) (result : Result ℕ ConnEnd)
     → Acknowledges may moves first now a b sent result → IfOk result (λ after. (after ≤ sent) × (now.at ≤ first.at + 14))
 ack_most may moves first now a b sent (Ok sent2) (same, (uid, moment, answer, fits, noted, takes, led)) = (omega (arith, same), omega (arith, takes.at))
 ack_most may moves first now a b sent (Err end) how = tt
@@ -117,7 +117,7 @@ most_of_ack (Err end) sent first mid now coded h = tt
 
 -- ---- failures of the outside
 
-stop_blames : (P : List ℕ → Type 0) (k : ℕ) (p q : Place) (fault : StreamFault) → StopsIn P p q fault → Blames (counts p.faults k) (counts q.faults k) (end_from (frames.Stream fault))
+stop_blames : (P : List ℕ → Type 0) (k : ℕ) (p q : PullState) (fault : StreamFault) → StopsIn P p q fault → Blames (counts p.faults k) (counts q.faults k) (end_from (frames.Stream fault))
 stop_blames P k p q (faults.Truncated at) h = blameless p.faults q.faults k (ends.Truncated at) (omega (arith, h.takes.faults, h.stops.1.faults)) ((λ same. cc), (λ w. w))
 stop_blames P k p q (faults.TooLarge Bytes at) h = blameless p.faults q.faults k (ends.TooLarge Bytes at) (omega (arith, h.takes.faults, h.stops.1.faults)) ((λ same. cc), (λ w. w))
 stop_blames P k p q faults.ReadFault h =
@@ -129,7 +129,7 @@ stop_blames P k p q (faults.TooLarge Depth at) h = absurd h
 stop_blames P k p q (faults.Bad kind at) h = absurd h
 stop_blames P k p q faults.OutOfMemory h = absurd h
 
-pub ack_blames : (may : Invocation → Outcome → Type 0) (moves : States → Call → States → Type 0) (first now : Place) (a b : Side) (sent k : ℕ) (result : Result ℕ ConnEnd)
+pub ack_blames : (may : Invocation → Outcome → Type 0) (moves : States → Call → States → Type 0) (first now : PullState) (a b : Side) (sent k : ℕ) (result : Result ℕ ConnEnd)
     → Acknowledges may moves first now a b sent result → BlamesIn (counts first.faults k) (counts now.faults k) result
 ack_blames may moves first now a b sent k (Ok sent2) (same, (uid, moment, answer, fits, noted, takes, led)) =
     let same_sink : k ≤ k = omega arith in record { source = takes.faults; sink = same_sink }

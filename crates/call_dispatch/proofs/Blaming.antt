@@ -1,7 +1,7 @@
 -- Which failures of the outside a Call's steps tell.
 use Rattle.std.proofs.Common.{◌≡◌, ◌≢◌, ℕ, ◌+◌, ◌≤◌, List, Option, None, Some, Result, Ok, Err, OnErr, sym, subst, inl, inr, arith}
 use Rattle.wire_io.specs.Wire.{Rose}
-use Rattle.wire_io.specs.Pulled.{Place}
+use Rattle.wire_io.specs.Pulled.{PullState}
 use Rattle.object_ids.specs.declared.ids.Uid.{Uid}
 use Rattle.ser_read.specs.declared.fault.StreamFault.TheVariants as faults
 use Rattle.ser_read.specs.declared.fault.Large.TheVariants.{Bytes, Nodes, Depth}
@@ -40,7 +40,7 @@ pub rose_after : (a b c : ℕ) → a ≤ b → Rose b c → Rose a c
 rose_after a b c le h = (omega (arith, h.0), omega (arith, h.1))
 
 -- Reading broke off.
-pub broken_blames : {Y : Type 0} (read : ℕ → List ℕ → Result Y WantFault) (f k : ℕ) (p q : Place) (fault : FrameFault) → f ≤ p.faults → BreaksIn p q fault read → Blames (counts f k) (counts q.faults k) (end_from fault)
+pub broken_blames : {Y : Type 0} (read : ℕ → List ℕ → Result Y WantFault) (f k : ℕ) (p q : PullState) (fault : FrameFault) → f ≤ p.faults → BreaksIn p q fault read → Blames (counts f k) (counts q.faults k) (end_from fault)
 broken_blames read f k p q (BadHeader at) le h = absurd h
 broken_blames read f k p q (UnknownProtocol byte) le h = absurd h
 broken_blames read f k p q (BadMessage byte at) le h = absurd h
@@ -58,7 +58,7 @@ broken_blames read f k p q (Stream faults.ReadFault) le h =
 broken_blames read f k p q (Stream faults.OutOfMemory) le h = blameless f q.faults k ends.OutOfMemory (omega (arith, le, h.is.takes.faults)) ((λ same. cc), (λ w. w))
 
 -- The same from where reading began.
-pub head_blames : {Y : Type 0} (read : ℕ → List ℕ → Result Y WantFault) (k : ℕ) (p q : Place) (fault : FrameFault) → BreaksIn p q fault read → Blames (counts p.faults k) (counts q.faults k) (end_from fault)
+pub head_blames : {Y : Type 0} (read : ℕ → List ℕ → Result Y WantFault) (k : ℕ) (p q : PullState) (fault : FrameFault) → BreaksIn p q fault read → Blames (counts p.faults k) (counts q.faults k) (end_from fault)
 head_blames read k p q fault broken = let same : p.faults ≤ p.faults = omega arith in broken_blames read p.faults k p q fault same broken
 
 pub memory_blames : (f f2 k : ℕ) (end : ConnEnd) → f ≤ f2 → end ≡ ends.OutOfMemory → Blames (counts f k) (counts f2 k) end
@@ -67,7 +67,7 @@ memory_blames f f2 k end le memory =
     subst P (sym memory) (blameless f f2 k ends.OutOfMemory le ((λ same. cc), (λ w. w)))
 
 -- The connection ended in a Call whose head was read behind these counts.
-pub ended_blames : (may : Invocation → Outcome → Type 0) (moves : States → Call → States → Type 0) (terms : Terms) (uid : Uid) (head : CallHead) (first now : Place) (a b : Side) (drawn drew k : ℕ) (end : ConnEnd)
+pub ended_blames : (may : Invocation → Outcome → Type 0) (moves : States → Call → States → Type 0) (terms : Terms) (uid : Uid) (head : CallHead) (first now : PullState) (a b : Side) (drawn drew k : ℕ) (end : ConnEnd)
     → Answers may moves terms uid head first now a b drawn drew (Err end) → Blames (counts first.faults k) (counts now.faults k) end
 ended_blames may moves terms uid head first now a b drawn drew k end how = elim how [
   | inl (memory, (s, bytes, takes, is, (acts, led, cut))) ↦ memory_blames first.faults now.faults k end takes.faults memory
@@ -106,7 +106,7 @@ sends_blame f g k l sent held held2 head s answer result le closes sends =
     subst P (sym sends.is) (sent_blames f g k l sent held held2 answer.bytes sends.written answer.close le (subst (λ (c : Option ConnEnd). AreBlameless c) (sym closes) (closes_blameless head s)) sends.writes sends.rose sends.kept)
 
 -- A Call was answered, and its answer sent.
-pub call_blames : (may : Invocation → Outcome → Type 0) (moves : States → Call → States → Type 0) (terms : Terms) (uid : Uid) (head : CallHead) (first now : Place) (a b : Side) (drawn drew k l sent : ℕ) (held held2 : Option (List ℕ)) (answer : Answer) (result : Result ℕ ConnEnd)
+pub call_blames : (may : Invocation → Outcome → Type 0) (moves : States → Call → States → Type 0) (terms : Terms) (uid : Uid) (head : CallHead) (first now : PullState) (a b : Side) (drawn drew k l sent : ℕ) (held held2 : Option (List ℕ)) (answer : Answer) (result : Result ℕ ConnEnd)
     → Answers may moves terms uid head first now a b drawn drew (Ok answer) → Sends held held2 k l sent answer result → BlamesIn (counts first.faults k) (counts now.faults l) result
 call_blames may moves terms uid head first now a b drawn drew k l sent held held2 answer result (s, bytes, takes, is, led, bytes_are, closes) sends =
     sends_blame first.faults now.faults k l sent held held2 head s answer result takes.faults closes sends

@@ -1,7 +1,7 @@
 -- What was taken where reading ends inside a Call.
 use Rattle.std.proofs.Common.{◌≡◌, ℕ, ◌≤◌, List, [], ◌∷◌, ◌++◌, Result, refl, ap, sym, ◌∙◌, arith}
 use Rattle.wire_io.specs.Wire.{with_front, with_front-with_front}
-use Rattle.wire_io.specs.Pulled.{Place}
+use Rattle.wire_io.specs.Pulled.{PullState}
 use Rattle.ser_read.specs.declared.fault.StreamFault.TheVariants as faults
 use Rattle.ser_read.specs.declared.fault.Large.TheVariants.{Bytes, Nodes, Depth}
 use Rattle.ser_read.specs.Wants.{WantFault}
@@ -12,7 +12,7 @@ use Rattle.call_dispatch.specs.Progress.{end_from}
 use Rattle.call_dispatch.specs.Inside.{BreaksAt}
 
 -- Reading ended so, and the position is within the message's limit: some bytes were taken, and they are why.
-pub breaks_at : {Y : Type 0} (read : ℕ → List ℕ → Result Y WantFault) (old new : Place) (fault : FrameFault) → new.at ≤ new.stop → BreaksIn old new fault read
+pub breaks_at : {Y : Type 0} (read : ℕ → List ℕ → Result Y WantFault) (old new : PullState) (fault : FrameFault) → new.at ≤ new.stop → BreaksIn old new fault read
     → (more : List ℕ) × (old.left ≡ with_front more new.left) × BreaksAt read old.at old.stop more new.left (end_from fault)
 breaks_at read old new (BadHeader at) within h = absurd h
 breaks_at read old new (UnknownProtocol byte) within h = absurd h

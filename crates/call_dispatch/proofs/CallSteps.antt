@@ -1,7 +1,7 @@
 -- A Call in its dialogue.
 use Rattle.std.proofs.Common.{◌≡◌, false, ℕ, zero, suc, ◌+◌, ◌<◌, ◌≤◌, ◌⊎◌, List, [], ◌∷◌, ◌++◌, length, take, Option, None, Some, Result, Ok, Err, refl, ap, sym, subst, ◌∙◌, inl, inr, arith, add-zero}
 use Rattle.wire_io.specs.Wire.{Rose, with_front, with_end, with_front-with_front, with_front-nothing, with_end-nothing}
-use Rattle.wire_io.specs.Pulled.{Place, Takes}
+use Rattle.wire_io.specs.Pulled.{PullState, Takes}
 use Rattle.object_ids.specs.declared.ids.Uid.{Uid}
 use Rattle.object_ids.specs.Draw.{uid_drawn}
 use Rattle.history.specs.declared.asks.Ask.TheVariants.{Begin}
@@ -93,7 +93,7 @@ breaks_talk read may moves terms start first before now at stop sent opening exc
     (in_call read base bound more left2 terms start.drawn (opened opening exchanges) tail now.wires.left end breaks (h.code, h.few, subst P h.stands.position how))
 
 -- Reading ended in the head.
-pub head_breaks : (may : Invocation → Outcome → Type 0) (moves : States → Call → States → Type 0) (terms : Terms) (start first : Spot) (p q : Place) (held : Option (List ℕ)) (side : Side) (drawn sent : ℕ) (opening : Opening) (exchanges : List Exchange) (fault : FrameFault)
+pub head_breaks : (may : Invocation → Outcome → Type 0) (moves : States → Call → States → Type 0) (terms : Terms) (start first : Spot) (p q : PullState) (held : Option (List ℕ)) (side : Side) (drawn sent : ℕ) (opening : Opening) (exchanges : List Exchange) (fault : FrameFault)
     → IsCoded may moves terms start first (spot_at p held side drawn) p.at p.stop sent opening exchanges → q.at ≤ q.stop → BreaksIn p q fault head_at
     → Talked may moves terms start (spot_at q held side drawn) (end_from fault)
 head_breaks may moves terms start first p q held side drawn sent opening exchanges fault h within broken =
@@ -102,7 +102,7 @@ head_breaks may moves terms start first p q held side drawn sent opening exchang
     h left refl (led_nothing may moves side) refl here (inl (more, refl, moved head_at p.at (h.place + 1) p.stop (h.place + MESSAGE_BYTES) more q.left (end_from fault) h.position h.limit here))
 
 -- Reading ended in the arguments.
-pub arguments_break : (may : Invocation → Outcome → Type 0) (moves : States → Call → States → Type 0) (terms : Terms) (start first : Spot) (p q : Place) (held : Option (List ℕ)) (side side2 : Side) (drawn drew sent : ℕ) (opening : Opening) (exchanges : List Exchange)
+pub arguments_break : (may : Invocation → Outcome → Type 0) (moves : States → Call → States → Type 0) (terms : Terms) (start first : Spot) (p q : PullState) (held : Option (List ℕ)) (side side2 : Side) (drawn drew sent : ℕ) (opening : Opening) (exchanges : List Exchange)
     (head : CallHead) (moment : ℕ) (turn : Turn) (kind moment2 ended : ℕ) (end : ConnEnd)
     → IsCoded may moves terms start first (spot_at p held side drawn) p.at p.stop sent opening exchanges → is_system head.id ≡ false → FitsHead head → q.at ≤ q.stop → turn.reply ≡ Started kind → drew ≡ drawn → BreaksOff terms.kinds head kind p q end
     → Led may moves side side2 (acts_of moment (Begin head.id) (Ok turn) ++ abandoned moment2 head.id ended ∷ [])
@@ -162,7 +162,7 @@ closed_ends terms drawn w rest head (begun moment turn kind (unknown moment2 pla
 closed_ends terms drawn w rest head (begun moment turn kind (ran place arguments outcome conclusion)) end same closed = absurd (cc)
 
 -- The exchange may come where so many were drawn since the beginning.
-may_come : (may : Invocation → Outcome → Type 0) (moves : States → Call → States → Type 0) (terms : Terms) (start first : Spot) (p q : Place) (held : Option (List ℕ)) (side : Side) (drawn sent : ℕ) (opening : Opening) (exchanges : List Exchange) (bytes : List ℕ) (head : CallHead) (uid : Uid) (s : Served)
+may_come : (may : Invocation → Outcome → Type 0) (moves : States → Call → States → Type 0) (terms : Terms) (start first : Spot) (p q : PullState) (held : Option (List ℕ)) (side : Side) (drawn sent : ℕ) (opening : Opening) (exchanges : List Exchange) (bytes : List ℕ) (head : CallHead) (uid : Uid) (s : Served)
     → IsCoded may moves terms start first (spot_at p held side drawn) p.at p.stop sent opening exchanges → is_system head.id ≡ false → FitsHead head → q.at ≤ q.stop → uid ≡ uid_drawn terms.unique terms.time drawn → Takes p q bytes → IsServed terms head bytes uid s
     → IsExchange terms (start.drawn + draws_in exchanges) (served bytes head uid s)
 may_come may moves terms start first p q held side drawn sent opening exchanges bytes head uid s h other fits within is takes legal =
@@ -175,7 +175,7 @@ few_more (suc a) (suc b) low high =
     let (d, is, most) = few_more a b (omega (arith, low)) (omega (arith, high)) in (d, omega (arith, is), most)
 
 -- There was no memory for all of the Call's row.
-pub call_cut : (may : Invocation → Outcome → Type 0) (moves : States → Call → States → Type 0) (terms : Terms) (start first : Spot) (p q : Place) (held : Option (List ℕ)) (side side2 : Side) (drawn drew sent : ℕ) (opening : Opening) (exchanges : List Exchange)
+pub call_cut : (may : Invocation → Outcome → Type 0) (moves : States → Call → States → Type 0) (terms : Terms) (start first : Spot) (p q : PullState) (held : Option (List ℕ)) (side side2 : Side) (drawn drew sent : ℕ) (opening : Opening) (exchanges : List Exchange)
     (bytes : List ℕ) (head : CallHead) (uid : Uid) (s : Served) (acts : List Act) (end : ConnEnd)
     → IsCoded may moves terms start first (spot_at p held side drawn) p.at p.stop sent opening exchanges → is_system head.id ≡ false → FitsHead head → q.at ≤ q.stop → uid ≡ uid_drawn terms.unique terms.time drawn → Takes p q bytes → IsServed terms head bytes uid s
     → Led may moves side side2 acts → IsCut [] (served_acts head uid s) acts → drawn ≤ drew → drew ≤ drawn + 1 → end ≡ ends.OutOfMemory → Talked may moves terms start (spot_at q held side2 drew) end
@@ -199,7 +199,7 @@ call_cut may moves terms start first p q held side side2 drawn drew sent opening
     ))))
 
 -- A Call was answered, and its answer written or cut.
-call_sent : (may : Invocation → Outcome → Type 0) (moves : States → Call → States → Type 0) (terms : Terms) (start first : Spot) (p q : Place) (held held2 : Option (List ℕ)) (side side2 : Side) (drawn drew sent : ℕ) (opening : Opening) (exchanges : List Exchange)
+call_sent : (may : Invocation → Outcome → Type 0) (moves : States → Call → States → Type 0) (terms : Terms) (start first : Spot) (p q : PullState) (held held2 : Option (List ℕ)) (side side2 : Side) (drawn drew sent : ℕ) (opening : Opening) (exchanges : List Exchange)
     (bytes : List ℕ) (head : CallHead) (uid : Uid) (s : Served) (close : Option ConnEnd) (written : Result ℕ ConnEnd)
     → IsCoded may moves terms start first (spot_at p held side drawn) p.at p.stop sent opening exchanges → is_system head.id ≡ false → FitsHead head → q.at ≤ q.stop → uid ≡ uid_drawn terms.unique terms.time drawn → Takes p q bytes → IsServed terms head bytes uid s
     → Led may moves side side2 (served_acts head uid s) → drew ≡ drawn + 1 → close ≡ served_closes head s → Writes held held2 sent (served_written uid s) written
@@ -233,7 +233,7 @@ call_sent may moves terms start first p q held held2 side side2 drawn drew sent 
     (call_goes may moves terms start first (spot_at p held side drawn) (spot_at q held2 side2 drew) p.at p.stop sent opening exchanges bytes (served_acts head uid s) 1 (take part (served_written uid s)) h takes.left wrote led drew_is))
 
 -- A Call was answered, and its answer sent.
-pub call_answered : (may : Invocation → Outcome → Type 0) (moves : States → Call → States → Type 0) (terms : Terms) (start first : Spot) (p q : Place) (held held2 : Option (List ℕ)) (side side2 : Side) (drawn drew sent faults faults2 : ℕ) (opening : Opening) (exchanges : List Exchange)
+pub call_answered : (may : Invocation → Outcome → Type 0) (moves : States → Call → States → Type 0) (terms : Terms) (start first : Spot) (p q : PullState) (held held2 : Option (List ℕ)) (side side2 : Side) (drawn drew sent faults faults2 : ℕ) (opening : Opening) (exchanges : List Exchange)
     (bytes : List ℕ) (head : CallHead) (uid : Uid) (s : Served) (answer : Answer) (result : Result ℕ ConnEnd)
     → IsCoded may moves terms start first (spot_at p held side drawn) p.at p.stop sent opening exchanges → is_system head.id ≡ false → FitsHead head → q.at ≤ q.stop → uid ≡ uid_drawn terms.unique terms.time drawn → Takes p q bytes → IsServed terms head bytes uid s
     → Led may moves side side2 (served_acts head uid s) → drew ≡ drawn + 1 → answer.bytes ≡ served_written uid s → answer.close ≡ served_closes head s → Sends held held2 faults faults2 sent answer result
@@ -244,7 +244,7 @@ call_answered may moves terms start first p q held held2 side side2 drawn drew s
     subst T (sym sends.is) (call_sent may moves terms start first p q held held2 side side2 drawn drew sent opening exchanges bytes head uid s answer.close sends.written h other fits within is takes legal led drew_is closes (subst W bytes_are sends.writes))
 
 -- A Call was answered as its row says, and its answer sent.
-pub call_done : (may : Invocation → Outcome → Type 0) (moves : States → Call → States → Type 0) (terms : Terms) (start first : Spot) (p q : Place) (held held2 : Option (List ℕ)) (side side2 : Side) (drawn drew sent faults faults2 : ℕ) (opening : Opening) (exchanges : List Exchange)
+pub call_done : (may : Invocation → Outcome → Type 0) (moves : States → Call → States → Type 0) (terms : Terms) (start first : Spot) (p q : PullState) (held held2 : Option (List ℕ)) (side side2 : Side) (drawn drew sent faults faults2 : ℕ) (opening : Opening) (exchanges : List Exchange)
     (head : CallHead) (answer : Answer) (result : Result ℕ ConnEnd)
     → IsCoded may moves terms start first (spot_at p held side drawn) p.at p.stop sent opening exchanges → is_system head.id ≡ false → FitsHead head → q.at ≤ q.stop
     → Answers may moves terms (uid_drawn terms.unique terms.time drawn) head p q side side2 drawn drew (Ok answer) → drew ≡ drawn + 1 → Sends held held2 faults faults2 sent answer result
@@ -254,7 +254,7 @@ call_done may moves terms start first p q held held2 side side2 drawn drew sent 
     h other fits within refl takes is led drew_is bytes_are closes sends
 
 -- The connection ended in a Call whose head was read.
-pub call_ended : (may : Invocation → Outcome → Type 0) (moves : States → Call → States → Type 0) (terms : Terms) (start first : Spot) (p q : Place) (held : Option (List ℕ)) (side side2 : Side) (drawn drew sent : ℕ) (opening : Opening) (exchanges : List Exchange)
+pub call_ended : (may : Invocation → Outcome → Type 0) (moves : States → Call → States → Type 0) (terms : Terms) (start first : Spot) (p q : PullState) (held : Option (List ℕ)) (side side2 : Side) (drawn drew sent : ℕ) (opening : Opening) (exchanges : List Exchange)
     (head : CallHead) (end : ConnEnd)
     → IsCoded may moves terms start first (spot_at p held side drawn) p.at p.stop sent opening exchanges → is_system head.id ≡ false → FitsHead head → q.at ≤ q.stop
     → Answers may moves terms (uid_drawn terms.unique terms.time drawn) head p q side side2 drawn drew (Err end) → drawn ≤ drew → drew ≤ drawn + 1
@@ -267,7 +267,7 @@ call_ended may moves terms start first p q held side side2 drawn drew sent openi
 ]
 
 -- What was taken of a Call that was answered stays within its limit.
-pub answered_within : (may : Invocation → Outcome → Type 0) (moves : States → Call → States → Type 0) (terms : Terms) (uid : Uid) (head : CallHead) (p q : Place) (a b : Side) (drawn drew : ℕ) (answer : Answer)
+pub answered_within : (may : Invocation → Outcome → Type 0) (moves : States → Call → States → Type 0) (terms : Terms) (uid : Uid) (head : CallHead) (p q : PullState) (a b : Side) (drawn drew : ℕ) (answer : Answer)
     → q.at ≤ q.stop → Answers may moves terms uid head p q a b drawn drew (Ok answer) → q.at ≤ p.stop
 answered_within may moves terms uid head p q a b drawn drew answer within (s, bytes, takes, is, led, bytes_are, closes) = omega (arith, within, takes.stop)
 

@@ -1,7 +1,7 @@
 -- Calls from their heads on.
 use Rattle.std.proofs.Common.{◌≡◌, ℕ, false, List, [], ◌∷◌, ◌++◌, slice_get, Option, None, Some, Result, Ok, Err, refl, sym, subst, inl, inr, append-nil}
 use Rattle.std.specs.List.{flat_map}
-use Rattle.wire_io.specs.Pulled.{Place, Takes}
+use Rattle.wire_io.specs.Pulled.{PullState, Takes}
 use Rattle.class_desc.specs.declared.field.TypeCode.{TypeCode}
 use Rattle.method_hash.specs.declared.method.Method.{Method}
 use Rattle.object_ids.specs.declared.ids.Uid.{Uid}
@@ -33,13 +33,13 @@ use Rattle.call_dispatch.proofs.Cutting.{cut_whole, cut_first, cut_after}
 use Rattle.call_dispatch.proofs.HeadEnds.{head_stands}
 
 -- What was taken of a head ends with it.
-pub head_ends : (first now : Place) (head : CallHead) (stand : Stand) → ReadsHead first now head stand → (bytes : List ℕ) × Takes first now bytes × IsHeadOf head bytes
+pub head_ends : (first now : PullState) (head : CallHead) (stand : Stand) → ReadsHead first now head stand → (bytes : List ℕ) × Takes first now bytes × IsHeadOf head bytes
 head_ends first now head stand reads = let (left, ends, is) = head_stands first now head stand reads in (reads.taken, reads.takes, (left, ends))
 
 -- ---- running calls
 
 -- The kind has no such method: the call was given up, and the client told so.
-pub unknown_runs : (may : Invocation → Outcome → Type 0) (moves : States → Call → States → Type 0) (terms : Terms) (uid : Uid) (head : CallHead) (kind : ℕ) (first now : Place) (stand : Stand) (a b : Side) (drawn drew : ℕ) (moment place : ℕ) (result : Result Answer ConnEnd)
+pub unknown_runs : (may : Invocation → Outcome → Type 0) (moves : States → Call → States → Type 0) (terms : Terms) (uid : Uid) (head : CallHead) (kind : ℕ) (first now : PullState) (stand : Stand) (a b : Side) (drawn drew : ℕ) (moment place : ℕ) (result : Result Answer ConnEnd)
     → HasNoMethod terms.kinds kind head → ReadsHead first now head stand → Led may moves a b (abandoned moment head.id place ∷ [])
     → IsPrepared (fault_return uid no_method) (Some (ends.NoSuchMethod head.operation head.hash)) result → RunsOn may moves terms uid head kind first now a b drawn drew result
 unknown_runs may moves terms uid head kind first now stand a b drawn drew moment place (Ok answer) none reads led prepared =
@@ -67,7 +67,7 @@ no_fault terms uid None message = refl
 no_fault terms uid (Some code) message = refl
 
 -- The worker was invoked, and then the call was concluded.
-pub ran_runs : (may : Invocation → Outcome → Type 0) (moves : States → Call → States → Type 0) (terms : Terms) (uid : Uid) (head : CallHead) (kind place : ℕ) (method : Method) (arguments : Arguments) (outcome : Outcome) (first now : Place) (a b c : Side) (drawn drew : ℕ) (result : Result Answer ConnEnd)
+pub ran_runs : (may : Invocation → Outcome → Type 0) (moves : States → Call → States → Type 0) (terms : Terms) (uid : Uid) (head : CallHead) (kind place : ℕ) (method : Method) (arguments : Arguments) (outcome : Outcome) (first now : PullState) (a b c : Side) (drawn drew : ℕ) (result : Result Answer ConnEnd)
     → IsMethodOf terms.kinds kind head place → slice_get (methods_of terms.kinds kind) place ≡ Some method → TakesCall first now head method.params arguments
     → Led may moves a b (called (invokes (invocation_of head.id kind place arguments) outcome) ∷ []) → Concludes may moves terms head.id uid method.result outcome b c result
     → RunsOn may moves terms uid head kind first now a c drawn drew result
@@ -114,7 +114,7 @@ ran_runs may moves terms uid head kind place method arguments outcome first now 
 -- ---- calls
 
 -- A Begin was answered Started, and then the call went on.
-pub begun_answers : (may : Invocation → Outcome → Type 0) (moves : States → Call → States → Type 0) (terms : Terms) (uid : Uid) (head : CallHead) (kind moment : ℕ) (turn : Turn) (first now : Place) (a b c : Side) (drawn drew : ℕ) (result : Result Answer ConnEnd)
+pub begun_answers : (may : Invocation → Outcome → Type 0) (moves : States → Call → States → Type 0) (terms : Terms) (uid : Uid) (head : CallHead) (kind moment : ℕ) (turn : Turn) (first now : PullState) (a b c : Side) (drawn drew : ℕ) (result : Result Answer ConnEnd)
     → turn.reply ≡ Started kind → Led may moves a b (acts_of moment (Begin head.id) (Ok turn)) → RunsOn may moves terms uid head kind first now b c drawn drew result → Answers may moves terms uid head first now a c drawn drew result
 begun_answers may moves terms uid head kind moment turn first now a b c drawn drew (Ok answer) started begins (r, bytes, takes, is, led, bytes_are, closes) = (
   begun moment turn kind r,
@@ -146,7 +146,7 @@ begun_answers may moves terms uid head kind moment turn first now a b c drawn dr
 ]
 
 -- The call was answered at once.
-pub closing_answers : (may : Invocation → Outcome → Type 0) (moves : States → Call → States → Type 0) (terms : Terms) (uid : Uid) (head : CallHead) (s : Served) (bytes : List ℕ) (first now : Place) (a b : Side) (drawn drew : ℕ) (result : Result Answer ConnEnd)
+pub closing_answers : (may : Invocation → Outcome → Type 0) (moves : States → Call → States → Type 0) (terms : Terms) (uid : Uid) (head : CallHead) (s : Served) (bytes : List ℕ) (first now : PullState) (a b : Side) (drawn drew : ℕ) (result : Result Answer ConnEnd)
     → Takes first now bytes → IsServed terms head bytes uid s → Led may moves a b (served_acts head uid s) → Balanced (flat_map entries (served_acts head uid s))
     → IsPrepared (served_written uid s) (served_closes head s) result → Answers may moves terms uid head first now a b drawn drew result
 closing_answers may moves terms uid head s bytes first now a b drawn drew (Ok answer) takes is led even prepared = (s, bytes, takes, is, led, prepared.0, prepared.1)
@@ -154,7 +154,7 @@ closing_answers may moves terms uid head s bytes first now a b drawn drew (Err e
     inl (prepared, (s, bytes, takes, is, (served_acts head uid s, led, cut_whole [] (served_acts head uid s) even)))
 
 -- There was no memory for Begin.
-pub lost_answers : (may : Invocation → Outcome → Type 0) (moves : States → Call → States → Type 0) (terms : Terms) (uid : Uid) (head : CallHead) (moment : ℕ) (first now : Place) (stand : Stand) (a b : Side) (drawn drew : ℕ)
+pub lost_answers : (may : Invocation → Outcome → Type 0) (moves : States → Call → States → Type 0) (terms : Terms) (uid : Uid) (head : CallHead) (moment : ℕ) (first now : PullState) (stand : Stand) (a b : Side) (drawn drew : ℕ)
     → ReadsHead first now head stand → Led may moves a b (acts_of moment (Begin head.id) (Err refusals.OutOfMemory)) → Answers may moves terms uid head first now a b drawn drew (Err ends.OutOfMemory)
 lost_answers may moves terms uid head moment first now stand a b drawn drew reads led =
     let (bytes, takes, whole) = head_ends first now head stand reads in

@@ -16,7 +16,7 @@ use Rattle.ser_write.specs.Canonical.{Written, before_more, short_bytes, write_i
 use Rattle.ser_write.proofs.Writes.{write_all-append, write_all-elements, write_all-raw}
 use Rattle.class_desc.specs.declared.known_class.KnownClass.TheVariants as known
 use Rattle.ser_values.specs.declared.node.Node.TheVariants.{Text, Object, Proxy}
-use Rattle.ser_values.specs.declared.node.Place.TheVariants as places
+use Rattle.ser_values.specs.declared.node.SlotPlace.TheVariants as places
 use Rattle.java_shapes.specs.Fault.{class_node, reference, empty_part}
 use Rattle.java_shapes.specs.Put.{no_codebase}
 use Rattle.java_shapes.specs.Objects.{same_text}

@@ -1,7 +1,7 @@
 -- The bytes that were taken of a head.
 use Rattle.std.proofs.Common.{◌≡◌, ℕ, ◌+◌, ◌-◌, List, [], ◌∷◌, ◌++◌, length, Result, Ok, Err, cond, eqb, refl, ap, sym, subst, ◌∙◌, arith, append-nil}
 use Rattle.std.proofs.lemmas.Bool.{eqb-true}
-use Rattle.wire_io.specs.Pulled.{Place}
+use Rattle.wire_io.specs.Pulled.{PullState}
 use Rattle.class_desc.specs.declared.slot.Item.TheVariants as items
 use Rattle.ser_values.specs.Reading.{bad, bad_magic, byte_at, magic_at}
 use Rattle.ser_values.proofs.PlainSound.{bind_ok, passed, ok_is}
@@ -45,7 +45,7 @@ unfolding bytes_at
 bytes_stand end bs bytes rest s e = run_stands (run_at end 34 0 bs) bytes rest s e
 
 -- Where a head was read, the reader stands inside a block, or at its end, and has the head's bytes alone.
-pub head_stands : (first now : Place) (head : CallHead) (stand : Stand) → (reads : ReadsHead first now head stand)
+pub head_stands : (first now : PullState) (head : CallHead) (stand : Stand) → (reads : ReadsHead first now head stand)
     → (left : ℕ) × EndsWithHead head reads.taken left × (stand ≡ inside_block (head_bytes head) left)
 unfolding head_at serve want_at
 head_stands first now head stand reads =

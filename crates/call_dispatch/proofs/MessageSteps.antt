@@ -1,7 +1,7 @@
 -- The messages of a dialogue, over plain lists.
 use Rattle.std.proofs.Common.{◌≡◌, ℕ, ◌+◌, ◌^◌, ◌<◌, ◌≤◌, List, [], ◌∷◌, length, take, Option, Result, Ok, Err, IfOk, refl, sym, ap, ◌∙◌, inr, arith}
 use Rattle.wire_io.specs.Wire.{with_front-nothing, with_front}
-use Rattle.wire_io.specs.Pulled.{Place}
+use Rattle.wire_io.specs.Pulled.{PullState}
 use Rattle.jrmp_frames.specs.declared.header.Protocol.TheVariants.{Stream, SingleOp}
 use Rattle.jrmp_frames.specs.Gives.{GivesCode}
 use Rattle.jrmp_frames.specs.declared.fault.FrameFault.{FrameFault}
@@ -21,7 +21,7 @@ use Rattle.call_dispatch.proofs.Going.{goes_exchanged}
 use Rattle.call_dispatch.proofs.Steps.{spot_at, talks_took, talks_in, talks_cut, stands_more}
 
 -- The connection ends in a code's place.
-pub code_ends : (may : Invocation → Outcome → Type 0) (moves : States → Call → States → Type 0) (terms : Terms) (start : Spot) (old new : Place) (held : Option (List ℕ)) (side : Side) (drawn sent : ℕ) (w : Whole) (fault : FrameFault)
+pub code_ends : (may : Invocation → Outcome → Type 0) (moves : States → Call → States → Type 0) (terms : Terms) (start : Spot) (old new : PullState) (held : Option (List ℕ)) (side : Side) (drawn sent : ℕ) (w : Whole) (fault : FrameFault)
     → Stands may moves terms start (spot_at old held side drawn) old.at sent w → IsAtCode w → old.at < old.stop → GivesCode old new (Err fault)
     → Talked may moves terms start (spot_at new held side drawn) (end_from fault)
 code_ends may moves terms start old new held side drawn sent w (BadHeader at) stands code room h = absurd h

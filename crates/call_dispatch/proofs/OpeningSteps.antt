@@ -1,7 +1,7 @@
 -- The opening of a dialogue, over plain lists.
 use Rattle.std.proofs.Common.{◌≡◌, ◌≢◌, ℕ, suc, zero, ◌+◌, ◌<◌, ◌≤◌, List, [], ◌∷◌, ◌++◌, length, take, Option, Ok, Err, refl, ◌∙◌, ap, sym, inl, inr, arith, append-nil, zero-add, length-append, ℤ}
 use Rattle.wire_io.specs.Wire.{with_front-nothing, with_end-nothing}
-use Rattle.wire_io.specs.Pulled.{Place, Takes}
+use Rattle.wire_io.specs.Pulled.{PullState, Takes}
 use Rattle.wire_io.specs.declared.limits.TheConstants.{LAST_POSITION}
 use Rattle.mod_utf.specs.Utf.{utf}
 use Rattle.jrmp_frames.specs.declared.header.Protocol.TheVariants.{Stream, SingleOp}
@@ -41,7 +41,7 @@ unfolding protocol_ack
 ack_short host port = simp (length-append) (omega arith)
 
 -- The connection ends in the header.
-pub header_ends : (may : Invocation → Outcome → Type 0) (moves : States → Call → States → Type 0) (terms : Terms) (old new : Place) (held : Option (List ℕ)) (side : Side) (drawn : ℕ) (fault : FrameFault)
+pub header_ends : (may : Invocation → Outcome → Type 0) (moves : States → Call → States → Type 0) (terms : Terms) (old new : PullState) (held : Option (List ℕ)) (side : Side) (drawn : ℕ) (fault : FrameFault)
     → old.at ≡ 0 → old.stop ≡ LAST_POSITION → ((byte : ℕ) → fault ≢ UnknownProtocol byte) → GivesHeader old new (Err fault)
     → Talked may moves terms (spot_at old held side drawn) (spot_at new held side drawn) (end_from fault)
 header_ends may moves terms old new held side drawn (BadHeader at) first last told (k, bytes, place, breaks, takes) =
@@ -79,7 +79,7 @@ greeting_cut may moves terms start before now end goes left side drawn (part, le
     (inl (refl, refl)) less (goes_on may moves start before now (took (header Stream)) (exchanged [] (take part answer)) goes more))
 
 -- The whole opening of the stream protocol stands.
-pub stands_opened : (may : Invocation → Outcome → Type 0) (moves : States → Call → States → Type 0) (terms : Terms) (start : Spot) (old new : Place) (held : Option (List ℕ)) (side : Side) (drawn sent : ℕ) (endpoint : List ℕ)
+pub stands_opened : (may : Invocation → Outcome → Type 0) (moves : States → Call → States → Type 0) (terms : Terms) (start : Spot) (old new : PullState) (held : Option (List ℕ)) (side : Side) (drawn sent : ℕ) (endpoint : List ℕ)
     → Stands may moves terms start (spot_at old held side drawn) old.at sent greeted → Takes old new endpoint → IsEndpoint endpoint
     → Stands may moves terms start (spot_at new held side drawn) new.at sent (opened (stream endpoint) [])
 stands_opened may moves terms start old new held side drawn sent endpoint stands takes is =
@@ -87,7 +87,7 @@ stands_opened may moves terms start old new held side drawn sent endpoint stands
     (course_is _ _ _ _ _ _ _ _ (append-nil (header Stream ++ endpoint)) refl refl refl) (goes_took may moves _ _ endpoint takes.left refl refl refl) takes.at (omega arith)
 
 -- The connection ends in the client's endpoint.
-pub endpoint_ends : (may : Invocation → Outcome → Type 0) (moves : States → Call → States → Type 0) (terms : Terms) (start : Spot) (old new : Place) (held : Option (List ℕ)) (side : Side) (drawn sent : ℕ) (fault : FrameFault)
+pub endpoint_ends : (may : Invocation → Outcome → Type 0) (moves : States → Call → States → Type 0) (terms : Terms) (start : Spot) (old new : PullState) (held : Option (List ℕ)) (side : Side) (drawn sent : ℕ) (fault : FrameFault)
     → Stands may moves terms start (spot_at old held side drawn) old.at sent greeted → old.at + 65541 < old.stop
     → GivesEndpoint {A = Unit {0}} old new (Err fault) → Talked may moves terms start (spot_at new held side drawn) (end_from fault)
 endpoint_ends may moves terms start old new held side drawn sent (BadHeader at) stands room h = absurd h
@@ -104,7 +104,7 @@ memory_ends may moves terms start now goes =
     (inl (header Stream, refl, inr refl, refl))
 
 -- The header of the single-op protocol stands.
-pub stands_single : (may : Invocation → Outcome → Type 0) (moves : States → Call → States → Type 0) (terms : Terms) (old new : Place) (held : Option (List ℕ)) (side : Side) (drawn : ℕ) → old.at ≡ 0 → Takes old new (header SingleOp)
+pub stands_single : (may : Invocation → Outcome → Type 0) (moves : States → Call → States → Type 0) (terms : Terms) (old new : PullState) (held : Option (List ℕ)) (side : Side) (drawn : ℕ) → old.at ≡ 0 → Takes old new (header SingleOp)
     → Stands may moves terms (spot_at old held side drawn) (spot_at new held side drawn) new.at 0 (opened single_op [])
 stands_single may moves terms old new held side drawn first takes =
     stands_on may moves terms _ _ _ old.at 0 new.at 0 nothing (opened single_op []) (took (header SingleOp)) (stands_nothing may moves terms _ old.at first)
@@ -116,7 +116,7 @@ refusal_cut byte before after end (zero, less, is, written) = rw is (refl, writt
 refusal_cut byte before after end (suc part, less, is, written) = absurd (omega arith)
 
 -- The connection ends with an unknown protocol.
-pub refusal_ends : (may : Invocation → Outcome → Type 0) (moves : States → Call → States → Type 0) (terms : Terms) (old new : Place) (held now : Option (List ℕ)) (side : Side) (drawn byte : ℕ) (end : ConnEnd)
+pub refusal_ends : (may : Invocation → Outcome → Type 0) (moves : States → Call → States → Type 0) (terms : Terms) (old new : PullState) (held now : Option (List ℕ)) (side : Side) (drawn byte : ℕ) (end : ConnEnd)
     → old.at ≡ 0 → GivesHeader old new (Err (UnknownProtocol byte)) → Refuses byte held now end
     → Talked may moves terms (spot_at old held side drawn) (spot_at new now side drawn) end
 refusal_ends may moves terms old new held now side drawn byte (ends.UnknownProtocol b) first (none, takes) (same, written) =

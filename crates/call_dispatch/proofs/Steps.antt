@@ -2,7 +2,7 @@
 use Rattle.std.proofs.Common.{◌≡◌, ℕ, ◌+◌, ◌<◌, ◌⊎◌, inl, List, [], ◌∷◌, ◌++◌, length, take, Option, refl, ap, sym, subst, ◌∙◌, arith, add-zero, length-append}
 use Rattle.std.proofs.lemmas.List.{flat_map_more}
 use Rattle.wire_io.specs.Wire.{with_front}
-use Rattle.wire_io.specs.Pulled.{Place, Takes}
+use Rattle.wire_io.specs.Pulled.{PullState, Takes}
 use Rattle.wire_io.specs.declared.pull.PullEnd.{PullEnd}
 use Rattle.wire_io.specs.declared.pull.PullEnd.TheVariants.{End, Limit, ReadFault, OutOfMemory}
 use Rattle.wire_io.proofs.Pulling.{takes_stop}
@@ -76,11 +76,11 @@ talks_cut may moves terms start before now at sent part w c stands answered less
     (c, part, answered, less, ap (λ n. n + part) stands.count, refl)
 
 -- a place of a source, with the rest as it stands
-abbrev pub spot_at : Place → Option (List ℕ) → Side → ℕ → Spot
+abbrev pub spot_at : PullState → Option (List ℕ) → Side → ℕ → Spot
 spot_at p held side drawn = record { wires = record { left = p.left; held = held }; side = side; drawn = drawn }
 
 -- The input stopped inside what was to come next.
-pub talks_stop : (may : Invocation → Outcome → Type 0) (moves : States → Call → States → Type 0) (terms : Terms) (start : Spot) (old new : Place) (held : Option (List ℕ)) (side : Side) (drawn sent : ℕ) (w : Whole)
+pub talks_stop : (may : Invocation → Outcome → Type 0) (moves : States → Call → States → Type 0) (terms : Terms) (start : Spot) (old new : PullState) (held : Option (List ℕ)) (side : Side) (drawn sent : ℕ) (w : Whole)
     (P : List ℕ → Type 0) (e : PullEnd)
     → Stands may moves terms start (spot_at old held side drawn) old.at sent w → (stops : StopsInside P old new e)
     → old.at + length stops.part < old.stop → ((at : ℕ) → e ≡ End at → IsInside w stops.part) → IsInside w stops.part ⊎ (IsAtCode w × (stops.part ≡ []))
@@ -97,7 +97,7 @@ talks_stop may moves terms start old new held side drawn sent w P ReadFault stan
 talks_stop may moves terms start old new held side drawn sent w P OutOfMemory stands stops room ended inside = absurd (stops.memory refl)
 
 -- the same, where a stream's fault says how it stopped
-pub talks_in : (may : Invocation → Outcome → Type 0) (moves : States → Call → States → Type 0) (terms : Terms) (start : Spot) (old new : Place) (held : Option (List ℕ)) (side : Side) (drawn sent : ℕ) (w : Whole)
+pub talks_in : (may : Invocation → Outcome → Type 0) (moves : States → Call → States → Type 0) (terms : Terms) (start : Spot) (old new : PullState) (held : Option (List ℕ)) (side : Side) (drawn sent : ℕ) (w : Whole)
     (P : List ℕ → Type 0) (fault : StreamFault) → Stands may moves terms start (spot_at old held side drawn) old.at sent w → StopsIn P old new fault → ((part : List ℕ) → P part → old.at + length part < old.stop)
     → ((part : List ℕ) → P part → ((at : ℕ) → fault ≡ faults.Truncated at → IsInside w part) × (IsInside w part ⊎ (IsAtCode w × (part ≡ [])))) → Talked may moves terms start (spot_at new held side drawn) (end_from (frames.Stream fault))
 talks_in may moves terms start old new held side drawn sent w P (faults.Truncated at) stands stops room how =

@@ -1,7 +1,7 @@
 -- A call of the registry or the collector in its dialogue.
 use Rattle.std.proofs.Common.{◌≡◌, true, ℕ, ◌+◌, ◌<◌, ◌≤◌, List, [], ◌∷◌, ◌++◌, length, take, Option, None, Some, Result, Ok, Err, refl, ap, sym, subst, ◌∙◌, inl, inr, arith}
 use Rattle.wire_io.specs.Wire.{with_front, with_front-with_front, with_front-nothing, with_end-nothing}
-use Rattle.wire_io.specs.Pulled.{Place, Takes}
+use Rattle.wire_io.specs.Pulled.{PullState, Takes}
 use Rattle.object_ids.specs.declared.ids.Uid.{Uid}
 use Rattle.ser_read.specs.Wants.{Stand, serve_to_close}
 use Rattle.ser_read.specs.Heading.{inside_block}
@@ -38,7 +38,7 @@ use Rattle.call_dispatch.proofs.Steps.{spot_at, talks_on, talks_took, talks_cut,
 -- ---- reading ends in it
 
 -- Reading ended in the arguments.
-system_breaks : (may : Invocation → Outcome → Type 0) (moves : States → Call → States → Type 0) (terms : Terms) (start first : Spot) (p q : Place) (held : Option (List ℕ)) (side : Side) (drawn sent : ℕ) (opening : Opening) (exchanges : List Exchange)
+system_breaks : (may : Invocation → Outcome → Type 0) (moves : States → Call → States → Type 0) (terms : Terms) (start first : Spot) (p q : PullState) (held : Option (List ℕ)) (side : Side) (drawn sent : ℕ) (opening : Opening) (exchanges : List Exchange)
     (head : CallHead) (end : ConnEnd)
     → IsCoded may moves terms start first (spot_at p held side drawn) p.at p.stop sent opening exchanges → is_system head.id ≡ true → FitsHead head → q.at ≤ q.stop → BreaksSystem head p q end
     → Talked may moves terms start (spot_at q held side drawn) end
@@ -76,7 +76,7 @@ closed_ends terms drawn w rest head (barred method arguments bar) end same close
 closed_ends terms drawn w rest head (turned method arguments ask moment answer written) end same closed = absurd (cc)
 
 -- The exchange may come where so many were drawn since the beginning.
-may_come : (may : Invocation → Outcome → Type 0) (moves : States → Call → States → Type 0) (terms : Terms) (start first : Spot) (p q : Place) (held : Option (List ℕ)) (side : Side) (drawn sent : ℕ) (opening : Opening) (exchanges : List Exchange) (bytes : List ℕ) (head : CallHead) (uid : Uid) (s : System)
+may_come : (may : Invocation → Outcome → Type 0) (moves : States → Call → States → Type 0) (terms : Terms) (start first : Spot) (p q : PullState) (held : Option (List ℕ)) (side : Side) (drawn sent : ℕ) (opening : Opening) (exchanges : List Exchange) (bytes : List ℕ) (head : CallHead) (uid : Uid) (s : System)
     → IsCoded may moves terms start first (spot_at p held side drawn) p.at p.stop sent opening exchanges → is_system head.id ≡ true → FitsHead head → q.at ≤ q.stop → Takes p q bytes → IsSystem terms drawn head bytes uid s
     → IsExchange terms (start.drawn + draws_in exchanges) (system bytes head uid s)
 may_come may moves terms start first p q held side drawn sent opening exchanges bytes head uid s h own fits within takes legal =
@@ -89,7 +89,7 @@ draws_some (barred method arguments bar) = omega arith
 draws_some (turned method arguments ask moment answer written) = omega arith
 
 -- There was no memory for all of its row.
-system_cut : (may : Invocation → Outcome → Type 0) (moves : States → Call → States → Type 0) (terms : Terms) (start first : Spot) (p q : Place) (held : Option (List ℕ)) (side side2 : Side) (drawn drew sent : ℕ) (opening : Opening) (exchanges : List Exchange)
+system_cut : (may : Invocation → Outcome → Type 0) (moves : States → Call → States → Type 0) (terms : Terms) (start first : Spot) (p q : PullState) (held : Option (List ℕ)) (side side2 : Side) (drawn drew sent : ℕ) (opening : Opening) (exchanges : List Exchange)
     (bytes : List ℕ) (head : CallHead) (uid : Uid) (s : System) (acts : List Act) (draws : ℕ) (end : ConnEnd)
     → IsCoded may moves terms start first (spot_at p held side drawn) p.at p.stop sent opening exchanges → is_system head.id ≡ true → FitsHead head → q.at ≤ q.stop → Takes p q bytes → IsSystem terms drawn head bytes uid s
     → Led may moves side side2 acts → IsCut [] (system_acts s) acts → drew ≡ drawn + draws → draws ≤ system_draws s → end ≡ ends.OutOfMemory → Talked may moves terms start (spot_at q held side2 drew) end
@@ -113,7 +113,7 @@ system_cut may moves terms start first p q held side side2 drawn drew sent openi
     ))))
 
 -- It was answered, and its answer written or cut.
-system_sent : (may : Invocation → Outcome → Type 0) (moves : States → Call → States → Type 0) (terms : Terms) (start first : Spot) (p q : Place) (held held2 : Option (List ℕ)) (side side2 : Side) (drawn drew sent : ℕ) (opening : Opening) (exchanges : List Exchange)
+system_sent : (may : Invocation → Outcome → Type 0) (moves : States → Call → States → Type 0) (terms : Terms) (start first : Spot) (p q : PullState) (held held2 : Option (List ℕ)) (side side2 : Side) (drawn drew sent : ℕ) (opening : Opening) (exchanges : List Exchange)
     (bytes : List ℕ) (head : CallHead) (uid : Uid) (s : System) (close : Option ConnEnd) (written : Result ℕ ConnEnd)
     → IsCoded may moves terms start first (spot_at p held side drawn) p.at p.stop sent opening exchanges → is_system head.id ≡ true → FitsHead head → q.at ≤ q.stop → Takes p q bytes → IsSystem terms drawn head bytes uid s
     → Led may moves side side2 (system_acts s) → drew ≡ drawn + system_draws s → close ≡ system_closes head s → Writes held held2 sent (system_written uid s) written
@@ -147,7 +147,7 @@ system_sent may moves terms start first p q held held2 side side2 drawn drew sen
     (call_goes may moves terms start first (spot_at p held side drawn) (spot_at q held2 side2 drew) p.at p.stop sent opening exchanges bytes (system_acts s) (system_draws s) (take part (system_written uid s)) h takes.left wrote led drew_is))
 
 -- It was answered as its row says, and its answer sent.
-system_done : (may : Invocation → Outcome → Type 0) (moves : States → Call → States → Type 0) (terms : Terms) (start first : Spot) (p q : Place) (held held2 : Option (List ℕ)) (side side2 : Side) (drawn drew sent faults faults2 : ℕ) (opening : Opening) (exchanges : List Exchange)
+system_done : (may : Invocation → Outcome → Type 0) (moves : States → Call → States → Type 0) (terms : Terms) (start first : Spot) (p q : PullState) (held held2 : Option (List ℕ)) (side side2 : Side) (drawn drew sent faults faults2 : ℕ) (opening : Opening) (exchanges : List Exchange)
     (head : CallHead) (answer : Answer) (result : Result ℕ ConnEnd)
     → IsCoded may moves terms start first (spot_at p held side drawn) p.at p.stop sent opening exchanges → is_system head.id ≡ true → FitsHead head → q.at ≤ q.stop
     → AnswersSystem may moves terms head p q side side2 drawn drew (Ok answer) → Sends held held2 faults faults2 sent answer result
@@ -158,7 +158,7 @@ system_done may moves terms start first p q held held2 side side2 drawn drew sen
     subst T (sym sends.is) (system_sent may moves terms start first p q held held2 side side2 drawn drew sent opening exchanges bytes head uid s answer.close sends.written h own fits within takes is led drew_is closes (subst W bytes_are sends.writes))
 
 -- The connection ended in it.
-system_ended : (may : Invocation → Outcome → Type 0) (moves : States → Call → States → Type 0) (terms : Terms) (start first : Spot) (p q : Place) (held : Option (List ℕ)) (side side2 : Side) (drawn drew sent : ℕ) (opening : Opening) (exchanges : List Exchange)
+system_ended : (may : Invocation → Outcome → Type 0) (moves : States → Call → States → Type 0) (terms : Terms) (start first : Spot) (p q : PullState) (held : Option (List ℕ)) (side side2 : Side) (drawn drew sent : ℕ) (opening : Opening) (exchanges : List Exchange)
     (head : CallHead) (end : ConnEnd)
     → IsCoded may moves terms start first (spot_at p held side drawn) p.at p.stop sent opening exchanges → is_system head.id ≡ true → FitsHead head → q.at ≤ q.stop
     → AnswersSystem may moves terms head p q side side2 drawn drew (Err end) → Talked may moves terms start (spot_at q held side2 drew) end
@@ -172,7 +172,7 @@ system_ended may moves terms start first p q held side side2 drawn drew sent ope
 -- ---- any Call
 
 -- A Call was answered as its row says, and its answer sent.
-pub any_done : (may : Invocation → Outcome → Type 0) (moves : States → Call → States → Type 0) (terms : Terms) (start first : Spot) (p q : Place) (held held2 : Option (List ℕ)) (side side2 : Side) (drawn drew sent faults faults2 : ℕ) (opening : Opening) (exchanges : List Exchange)
+pub any_done : (may : Invocation → Outcome → Type 0) (moves : States → Call → States → Type 0) (terms : Terms) (start first : Spot) (p q : PullState) (held held2 : Option (List ℕ)) (side side2 : Side) (drawn drew sent faults faults2 : ℕ) (opening : Opening) (exchanges : List Exchange)
     (head : CallHead) (answer : Answer) (result : Result ℕ ConnEnd)
     → IsCoded may moves terms start first (spot_at p held side drawn) p.at p.stop sent opening exchanges → FitsHead head → q.at ≤ q.stop
     → AnswersAny may moves terms head p q side side2 drawn drew (Ok answer) → Sends held held2 faults faults2 sent answer result
@@ -183,7 +183,7 @@ any_done may moves terms start first p q held held2 side side2 drawn drew sent f
     call_done may moves terms start first p q held held2 side side2 drawn drew sent faults faults2 opening exchanges head answer result h other fits within answers drew_is sends
 
 -- The connection ended in a Call whose head was read.
-pub any_ended : (may : Invocation → Outcome → Type 0) (moves : States → Call → States → Type 0) (terms : Terms) (start first : Spot) (p q : Place) (held : Option (List ℕ)) (side side2 : Side) (drawn drew sent : ℕ) (opening : Opening) (exchanges : List Exchange)
+pub any_ended : (may : Invocation → Outcome → Type 0) (moves : States → Call → States → Type 0) (terms : Terms) (start first : Spot) (p q : PullState) (held : Option (List ℕ)) (side side2 : Side) (drawn drew sent : ℕ) (opening : Opening) (exchanges : List Exchange)
     (head : CallHead) (end : ConnEnd)
     → IsCoded may moves terms start first (spot_at p held side drawn) p.at p.stop sent opening exchanges → FitsHead head → q.at ≤ q.stop
     → AnswersAny may moves terms head p q side side2 drawn drew (Err end) → Talked may moves terms start (spot_at q held side2 drew) end
@@ -193,7 +193,7 @@ any_ended may moves terms start first p q held side side2 drawn drew sent openin
     call_ended may moves terms start first p q held side side2 drawn drew sent opening exchanges head end h other fits within answers low high
 
 -- What was taken of a Call that was answered stays within its limit.
-pub any_within : (may : Invocation → Outcome → Type 0) (moves : States → Call → States → Type 0) (terms : Terms) (head : CallHead) (p q : Place) (a b : Side) (drawn drew : ℕ) (answer : Answer)
+pub any_within : (may : Invocation → Outcome → Type 0) (moves : States → Call → States → Type 0) (terms : Terms) (head : CallHead) (p q : PullState) (a b : Side) (drawn drew : ℕ) (answer : Answer)
     → q.at ≤ q.stop → AnswersAny may moves terms head p q a b drawn drew (Ok answer) → q.at ≤ p.stop
 any_within may moves terms head p q a b drawn drew answer within (inl (own, (bytes, takes, answers))) = omega (arith, within, takes.stop)
 any_within may moves terms head p q a b drawn drew answer within (inr (other, answers, drew_is, low, high)) = answered_within may moves terms _ head p q a b drawn drew answer within answers
@@ -207,7 +207,7 @@ closes_blameless head (barred method arguments bar) = tt
 closes_blameless head (turned method arguments ask moment answer written) = tt
 
 -- The connection ended in a Call whose head was read behind these counts.
-pub any_ended_blames : (may : Invocation → Outcome → Type 0) (moves : States → Call → States → Type 0) (terms : Terms) (head : CallHead) (first now : Place) (a b : Side) (drawn drew k : ℕ) (end : ConnEnd)
+pub any_ended_blames : (may : Invocation → Outcome → Type 0) (moves : States → Call → States → Type 0) (terms : Terms) (head : CallHead) (first now : PullState) (a b : Side) (drawn drew k : ℕ) (end : ConnEnd)
     → AnswersAny may moves terms head first now a b drawn drew (Err end) → Blames (counts first.faults k) (counts now.faults k) end
 any_ended_blames may moves terms head first now a b drawn drew k end (inl (own, inl (bytes, takes, (memory, others)))) = memory_blames first.faults now.faults k end takes.faults memory
 any_ended_blames may moves terms head first now a b drawn drew k end (inl (own, inr (undrawn, same, (mid, stand, method, fault, reads, known, broken, is)))) =
@@ -216,7 +216,7 @@ any_ended_blames may moves terms head first now a b drawn drew k end (inl (own, 
 any_ended_blames may moves terms head first now a b drawn drew k end (inr (other, answers, drew_is, low, high)) = ended_blames may moves terms _ head first now a b drawn drew k end answers
 
 -- A Call was answered, and its answer sent.
-pub any_blames : (may : Invocation → Outcome → Type 0) (moves : States → Call → States → Type 0) (terms : Terms) (head : CallHead) (first now : Place) (a b : Side) (drawn drew k l sent : ℕ) (held held2 : Option (List ℕ)) (answer : Answer) (result : Result ℕ ConnEnd)
+pub any_blames : (may : Invocation → Outcome → Type 0) (moves : States → Call → States → Type 0) (terms : Terms) (head : CallHead) (first now : PullState) (a b : Side) (drawn drew k l sent : ℕ) (held held2 : Option (List ℕ)) (answer : Answer) (result : Result ℕ ConnEnd)
     → AnswersAny may moves terms head first now a b drawn drew (Ok answer) → Sends held held2 k l sent answer result → BlamesIn (counts first.faults k) (counts now.faults l) result
 any_blames may moves terms head first now a b drawn drew k l sent held held2 answer result (inl (own, (bytes, takes, (uid, s, is, led, drew_is, bytes_are, closes)))) sends =
     let P : Result ℕ ConnEnd → Type 0 = λ r. BlamesIn (counts first.faults k) (counts now.faults l) r in

@@ -1,7 +1,7 @@
 -- Calls of the registry and the collector from their heads on.
 use Rattle.std.proofs.Common.{◌≡◌, ◌≢◌, ℕ, ◌+◌, ◌≤◌, false, List, [], ◌∷◌, ◌++◌, None, Some, Result, Ok, Err, refl, sym, subst, inl, inr, arith, append-nil}
 use Rattle.std.specs.List.{flat_map}
-use Rattle.wire_io.specs.Pulled.{Place, Takes}
+use Rattle.wire_io.specs.Pulled.{PullState, Takes}
 use Rattle.object_ids.specs.declared.ids.ObjId.{ObjId}
 use Rattle.object_ids.specs.declared.ids.Uid.{Uid}
 use Rattle.history.specs.declared.asks.Ask.{Ask}
@@ -193,7 +193,7 @@ read_asked may moves terms head bytes method arguments ask uid a b drawn drew (E
 -- ---- calls whose head was read
 
 -- There is no such method.
-pub unknown_answers : (may : Invocation → Outcome → Type 0) (moves : States → Call → States → Type 0) (terms : Terms) (head : CallHead) (first now : Place) (stand : Stand) (a : Side) (drawn drew : ℕ) (result : Result Answer ConnEnd)
+pub unknown_answers : (may : Invocation → Outcome → Type 0) (moves : States → Call → States → Type 0) (terms : Terms) (head : CallHead) (first now : PullState) (stand : Stand) (a : Side) (drawn drew : ℕ) (result : Result Answer ConnEnd)
     → system_method head ≡ None → ReadsHead first now head stand → drew ≡ drawn + 1 → IsPrepared (fault_return (drawn_at terms drawn) no_method) (Some (conn.NoSuchMethod head.operation head.hash)) result
     → AnswersSystem may moves terms head first now a a drawn drew result
 unknown_answers may moves terms head first now stand a drawn drew (Ok answer) none reads drew_is prepared =
@@ -205,7 +205,7 @@ unknown_answers may moves terms head first now stand a drawn drew (Err end) none
     inl (bytes, takes, (prepared, (drawn_at terms drawn, unknown, (whole, none, refl), ([], led_nothing may moves a, cut_nothing [] refl), (1, drew_is, all))))
 
 -- The arguments were read.
-pub read_answers : (may : Invocation → Outcome → Type 0) (moves : States → Call → States → Type 0) (terms : Terms) (head : CallHead) (bytes : List ℕ) (first now : Place) (a b : Side) (drawn drew : ℕ) (result : Result Answer ConnEnd)
+pub read_answers : (may : Invocation → Outcome → Type 0) (moves : States → Call → States → Type 0) (terms : Terms) (head : CallHead) (bytes : List ℕ) (first now : PullState) (a b : Side) (drawn drew : ℕ) (result : Result Answer ConnEnd)
     → Takes first now bytes → AnswersRead may moves terms head bytes a b drawn drew result → AnswersSystem may moves terms head first now a b drawn drew result
 read_answers may moves terms head bytes first now a b drawn drew (Ok answer) takes answers = (bytes, takes, answers)
 read_answers may moves terms head bytes first now a b drawn drew (Err end) takes answers = inl (bytes, takes, answers)

@@ -1,5 +1,5 @@
 -- What calls are answered: the bytes of Returns (Java RMI Specification, 10.2), and which outcomes a method can have.
-use Rattle.std.specs.Prelude.{ℕ, ◌^◌, Bool, true, false, ◌&&◌, not, nat_le, codes, List, [], ◌∷◌, ◌++◌, length, Option, None, Some, if◌then◌else◌}
+use Rattle.std.specs.Prelude.{ℕ, Bool, true, false, ◌&&◌, not, nat_le, codes, List, [], ◌∷◌, ◌++◌, length, Option, None, Some, if◌then◌else◌}
 use Rattle.class_desc.specs.declared.field.TypeCode.{TypeCode}
 use Rattle.class_desc.specs.declared.field.TypeCode.TheVariants as types
 use Rattle.class_desc.specs.TypeCode.{is_primitive}
@@ -21,10 +21,7 @@ use Rattle.call_dispatch.specs.declared.outcome.Outcome.{Outcome}
 use Rattle.call_dispatch.specs.declared.outcome.Outcome.TheVariants.{Void, Prim, Tree, NewRemote, OldRemote, Fault}
 use Rattle.call_dispatch.specs.Results.{is_place, plain_return}
 use Rattle.call_dispatch.specs.Terms.{Terms}
-
--- the greatest number of bytes of a Return
-abbrev pub most_return : ℕ
-most_return = 2 ^ 30
+use Rattle.call_dispatch.specs.declared.results.TheConstants.{RETURN_BYTES}
 
 -- the exceptional Return with this message
 unfoldable pub fault_return : Uid → List ℕ → List ℕ
@@ -64,7 +61,7 @@ suits kinds (Some code) (OldRemote object kind) = returns_place kinds (Some code
 suits kinds _ _ = false
 
 abbrev pub is_short : List ℕ → Bool
-is_short bytes = nat_le (length bytes) most_return
+is_short bytes = nat_le (length bytes) RETURN_BYTES
 
 -- The outcome's Return isn't too long. That of a remote object never is.
 abbrev pub is_sent : Uid → Outcome → Bool

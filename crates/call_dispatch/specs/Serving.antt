@@ -1,5 +1,5 @@
 -- How far a call has come, for the functions that serve it step by step.
-use Rattle.std.specs.Prelude.{◌≡◌, ◌≢◌, ℕ, ◌+◌, ◌^◌, ◌<◌, ◌≤◌, ◌⊎◌, Bool, true, false, ◌&&◌, List, [], ◌∷◌, ◌++◌, length, slice_get, Option, None, Some, Result, Ok, Err, OnErr, if◌then◌else◌}
+use Rattle.std.specs.Prelude.{◌≡◌, ◌≢◌, ℕ, ◌+◌, ◌<◌, ◌≤◌, ◌⊎◌, Bool, true, false, ◌&&◌, List, [], ◌∷◌, ◌++◌, length, slice_get, Option, None, Some, Result, Ok, Err, OnErr, if◌then◌else◌}
 use Rattle.class_desc.specs.declared.field.TypeCode.{TypeCode}
 use Rattle.method_hash.specs.declared.method.Method.{Method}
 use Rattle.object_ids.specs.declared.ids.ObjId.{ObjId}
@@ -15,7 +15,7 @@ use Rattle.history.specs.declared.replies.Turn.{Turn}
 use Rattle.history.specs.declared.replies.Refused.{Refused}
 use Rattle.history.specs.declared.replies.Refused.TheVariants as refusals
 use Rattle.wire_io.specs.Wire.{Rose}
-use Rattle.wire_io.specs.Pulled.{Place, Takes}
+use Rattle.wire_io.specs.Pulled.{PullState, Takes}
 use Rattle.space.specs.declared.asked.Asked.{Asked}
 use Rattle.space.specs.Balance.{calls_begun, calls_ended}
 use Rattle.ser_read.specs.Wants.{Stand, serve_to_close}
@@ -46,6 +46,7 @@ use Rattle.call_dispatch.specs.Returns.{fault_return, is_short, fits, full, faul
 use Rattle.call_dispatch.specs.Served.{Conclusion, conclusion_acts, conclusion_written, IsFinished, IsGranted, IsConclusion, Running, running_acts, running_written, running_closes, IsRunning, Served, served_acts, served_written, served_closes, IsServed, IsMethodOf}
 use Rattle.call_dispatch.specs.Rows.{FitsUid, IsNoted, IsCut}
 use Rattle.call_dispatch.specs.Progress.{Writes, end_from}
+use Rattle.call_dispatch.specs.declared.results.TheConstants.{RETURN_BYTES}
 
 -- the identifier that is drawn next
 abbrev pub next_of : Terms → ℕ → Uid
@@ -63,7 +64,7 @@ pub record CutShort (may : Invocation → Outcome → Type 0) (moves : States �
 
 -- What is to be sent can be: it isn't too long, or one object is made.
 abbrev pub IsReadySent : List ℕ → Sent → Type 0
-IsReadySent made (Whole bytes) = length bytes ≤ 2 ^ 30
+IsReadySent made (Whole bytes) = length bytes ≤ RETURN_BYTES
 IsReadySent made (New interface) = length made ≡ 1
 
 abbrev pub IsReady : Pending → Type 0
@@ -71,7 +72,7 @@ IsReady pending = IsReadySent pending.made pending.sent
 
 abbrev pub IsReadyReturn : Prepared → Type 0
 IsReadyReturn (Normal pending) = IsReady pending
-IsReadyReturn (Exceptional bytes) = length bytes ≤ 2 ^ 30
+IsReadyReturn (Exceptional bytes) = length bytes ≤ RETURN_BYTES
 
 -- The reply is that the call was finished and has one new object.
 abbrev pub MakesOne : Reply → Type 0
@@ -79,7 +80,7 @@ MakesOne reply = (made : List ℕ) × IsFinished made reply × (length made ≡ 
 
 -- What is to be sent can be, now that this is the reply of Finish.
 abbrev pub IsReadyFor : Reply → Sent → Type 0
-IsReadyFor reply (Whole bytes) = length bytes ≤ 2 ^ 30
+IsReadyFor reply (Whole bytes) = length bytes ≤ RETURN_BYTES
 IsReadyFor reply (New interface) = MakesOne reply
 
 -- The normal Return of an outcome has these bytes, whatever Finish is answered; or it is that of a new object of a kind with this interface.
@@ -139,14 +140,14 @@ Concludes may moves terms object uid returned outcome before after (Err end) = (
     ⊎ ((c : Conclusion) × IsConclusion terms uid returned outcome c × CutShort may moves before after object (conclusion_acts object uid outcome c)))
 
 -- The arguments of a call whose head was read, and whose method was found, break off.
-abbrev pub BreaksOff : List Kind → CallHead → ℕ → Place → Place → ConnEnd → Type 0
-BreaksOff kinds head kind first now end = (mid : Place) × (stand : Stand) × (place : ℕ) × (method : Method) × (fault : FrameFault)
+abbrev pub BreaksOff : List Kind → CallHead → ℕ → PullState → PullState → ConnEnd → Type 0
+BreaksOff kinds head kind first now end = (mid : PullState) × (stand : Stand) × (place : ℕ) × (method : Method) × (fault : FrameFault)
     × ReadsHead first mid head stand × IsMethodOf kinds kind head place × (slice_get (methods_of kinds kind) place ≡ Some method)
     × BreaksIn mid now fault (λ end. serve_to_close end (wants_of method.params) stand) × (end ≡ end_from fault)
 
 -- A call whose head was read behind `first`, and that runs, goes on. So many identifiers were drawn before and after; none where its arguments
 -- break off.
-abbrev pub RunsOn : (Invocation → Outcome → Type 0) → (States → Call → States → Type 0) → Terms → Uid → CallHead → ℕ → Place → Place → Side → Side → ℕ → ℕ → Result Answer ConnEnd → Type 0
+abbrev pub RunsOn : (Invocation → Outcome → Type 0) → (States → Call → States → Type 0) → Terms → Uid → CallHead → ℕ → PullState → PullState → Side → Side → ℕ → ℕ → Result Answer ConnEnd → Type 0
 RunsOn may moves terms uid head kind first now before after drawn drew (Ok answer) = (r : Running) × (bytes : List ℕ) × Takes first now bytes × IsRunning terms head kind bytes uid r
     × Led may moves before after (running_acts head uid kind r) × (answer.bytes ≡ running_written uid r) × (answer.close ≡ running_closes head r)
 RunsOn may moves terms uid head kind first now before after drawn drew (Err end) =
@@ -160,7 +161,7 @@ IsPrepared bytes close (Ok answer) = (answer.bytes ≡ bytes) × (answer.close �
 IsPrepared bytes close (Err end) = end ≡ ends.OutOfMemory
 
 -- A Call whose head was read behind `first` is answered, or the connection ends in it. So many identifiers were drawn before and after.
-abbrev pub Answers : (Invocation → Outcome → Type 0) → (States → Call → States → Type 0) → Terms → Uid → CallHead → Place → Place → Side → Side → ℕ → ℕ → Result Answer ConnEnd → Type 0
+abbrev pub Answers : (Invocation → Outcome → Type 0) → (States → Call → States → Type 0) → Terms → Uid → CallHead → PullState → PullState → Side → Side → ℕ → ℕ → Result Answer ConnEnd → Type 0
 Answers may moves terms uid head first now before after drawn drew (Ok answer) = (s : Served) × (bytes : List ℕ) × Takes first now bytes × IsServed terms head bytes uid s
     × Led may moves before after (served_acts head uid s) × (answer.bytes ≡ served_written uid s) × (answer.close ≡ served_closes head s)
 Answers may moves terms uid head first now before after drawn drew (Err end) =
@@ -194,7 +195,7 @@ Notes may moves uid before after sent (Err end) = (end ≡ ends.OutOfMemory) × 
 
 -- What an acknowledgement does whose code was just taken, where so many bytes were sent before: none is sent. The identifier is taken and noted, or passed over; or
 -- there is no memory for its turn; or the input stops in it, and nothing is done.
-abbrev pub Acknowledges : (Invocation → Outcome → Type 0) → (States → Call → States → Type 0) → Place → Place → Side → Side → ℕ → Result ℕ ConnEnd → Type 0
+abbrev pub Acknowledges : (Invocation → Outcome → Type 0) → (States → Call → States → Type 0) → PullState → PullState → Side → Side → ℕ → Result ℕ ConnEnd → Type 0
 Acknowledges may moves first now before after sent (Ok sent2) = (sent2 ≡ sent) × ((uid : Uid) × (moment : ℕ) × (answer : Result Turn Refused) × FitsUid uid × IsNoted answer
     × Takes first now (bytes_of_uid uid) × Led may moves before after (acts_of moment (Ack uid) answer))
 Acknowledges may moves first now before after sent (Err end) =

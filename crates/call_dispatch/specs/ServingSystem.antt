@@ -5,7 +5,7 @@ use Rattle.history.specs.declared.asks.Ask.TheVariants.{Begin, Finish, Abandon}
 use Rattle.history.specs.declared.replies.Turn.{Turn}
 use Rattle.history.specs.declared.replies.Refused.{Refused}
 use Rattle.object_ids.specs.declared.ids.Uid.{Uid}
-use Rattle.wire_io.specs.Pulled.{Place, Takes}
+use Rattle.wire_io.specs.Pulled.{PullState, Takes}
 use Rattle.ser_read.specs.Wants.{Stand, serve_to_close}
 use Rattle.jrmp_frames.specs.declared.arguments.Arguments.{Arguments}
 use Rattle.jrmp_frames.specs.declared.fault.FrameFault.{FrameFault}
@@ -55,21 +55,21 @@ AnswersMethod may moves terms method arguments before after drawn drew result = 
     → CallBytes head (params_of method) arguments (0x50 ∷ bytes) → AnswersRead may moves terms head bytes before after drawn drew result
 
 -- The arguments of a call whose head was read, and whose method was found, break off.
-abbrev pub BreaksSystem : CallHead → Place → Place → ConnEnd → Type 0
-BreaksSystem head first now end = (mid : Place) × (stand : Stand) × (method : SystemMethod) × (fault : FrameFault)
+abbrev pub BreaksSystem : CallHead → PullState → PullState → ConnEnd → Type 0
+BreaksSystem head first now end = (mid : PullState) × (stand : Stand) × (method : SystemMethod) × (fault : FrameFault)
     × ReadsHead first mid head stand × (system_method head ≡ Some method)
     × BreaksIn mid now fault (λ end. serve_to_close end (wants_of (params_of method)) stand) × (end ≡ end_from fault)
 
 -- A call of the registry or the collector whose head was read behind `first` is answered, or the connection ends in it. So many identifiers were drawn
 -- before and after.
-abbrev pub AnswersSystem : (Invocation → Outcome → Type 0) → (States → Call → States → Type 0) → Terms → CallHead → Place → Place → Side → Side → ℕ → ℕ → Result Answer ConnEnd → Type 0
+abbrev pub AnswersSystem : (Invocation → Outcome → Type 0) → (States → Call → States → Type 0) → Terms → CallHead → PullState → PullState → Side → Side → ℕ → ℕ → Result Answer ConnEnd → Type 0
 AnswersSystem may moves terms head first now before after drawn drew (Ok answer) = (bytes : List ℕ) × Takes first now bytes × AnswersRead may moves terms head bytes before after drawn drew (Ok answer)
 AnswersSystem may moves terms head first now before after drawn drew (Err end) =
     ((bytes : List ℕ) × Takes first now bytes × AnswersRead may moves terms head bytes before after drawn drew (Err end))
     ⊎ ((drew ≡ drawn) × (after ≡ before) × BreaksSystem head first now end)
 
 -- A Call whose head was read behind `first` is answered, or the connection ends in it: a call of the registry or the collector, or any other.
-abbrev pub AnswersAny : (Invocation → Outcome → Type 0) → (States → Call → States → Type 0) → Terms → CallHead → Place → Place → Side → Side → ℕ → ℕ → Result Answer ConnEnd → Type 0
+abbrev pub AnswersAny : (Invocation → Outcome → Type 0) → (States → Call → States → Type 0) → Terms → CallHead → PullState → PullState → Side → Side → ℕ → ℕ → Result Answer ConnEnd → Type 0
 AnswersAny may moves terms head first now before after drawn drew result =
     ((is_system head.id ≡ true) × AnswersSystem may moves terms head first now before after drawn drew result)
     ⊎ ((is_system head.id ≡ false) × Answers may moves terms (next_of terms drawn) head first now before after drawn drew result

@@ -1,7 +1,7 @@
 //! What a Call is answered.
 ghost use Rattle.std.specs.Prelude.{◌≡◌, ◌≤◌, ◌<◌, ◌+◌, ◌^◌, ◌∷◌, pos, ◌<ℤ◌, List, length, IfOk, IfSome, IfNone, OnOk, None, Some, []};
 ghost use Rattle.history.specs.declared.replies.Reply.TheVariants.{Finished};
-ghost use Rattle.wire_io.specs.Pulled.{Place, place};
+ghost use Rattle.wire_io.specs.Pulled.{PullState, pull_state};
 ghost use Rattle.space.specs.Balance.{Balanced};
 ghost use Rattle.jrmp_frames.specs.Calls.{ReadsHead, HasHead};
 ghost use Rattle.call_dispatch.specs.Spot.{side_of, IsLent};
@@ -252,9 +252,9 @@ fn run_call<S: Source, K: Sink, C: Clock, P: Port, W: Worker>(
     requires room { 1 < P.room_of connection.old.port.now }
     requires calls { W.calls connection.old.worker.now < 2 ^ 62 }
     requires runs { RunsOne head.id (P.asked connection.old.port.now) }
-    ensures runs_on { (first : Place) → ReadsHead first (place S.left S.faults connection.old.pull) head reader.stand → RunsOn W.may W.moves (terms_of connection.old.book.now connection.old.setup.now)
+    ensures runs_on { (first : PullState) → ReadsHead first (pull_state S.left S.faults connection.old.pull) head reader.stand → RunsOn W.may W.moves (terms_of connection.old.book.now connection.old.setup.now)
         (next_of (terms_of connection.old.book.now connection.old.setup.now) connection.old.setup.now.draw.drawn) head kind
-        first (place S.left S.faults connection.new.pull)
+        first (pull_state S.left S.faults connection.new.pull)
         (side_of C.given P.asked W.calls W.seen W.state connection.old)
         (side_of C.given P.asked W.calls W.seen W.state connection.new)
         connection.old.setup.now.draw.drawn connection.new.setup.now.draw.drawn result }
@@ -308,9 +308,9 @@ pub fn answer_call<S: Source, K: Sink, C: Clock, P: Port, W: Worker>(
     requires room { 2 < P.room_of connection.old.port.now }
     requires calls { W.calls connection.old.worker.now < 2 ^ 62 }
     requires balanced { Balanced (P.asked connection.old.port.now) }
-    ensures answers { (first : Place) → ReadsHead first (place S.left S.faults connection.old.pull) head reader.stand → Answers W.may W.moves (terms_of connection.old.book.now connection.old.setup.now)
+    ensures answers { (first : PullState) → ReadsHead first (pull_state S.left S.faults connection.old.pull) head reader.stand → Answers W.may W.moves (terms_of connection.old.book.now connection.old.setup.now)
         (next_of (terms_of connection.old.book.now connection.old.setup.now) connection.old.setup.now.draw.drawn) head
-        first (place S.left S.faults connection.new.pull)
+        first (pull_state S.left S.faults connection.new.pull)
         (side_of C.given P.asked W.calls W.seen W.state connection.old)
         (side_of C.given P.asked W.calls W.seen W.state connection.new)
         connection.old.setup.now.draw.drawn connection.new.setup.now.draw.drawn result }

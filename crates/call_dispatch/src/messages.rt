@@ -4,7 +4,7 @@ ghost use Rattle.mod_utf.specs.Utf.{utf};
 ghost use Rattle.space.specs.Balance.{Balanced};
 ghost use Rattle.jrmp_frames.specs.declared.header.Protocol.TheVariants.{Stream, SingleOp};
 ghost use Rattle.call_dispatch.specs.Faults.{counts_of, Blames, BlamesIn};
-ghost use Rattle.wire_io.specs.Pulled.{place};
+ghost use Rattle.wire_io.specs.Pulled.{pull_state};
 ghost use Rattle.wire_io.specs.declared.limits.TheConstants.{MAX_HOST_BYTES};
 ghost use Rattle.call_dispatch.specs.Spot.{spot_of, side_of, IsLent};
 ghost use Rattle.call_dispatch.specs.Terms.{terms_of};
@@ -216,7 +216,7 @@ fn acknowledge<S: Source, K: Sink, C: Clock, P: Port, W: Worker>(
     requires room { 0 < P.room_of connection.old.port.now }
     requires balanced { Balanced (P.asked connection.old.port.now) }
     ensures acknowledges { Acknowledges W.may W.moves
-        (place S.left S.faults connection.old.pull) (place S.left S.faults connection.new.pull)
+        (pull_state S.left S.faults connection.old.pull) (pull_state S.left S.faults connection.new.pull)
         (side_of C.given P.asked W.calls W.seen W.state connection.old)
         (side_of C.given P.asked W.calls W.seen W.state connection.new) sent result }
     ensures sink { connection.new.sink ≡ connection.old.sink }

@@ -1,7 +1,7 @@
 //! Calls of the registry and of the collector, which every server has of itself.
 ghost use Rattle.std.specs.Prelude.{◌≡◌, ◌≢◌, ◌≤◌, ◌<◌, ◌+◌, ◌^◌, pos, ◌<ℤ◌, length, true, false, Err, if◌then◌else◌, IfOk, []};
 ghost use Rattle.mod_utf.specs.Utf.{utf};
-ghost use Rattle.wire_io.specs.Pulled.{Place, place};
+ghost use Rattle.wire_io.specs.Pulled.{PullState, pull_state};
 ghost use Rattle.wire_io.specs.declared.limits.TheConstants.{MAX_HOST_BYTES};
 ghost use Rattle.history.specs.declared.replies.Refused.TheVariants.{OutOfMemory};
 ghost use Rattle.space.specs.Balance.{Balanced};
@@ -164,9 +164,9 @@ fn answer_system<S: Source, K: Sink, C: Clock, P: Port, W: Worker>(
     requires ready { P.ready connection.old.port.now }
     requires room { 0 < P.room_of connection.old.port.now }
     requires balanced { Balanced (P.asked connection.old.port.now) }
-    ensures answers { (first : Place) → ReadsHead first (place S.left S.faults connection.old.pull) head reader.stand
+    ensures answers { (first : PullState) → ReadsHead first (pull_state S.left S.faults connection.old.pull) head reader.stand
         → AnswersSystem W.may W.moves (terms_of connection.old.book.now connection.old.setup.now) head
-        first (place S.left S.faults connection.new.pull)
+        first (pull_state S.left S.faults connection.new.pull)
         (side_of C.given P.asked W.calls W.seen W.state connection.old)
         (side_of C.given P.asked W.calls W.seen W.state connection.new)
         connection.old.setup.now.draw.drawn connection.new.setup.now.draw.drawn result }
@@ -204,9 +204,9 @@ pub fn answer_any<S: Source, K: Sink, C: Clock, P: Port, W: Worker>(
     requires room { 2 < P.room_of connection.old.port.now }
     requires calls { W.calls connection.old.worker.now < 2 ^ 62 }
     requires balanced { Balanced (P.asked connection.old.port.now) }
-    ensures answers { (first : Place) → ReadsHead first (place S.left S.faults connection.old.pull) head reader.stand
+    ensures answers { (first : PullState) → ReadsHead first (pull_state S.left S.faults connection.old.pull) head reader.stand
         → AnswersAny W.may W.moves (terms_of connection.old.book.now connection.old.setup.now) head
-        first (place S.left S.faults connection.new.pull)
+        first (pull_state S.left S.faults connection.new.pull)
         (side_of C.given P.asked W.calls W.seen W.state connection.old)
         (side_of C.given P.asked W.calls W.seen W.state connection.new)
         connection.old.setup.now.draw.drawn connection.new.setup.now.draw.drawn result }

@@ -1,6 +1,7 @@
 //! Random histories: short ones of few objects, clients, connections and returns, with leases of a few milliseconds, so that calls meet. Each begins
 //! with the opening of a pinned object, a call of it, and a return of two new objects.
-ghost use Rattle.std.specs.Prelude.{◌≤◌, ◌^◌};
+ghost use Rattle.std.specs.Prelude.{◌≤◌};
+ghost use Rattle.history.specs.declared.limits.TheConstants.{MAX_DURATION};
 
 use crate::draws::Draws;
 use history::{Ask, Event, EventList, Name, SpaceConfig};
@@ -28,8 +29,8 @@ pub(crate) fn numbered(unique: i32) -> Uid {
 
 /// A random configuration.
 pub(crate) fn configuration(draws: &mut Draws) -> SpaceConfig
-    ensures lease { (1 ≤ result.lease_ms) × (result.lease_ms ≤ 2 ^ 40) }
-    ensures ack { (1 ≤ result.ack_ms) × (result.ack_ms ≤ 2 ^ 40) }
+    ensures lease { (1 ≤ result.lease_ms) × (result.lease_ms ≤ MAX_DURATION) }
+    ensures ack { (1 ≤ result.ack_ms) × (result.ack_ms ≤ MAX_DURATION) }
 {
     SpaceConfig {
         lease_ms: 1 + draws.below(LONGEST),

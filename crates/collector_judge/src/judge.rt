@@ -1,5 +1,6 @@
 //! Judging a space by the definitions.
-ghost use Rattle.std.specs.Prelude.{◌≤◌, ◌<◌, ◌^◌, IsTrue};
+ghost use Rattle.std.specs.Prelude.{◌≤◌, ◌<◌, IsTrue};
+ghost use Rattle.history.specs.declared.limits.TheConstants.{END_OF_TIME, MAX_DURATION};
 
 use crate::defined::defined_outline;
 use history::limits::END_OF_TIME;
@@ -22,7 +23,7 @@ pub(crate) enum Verdict {
 
 /// Whether a space may be asked an event: it is not too late.
 fn is_early(event: &Event) -> bool
-    ensures { IsTrue result → event.now.moment < 2 ^ 62 }
+    ensures { IsTrue result → event.now.moment < END_OF_TIME }
 {
     event.moment < END_OF_TIME
 }
@@ -58,7 +59,7 @@ fn is_answered_in_a_list(
     event: &Event,
     answer: &Result<Turn, Refused>,
 ) -> Result<bool, AllocError>
-    requires { event.now.moment < 2 ^ 62 }
+    requires { event.now.moment < END_OF_TIME }
 {
     let mut events = Vec::with_capacity(alloc, 1)?;
     events.push(event.copy(alloc)?)?;
@@ -134,8 +135,8 @@ pub(crate) fn judge(
     config: &SpaceConfig,
     events: &[Event],
 ) -> Result<Verdict, AllocError>
-    requires lease { (1 ≤ config.now.lease_ms) × (config.now.lease_ms ≤ 2 ^ 40) }
-    requires ack { (1 ≤ config.now.ack_ms) × (config.now.ack_ms ≤ 2 ^ 40) }
+    requires lease { (1 ≤ config.now.lease_ms) × (config.now.lease_ms ≤ MAX_DURATION) }
+    requires ack { (1 ≤ config.now.ack_ms) × (config.now.ack_ms ≤ MAX_DURATION) }
 {
     let limits = Limits::of_space();
     let answers = answers(alloc, &limits, config, Vec::new(alloc), events)?;

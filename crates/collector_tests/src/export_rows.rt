@@ -1,5 +1,6 @@
 //! Export tables: what keeps an object, and when it is withdrawn.
-ghost use Rattle.std.specs.Prelude.{◌<◌, ◌^◌};
+ghost use Rattle.std.specs.Prelude.{◌<◌};
+ghost use Rattle.history.specs.declared.limits.TheConstants.{END_OF_TIME};
 
 use crate::scripts::{MEMORY, must};
 use dgc_server::Leases;
@@ -42,7 +43,7 @@ fn withdrawn(
 
 /// Lists an object in a return, if it is exported.
 fn list(exports: &mut Exports, id: ObjId, uid: Uid, now: u64) -> Result<(), ExportFault>
-    requires { now < 2 ^ 62 }
+    requires { now < END_OF_TIME }
 {
     match exports.find(id) {
         Some(_kind) => exports.wait_for(id, uid, now),

@@ -1,7 +1,8 @@
 //! Transcripts of lease tables: a journal's lines of lease calls, and of ticks, which let time pass. A line `? MOMENT` asks for the remembered
 //! pairs, for the holders of objects 16 and 17, and for the clients with time left; `! NUMBER,..` drops objects. A line `# MOMENT` asks whether a
 //! lease may end as time passes to that moment, and for the objects that some client holds and none holds then.
-ghost use Rattle.std.specs.Prelude.{◌<◌, ◌^◌};
+ghost use Rattle.std.specs.Prelude.{◌<◌};
+ghost use Rattle.history.specs.declared.limits.TheConstants.{END_OF_TIME};
 
 use crate::scripts::{MEMORY, must_be, put_script_line};
 use crate::transcripts::spelled_event;
@@ -70,7 +71,7 @@ fn put_told(rt: &impl Abort, alloc: Global, leases: &mut Leases, line: &str, tex
 
 /// Tells the table of a call, or that time has passed, and appends the answer.
 fn tell(leases: &mut Leases, moment: u64, ask: &Ask, text: &mut ByteList) -> Result<(), AllocError>
-    requires { moment < 2 ^ 62 }
+    requires { moment < END_OF_TIME }
 {
     match ask {
         Ask::Dirty {

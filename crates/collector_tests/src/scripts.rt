@@ -1,5 +1,6 @@
 //! Scripts of lines, and how they are read.
-ghost use Rattle.std.specs.Prelude.{◌≤◌, ◌^◌};
+ghost use Rattle.std.specs.Prelude.{◌≤◌};
+ghost use Rattle.history.specs.declared.limits.TheConstants.{MAX_DURATION};
 
 use history::SpaceConfig;
 use history::limits::MAX_DURATION;
@@ -29,8 +30,8 @@ pub(crate) fn put_script_line(text: &mut ByteList, line: &str) -> Result<(), All
 
 /// The configuration that a line spells, where its durations are those of a space.
 pub(crate) fn config_of(rt: &impl Abort, line: &str) -> SpaceConfig
-    ensures lease { (1 ≤ result.lease_ms) × (result.lease_ms ≤ 2 ^ 40) }
-    ensures ack { (1 ≤ result.ack_ms) × (result.ack_ms ≤ 2 ^ 40) }
+    ensures lease { (1 ≤ result.lease_ms) × (result.lease_ms ≤ MAX_DURATION) }
+    ensures ack { (1 ≤ result.ack_ms) × (result.ack_ms ≤ MAX_DURATION) }
 {
     let config = read_first_line(line.as_bytes()).expect(rt, "a configuration");
     let durations = 1..=MAX_DURATION;

@@ -1,7 +1,8 @@
 //! Transcripts of spaces: a journal's lines, each with what a space answers. Lines that begin with a digit are events, behind `*N` N times
 //! the same, and those that begin with `!` are abandons that take no memory; a line `?` asks for the outline, `=` for the journal, and `#` for the summary. All else is
 //! written by the space.
-ghost use Rattle.std.specs.Prelude.{◌<◌, ◌^◌};
+ghost use Rattle.std.specs.Prelude.{◌<◌};
+ghost use Rattle.history.specs.declared.limits.TheConstants.{END_OF_TIME};
 
 use crate::answers::put_answer;
 use crate::scripts::{MEMORY, config_of, put_script_line};
@@ -101,7 +102,7 @@ fn put_turned(
 
 /// The event that a line spells. In a line, `N*K` stands for K numbers N, joined by commas.
 pub(crate) fn spelled_event(rt: &impl Abort, alloc: Global, uid: Uid, line: &str) -> Event
-    ensures moment { result.moment < 2 ^ 62 }
+    ensures moment { result.moment < END_OF_TIME }
 {
     let line = in_full(rt, alloc, line);
     let event = read_event(alloc, uid, line.as_slice()).expect(rt, MEMORY);

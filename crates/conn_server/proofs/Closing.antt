@@ -15,12 +15,12 @@ use Rattle.turn_lock.specs.declared.view.View.{View}
 use Rattle.conn_server.specs.Accepts.{shown_all}
 use Rattle.conn_server.specs.Joins.{IsJoined}
 use Rattle.conn_server.specs.Made.{shown_guest}
-use Rattle.conn_server.specs.Reports.{AreTurnsOf, IsKnown, IsOutcome, IsReportOf, events_after}
+use Rattle.conn_server.specs.Reports.{AreTurnsOf, IsKnown, IsAllJoined, IsReportOf, events_after}
 use Rattle.conn_server.specs.Rows.{Paired}
 use Rattle.conn_server.specs.Starts.{job_of}
 use Rattle.conn_server.specs.declared.jobs.Guest.{Guest}
 use Rattle.conn_server.specs.declared.jobs.LinkReport.{LinkReport}
-use Rattle.conn_server.specs.declared.server.Outcome.{Outcome}
+use Rattle.conn_server.specs.declared.server.AllJoined.{AllJoined}
 use Rattle.conn_server.specs.declared.started.Started.{Started}
 use Rattle.conn_server.proofs.Histories.{starts_on, others_by, went_before, turns_closed}
 use Rattle.conn_server.proofs.Rows.{paired_map}
@@ -53,7 +53,7 @@ module _ {I O T H : Type 0} (IsLink : ℕ → Accepted × Asked → LinkReport I
     paired_known v n [] (r ∷ reports) p = absurd p
     paired_known v n (s ∷ all) [] p = absurd p
 
-  module _ (served : List (Accepted × Asked)) (o : Outcome I O T H) (is : IsOutcome IsLink lock served o) (h : SpaceHistory) (done : Settled (opening_of lock) (view_of o.root.pass) h) where
+  module _ (served : List (Accepted × Asked)) (o : AllJoined I O T H) (is : IsAllJoined IsLink lock served o) (h : SpaceHistory) (done : Settled (opening_of lock) (view_of o.root.pass) h) where
     known_reported : (k : ℕ) (p : Accepted × Asked) (r : LinkReport I O T H) → IsKnown IsLink (opening_of lock) (view_of o.root.pass) k p r → IsReportOf IsLink (opening_of lock) h k p r
     known_reported k p r known = record {
       link = known.link;

@@ -23,7 +23,7 @@ use Rattle.conn_server.specs.Talks.{Talks, first_spot}
 use Rattle.conn_server.specs.Views.{IsTicked}
 use Rattle.conn_server.specs.declared.jobs.LinkReport.{LinkReport}
 use Rattle.conn_server.specs.declared.plan.ServePlan.{ServePlan}
-use Rattle.conn_server.specs.declared.server.Outcome.{Outcome as Left}
+use Rattle.conn_server.specs.declared.server.AllJoined.{AllJoined}
 
 -- The events of connection k after the opening ones.
 abbrev pub events_after : SpaceHistory → ℕ → SpaceHistory → Events
@@ -63,7 +63,7 @@ pub record IsKnown {I O T H : Type 0} (IsLink : ℕ → Accepted × Asked → Li
   pub seen : StartsWith v.seen last
 
 -- All threads were joined: the root is the lock's and knows the turns of each link and its own.
-pub record IsOutcome {I O T H : Type 0} (IsLink : ℕ → Accepted × Asked → LinkReport I O T H → Type 0) (lock : TurnLock) (served : List (Accepted × Asked)) (o : Left I O T H) : Type 0 where
+pub record IsAllJoined {I O T H : Type 0} (IsLink : ℕ → Accepted × Asked → LinkReport I O T H → Type 0) (lock : TurnLock) (served : List (Accepted × Asked)) (o : AllJoined I O T H) : Type 0 where
   pub own : IsRootOf lock o.root
   pub out : o.root.out ≡ 0
   pub made : o.root.made ≡ length o.links.items

@@ -16,4 +16,4 @@ pub use accepts::Stop;
 pub use crew::Crew;
 pub use jobs::{Done, Guest, Job, JobKept, LinkReport};
 pub use plan::ServePlan;
-pub use server::{LinkReports, Outcome, Report, serve};
+pub use server::{AllJoined, LinkReports, Report, serve};

@@ -10,7 +10,7 @@ ghost use Rattle.space.specs.declared.asked.Asked.{Asked};
 ghost use Rattle.turn_lock.specs.Handles.{IsFresh, opening_of};
 ghost use Rattle.turn_lock.specs.Rule.{StartsWith};
 ghost use Rattle.conn_server.specs.Accepts.{links_of, ticks_of, with_all};
-ghost use Rattle.conn_server.specs.Reports.{AreTurnsOf, IsLinkOf, IsOutcome, IsReportOf, events_after};
+ghost use Rattle.conn_server.specs.Reports.{AreTurnsOf, IsLinkOf, IsAllJoined, IsReportOf, events_after};
 ghost use Rattle.conn_server.specs.Rows.{Paired};
 ghost use Rattle.conn_server.specs.Stops.{Stopped};
 
@@ -35,7 +35,7 @@ pub type LinkReports<I, O, T, H> = Sequence<LinkReport<I, O, T, H>>;
 
 /// What is left once all threads were joined.
 #[derive(Drop)]
-pub struct Outcome<I, O, T, H> {
+pub struct AllJoined<I, O, T, H> {
     pub root: Root,
     pub links: Vec<LinkReport<I, O, T, H>>,
     pub ticks: Vec<Asked>,
@@ -67,7 +67,7 @@ fn serve_within<'s, E, R: Threads + Wait + Sync, L: Listener, G: Crew>(
     listener: &mut L,
     crew: &G,
     plan: &ServePlan,
-) -> Outcome<L::In, L::Out, L::Ticks, G::Hand>
+) -> AllJoined<L::In, L::Out, L::Ticks, G::Hand>
 where
     L::In: 's,
     L::Out: 's,
@@ -76,7 +76,7 @@ where
     requires fresh { IsFresh lock.now root }
     requires few { plan.now.count ≤ 65535 }
     requires host { length (utf plan.now.host) ≤ MAX_HOST_BYTES }
-    ensures served { (served : List (Accepted × Asked)) × IsOutcome (IsLinkOf L.In.left L.Out.held L.Ticks.given G.Hand.calls G.Hand.seen G.Hand.state G.Hand.may G.Hand.moves book.now plan.now) lock.now served result
+    ensures served { (served : List (Accepted × Asked)) × IsAllJoined (IsLinkOf L.In.left L.Out.held L.Ticks.given G.Hand.calls G.Hand.seen G.Hand.state G.Hand.may G.Hand.moves book.now plan.now) lock.now served result
         × ((lost : List Accepted) × (L.accepted listener.new ≡ with_all (L.accepted listener.old) (links_of served ++ lost)) × Stopped result.stop plan.now.count (length result.links.items) lost) }
     ensures fault { result.stop ≡ Stop.AcceptFault → Rose (L.faults listener.old) (L.faults listener.new) }
     ensures faults { L.faults listener.old ≤ L.faults listener.new }
@@ -92,7 +92,7 @@ where
         scope, rt, alloc, lock, book, ended, listener, crew, plan, accepting,
     );
     let (root, links, ticks) = join_links(rt, lock, book, plan, accepting);
-    Outcome {
+    AllJoined {
         root,
         links,
         ticks,
@@ -155,10 +155,10 @@ pub fn serve<R: Threads + Wait + Sync, L: Listener, G: Crew>(
     let (left, outcome) = thread::scope(
         thread::scope_env(),
         rt,
-        move |scope| -> (&mut L, Outcome<L::In, L::Out, L::Ticks, G::Hand>)
+        move |scope| -> (&mut L, AllJoined<L::In, L::Out, L::Ticks, G::Hand>)
             requires { IsFresh shared.now root × (plan.now.count ≤ 65535) × (length (utf plan.now.host) ≤ MAX_HOST_BYTES) }
             ensures left { (result.0.ghost_name ≡ listener.entry.ghost_name) }
-            ensures served { (served : List (Accepted × Asked)) × IsOutcome (IsLinkOf L.In.left L.Out.held L.Ticks.given G.Hand.calls G.Hand.seen G.Hand.state G.Hand.may G.Hand.moves book.entry.now plan.entry.now) shared.entry.now served result.1
+            ensures served { (served : List (Accepted × Asked)) × IsAllJoined (IsLinkOf L.In.left L.Out.held L.Ticks.given G.Hand.calls G.Hand.seen G.Hand.state G.Hand.may G.Hand.moves book.entry.now plan.entry.now) shared.entry.now served result.1
                 × ((lost : List Accepted) × (L.accepted result.0.now ≡ with_all (L.accepted listener.entry.now) (links_of served ++ lost)) × Stopped result.1.stop plan.entry.now.count (length result.1.links.items) lost) }
             ensures fault { result.1.stop ≡ Stop.AcceptFault → Rose (L.faults listener.entry.now) (L.faults result.0.now) }
             ensures faults { L.faults listener.entry.now ≤ L.faults result.0.now }
@@ -171,7 +171,7 @@ pub fn serve<R: Threads + Wait + Sync, L: Listener, G: Crew>(
         },
     );
     let _ = left;
-    let Outcome {
+    let AllJoined {
         root,
         links,
         ticks,

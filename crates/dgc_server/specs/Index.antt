@@ -5,7 +5,7 @@ use Rattle.object_ids.specs.declared.ids.ObjId.{ObjId}
 use Rattle.object_ids.specs.Same.{same_id, same_key}
 use Rattle.indexmap.specs.IndexMap.{IndexMap, get}
 use Rattle.dgc_server.specs.declared.holders.Count.{Count}
-use Rattle.dgc_server.specs.declared.holders.Place.{Place}
+use Rattle.dgc_server.specs.declared.holders.ClientHint.{ClientHint}
 use Rattle.dgc_server.specs.declared.holders.Share.{Share}
 use Rattle.dgc_server.specs.declared.numbers.Numbers.{Numbers}
 use Rattle.dgc_server.specs.declared.table.Noted.{Noted}
@@ -20,12 +20,12 @@ pub data Way : Type 0 where
   Naming : Way
 
 -- The first place of all.
-abbrev pub no_place : Place
-no_place = record { chunk = 0; index = 0 }
+abbrev pub no_hint : ClientHint
+no_hint = record { chunk = 0; index = 0 }
 
 -- What is counted of an object that no client names.
 abbrev pub no_count : Count
-no_count = record { holders = 0; clients = 0; place = no_place }
+no_count = record { holders = 0; clients = 0; hint = no_hint }
 
 abbrev pub count_by : Way → Count → ℕ
 count_by Holding n = n.holders

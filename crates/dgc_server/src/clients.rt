@@ -13,7 +13,7 @@ ghost use Rattle.dgc_server.specs.Table.{entry_of, no_entry, with_entry, after_l
 ghost use Rattle.dgc_server.specs.Chunks.{all_of, is_filled, IsChunkOf, IsBounded, IsChunked};
 
 use crate::entry::{ClientEntry, LeaseCall};
-use crate::holders::{Counts, Passed, Place};
+use crate::holders::{ClientHint, Counts, Passed};
 use crate::table::{self, Noted, Sums};
 use crate::{drops, lapses};
 use object_ids::{ObjId, Vmid};
@@ -187,7 +187,7 @@ impl Clients {
 
     /// Forgets what is kept of an object that so many clients name, and a client of which nothing is left then. It begins to look at this place,
     /// as a count notes it, and stops as soon as all that name the object were met; where none names it, it looks at none. It takes no memory.
-    pub fn drop_object(&mut self, object: &ObjId, clients: u32, place: Place)
+    pub fn drop_object(&mut self, object: &ObjId, clients: u32, hint: ClientHint)
         requires kept { IsTrue (list_all (is_entry_kept self.old.moment) self.old.entries) }
         requires counted { clients ≡ length (filter (entry_names object.now) self.old.entries) }
         ensures entries { self.new.entries ≡ filter (is_entry_kept self.old.moment) (map (entry_without object.now) self.old.entries) }
@@ -198,13 +198,13 @@ impl Clients {
             return;
         }
         let time = self.moment;
-        drops::drop_object(&mut self.chunks, object, clients, place, time);
+        drops::drop_object(&mut self.chunks, object, clients, hint, time);
     }
 
     /// Forgets what is kept of the objects that have no count any more, and the clients of which nothing is left then. So many pairs go. It looks
     /// at all objects of the clients from this place on, as a count notes it, and then from the first on, until as many went, and then once at each
     /// client's end. Where no pair goes it looks at no client. It takes no memory.
-    pub fn drop_objects(&mut self, counts: &Counts, pairs: u128, place: Place)
+    pub fn drop_objects(&mut self, counts: &Counts, pairs: u128, hint: ClientHint)
         requires kept { IsTrue (list_all (is_entry_kept self.old.moment) self.old.entries) }
         requires pairs { pairs + objects_in (map (with_only (is_named counts.now)) self.old.entries) ≡ objects_in self.old.entries }
         ensures entries { self.new.entries ≡ filter (is_entry_kept self.old.moment) (map (with_only (is_named counts.now)) self.old.entries) }
@@ -215,7 +215,7 @@ impl Clients {
             return;
         }
         let time = self.moment;
-        drops::drop_objects(&mut self.chunks, counts, pairs, place, time);
+        drops::drop_objects(&mut self.chunks, counts, pairs, hint, time);
     }
 }
 

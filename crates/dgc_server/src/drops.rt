@@ -6,7 +6,7 @@ ghost use Rattle.dgc_server.specs.Index.{entry_names, is_named, with_only, objec
 ghost use Rattle.dgc_server.specs.Chunks.{all_of, is_filled, IsBounded, IsCalmChunk};
 
 use crate::clients::Chunk;
-use crate::holders::{Counts, Place};
+use crate::holders::{ClientHint, Counts};
 use crate::table;
 use object_ids::ObjId;
 
@@ -41,15 +41,21 @@ pub fn keep_filled(chunks: &mut Vec<Chunk>)
 
 /// Forgets what is kept of an object that so many clients name, and a client of which nothing is left then. It begins to look at this place,
 /// as a count notes it, and stops as soon as all that name the object were met. It takes no memory.
-pub fn drop_object(chunks: &mut Vec<Chunk>, object: &ObjId, clients: u32, place: Place, time: u64)
+pub fn drop_object(
+    chunks: &mut Vec<Chunk>,
+    object: &ObjId,
+    clients: u32,
+    hint: ClientHint,
+    time: u64,
+)
     requires kept { IsTrue (list_all (is_entry_kept time) (all_of chunks.old.items)) }
     requires counted { clients ≡ length (filter (entry_names object.now) (all_of chunks.old.items)) }
     ensures entries { all_of chunks.new.items ≡ filter (is_entry_kept time) (map (entry_without object.now) (all_of chunks.old.items)) }
     ensures filled { IsTrue (list_all is_filled chunks.new.items) }
     ensures bounded { (n : ℕ) → AllByRecursion (IsBounded time n) chunks.old.items → AllByRecursion (IsBounded time n) chunks.new.items }
 {
-    let chunk = place.chunk as usize;
-    let to_go = walk(chunks, object, clients, chunk, place.index as usize, time);
+    let chunk = hint.chunk as usize;
+    let to_go = walk(chunks, object, clients, chunk, hint.index as usize, time);
     walk(chunks, object, to_go, 0, 0, time);
     keep_filled(chunks);
 }
@@ -90,14 +96,20 @@ fn walk(
 /// Forgets what is kept of the objects that have no count any more, and the clients of which nothing is left then. So many pairs go. It looks at
 /// all objects of the clients from this place on, as a count notes it, and then from the first on, until as many went, and then once at each
 /// client's end. It takes no memory.
-pub fn drop_objects(chunks: &mut Vec<Chunk>, counts: &Counts, pairs: u128, place: Place, time: u64)
+pub fn drop_objects(
+    chunks: &mut Vec<Chunk>,
+    counts: &Counts,
+    pairs: u128,
+    hint: ClientHint,
+    time: u64,
+)
     requires { pairs + objects_in (map (with_only (is_named counts.now)) (all_of chunks.old.items)) ≡ objects_in (all_of chunks.old.items) }
     ensures entries { all_of chunks.new.items ≡ filter (is_entry_kept time) (map (with_only (is_named counts.now)) (all_of chunks.old.items)) }
     ensures filled { IsTrue (list_all is_filled chunks.new.items) }
     ensures bounded { (n : ℕ) → AllByRecursion (IsBounded time n) chunks.old.items → AllByRecursion (IsBounded time n) chunks.new.items }
 {
-    let chunk = place.chunk as usize;
-    let to_go = keep_named(chunks, counts, pairs, chunk, place.index as usize);
+    let chunk = hint.chunk as usize;
+    let to_go = keep_named(chunks, counts, pairs, chunk, hint.index as usize);
     keep_named(chunks, counts, to_go, 0, 0);
     keep(chunks, time);
 }

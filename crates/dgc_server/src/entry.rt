@@ -9,7 +9,7 @@ ghost use Rattle.dgc_server.specs.Stands.{each_once, entry_after};
 ghost use Rattle.dgc_server.specs.Table.{no_entry};
 ghost use Rattle.dgc_server.specs.Index.{Way, counted_at, has_count, one_if, is_counted, is_named, with_only};
 
-use crate::holders::{Counts, Place};
+use crate::holders::{ClientHint, Counts};
 use crate::marks::{self, Marks};
 use crate::numbers::Numbers;
 use history::CallKind;
@@ -157,7 +157,7 @@ impl ClientEntry {
         call: &LeaseCall<'_>,
         lease: u64,
         from: u64,
-        place: Place,
+        hint: ClientHint,
     ) -> Result<(), AllocError>
         requires later { from ≤ call.now.time }
         requires early { call.now.time < END_OF_TIME }
@@ -186,7 +186,7 @@ impl ClientEntry {
             call.number,
             left,
             held,
-            place,
+            hint,
         );
         self.until = until;
         Ok(())

@@ -16,16 +16,16 @@ use std::alloc::AllocError;
 
 /// Where a client stands: in the chunk of this number, behind so many others of it. What keeps a place keeps it as a hint where to look first.
 #[derive(Clone, Copy)]
-pub struct Place {
+pub struct ClientHint {
     pub chunk: u16,
     pub index: u16,
 }
 
-impl Place {
+impl ClientHint {
     /// A place, if its numbers are not too great, and the first of all, if they are.
-    pub fn hint(chunk: usize, index: usize) -> Place {
+    pub fn new(chunk: usize, index: usize) -> ClientHint {
         if chunk <= u16::MAX as usize && index <= u16::MAX as usize {
-            Place {
+            ClientHint {
                 chunk: chunk as u16,
                 index: index as u16,
             }
@@ -36,7 +36,7 @@ impl Place {
 }
 
 /// The first place of all.
-const FIRST: Place = Place { chunk: 0, index: 0 };
+const FIRST: ClientHint = ClientHint { chunk: 0, index: 0 };
 
 /// What is counted of an object: how many clients hold it, how many name it (some number of it is kept of them), and at which place one
 /// that names it stood when a call of it was noted last.
@@ -44,7 +44,7 @@ const FIRST: Place = Place { chunk: 0, index: 0 };
 pub struct Count {
     pub holders: u32,
     pub clients: u32,
-    pub place: Place,
+    pub hint: ClientHint,
 }
 
 /// What a client counts for: whether it holds an object, and whether it names it.
@@ -71,7 +71,7 @@ fn no_count() -> Count
     Count {
         holders: 0,
         clients: 0,
-        place: FIRST,
+        hint: FIRST,
     }
 }
 
@@ -132,12 +132,12 @@ fn lowered(count: Count, share: Share) -> Count
     Count {
         holders,
         clients,
-        place: count.place,
+        hint: count.hint,
     }
 }
 
 /// A count with the share of a client at this place.
-fn raised(count: Count, share: Share, place: Place) -> Count
+fn raised(count: Count, share: Share, hint: ClientHint) -> Count
     requires { (w : Way) → count_by w count ≤ 2 ^ 31 }
     ensures { (w : Way) → count_by w result ≡ count_by w count + one_if (share_by w share) }
 {
@@ -146,7 +146,7 @@ fn raised(count: Count, share: Share, place: Place) -> Count
     Count {
         holders,
         clients,
-        place,
+        hint,
     }
 }
 
@@ -171,7 +171,7 @@ pub fn lower(counts: &mut Counts, object: &ObjId, share: Share)
 }
 
 /// Counts a client, at this place, for another share in an object.
-pub fn shift(counts: &mut Counts, object: &ObjId, before: Share, after: Share, place: Place)
+pub fn shift(counts: &mut Counts, object: &ObjId, before: Share, after: Share, hint: ClientHint)
     requires has { has_count counts.old object.now ≡ true }
     requires enough { (w : Way) → one_if (share_by w before) ≤ counted_at w counts.old object.now }
     requires few { (w : Way) → counted_at w counts.old object.now ≤ 2 ^ 31 }
@@ -181,7 +181,7 @@ pub fn shift(counts: &mut Counts, object: &ObjId, before: Share, after: Share, p
 {
     let count = count_of(counts, object);
     let rest = lowered(count, before);
-    put(counts, object, raised(rest, after, place));
+    put(counts, object, raised(rest, after, hint));
 }
 
 /// What the share of a client with these numbers loses as the tenure is forgotten.
@@ -278,7 +278,7 @@ pub fn end_tenure(
 #[derive(Clone, Copy)]
 pub struct Gone {
     pub pairs: u128,
-    pub place: Place,
+    pub hint: ClientHint,
 }
 
 /// Nobody holds or names these objects any more. Answers how many pairs went. It takes no memory.
@@ -287,18 +287,18 @@ pub fn forget_all(counts: &mut Counts, objects: &[ObjId]) -> Gone
     ensures pairs { result.pairs ≡ total_of (counted_at Naming counts.old) objects.now }
 {
     let mut pairs: u128 = 0;
-    let mut place = FIRST;
+    let mut hint = FIRST;
     for object in objects {
         let count = take_out(counts, object);
-        place = first_place(pairs, place, &count);
+        hint = first_hint(pairs, hint, &count);
         pairs += count.clients as u128;
     }
-    Gone { pairs, place }
+    Gone { pairs, hint }
 }
 
 /// The place that a count notes, where no pairs were met before, and the one that was noted then, where some were.
-fn first_place(pairs: u128, place: Place, count: &Count) -> Place {
-    if pairs == 0 { count.place } else { place }
+fn first_hint(pairs: u128, hint: ClientHint, count: &Count) -> ClientHint {
+    if pairs == 0 { count.hint } else { hint }
 }
 
 /// Nobody holds or names an object any more. Answers what was counted of it.

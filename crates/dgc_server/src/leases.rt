@@ -243,8 +243,7 @@ impl Leases {
             StandsFor lease self.new moment (map (without object) calls)) }
     {
         let count = count_of(&self.counts, &object);
-        self.clients
-            .drop_object(&object, count.clients, count.place);
+        self.clients.drop_object(&object, count.clients, count.hint);
         forget(&mut self.counts, &object);
         self.sums = table::sums_without(self.sums, count.clients as u128);
     }
@@ -301,7 +300,7 @@ impl Leases {
     {
         let gone = forget_all(&mut self.counts, objects);
         self.clients
-            .drop_objects(&self.counts, gone.pairs, gone.place);
+            .drop_objects(&self.counts, gone.pairs, gone.hint);
         self.sums = table::sums_without(self.sums, gone.pairs);
     }
 

@@ -9,7 +9,7 @@ ghost use Rattle.dgc_server.specs.Stands.{each_once};
 ghost use Rattle.dgc_server.specs.Index.{Way, counted_at, has_count, one_if, counts_in, is_named};
 
 use crate::few_marks::equal;
-use crate::holders::{self, Counts, Place, Share};
+use crate::holders::{self, ClientHint, Counts, Share};
 pub use crate::mark_list::Marks;
 use crate::numbers::Numbers;
 use history::CallKind;
@@ -176,7 +176,7 @@ pub fn note(
     number: &i64,
     left: bool,
     held: bool,
-    place: Place,
+    hint: ClientHint,
 )
     requires room { room_for left (object_entries objects.old.entries) named.now ≤ objects.old.room }
     requires once { IsTrue (each_once (object_entries objects.old.entries)) }
@@ -190,7 +190,7 @@ pub fn note(
 {
     settle(objects, counts, left, held);
     if counts_for(kind, left) {
-        note_all(objects, counts, named, kind, number, place);
+        note_all(objects, counts, named, kind, number, hint);
     }
 }
 
@@ -229,7 +229,7 @@ fn note_all(
     named: &[ObjId],
     kind: CallKind,
     number: &i64,
-    place: Place,
+    hint: ClientHint,
 )
     requires room { absent_in (object_entries objects.old.entries) named.now ≤ objects.old.room }
     requires has { (o : ObjId) → is_in o named.now ≡ true → has_count counts.old o ≡ true }
@@ -240,7 +240,7 @@ fn note_all(
         ≡ counted_at w counts.old o + one_if (counts_in w true (object_entries objects.new.entries) o) }
 {
     for object in named {
-        note_one(objects, counts, object, kind, number, place);
+        note_one(objects, counts, object, kind, number, hint);
     }
 }
 
@@ -251,7 +251,7 @@ fn note_one(
     object: &ObjId,
     kind: CallKind,
     number: &i64,
-    place: Place,
+    hint: ClientHint,
 )
     requires room { has_object (object_entries objects.old.entries) object.now ≡ false → 0 < objects.old.room }
     requires has { has_count counts.old object.now ≡ true }
@@ -275,7 +275,7 @@ fn note_one(
         holds: after.is_dirty_highest(),
         names: true,
     };
-    holders::shift(counts, object, share, next, place);
+    holders::shift(counts, object, share, next, hint);
 }
 
 /// Sets the numbers of an object, which is there if `is_there` says so. If it is not, there is room.

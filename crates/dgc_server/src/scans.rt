@@ -62,7 +62,13 @@ pub fn sums_by(clients: &Clients, sums: Sums, time: u64) -> Sums
     requires sums { sums ≡ sums_at clients.now.moment clients.now.entries }
     ensures { result ≡ sums_at time clients.now.entries }
 {
-    sums_in(clients.chunks(), sums, clients.next(), clients.moment(), time)
+    sums_in(
+        clients.chunks(),
+        sums,
+        clients.next(),
+        clients.moment(),
+        time,
+    )
 }
 
 /// The sums over the clients of these chunks at the moment `to`, where `sums` are those at `from`. It passes over chunks in which nothing is due.
@@ -133,7 +139,8 @@ pub fn is_past_clients(clients: &Clients, client: &Vmid, time: u64, leased: usiz
     requires few { leased ≤ MAX_CLIENTS }
     ensures { IsTrue result ↔ (MAX_CLIENTS < clients_after clients.now.entries client.now time) }
 {
-    leased as u64 >= MAX_CLIENTS && clients_after(clients, client, time, leased) as u64 > MAX_CLIENTS
+    leased as u64 >= MAX_CLIENTS
+        && clients_after(clients, client, time, leased) as u64 > MAX_CLIENTS
 }
 
 /// How many pairs a call of this kind brings that were not remembered.

@@ -10,7 +10,7 @@ ghost use Rattle.dgc_server.specs.Index.{Way, counted_at, has_count, is_counted,
 ghost use Rattle.dgc_server.specs.Table.{entry_of, no_entry, IsPlaceOf, with_entry, remembered};
 
 use crate::entry::{ClientEntry, LeaseCall};
-use crate::holders::{Counts, Place};
+use crate::holders::{ClientHint, Counts};
 use history::{LeaseList, LeaseRow};
 use object_ids::{ObjId, Vmid};
 use std::alloc::{AllocError, Global};
@@ -104,7 +104,7 @@ pub fn note(
             call,
             lease,
             from,
-            Place::hint(at_chunk, place),
+            ClientHint::new(at_chunk, place),
         ),
         Err(place) => {
             entries.reserve(1)?;
@@ -115,7 +115,7 @@ pub fn note(
                 call,
                 lease,
                 from,
-                Place::hint(at_chunk, place),
+                ClientHint::new(at_chunk, place),
             )?;
             insert_within(entries, place, entry);
             Ok(noted)
@@ -130,7 +130,7 @@ fn note_entry(
     call: &LeaseCall<'_>,
     lease: u64,
     from: u64,
-    place: Place,
+    hint: ClientHint,
 ) -> Result<Noted, AllocError>
     requires later { from ≤ call.now.time }
     requires early { call.now.time < END_OF_TIME }
@@ -149,7 +149,7 @@ fn note_entry(
     ensures same { OnErr result (counts.new ≡ counts.old) }
 {
     let before = sums_of(entry, from);
-    entry.note(counts, call, lease, from, place)?;
+    entry.note(counts, call, lease, from, hint)?;
     Ok(Noted {
         before,
         after: sums_of(entry, from),

@@ -19,7 +19,7 @@ use Rattle.export_table.specs.declared.waits.Wait.{Wait}
 use Rattle.history.proofs.ListLemmas.{list_any-filter, list_any-same, filter-same, every-always}
 use Rattle.export_table.specs.declared.rows.Export.{Export}
 use Rattle.export_table.specs.Rows.{ids, is_pinned, is_row_kept, withdrawn}
-use Rattle.export_table.specs.Waits.{is_wait_of, goes_on, waiting, is_awaited, until_of, of_return, each_once}
+use Rattle.export_table.specs.Waits.{is_wait_of, goes_on, waiting, is_awaited, end_of_wait, of_return, each_once}
 use Rattle.export_table.specs.Index.{same_reference, count_at, returned_at, has_reference, is_reference, of_object, IsIndexOf, EndsNoEarlier}
 
 -- ---- where none ends
@@ -249,7 +249,7 @@ so-far-last s ws i h =
 
 -- ---- where a reference is not listed
 
-pub until-none : (o : ObjId) (u : Uid) (ws : List Wait) → list_any (is_wait_of o u) ws ≡ false → until_of o u ws ≡ 0
+pub until-none : (o : ObjId) (u : Uid) (ws : List Wait) → list_any (is_wait_of o u) ws ≡ false → end_of_wait o u ws ≡ 0
 until-none o u [] h = refl
 until-none o u (w ∷ ws) h =
     let parts = neither (is_wait_of o u w) (list_any (is_wait_of o u) ws) h in

@@ -14,7 +14,7 @@ use Rattle.dgc_server.specs.Index.{one_if}
 use Rattle.export_table.specs.declared.waits.Wait.{Wait}
 use Rattle.history.proofs.ListLemmas.{filter-same, every-always, and_false}
 use Rattle.export_table.specs.declared.waits.Stays.TheVariants.{OtherReturns}
-use Rattle.export_table.specs.Waits.{is_wait_of, until_of, of_return, objects}
+use Rattle.export_table.specs.Waits.{is_wait_of, end_of_wait, of_return, objects}
 use Rattle.export_table.specs.Index.{returned_at, stays}
 
 -- ---- one count
@@ -143,13 +143,13 @@ none-of-count u ws h = go (of_return u ws) h
     go (x ∷ xs) e = absurd (omega arith)
 
 -- The moment until which a reference waits, by the waits from that place on.
-pub until-rest : (o : ObjId) (u : Uid) (ws : List Wait) (n : ℕ) → of_return u (take n ws) ≡ [] → until_of o u (drop n ws) ≡ until_of o u ws
+pub until-rest : (o : ObjId) (u : Uid) (ws : List Wait) (n : ℕ) → of_return u (take n ws) ≡ [] → end_of_wait o u (drop n ws) ≡ end_of_wait o u ws
 until-rest o u ws zero h = refl
 until-rest o u [] (suc n) h = refl
 until-rest o u (w ∷ ws) (suc n) h = go (same_uid w.uid u) refl h (until-rest o u ws n)
   where
-    go : (b : Bool) → same_uid w.uid u ≡ b → cond b (w ∷ of_return u (take n ws)) (of_return u (take n ws)) ≡ [] → (of_return u (take n ws) ≡ [] → until_of o u (drop n ws) ≡ until_of o u ws) →
-        until_of o u (drop n ws) ≡ until_of o u (w ∷ ws)
+    go : (b : Bool) → same_uid w.uid u ≡ b → cond b (w ∷ of_return u (take n ws)) (of_return u (take n ws)) ≡ [] → (of_return u (take n ws) ≡ [] → end_of_wait o u (drop n ws) ≡ end_of_wait o u ws) →
+        end_of_wait o u (drop n ws) ≡ end_of_wait o u (w ∷ ws)
     go true e f rest = absurd (cc)
     go false e f rest = rest f ∙ sym (rw (e, and_false (same_id w.object o)) refl)
 

@@ -14,7 +14,7 @@ use Rattle.history.proofs.ListLemmas.{list_any-filter, or_false, and_false}
 use Rattle.export_table.specs.declared.rows.Export.{Export}
 use Rattle.export_table.specs.declared.waits.Wait.{Wait}
 use Rattle.export_table.specs.Rows.{is_of, row_of, is_exported, kind_of, ids, is_rising, is_given, changed, is_row_kept, withdrawn}
-use Rattle.export_table.specs.Waits.{is_wait_of, goes_on, waiting, is_waiting, until_of, listed, acknowledged}
+use Rattle.export_table.specs.Waits.{is_wait_of, goes_on, waiting, is_waiting, end_of_wait, listed, acknowledged}
 use Rattle.export_table.proofs.Places.{row-none, not_below}
 
 -- ---- the order of the objects
@@ -173,10 +173,10 @@ waiting-acknowledged k o u v (w ∷ waits) = go (same_uid w.uid v) (same_uid w.u
 -- A REFERENCE THAT IS LISTED waits until its new end; the others wait as before.
 pub waiting-listed : (ack t k : ℕ) (o p : ObjId) (u v : Uid) (waits : List Wait) → t ≤ k →
     is_waiting k p v (listed ack t o u waits)
-    ≡ (if same_id o p && same_uid u v then nat_lt k (max (t + ack) (until_of o u waits)) else is_waiting k p v waits)
+    ≡ (if same_id o p && same_uid u v then nat_lt k (max (t + ack) (end_of_wait o u waits)) else is_waiting k p v waits)
 waiting-listed ack t k o p u v waits le =
-    list_any-append (λ w. goes_on k w && is_wait_of p v w) (filter (λ w. not (is_wait_of o u w)) (waiting t waits)) (record { object = o; uid = u; until = max (t + ack) (until_of o u waits) } ∷ [])
-    ∙ ap (λ b. is_waiting k p v (filter (λ w. not (is_wait_of o u w)) (waiting t waits)) || b) (or_false (nat_lt k (max (t + ack) (until_of o u waits)) && (same_id o p && same_uid u v)))
+    list_any-append (λ w. goes_on k w && is_wait_of p v w) (filter (λ w. not (is_wait_of o u w)) (waiting t waits)) (record { object = o; uid = u; until = max (t + ack) (end_of_wait o u waits) } ∷ [])
+    ∙ ap (λ b. is_waiting k p v (filter (λ w. not (is_wait_of o u w)) (waiting t waits)) || b) (or_false (nat_lt k (max (t + ack) (end_of_wait o u waits)) && (same_id o p && same_uid u v)))
     ∙ go (same_id o p && same_uid u v) refl
   where
     out : (b : Bool) → (same_id o p && same_uid u v) ≡ b → (ws : List Wait) → is_waiting k p v (filter (λ w. not (is_wait_of o u w)) ws) ≡ (not b && is_waiting k p v ws)
@@ -212,9 +212,9 @@ waiting-listed ack t k o p u v waits le =
     now_other false false = refl
 
     go : (b : Bool) → (same_id o p && same_uid u v) ≡ b →
-        (is_waiting k p v (filter (λ w. not (is_wait_of o u w)) (waiting t waits)) || (nat_lt k (max (t + ack) (until_of o u waits)) && b))
-        ≡ (if b then nat_lt k (max (t + ack) (until_of o u waits)) else is_waiting k p v waits)
-    go true e = ap (λ x. x || (nat_lt k (max (t + ack) (until_of o u waits)) && true)) (out true e (waiting t waits)) ∙ now_same (nat_lt k (max (t + ack) (until_of o u waits)))
+        (is_waiting k p v (filter (λ w. not (is_wait_of o u w)) (waiting t waits)) || (nat_lt k (max (t + ack) (end_of_wait o u waits)) && b))
+        ≡ (if b then nat_lt k (max (t + ack) (end_of_wait o u waits)) else is_waiting k p v waits)
+    go true e = ap (λ x. x || (nat_lt k (max (t + ack) (end_of_wait o u waits)) && true)) (out true e (waiting t waits)) ∙ now_same (nat_lt k (max (t + ack) (end_of_wait o u waits)))
     go false e =
-        ap (λ x. x || (nat_lt k (max (t + ack) (until_of o u waits)) && false)) (out false e (waiting t waits) ∙ waiting-forgotten t k p v waits le)
-        ∙ now_other (is_waiting k p v waits) (nat_lt k (max (t + ack) (until_of o u waits)))
+        ap (λ x. x || (nat_lt k (max (t + ack) (end_of_wait o u waits)) && false)) (out false e (waiting t waits) ∙ waiting-forgotten t k p v waits le)
+        ∙ now_other (is_waiting k p v waits) (nat_lt k (max (t + ack) (end_of_wait o u waits)))

@@ -15,7 +15,7 @@ use Rattle.history.proofs.ListLemmas.{list_any-filter}
 use Rattle.export_table.specs.declared.rows.Export.{Export}
 use Rattle.export_table.specs.declared.waits.Wait.{Wait}
 use Rattle.export_table.specs.Rows.{is_of, ids, is_rising, is_given, new_row, changed, IsPart}
-use Rattle.export_table.specs.Waits.{is_wait_of, goes_on, waiting, is_waiting, until_of, listed, each_once}
+use Rattle.export_table.specs.Waits.{is_wait_of, goes_on, waiting, is_waiting, end_of_wait, listed, each_once}
 use Rattle.export_table.specs.Table.{IsSound}
 use Rattle.export_table.proofs.Parts.{part-map, part-length, part-all, part-rising}
 
@@ -228,7 +228,7 @@ pub sound-listed : (space : Uid) (ack k : ℕ) (rows : List Export) (waits : Lis
     IsSound space ack k rows waits → IsSound space ack k rows (listed ack t o u waits)
 sound-listed space ack k rows waits t o u room s =
     let others = filter (λ w. not (is_wait_of o u w)) (waiting t waits) in
-    let w : Wait = record { object = o; uid = u; until = max (t + ack) (until_of o u waits) } in
+    let w : Wait = record { object = o; uid = u; until = max (t + ack) (end_of_wait o u waits) } in
     let fewer = fewer-listed t o u waits MAX_AWAITING s.few_waits room in let long = length-append others (w ∷ []) in record {
       some = s.some;
       short = s.short;

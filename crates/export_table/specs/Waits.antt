@@ -31,15 +31,15 @@ abbrev pub is_awaited : ℕ → ObjId → List Wait → Bool
 is_awaited t o waits = list_any (λ w. goes_on t w && same_id w.object o) waits
 
 -- The moment until which this object and return wait, 0 where they are not there.
-abbrev pub until_of : ObjId → Uid → List Wait → ℕ
-until_of o u waits = unwrap_or (option_map (λ w. w.until) (find (is_wait_of o u) waits)) 0
+abbrev pub end_of_wait : ObjId → Uid → List Wait → ℕ
+end_of_wait o u waits = unwrap_or (option_map (λ w. w.until) (find (is_wait_of o u) waits)) 0
 
 -- The waits once an object is listed in a return at the moment t, the last listed last: it waits for `ack` from t on, and no shorter than
 -- it did before. Those that ended are gone.
 abbrev pub listed : ℕ → ℕ → ObjId → Uid → List Wait → List Wait
 listed ack t o u waits =
     filter (λ w. not (is_wait_of o u w)) (waiting t waits)
-    ++ record { object = o; uid = u; until = max (t + ack) (until_of o u waits) } ∷ []
+    ++ record { object = o; uid = u; until = max (t + ack) (end_of_wait o u waits) } ∷ []
 
 -- The waits once objects are listed in a return at the moment t, one after another.
 abbrev pub listed_each : ℕ → ℕ → Uid → List ObjId → List Wait → List Wait

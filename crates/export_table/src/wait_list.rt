@@ -2,7 +2,7 @@
 ghost use Rattle.std.specs.Prelude.{◌≡◌, ◌++◌, ◌∷◌, [], ◌+◌, ◌<◌, ◌≤◌, ◌^◌, length, filter, take, drop, not, false, IsTrue, IsOk, IfOk, OnOk, OnErr, ◌↔◌};
 ghost use Rattle.std.specs.List.{list_any};
 ghost use Rattle.history.specs.declared.limits.TheConstants.{MAX_AWAITING};
-ghost use Rattle.export_table.specs.Waits.{is_wait_of, goes_on, waiting, over, of_return, objects, is_waiting, is_awaited, awaiting_of, until_of, listed, acknowledged};
+ghost use Rattle.export_table.specs.Waits.{is_wait_of, goes_on, waiting, over, of_return, objects, is_waiting, is_awaited, awaiting_of, end_of_wait, listed, acknowledged};
 ghost use Rattle.export_table.specs.Index.{stays};
 
 use crate::counts::{Counts, References, count_of, has};
@@ -115,7 +115,8 @@ impl WaitList {
     pub fn is_waiting(&self, object: &ObjId, uid: &Uid, time: u64) -> bool
         ensures { result ≡ is_waiting time object.now uid.now self.now.waits }
     {
-        has(&self.references, object, uid) && !waits::is_over(self.queue.due(time), object, uid, time)
+        has(&self.references, object, uid)
+            && !waits::is_over(self.queue.due(time), object, uid, time)
     }
 
     /// Whether as many references await at a moment as can be, and this one isn't among them.
@@ -126,12 +127,12 @@ impl WaitList {
     }
 
     /// The moment at which this reference ceases to wait, 0 where it is not listed.
-    fn until_of(&self, object: &ObjId, uid: &Uid) -> u64
-        ensures { result ≡ until_of object.now uid.now self.now.waits }
+    fn end_of_wait(&self, object: &ObjId, uid: &Uid) -> u64
+        ensures { result ≡ end_of_wait object.now uid.now self.now.waits }
     {
         if has(&self.references, object, uid) {
             let part = self.part_of(uid);
-            waits::until_of(waits::behind(self.queue.waits(), part.0), object, uid)
+            waits::end_of_wait(waits::behind(self.queue.waits(), part.0), object, uid)
         } else {
             0
         }
@@ -146,7 +147,7 @@ impl WaitList {
         ensures waits { self.new.waits ≡ listed ack now object.now uid.now self.old.waits }
         ensures room { self.new.room + 1 ≡ self.old.room }
     {
-        let until = (now + ack).max(self.until_of(object, uid));
+        let until = (now + ack).max(self.end_of_wait(object, uid));
         self.forget(now);
         self.drop_one(object, uid);
         let wait = Wait {

@@ -2,7 +2,7 @@
 ghost use Rattle.std.specs.Prelude.{◌≡◌, ◌++◌, ◌∷◌, [], ◌+◌, ◌<◌, ◌≤◌, ◌&&◌, true, length, filter, take, drop, map, not, IfOk, vec_len, vec_capacity};
 ghost use Rattle.std.specs.List.{list_any};
 ghost use Rattle.object_ids.specs.Same.{same_id, same_uid};
-ghost use Rattle.export_table.specs.Waits.{is_wait_of, goes_on, waiting, over, until_of, of_return};
+ghost use Rattle.export_table.specs.Waits.{is_wait_of, goes_on, waiting, over, end_of_wait, of_return};
 ghost use Rattle.export_table.specs.Index.{stays, EndsNoEarlier, EndsRise};
 ghost use Rattle.dgc_server.specs.Index.{one_if};
 
@@ -79,8 +79,8 @@ pub fn is_over(waits: &[Wait], object: &ObjId, uid: &Uid, time: u64) -> bool
 }
 
 /// The moment at which this reference ceases to wait, 0 where it is not listed.
-pub fn until_of(waits: &[Wait], object: &ObjId, uid: &Uid) -> u64
-    ensures { result ≡ until_of object.now uid.now waits.now }
+pub fn end_of_wait(waits: &[Wait], object: &ObjId, uid: &Uid) -> u64
+    ensures { result ≡ end_of_wait object.now uid.now waits.now }
 {
     for wait in waits {
         if wait.is_of(object, uid) {

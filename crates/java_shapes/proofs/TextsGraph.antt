@@ -15,7 +15,7 @@ use Rattle.class_desc.specs.ClassDesc.{is_good_desc, fit_flags, are_ordered}
 use Rattle.ser_values.specs.declared.value.Values.TheVariants as kinds
 use Rattle.ser_values.specs.declared.node.Node.{Node}
 use Rattle.ser_values.specs.declared.node.Node.TheVariants.{Text, Desc, Proxy, Object, Array, Class, Enum}
-use Rattle.ser_values.specs.declared.node.Place.TheVariants as places
+use Rattle.ser_values.specs.declared.node.SlotPlace.TheVariants as places
 use Rattle.ser_values.specs.Node.{is_desc, admits, admits_null, item_wants, field_wants, slot_wants, before, after}
 use Rattle.ser_values.specs.Shape.{joined_from, are_typed, is_shaped, parts_in}
 use Rattle.ser_values.specs.Ranges.{ItemFits, NodeFits, UnitsFitIn, NameFits}

@@ -1,6 +1,6 @@
 -- Calls, from what was read of their heads and their arguments.
 use Rattle.std.proofs.Common.{◌≡◌, ℕ, ◌-◌, eqb, List, [], ◌∷◌, length, Some, Result, Ok, Err, refl, sym, ap, subst, ◌∙◌, inl, inr}
-use Rattle.wire_io.specs.Pulled.{Place}
+use Rattle.wire_io.specs.Pulled.{PullState}
 use Rattle.class_desc.specs.declared.field.TypeCode.{TypeCode}
 use Rattle.class_desc.specs.declared.slot.Item.{Item}
 use Rattle.class_desc.specs.declared.slot.Item.TheVariants as items
@@ -56,7 +56,7 @@ given_parts end ws s bs head y e long stood =
           subst (λ (y : Whole). Given ws head y.0 y.2) two mine)
     ]
 
-pub parameters_given : {p q : Place} (ws : List Want) (s : Stand) (head : List ℕ) (answers : List Item) (nodes : List Node) (whole : List Item) → length head ≡ 34 → s.items ≡ items.Bytes head ∷ []
+pub parameters_given : {p q : PullState} (ws : List Want) (s : Stand) (head : List ℕ) (answers : List Item) (nodes : List Node) (whole : List Item) → length head ≡ 34 → s.items ≡ items.Bytes head ∷ []
     → Reads (inside short) p q (λ end. serve_to_close end ws s) (λ rest. (answers, nodes, whole, rest)) → Given ws head answers whole
 parameters_given ws s head answers nodes whole long stood r = given_parts _ ws s _ head (answers, nodes, whole, []) (r.is []) long stood
 
@@ -97,7 +97,7 @@ head_fails end ws bs f e = go (magic_at end (0xAC ∷ 0xED ∷ 0x00 ∷ 0x05 ∷
     go (Err g) e = let same : inside g ≡ f = cc in ap (λ (h : WantFault). Err h) same
     go (Ok bs) e = rw e refl
 
-pub call_reads : {o p q : Place} (head : CallHead) (ws : List Want) (s : Stand) (answers : List Item) (nodes : List Node) (whole : List Item) → ReadsHead o p head s
+pub call_reads : {o p q : PullState} (head : CallHead) (ws : List Want) (s : Stand) (answers : List Item) (nodes : List Node) (whole : List Item) → ReadsHead o p head s
     → Reads (inside short) p q (λ end. serve_to_close end ws s) (λ rest. (answers, nodes, whole, rest)) → Reads (inside short) o q (λ end. wants_at end (wanted.Bytes 34 ∷ ws)) (λ rest. (items.Bytes (head_bytes head) ∷ answers, nodes, whole, rest))
 call_reads {o} {p} {q} head ws s answers nodes whole a b =
     let later : Reads (inside short) p q (λ end bs. headed (head_bytes head) (serve_to_close end ws s bs)) (λ rest. (items.Bytes (head_bytes head) ∷ answers, nodes, whole, rest)) =
@@ -105,7 +105,7 @@ call_reads {o} {p} {q} head ws s answers nodes whole a b =
     reads_two a later (λ end bs rest is. head_then end ws bs (head_bytes head) rest s is) (λ end bs is. head_fails end ws bs (inside short) is)
 
 -- A head was taken, and then its arguments: that is a call.
-pub call_taken : {o p q : Place} (head : CallHead) (params : List TypeCode) (s : Stand) (arguments : Arguments) → ReadsHead o p head s → ReadsArguments p q s params arguments → TakesCall o q head params arguments
+pub call_taken : {o p q : PullState} (head : CallHead) (params : List TypeCode) (s : Stand) (arguments : Arguments) → ReadsHead o p head s → ReadsArguments p q s params arguments → TakesCall o q head params arguments
 call_taken {o} {p} {q} head params s arguments a b =
     let t = takes_asked (wanted.Bytes 34 ∷ wants_of params) (items.Bytes (head_bytes head) ∷ b.answers) arguments.graph.nodes b.whole (call_reads head (wants_of params) s b.answers arguments.graph.nodes b.whole a b.reads) in
     record {
@@ -115,7 +115,7 @@ call_taken {o} {p} {q} head params s arguments a b =
     }
 
 -- A head was taken, and then reading ended inside the arguments.
-pub call_breaks : {o p q : Place} {e : StreamFault} (head : CallHead) (ws : List Want) (s : Stand) → ReadsHead o p head s → WantBreaks p q e (λ end. serve_to_close end ws s) → WantBreaks o q e (λ end. wants_at end (wanted.Bytes 34 ∷ ws))
+pub call_breaks : {o p q : PullState} {e : StreamFault} (head : CallHead) (ws : List Want) (s : Stand) → ReadsHead o p head s → WantBreaks p q e (λ end. serve_to_close end ws s) → WantBreaks o q e (λ end. wants_at end (wanted.Bytes 34 ∷ ws))
 call_breaks {o} {p} {q} {e} head ws s a b =
     want_breaks_two (leads_read (λ end bs. headed (head_bytes head) (serve_to_close end ws s bs)) a (λ end bs rest here is. head_then end ws bs (head_bytes head) rest s is) (λ end bs here is. head_fails end ws bs (inside short) is))
     (want_first (λ end y. Ok (items.Bytes (head_bytes head) ∷ y.0, y.1, y.2, y.3)) b)

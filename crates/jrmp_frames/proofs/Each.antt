@@ -1,7 +1,7 @@
 -- Arguments that are read one after the other.
 use Rattle.std.proofs.Common.{◌≡◌, ℕ, ◌+◌, ◌<◌, ◌≤◌, List, [], ◌∷◌, ◌++◌, length, drop, get_or, drop-cons, length-drop, Ok, Err, refl, sym, ap, ◌∙◌, append_assoc, append-nil, arith, add-one}
 use Rattle.std.proofs.lemmas.List.{nil_from_length}
-use Rattle.wire_io.specs.Pulled.{Place}
+use Rattle.wire_io.specs.Pulled.{PullState}
 use Rattle.class_desc.specs.declared.field.TypeCode.{TypeCode}
 use Rattle.class_desc.specs.declared.field.TypeCode.TheVariants as codes
 use Rattle.class_desc.specs.declared.slot.Slot.{Slot}
@@ -58,10 +58,10 @@ bytes_are end n s later bs b rest e =
     (serve_fits end (wanted.Bytes n ∷ []) s bs (items.Bytes b ∷ [], later, rest) one).0
 
 -- So many bytes are read as are wanted.
-pub bytes_read : {p q : Place} (n : ℕ) (s later : Stand) (b : List ℕ) → Reads (inside short) p q (λ end. bytes_at end n s) (λ rest. (b, later, rest)) → length b ≡ n
+pub bytes_read : {p q : PullState} (n : ℕ) (s later : Stand) (b : List ℕ) → Reads (inside short) p q (λ end. bytes_at end n s) (λ rest. (b, later, rest)) → length b ≡ n
 bytes_read n s later b r = bytes_are _ n s later _ b [] (r.is [])
 
-pub bytes_argument : {p q : Place} (code : TypeCode) (n : ℕ) (s later : Stand) (b : List ℕ) → want_of code ≡ wanted.Bytes n → Reads (inside short) p q (λ end. bytes_at end n s) (λ rest. (b, later, rest))
+pub bytes_argument : {p q : PullState} (code : TypeCode) (n : ℕ) (s later : Stand) (b : List ℕ) → want_of code ≡ wanted.Bytes n → Reads (inside short) p q (λ end. bytes_at end n s) (λ rest. (b, later, rest))
     → ReadsArgument p q s later code (arguments.Prim (value_of code b))
 bytes_argument code n s later b is r = record {
   answer = items.Bytes b;
@@ -69,7 +69,7 @@ bytes_argument code n s later b is r = record {
   value = refl;
 }
 
-pub slot_argument : {p q : Place} (code : TypeCode) (s later : Stand) (x : Slot) → want_of code ≡ wanted.Slot → Reads (inside short) p q (λ end. slot_next end s) (λ rest. (x, later, rest))
+pub slot_argument : {p q : PullState} (code : TypeCode) (s later : Stand) (x : Slot) → want_of code ≡ wanted.Slot → Reads (inside short) p q (λ end. slot_next end s) (λ rest. (x, later, rest))
     → ReadsArgument p q s later code (arguments.Ref x)
 slot_argument code s later x is r = record {
   answer = items.Ref x;
@@ -86,12 +86,12 @@ none_left : (params : List TypeCode) (i : ℕ) → length params ≤ i → drop 
 none_left params i le = nil_from_length (drop i params) (omega (arith, length-drop i params))
 
 -- These arguments were read for the first i parameters, and the reader stands so behind them.
-pub record Comes (p q : Place) (params : List TypeCode) (i : ℕ) (stand now : Stand) (args : List Arg) : Type 0 where
+pub record Comes (p q : PullState) (params : List TypeCode) (i : ℕ) (stand now : Stand) (args : List Arg) : Type 0 where
   pub answers : List Item
   pub leads : Leads (inside short) p q (λ end. serve end (wants_of params) stand) (λ end bs. given_before answers (serve end (wants_of (drop i params)) now bs))
   pub values : (more : List Item) → args ++ args_of (drop i params) more ≡ args_of params (answers ++ more)
 
-pub comes_first : (p : Place) (params : List TypeCode) (stand : Stand) → Comes p p params 0 stand stand []
+pub comes_first : (p : PullState) (params : List TypeCode) (stand : Stand) → Comes p p params 0 stand stand []
 comes_first p params stand = record { answers = []; leads = leads_start p _ _ (λ end bs. serve_start end (wants_of params) stand bs); values = λ more. refl }
 
 next_given : (end : ℕ) (front : List Item) (params : List TypeCode) (i : ℕ) (code : TypeCode) (s later : Stand) (bs rest : List ℕ) (x : Item) → drop i params ≡ code ∷ drop (i + 1) params → want_at end (want_of code) s bs ≡ Ok (x, later, rest)
@@ -103,7 +103,7 @@ next_fails : (end : ℕ) (front : List Item) (params : List TypeCode) (i : ℕ) 
 next_fails end front params i code s bs f k h = rw k (serve_err end front (want_of code ∷ wants_of (drop (i + 1) params)) 0 (want_of code) s bs f (omega arith) h)
 
 -- One more was read.
-pub comes_next : {p q r : Place} (params : List TypeCode) (i : ℕ) (d : TypeCode) (stand now later : Stand) (args : List Arg) (arg : Arg) → i < length params → Comes p q params i stand now args → ReadsArgument q r now later (get_or params i d) arg
+pub comes_next : {p q r : PullState} (params : List TypeCode) (i : ℕ) (d : TypeCode) (stand now later : Stand) (args : List Arg) (arg : Arg) → i < length params → Comes p q params i stand now args → ReadsArgument q r now later (get_or params i d) arg
     → Comes p r params (i + 1) stand later (args ++ arg ∷ [])
 comes_next params i d stand now later args arg lt c a =
     let code : TypeCode = get_or params i d in
@@ -120,7 +120,7 @@ comes_next params i d stand now later args arg lt c a =
     }
 
 -- All were read.
-pub comes_whole : {p q : Place} (params : List TypeCode) (i : ℕ) (stand now : Stand) (args : List Arg) → length params ≤ i → Comes p q params i stand now args → ReadsEach p q stand now params args
+pub comes_whole : {p q : PullState} (params : List TypeCode) (i : ℕ) (stand now : Stand) (args : List Arg) → length params ≤ i → Comes p q params i stand now args → ReadsEach p q stand now params args
 comes_whole params i stand now args le c =
     let k : drop i params ≡ [] = none_left params i le in
     record {
@@ -130,11 +130,11 @@ comes_whole params i stand now args le c =
     }
 
 -- The next one was not read.
-pub comes_short : {p q r : Place} {e : StreamFault} (params : List TypeCode) (i : ℕ) (d : TypeCode) (stand now : Stand) (args : List Arg) → i < length params → Comes p q params i stand now args → WantBreaks q r e (λ end. want_at end (want_of (get_or params i d)) now)
+pub comes_short : {p q r : PullState} {e : StreamFault} (params : List TypeCode) (i : ℕ) (d : TypeCode) (stand now : Stand) (args : List Arg) → i < length params → Comes p q params i stand now args → WantBreaks q r e (λ end. want_at end (want_of (get_or params i d)) now)
     → WantBreaks p r e (λ end. serve end (wants_of params) stand)
 comes_short params i d stand now args lt c h = want_loop_stops c.leads (λ end bs f here is. next_fails end c.answers params i (get_or params i d) now bs f (next_left params i d lt) is) h
 
 -- There was no memory for the next one.
-pub comes_unkept : {p q r : Place} (params : List TypeCode) (i : ℕ) (d : TypeCode) (stand now later : Stand) (args : List Arg) (arg : Arg) → i < length params → Comes p q params i stand now args → ReadsArgument q r now later (get_or params i d) arg
+pub comes_unkept : {p q r : PullState} (params : List TypeCode) (i : ℕ) (d : TypeCode) (stand now later : Stand) (args : List Arg) (arg : Arg) → i < length params → Comes p q params i stand now args → ReadsArgument q r now later (get_or params i d) arg
     → WantBreaks p r OutOfMemory (λ end. serve end (wants_of params) stand)
 comes_unkept params i d stand now later args arg lt c a = comes_short params i d stand now args lt c (want_took a.reads)

@@ -3,7 +3,7 @@ use Rattle.std.proofs.Common.{◌≡◌, ℕ, List, [], ◌∷◌, ◌++◌, len
 use Rattle.std.specs.Int.{w32, w64}
 use Rattle.std.proofs.lemmas.List.{take-append-drop}
 use Rattle.std.proofs.Math.Seq.{take-add}
-use Rattle.wire_io.specs.Pulled.{Place}
+use Rattle.wire_io.specs.Pulled.{PullState}
 use Rattle.object_ids.specs.Bytes.{signed_bytes, bytes_of_objid}
 use Rattle.class_desc.specs.declared.slot.Item.TheVariants as items
 use Rattle.ser_values.specs.Spelled.{put_block}
@@ -41,5 +41,5 @@ head_is end bs b rest s e =
     let is = serve_items end (wanted.Bytes 34 ∷ []) nothing_read m.0 (items.Bytes b ∷ [], s, rest) one [] refl in
     (fits.0, is ∙ some_bytes b fits.0)
 
-pub head_read : {p q : Place} (b : List ℕ) (s : Stand) → Reads (inside short) p q head_at (λ rest. (b, s, rest)) → (length b ≡ 34) × (s.items ≡ items.Bytes b ∷ [])
+pub head_read : {p q : PullState} (b : List ℕ) (s : Stand) → Reads (inside short) p q head_at (λ rest. (b, s, rest)) → (length b ≡ 34) × (s.items ≡ items.Bytes b ∷ [])
 head_read {p} {q} b s r = head_is _ _ b [] s (r.is [])

@@ -2,7 +2,7 @@
 use Rattle.std.proofs.Common.{◌≡◌, ◌≢◌, refl, ℕ, ◌+◌, ◌-◌, ◌*◌, ◌<◌, List, [], ◌∷◌, ◌++◌, length, take, drop, Err, arith, length-append}
 use Rattle.std.proofs.Math.ListN.{replicate}
 use Rattle.std.proofs.lemmas.List.{length-replicate, take-append-drop}
-use Rattle.wire_io.specs.Pulled.{Place, Takes, GivesByte}
+use Rattle.wire_io.specs.Pulled.{PullState, Takes, GivesByte}
 use Rattle.wire_io.specs.declared.pull.PullEnd.{PullEnd}
 use Rattle.wire_io.proofs.Pulling.{takes_nothing, takes_more, byte_stops}
 use Rattle.jrmp_frames.specs.Frames.{header_start, IsInHeader, IsInEndpoint}
@@ -12,13 +12,13 @@ use Rattle.ser_read.specs.Here.{fault_of}
 use Rattle.jrmp_frames.specs.Gives.{StopsInside, StopsIn}
 
 -- The first byte did not come.
-pub stops_at_once : (P : List ℕ → Type 0) (old new : Place) (e : PullEnd) → P [] → GivesByte old new (Err e) → StopsInside P old new e
+pub stops_at_once : (P : List ℕ → Type 0) (old new : PullState) (e : PullEnd) → P [] → GivesByte old new (Err e) → StopsInside P old new e
 stops_at_once P old new e nothing gives =
     let stops = byte_stops old new e gives in
     record { part = []; mid = old; inside = nothing; takes = takes_nothing old; stops = stops.1; memory = stops.0 }
 
 -- Some bytes were taken, and then the input stopped.
-pub stops_after : (P Q : List ℕ → Type 0) (old mid new : Place) (e : PullEnd) (front : List ℕ) → Takes old mid front → StopsInside P mid new e
+pub stops_after : (P Q : List ℕ → Type 0) (old mid new : PullState) (e : PullEnd) (front : List ℕ) → Takes old mid front → StopsInside P mid new e
     → ((part : List ℕ) → P part → Q (front ++ part)) → StopsInside Q old new e
 stops_after P Q old mid new e front takes stops whole = record {
   part = front ++ stops.part;
@@ -30,13 +30,13 @@ stops_after P Q old mid new e front takes stops whole = record {
 }
 
 -- A byte did not come after some were taken.
-pub stops_next : (Q : List ℕ → Type 0) (old mid new : Place) (e : PullEnd) (front : List ℕ) → Q front → Takes old mid front → GivesByte mid new (Err e) → StopsInside Q old new e
+pub stops_next : (Q : List ℕ → Type 0) (old mid new : PullState) (e : PullEnd) (front : List ℕ) → Q front → Takes old mid front → GivesByte mid new (Err e) → StopsInside Q old new e
 stops_next Q old mid new e front inside takes gives =
     let stops = byte_stops mid new e gives in
     record { part = front; mid = mid; inside = inside; takes = takes; stops = stops.1; memory = stops.0 }
 
 -- How the input stops, as a stream's fault.
-pub stops_in : (P : List ℕ → Type 0) (old new : Place) (e : PullEnd) → StopsInside P old new e → StopsIn P old new (fault_of e)
+pub stops_in : (P : List ℕ → Type 0) (old new : PullState) (e : PullEnd) → StopsInside P old new e → StopsIn P old new (fault_of e)
 stops_in P old new (ends.End at) stops = stops
 stops_in P old new (ends.Limit at) stops = stops
 stops_in P old new ends.ReadFault stops = stops

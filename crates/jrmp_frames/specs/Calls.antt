@@ -1,6 +1,6 @@
 -- What reading a call does.
 use Rattle.std.specs.Prelude.{◌≡◌, ◌≤◌, ℕ, List, [], ◌∷◌, length, Option, None, Result, Ok, Err}
-use Rattle.wire_io.specs.Pulled.{Place, Takes}
+use Rattle.wire_io.specs.Pulled.{PullState, Takes}
 use Rattle.wire_io.specs.declared.pull.Pull.{Pull}
 use Rattle.class_desc.specs.declared.field.TypeCode.{TypeCode}
 use Rattle.class_desc.specs.declared.slot.Item.{Item}
@@ -23,7 +23,7 @@ head_at end bs = lifted (magic_at end (0xAC ∷ 0xED ∷ 0x00 ∷ 0x05 ∷ []) b
 -- ---- what is answered
 
 -- What follows 50 was taken up to the end of this head, and the reader stands so behind it.
-abbrev pub ReadsHead : Place → Place → CallHead → Stand → Type 0
+abbrev pub ReadsHead : PullState → PullState → CallHead → Stand → Type 0
 ReadsHead old new head stand = Reads (inside short) old new head_at (λ rest. (head_bytes head, stand, rest))
 
 -- The reader stands behind 34 bytes of block data, and it has no other item of its stream.
@@ -31,19 +31,19 @@ abbrev pub HasHead : ReaderState → Type 0
 HasHead reader = (reader.refused ≡ None) × (bytes : List ℕ) × (length bytes ≡ 34) × (reader.stand.items ≡ items.Bytes bytes ∷ [])
 
 -- From where the reader stood, the argument for a parameter of this type was taken, and it stands so behind it.
-pub record ReadsArgument (old new : Place) (stand later : Stand) (code : TypeCode) (arg : Arg) : Type 0 where
+pub record ReadsArgument (old new : PullState) (stand later : Stand) (code : TypeCode) (arg : Arg) : Type 0 where
   pub answer : Item
   pub reads : Reads (inside short) old new (λ end. want_at end (want_of code) stand) (λ rest. (answer, later, rest))
   pub value : arg ≡ arg_of code answer
 
 -- The same of the arguments for parameters of these types, one after the other.
-pub record ReadsEach (old new : Place) (stand later : Stand) (params : List TypeCode) (args : List Arg) : Type 0 where
+pub record ReadsEach (old new : PullState) (stand later : Stand) (params : List TypeCode) (args : List Arg) : Type 0 where
   pub answers : List Item
   pub reads : Reads (inside short) old new (λ end. serve end (wants_of params) stand) (λ rest. (answers, later, rest))
   pub values : args ≡ args_of params answers
 
 -- From where the reader stood, the arguments for parameters of these types were taken up to their end.
-pub record ReadsArguments (old new : Place) (stand : Stand) (params : List TypeCode) (arguments : Arguments) : Type 0 where
+pub record ReadsArguments (old new : PullState) (stand : Stand) (params : List TypeCode) (arguments : Arguments) : Type 0 where
   pub answers : List Item
   pub whole : List Item
   pub reads : Reads (inside short) old new (λ end. serve_to_close end (wants_of params) stand) (λ rest. (answers, arguments.graph.nodes, whole, rest))
@@ -51,13 +51,13 @@ pub record ReadsArguments (old new : Place) (stand : Stand) (params : List TypeC
   pub values : arguments.values ≡ args_of params answers
 
 -- What follows 50 was taken, and is a call with this head, for parameters of these types, with these arguments.
-pub record TakesCall (old new : Place) (head : CallHead) (params : List TypeCode) (arguments : Arguments) : Type 0 where
+pub record TakesCall (old new : PullState) (head : CallHead) (params : List TypeCode) (arguments : Arguments) : Type 0 where
   pub message : List ℕ
   pub takes : Takes old new message
   pub call : CallBytes head params arguments (0x50 ∷ message)
 
 -- Which bytes were taken where this fault is answered, and why reading ends there.
-abbrev pub BreaksIn : {Y : Type 0} → Place → Place → FrameFault → (ℕ → List ℕ → Result Y WantFault) → Type 0
+abbrev pub BreaksIn : {Y : Type 0} → PullState → PullState → FrameFault → (ℕ → List ℕ → Result Y WantFault) → Type 0
 BreaksIn old new (Stream fault) read = WantBreaks old new fault read
 BreaksIn old new _ read = ⊥
 

@@ -1,6 +1,6 @@
 //! The arguments of a call.
 ghost use Rattle.std.specs.Prelude.{◌≡◌, length, [], ◌∷◌, true, Some, is_some, IfOk, IfErr, OnOk, None};
-ghost use Rattle.wire_io.specs.Pulled.{Place, place};
+ghost use Rattle.wire_io.specs.Pulled.{PullState, pull_state};
 ghost use Rattle.ser_values.specs.Fronts.{without_front};
 ghost use Rattle.ser_read.specs.Wants.{StopsWant, want_at, serve, serve_to_close, wants_at};
 ghost use Rattle.ser_read.specs.declared.serving.Want.TheVariants as wanted;
@@ -136,7 +136,7 @@ fn read_prim<S: Source>(
     requires kept { reader.old.refused ≡ None }
     ensures kept { OnOk result (reader.new.refused ≡ None) }
     ensures lent { pull.new.source.ghost_name ≡ pull.old.source.ghost_name }
-    ensures reads { IfOk result (ReadsArgument (place S.left S.faults pull.old) (place S.left S.faults pull.new) reader.old.stand reader.new.stand code) }
+    ensures reads { IfOk result (ReadsArgument (pull_state S.left S.faults pull.old) (pull_state S.left S.faults pull.new) reader.old.stand reader.new.stand code) }
     ensures stops { StopsWant S.left S.faults pull.old pull.new result (λ end. want_at end (want_of code) reader.old.stand) }
 {
     let mut all = [0; WIDEST];
@@ -155,7 +155,7 @@ fn read_arg<S: Source>(
     requires kept { reader.old.refused ≡ None }
     ensures kept { OnOk result (reader.new.refused ≡ None) }
     ensures lent { pull.new.source.ghost_name ≡ pull.old.source.ghost_name }
-    ensures reads { IfOk result (ReadsArgument (place S.left S.faults pull.old) (place S.left S.faults pull.new) reader.old.stand reader.new.stand code) }
+    ensures reads { IfOk result (ReadsArgument (pull_state S.left S.faults pull.old) (pull_state S.left S.faults pull.new) reader.old.stand reader.new.stand code) }
     ensures stops { StopsWant S.left S.faults pull.old pull.new result (λ end. want_at end (want_of code) reader.old.stand) }
 {
     match want_of(code) {
@@ -179,7 +179,7 @@ fn read_onto<S: Source>(
     requires empty { args.old ≡ [] }
     ensures kept { OnOk result (reader.new.refused ≡ None) }
     ensures lent { pull.new.source.ghost_name ≡ pull.old.source.ghost_name }
-    ensures reads { OnOk result (ReadsEach (place S.left S.faults pull.old) (place S.left S.faults pull.new) reader.old.stand reader.new.stand params.now args.new) }
+    ensures reads { OnOk result (ReadsEach (pull_state S.left S.faults pull.old) (pull_state S.left S.faults pull.new) reader.old.stand reader.new.stand params.now args.new) }
     ensures stops { StopsWant S.left S.faults pull.old pull.new result (λ end. serve end (wants_of params.now) reader.old.stand) }
 {
     args.reserve(params.len())?;
@@ -214,7 +214,7 @@ fn read_graph<S: Source>(
     requires ready { HasHead reader }
     requires empty { args.old ≡ [] }
     ensures lent { pull.new.source.ghost_name ≡ pull.old.source.ghost_name }
-    ensures reads { IfOk result (λ graph. ReadsArguments (place S.left S.faults pull.old) (place S.left S.faults pull.new) reader.stand params.now (record { graph = graph; values = args.new })) }
+    ensures reads { IfOk result (λ graph. ReadsArguments (pull_state S.left S.faults pull.old) (pull_state S.left S.faults pull.new) reader.stand params.now (record { graph = graph; values = args.new })) }
     ensures stops { StopsWant S.left S.faults pull.old pull.new result (λ end. serve_to_close end (wants_of params.now) reader.stand) }
 {
     let mut reader = reader;
@@ -232,7 +232,7 @@ fn read_values<S: Source>(
 ) -> Result<Arguments, StreamFault>
     requires ready { HasHead reader }
     ensures lent { pull.new.source.ghost_name ≡ pull.old.source.ghost_name }
-    ensures reads { IfOk result (λ arguments. ReadsArguments (place S.left S.faults pull.old) (place S.left S.faults pull.new) reader.stand params.now arguments) }
+    ensures reads { IfOk result (λ arguments. ReadsArguments (pull_state S.left S.faults pull.old) (pull_state S.left S.faults pull.new) reader.stand params.now arguments) }
     ensures stops { StopsWant S.left S.faults pull.old pull.new result (λ end. serve_to_close end (wants_of params.now) reader.stand) }
 {
     let mut values = ArgList::new(alloc);
@@ -250,10 +250,10 @@ pub fn read_parameters<S: Source>(
     params: &[TypeCode],
 ) -> Result<Arguments, FrameFault>
     requires ready { HasHead reader }
-    ensures reads { IfOk result (λ arguments. ReadsArguments (place S.left S.faults pull.old) (place S.left S.faults pull.new) reader.stand params.now arguments) }
-    ensures call { (before : Place) (head : CallHead) → ReadsHead before (place S.left S.faults pull.old) head reader.stand → IfOk result (λ arguments. TakesCall before (place S.left S.faults pull.new) head params.now arguments) }
-    ensures stops { IfErr result (λ fault. BreaksIn (place S.left S.faults pull.old) (place S.left S.faults pull.new) fault (λ end. serve_to_close end (wants_of params.now) reader.stand)) }
-    ensures cut { (before : Place) (head : CallHead) → ReadsHead before (place S.left S.faults pull.old) head reader.stand → IfErr result (λ fault. BreaksIn before (place S.left S.faults pull.new) fault (λ end. wants_at end (wanted.Bytes 34 ∷ wants_of params.now))) }
+    ensures reads { IfOk result (λ arguments. ReadsArguments (pull_state S.left S.faults pull.old) (pull_state S.left S.faults pull.new) reader.stand params.now arguments) }
+    ensures call { (before : PullState) (head : CallHead) → ReadsHead before (pull_state S.left S.faults pull.old) head reader.stand → IfOk result (λ arguments. TakesCall before (pull_state S.left S.faults pull.new) head params.now arguments) }
+    ensures stops { IfErr result (λ fault. BreaksIn (pull_state S.left S.faults pull.old) (pull_state S.left S.faults pull.new) fault (λ end. serve_to_close end (wants_of params.now) reader.stand)) }
+    ensures cut { (before : PullState) (head : CallHead) → ReadsHead before (pull_state S.left S.faults pull.old) head reader.stand → IfErr result (λ fault. BreaksIn before (pull_state S.left S.faults pull.new) fault (λ end. wants_at end (wanted.Bytes 34 ∷ wants_of params.now))) }
     ensures cause { CausedIn (S.faults pull.old.source.now) (S.faults pull.new.source.now) result }
     ensures lent { pull.new.source.ghost_name ≡ pull.old.source.ghost_name }
 {
@@ -271,10 +271,10 @@ pub fn read_arguments<S: Source>(
     method: &Method,
 ) -> Result<Arguments, FrameFault>
     requires ready { HasHead reader }
-    ensures reads { IfOk result (λ arguments. ReadsArguments (place S.left S.faults pull.old) (place S.left S.faults pull.new) reader.stand method.now.params arguments) }
-    ensures call { (before : Place) (head : CallHead) → ReadsHead before (place S.left S.faults pull.old) head reader.stand → IfOk result (λ arguments. TakesCall before (place S.left S.faults pull.new) head method.now.params arguments) }
-    ensures stops { IfErr result (λ fault. BreaksIn (place S.left S.faults pull.old) (place S.left S.faults pull.new) fault (λ end. serve_to_close end (wants_of method.now.params) reader.stand)) }
-    ensures cut { (before : Place) (head : CallHead) → ReadsHead before (place S.left S.faults pull.old) head reader.stand → IfErr result (λ fault. BreaksIn before (place S.left S.faults pull.new) fault (λ end. wants_at end (wanted.Bytes 34 ∷ wants_of method.now.params))) }
+    ensures reads { IfOk result (λ arguments. ReadsArguments (pull_state S.left S.faults pull.old) (pull_state S.left S.faults pull.new) reader.stand method.now.params arguments) }
+    ensures call { (before : PullState) (head : CallHead) → ReadsHead before (pull_state S.left S.faults pull.old) head reader.stand → IfOk result (λ arguments. TakesCall before (pull_state S.left S.faults pull.new) head method.now.params arguments) }
+    ensures stops { IfErr result (λ fault. BreaksIn (pull_state S.left S.faults pull.old) (pull_state S.left S.faults pull.new) fault (λ end. serve_to_close end (wants_of method.now.params) reader.stand)) }
+    ensures cut { (before : PullState) (head : CallHead) → ReadsHead before (pull_state S.left S.faults pull.old) head reader.stand → IfErr result (λ fault. BreaksIn before (pull_state S.left S.faults pull.new) fault (λ end. wants_at end (wanted.Bytes 34 ∷ wants_of method.now.params))) }
     ensures cause { CausedIn (S.faults pull.old.source.now) (S.faults pull.new.source.now) result }
     ensures lent { pull.new.source.ghost_name ≡ pull.old.source.ghost_name }
 {

@@ -1,6 +1,6 @@
 //! Endpoints: a host and a port.
 ghost use Rattle.std.specs.Prelude.{◌≡◌, ◌≤◌, length, IfOk};
-ghost use Rattle.wire_io.specs.Pulled.{place};
+ghost use Rattle.wire_io.specs.Pulled.{pull_state};
 ghost use Rattle.mod_utf.specs.Utf.{utf};
 ghost use Rattle.jrmp_frames.specs.Frames.{protocol_ack};
 ghost use Rattle.jrmp_frames.specs.Gives.{GivesEndpoint, GivesSkipped};
@@ -14,7 +14,7 @@ use wire_io::source::Source;
 
 /// Takes a client's endpoint, whatever it is: a length of 16 bits, so many bytes, and 4 bytes. It takes no memory.
 pub fn skip_endpoint<S: Source>(pull: &mut Pull<'_, S>) -> Result<(), FrameFault>
-    ensures gives { GivesEndpoint (place S.left S.faults pull.old) (place S.left S.faults pull.new) result }
+    ensures gives { GivesEndpoint (pull_state S.left S.faults pull.old) (pull_state S.left S.faults pull.new) result }
     ensures lent { pull.new.source.ghost_name ≡ pull.old.source.ghost_name }
 {
     let high = pull.byte()?;
@@ -26,7 +26,7 @@ pub fn skip_endpoint<S: Source>(pull: &mut Pull<'_, S>) -> Result<(), FrameFault
 
 /// Takes `n` bytes, whatever they are.
 fn skip<S: Source>(pull: &mut Pull<'_, S>, n: u32) -> Result<(), PullEnd>
-    ensures gives { GivesSkipped (place S.left S.faults pull.old) (place S.left S.faults pull.new) n result }
+    ensures gives { GivesSkipped (pull_state S.left S.faults pull.old) (pull_state S.left S.faults pull.new) n result }
     ensures lent { pull.new.source.ghost_name ≡ pull.old.source.ghost_name }
 {
     for _skipped in 0..n {

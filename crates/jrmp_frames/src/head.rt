@@ -1,7 +1,7 @@
 //! The head of a call.
 ghost use Rattle.std.specs.Prelude.{◌≡◌, length, IfOk, IfErr, None};
 ghost use Rattle.std.specs.Int.{w32, w64};
-ghost use Rattle.wire_io.specs.Pulled.{place};
+ghost use Rattle.wire_io.specs.Pulled.{pull_state};
 ghost use Rattle.object_ids.specs.Bytes.{signed_bytes};
 ghost use Rattle.ser_read.specs.Wants.{StopsWant, WantTaken};
 ghost use Rattle.jrmp_frames.specs.Messages.{head_bytes};
@@ -99,9 +99,9 @@ pub fn read_head<S: Source>(
     alloc: Global,
     pull: &mut Pull<'_, S>,
 ) -> Result<(CallHead, Reader), FrameFault>
-    ensures reads { IfOk result (λ x. ReadsHead (place S.left S.faults pull.old) (place S.left S.faults pull.new) x.0 x.1.stand) }
+    ensures reads { IfOk result (λ x. ReadsHead (pull_state S.left S.faults pull.old) (pull_state S.left S.faults pull.new) x.0 x.1.stand) }
     ensures ready { IfOk result (λ x. HasHead x.1) }
-    ensures stops { IfErr result (λ fault. BreaksIn (place S.left S.faults pull.old) (place S.left S.faults pull.new) fault head_at) }
+    ensures stops { IfErr result (λ fault. BreaksIn (pull_state S.left S.faults pull.old) (pull_state S.left S.faults pull.new) fault head_at) }
     ensures gives { GivesIn S.left pull.old pull.new result head_at (λ x rest. (head_bytes x.0, x.1.stand, rest)) }
     ensures cause { CausedIn (S.faults pull.old.source.now) (S.faults pull.new.source.now) result }
     ensures lent { pull.new.source.ghost_name ≡ pull.old.source.ghost_name }

@@ -1,6 +1,6 @@
 //! The header of a connection.
 ghost use Rattle.std.specs.Prelude.{◌≡◌};
-ghost use Rattle.wire_io.specs.Pulled.{place};
+ghost use Rattle.wire_io.specs.Pulled.{pull_state};
 ghost use Rattle.jrmp_frames.specs.Gives.{GivesHeader};
 
 use crate::fault::FrameFault;
@@ -24,7 +24,7 @@ const START: [u8; 6] = [0x4A, 0x52, 0x4D, 0x49, 0, 2];
 /// `BadHeader` comes exactly at the first byte that differs from `JRMI` and version 2, `UnknownProtocol` exactly where
 /// the seventh byte is neither `4B` nor `4C`.
 pub fn read_header<S: Source>(pull: &mut Pull<'_, S>) -> Result<Protocol, FrameFault>
-    ensures gives { GivesHeader (place S.left S.faults pull.old) (place S.left S.faults pull.new) result }
+    ensures gives { GivesHeader (pull_state S.left S.faults pull.old) (pull_state S.left S.faults pull.new) result }
     ensures lent { pull.new.source.ghost_name ≡ pull.old.source.ghost_name }
 {
     for wanted in START {

@@ -8,8 +8,8 @@ use Rattle.method_hash.specs.Next.{need, IsWithin}
 use Rattle.method_hash.specs.Reading.{CompletesPart, CompletesTypes, Completes}
 use Rattle.method_hash.specs.declared.place.Part.{Part}
 use Rattle.method_hash.specs.declared.place.Part.TheVariants.{Elements, Class, ClassName}
-use Rattle.method_hash.specs.declared.place.Place.{Place}
-use Rattle.method_hash.specs.declared.place.Place.TheVariants.{Name, Parameters, Parameter, Returned, ReturnedType, End}
+use Rattle.method_hash.specs.declared.place.TextPlace.{TextPlace}
+use Rattle.method_hash.specs.declared.place.TextPlace.TheVariants.{Name, Parameters, Parameter, Returned, ReturnedType, End}
 
 -- ---- no fewer
 
@@ -50,7 +50,7 @@ parameter_some count part t name params coming (none, (first, tail, completes, t
     let more : 2 ≤ length tail = types_some count tail params coming types in
     omega (arith, ap length is, length-append first tail)
 
-pub needs : (p : Place) (t name : List ℕ) (params : List TypeCode) (coming : Option TypeCode) → Completes p t name params coming → need p ≤ length t
+pub needs : (p : TextPlace) (t name : List ℕ) (params : List TypeCode) (coming : Option TypeCode) → Completes p t name params coming → need p ≤ length t
 needs (Name zero) t name params coming h = let some : 3 + length name ≤ length t = name_some zero t name params coming h in let one : 0 < length name = omega (arith, h.2) in omega arith
 needs (Name (suc read)) t name params coming h = let some : 3 + length name ≤ length t = name_some (suc read) t name params coming h in omega arith
 needs (Parameters read) t name params coming h = types_some read t params coming h.1
@@ -66,7 +66,7 @@ needs End t name params coming h = omega arith
 -- ---- and as many
 
 -- What completes a text from a place, as short as may be.
-abbrev pub Shortest : Place → Type 0
+abbrev pub Shortest : TextPlace → Type 0
 Shortest p = (t name : List ℕ) × (params : List TypeCode) × (coming : Option TypeCode) × (length t ≡ need p) × Completes p t name params coming
 
 nothing_more : (count : ℕ) → count ≤ 255 → CompletesTypes count (0x29 ∷ 0x56 ∷ []) [] None
@@ -82,7 +82,7 @@ part_completed Elements = inr (inr (codes.I, refl, refl, refl))
 part_completed Class = (0x61 ∷ [], omega arith, (refl, tt), refl)
 part_completed ClassName = ([], tt, refl)
 
-pub shortest : (p : Place) → IsWithin p → Shortest p
+pub shortest : (p : TextPlace) → IsWithin p → Shortest p
 shortest (Name zero) few = (0x61 ∷ 0x28 ∷ 0x29 ∷ 0x56 ∷ [], 0x61 ∷ [], [], None, refl, (0x29 ∷ 0x56 ∷ [], (refl, tt), omega arith, omega arith, nothing_more 0 (omega arith), refl))
 shortest (Name (suc read)) few = (0x28 ∷ 0x29 ∷ 0x56 ∷ [], [], [], None, refl, (0x29 ∷ 0x56 ∷ [], tt, omega arith, omega arith, nothing_more 0 (omega arith), refl))
 shortest (Parameters read) few = (0x29 ∷ 0x56 ∷ [], [], [], None, refl, (refl, nothing_more read few))

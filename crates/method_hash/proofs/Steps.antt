@@ -14,8 +14,8 @@ use Rattle.method_hash.specs.Reading.{CompletesPart, CompletesTypes, Completes, 
 use Rattle.method_hash.specs.declared.place.Begun.{Begun}
 use Rattle.method_hash.specs.declared.place.Begun.TheVariants.{Whole, In}
 use Rattle.method_hash.specs.declared.place.Part.{Part}
-use Rattle.method_hash.specs.declared.place.Place.{Place}
-use Rattle.method_hash.specs.declared.place.Place.TheVariants.{Name, Parameters, Parameter, Returned, ReturnedType, End}
+use Rattle.method_hash.specs.declared.place.TextPlace.{TextPlace}
+use Rattle.method_hash.specs.declared.place.TextPlace.TheVariants.{Name, Parameters, Parameter, Returned, ReturnedType, End}
 use Rattle.method_hash.proofs.Types.{CompletesBegun, begun_type, type_begun, part_sound, part_back}
 
 -- ---- parameters and results
@@ -54,12 +54,12 @@ returned_behind count (In part) told coming = refl
 some_is : {A : Type 0} (x y : A) → Some x ≡ Some y → x ≡ y
 some_is x y e = cc
 
-mapped : (f : Begun → Place) (o : Option Begun) (q : Place) → option_map f o ≡ Some q → (x : Begun) × (o ≡ Some x) × (f x ≡ q)
+mapped : (f : Begun → TextPlace) (o : Option Begun) (q : TextPlace) → option_map f o ≡ Some q → (x : Begun) × (o ≡ Some x) × (f x ≡ q)
 mapped f None q h = absurd cc
 mapped f (Some x) q h = (x, refl, some_is (f x) q h)
 
 -- What completes the text behind the byte makes, with the byte and what it tells, what completes it before.
-abbrev pub Leads : Place → ℕ → Place → Type 0
+abbrev pub Leads : TextPlace → ℕ → TextPlace → Type 0
 Leads p b q = (t more : List ℕ) (others : List TypeCode) (coming told : Option TypeCode) → Completes q t more others coming
     → (result : Option TypeCode) × Completes p (b ∷ t) (name_noted p b ++ more) (param_noted p b ++ others) result
     × (returned_at p told result ≡ returned_at q (returned_noted p b told) coming)
@@ -128,7 +128,7 @@ leads_in_result b part x goes t more others coming told h =
     let a = after_result x t more others coming h in
     (coming, (a.0, a.1, part_sound part b x t goes a.2), sym (returned_in x told coming))
 
-pub leads : (p : Place) (b : ℕ) (q : Place) → IsWithin p → next p b ≡ Some q → Leads p b q
+pub leads : (p : TextPlace) (b : ℕ) (q : TextPlace) → IsWithin p → next p b ≡ Some q → Leads p b q
 unfolding next
 leads (Name read) b q within h = go (eqb b 0x28) refl (ltb 0 read) refl h
   where
@@ -173,8 +173,8 @@ leads End b q within h = absurd cc
 -- ---- and where nothing else leads
 
 -- What completes a text from a place begins with a byte that leads on, and completes it from where the byte leads.
-abbrev pub GoesOn : Place → ℕ → List ℕ → Type 0
-GoesOn p b t = (q : Place) × (next p b ≡ Some q) × ((more : List ℕ) × (others : List TypeCode) × (coming : Option TypeCode) × Completes q t more others coming)
+abbrev pub GoesOn : TextPlace → ℕ → List ℕ → Type 0
+GoesOn p b t = (q : TextPlace) × (next p b ≡ Some q) × ((more : List ℕ) × (others : List TypeCode) × (coming : Option TypeCode) × Completes q t more others coming)
 
 letter_stands_out : (code : TypeCode) → (eqb (letter code) 0x29 ≡ false) × (eqb (letter code) 0x56 ≡ false)
 letter_stands_out codes.B = (refl, refl)
@@ -195,7 +195,7 @@ tail_is : (b c : ℕ) (t u : List ℕ) → b ∷ t ≡ c ∷ u → t ≡ u
 tail_is b c t u e = cc
 
 -- a byte and what follows it, as they are spelled
-at_spelled : (p : Place) (b c : ℕ) (t u : List ℕ) → b ∷ t ≡ c ∷ u → GoesOn p c u → GoesOn p b t
+at_spelled : (p : TextPlace) (b c : ℕ) (t u : List ℕ) → b ∷ t ≡ c ∷ u → GoesOn p c u → GoesOn p b t
 at_spelled p b c t u e h = subst (λ (n : ℕ). GoesOn p n t) (sym (head_is b c t u e)) (subst (GoesOn p c) (sym (tail_is b c t u e)) h)
 
 back_name : (read b : ℕ) (t name : List ℕ) (params : List TypeCode) (coming : Option TypeCode) → Completes (Name read) (b ∷ t) name params coming → GoesOn (Name read) b t
@@ -262,7 +262,7 @@ back_in_result b part t completes = go (part_back part (b ∷ t) completes)
     go (c, rest, x, is, goes, more) =
         at_spelled (ReturnedType part) b c t rest is (in_result x, rw (goes) refl, ([], [], None, in_result_of x rest None more))
 
-pub goes_on : (p : Place) (b : ℕ) (t name : List ℕ) (params : List TypeCode) (coming : Option TypeCode) → Completes p (b ∷ t) name params coming → GoesOn p b t
+pub goes_on : (p : TextPlace) (b : ℕ) (t name : List ℕ) (params : List TypeCode) (coming : Option TypeCode) → Completes p (b ∷ t) name params coming → GoesOn p b t
 goes_on (Name read) b t name params coming h = back_name read b t name params coming h
 goes_on (Parameters read) b t name params coming h = back_parameters read b t params coming h.1
 goes_on (Parameter count part) b t name params coming (none, (first, tail, completes, types, is)) = back_parameter count b part t first tail params coming completes types is
@@ -280,7 +280,7 @@ within_result : (x : Begun) → IsWithin (in_result x)
 within_result Whole = tt
 within_result (In part) = tt
 
-pub within_next : (p : Place) (b : ℕ) (q : Place) → IsWithin p → next p b ≡ Some q → IsWithin q
+pub within_next : (p : TextPlace) (b : ℕ) (q : TextPlace) → IsWithin p → next p b ≡ Some q → IsWithin q
 unfolding next
 within_next (Name read) b q within h = go (eqb b 0x28) (ltb 0 read) h
   where

@@ -8,8 +8,8 @@ use Rattle.method_hash.specs.MethodText.{IsMethod, IsFront, BreaksAt}
 use Rattle.method_hash.specs.Next.{next, need}
 use Rattle.method_hash.specs.Reading.{Completes, HasRead, name_noted, param_noted, returned_noted, returned_at}
 use Rattle.method_hash.specs.declared.place.Part.TheVariants.{Elements, Class, ClassName}
-use Rattle.method_hash.specs.declared.place.Place.{Place}
-use Rattle.method_hash.specs.declared.place.Place.TheVariants.{Name, Parameters, Parameter, Returned, ReturnedType, End}
+use Rattle.method_hash.specs.declared.place.TextPlace.{TextPlace}
+use Rattle.method_hash.specs.declared.place.TextPlace.TheVariants.{Name, Parameters, Parameter, Returned, ReturnedType, End}
 use Rattle.method_hash.proofs.Steps.{leads, goes_on, GoesOn, within_next}
 use Rattle.method_hash.proofs.Places.{needs, shortest}
 
@@ -46,7 +46,7 @@ nothing_read = record {
 one_more : (bytes rest : List ℕ) (b : ℕ) → (bytes ++ b ∷ []) ++ rest ≡ bytes ++ b ∷ rest
 one_more bytes rest b = append_assoc bytes (b ∷ []) rest
 
-pub read_on : (bytes : List ℕ) (b : ℕ) (p q : Place) (name : List ℕ) (params : List TypeCode) (returned : Option TypeCode)
+pub read_on : (bytes : List ℕ) (b : ℕ) (p q : TextPlace) (name : List ℕ) (params : List TypeCode) (returned : Option TypeCode)
     → HasRead bytes p name params returned → next p b ≡ Some q → length bytes + 1 + need q ≤ 65535
     → HasRead (bytes ++ b ∷ []) q (name ++ name_noted p b) (params ++ param_noted p b) (returned_noted p b returned)
 read_on bytes b p q name params returned h goes fits = record {
@@ -66,7 +66,7 @@ read_on bytes b p q name params returned h goes fits = record {
     on : (rest : List ℕ) → GoesOn p b rest → (more : List ℕ) × (others : List TypeCode) × (coming : Option TypeCode) × Completes q rest more others coming
     on rest (r, leads_to, (more, others, coming, c)) =
         let same : r ≡ q = let e : Some r ≡ Some q = sym leads_to ∙ goes in cc in
-        (more, others, coming, subst (λ (s : Place). Completes s rest more others coming) same c)
+        (more, others, coming, subst (λ (s : TextPlace). Completes s rest more others coming) same c)
 
     backward : (rest : List ℕ) → ((more : List ℕ) × (others : List TypeCode) × (coming : Option TypeCode) × Completes p (b ∷ rest) more others coming)
         → (more : List ℕ) × (others : List TypeCode) × (coming : Option TypeCode) × Completes q rest more others coming
@@ -74,7 +74,7 @@ read_on bytes b p q name params returned h goes fits = record {
 
 -- ---- the end
 
-pub all_read : (text : List ℕ) (place : ℕ) (p : Place) (name : List ℕ) (params : List TypeCode) (returned : Option TypeCode)
+pub all_read : (text : List ℕ) (place : ℕ) (p : TextPlace) (name : List ℕ) (params : List TypeCode) (returned : Option TypeCode)
     → place ≡ length text → HasRead (take place text) p name params returned → HasRead text p name params returned
 all_read text place p name params returned is h =
     subst (λ (l : List ℕ). HasRead l p name params returned) (ap (λ (n : ℕ). take n text) is ∙ take-length text) h
@@ -88,7 +88,7 @@ read_whole text name params returned h =
 
 -- ---- where it breaks
 
-pub a_front : (bytes : List ℕ) (p : Place) (name : List ℕ) (params : List TypeCode) (returned : Option TypeCode) → HasRead bytes p name params returned → IsFront bytes
+pub a_front : (bytes : List ℕ) (p : TextPlace) (name : List ℕ) (params : List TypeCode) (returned : Option TypeCode) → HasRead bytes p name params returned → IsFront bytes
 a_front bytes p name params returned h = go (shortest p h.within)
   where
     go : ((t more : List ℕ) × (others : List TypeCode) × (coming : Option TypeCode) × (length t ≡ need p) × Completes p t more others coming) → IsFront bytes
@@ -101,10 +101,10 @@ a_front bytes p name params returned h = go (shortest p h.within)
     )
 
 -- no byte like this may come next
-abbrev pub IsStuck : Place → ℕ → ℕ → Type 0
-IsStuck p b at = (next p b ≡ None) ⊎ ((q : Place) × (next p b ≡ Some q) × (65535 < at + 1 + need q))
+abbrev pub IsStuck : TextPlace → ℕ → ℕ → Type 0
+IsStuck p b at = (next p b ≡ None) ⊎ ((q : TextPlace) × (next p b ≡ Some q) × (65535 < at + 1 + need q))
 
-no_front : (bytes : List ℕ) (b : ℕ) (p : Place) (name : List ℕ) (params : List TypeCode) (returned : Option TypeCode) → HasRead bytes p name params returned → IsStuck p b (length bytes) → IsFront (bytes ++ b ∷ []) → ⊥
+no_front : (bytes : List ℕ) (b : ℕ) (p : TextPlace) (name : List ℕ) (params : List TypeCode) (returned : Option TypeCode) → HasRead bytes p name params returned → IsStuck p b (length bytes) → IsFront (bytes ++ b ∷ []) → ⊥
 no_front bytes b p name params returned h stuck (rest, whole, all, result, m) =
     go (h.back (b ∷ rest) whole all result (subst (λ (l : List ℕ). Completes (Name 0) l whole all result) (one_more bytes rest b) (completed ((bytes ++ b ∷ []) ++ rest) whole all result m)))
   where
@@ -115,14 +115,14 @@ no_front bytes b p name params returned h stuck (rest, whole, all, result, m) =
     on (q, goes, (more, others, coming, c)) = elim stuck [
       | inl none ↦ (let e : Some q ≡ None = sym goes ∙ none in cc)
       | inr some ↦ (let e : Some q ≡ Some some.0 = sym goes ∙ some.1 in let same : q ≡ some.0 = cc in
-          long (omega (arith, some.2, needs some.0 rest more others coming (subst (λ (s : Place). Completes s rest more others coming) same c))))
+          long (omega (arith, some.2, needs some.0 rest more others coming (subst (λ (s : TextPlace). Completes s rest more others coming) same c))))
     ]
 
     go : ((more : List ℕ) × (others : List TypeCode) × (coming : Option TypeCode) × Completes p (b ∷ rest) more others coming) → ⊥
     go (more, others, coming, c) = on (goes_on p b rest more others coming c)
 
 -- A byte stands in the text with which no method's text goes on.
-pub breaks_in : (text : List ℕ) (place b : ℕ) (p : Place) (name : List ℕ) (params : List TypeCode) (returned : Option TypeCode)
+pub breaks_in : (text : List ℕ) (place b : ℕ) (p : TextPlace) (name : List ℕ) (params : List TypeCode) (returned : Option TypeCode)
     → place < length text → b ≡ get_or text place 0 → HasRead (take place text) p name params returned → IsStuck p b place → BreaksAt text place
 breaks_in text place b p name params returned inside here h stuck = record {
   no_method = λ name params returned m. past (drop (place + 1) text, name, params, returned, subst (λ (l : List ℕ). IsMethod l name params returned) (sym (take-append-drop (place + 1) text)) m);
@@ -141,7 +141,7 @@ breaks_in text place b p name params returned inside here h stuck = record {
     past front = no_front (take place text) b p name params returned h (subst (IsStuck p b) (sym len) stuck) (subst IsFront next_is front)
 
 -- The text ends before a method's does.
-pub breaks_at_end : (text : List ℕ) (p : Place) (name : List ℕ) (params : List TypeCode) (returned : Option TypeCode)
+pub breaks_at_end : (text : List ℕ) (p : TextPlace) (name : List ℕ) (params : List TypeCode) (returned : Option TypeCode)
     → HasRead text p name params returned → (p ≡ End → ⊥) → BreaksAt text (length text)
 breaks_at_end text p name params returned h not_end = record {
   no_method = λ name params returned m. none (h.back [] name params returned (subst (λ (l : List ℕ). Completes (Name 0) l name params returned) (sym (append-nil text)) (completed text name params returned m)));
@@ -150,7 +150,7 @@ breaks_at_end text p name params returned h not_end = record {
   longest = λ less. absurd (omega arith);
 }
   where
-    some_needed : (q : Place) → (q ≡ End → ⊥) → need q ≤ 0 → ⊥
+    some_needed : (q : TextPlace) → (q ≡ End → ⊥) → need q ≤ 0 → ⊥
     some_needed (Name zero) not few = omega arith
     some_needed (Name (suc read)) not few = omega arith
     some_needed (Parameters read) not few = omega arith

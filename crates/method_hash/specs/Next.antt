@@ -8,8 +8,8 @@ use Rattle.method_hash.specs.declared.place.Begun.{Begun}
 use Rattle.method_hash.specs.declared.place.Begun.TheVariants.{Whole, In}
 use Rattle.method_hash.specs.declared.place.Part.{Part}
 use Rattle.method_hash.specs.declared.place.Part.TheVariants.{Elements, Class, ClassName}
-use Rattle.method_hash.specs.declared.place.Place.{Place}
-use Rattle.method_hash.specs.declared.place.Place.TheVariants.{Name, Parameters, Parameter, Returned, ReturnedType, End}
+use Rattle.method_hash.specs.declared.place.TextPlace.{TextPlace}
+use Rattle.method_hash.specs.declared.place.TextPlace.TheVariants.{Name, Parameters, Parameter, Returned, ReturnedType, End}
 
 abbrev pub begun_by : Option TypeCode → Option Begun
 begun_by None = None
@@ -27,16 +27,16 @@ part_next Elements b = begin b
 part_next Class b = if is_class_byte b then Some (In ClassName) else None
 part_next ClassName b = if nat_eq b 0x3B then Some Whole else (if is_class_byte b then Some (In ClassName) else None)
 
-abbrev pub in_parameter : ℕ → Begun → Place
+abbrev pub in_parameter : ℕ → Begun → TextPlace
 in_parameter count Whole = Parameters count
 in_parameter count (In part) = Parameter count part
 
-abbrev pub in_result : Begun → Place
+abbrev pub in_result : Begun → TextPlace
 in_result Whole = End
 in_result (In part) = ReturnedType part
 
 -- Where reading stands behind a further byte.
-unfoldable pub next : Place → ℕ → Option Place
+unfoldable pub next : TextPlace → ℕ → Option TextPlace
 next (Name read) b =
     if nat_eq b 0x28 && nat_lt 0 read then Some (Parameters 0)
     else (if is_name_byte b && nat_lt read 255 then Some (Name (read + 1)) else None)
@@ -49,7 +49,7 @@ next (ReturnedType part) b = option_map in_result (part_next part b)
 next End b = None
 
 -- How many bytes are still to come at the least.
-abbrev pub need : Place → ℕ
+abbrev pub need : TextPlace → ℕ
 need (Name zero) = 4
 need (Name (suc read)) = 3
 need (Parameters read) = 2
@@ -63,7 +63,7 @@ need (ReturnedType ClassName) = 1
 need End = 0
 
 -- The counts of a place are within their limits.
-abbrev pub IsWithin : Place → Type 0
+abbrev pub IsWithin : TextPlace → Type 0
 IsWithin (Name read) = read ≤ 255
 IsWithin (Parameters read) = read ≤ 255
 IsWithin (Parameter count part) = count ≤ 255

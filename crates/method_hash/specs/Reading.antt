@@ -6,8 +6,8 @@ use Rattle.method_hash.specs.MethodText.{AreClassBytes, AreNameBytes, IsClassTai
 use Rattle.method_hash.specs.Next.{need, IsWithin}
 use Rattle.method_hash.specs.declared.place.Part.{Part}
 use Rattle.method_hash.specs.declared.place.Part.TheVariants.{Elements, Class, ClassName}
-use Rattle.method_hash.specs.declared.place.Place.{Place}
-use Rattle.method_hash.specs.declared.place.Place.TheVariants.{Name, Parameters, Parameter, Returned, ReturnedType, End}
+use Rattle.method_hash.specs.declared.place.TextPlace.{TextPlace}
+use Rattle.method_hash.specs.declared.place.TextPlace.TheVariants.{Name, Parameters, Parameter, Returned, ReturnedType, End}
 
 -- ---- what completes a text
 
@@ -23,7 +23,7 @@ CompletesTypes count t params returned =
     (types last : List ℕ) × AreTypes params types × (count + length params ≤ 255) × Returns returned last × (t ≡ types ++ 0x29 ∷ last)
 
 -- The rest of a method's text, with what of its name, its parameters and its result is still to come.
-abbrev pub Completes : Place → List ℕ → List ℕ → List TypeCode → Option TypeCode → Type 0
+abbrev pub Completes : TextPlace → List ℕ → List ℕ → List TypeCode → Option TypeCode → Type 0
 Completes (Name read) t name params returned =
     (tail : List ℕ) × AreNameBytes name × (0 < read + length name) × (read + length name ≤ 255) × CompletesTypes 0 tail params returned × (t ≡ name ++ 0x28 ∷ tail)
 Completes (Parameters read) t name params returned = (name ≡ []) × CompletesTypes read t params returned
@@ -36,29 +36,29 @@ Completes End t name params returned = (name ≡ []) × (params ≡ []) × (t �
 -- ---- what a byte tells
 
 -- a byte of the name
-abbrev pub name_noted : Place → ℕ → List ℕ
+abbrev pub name_noted : TextPlace → ℕ → List ℕ
 name_noted (Name read) b = if nat_eq b 0x28 then [] else b ∷ []
 name_noted _ b = []
 
 -- the type of a parameter
-abbrev pub param_noted : Place → ℕ → List TypeCode
+abbrev pub param_noted : TextPlace → ℕ → List TypeCode
 param_noted (Parameters read) b = option_to_list (code_of b)
 param_noted _ b = []
 
 -- the type of the result
-abbrev pub returned_noted : Place → ℕ → Option TypeCode → Option TypeCode
+abbrev pub returned_noted : TextPlace → ℕ → Option TypeCode → Option TypeCode
 returned_noted Returned b before = code_of b
 returned_noted _ b before = before
 
 -- the type of the result, once it was told or is to come
-abbrev pub returned_at : Place → Option TypeCode → Option TypeCode → Option TypeCode
+abbrev pub returned_at : TextPlace → Option TypeCode → Option TypeCode → Option TypeCode
 returned_at (ReturnedType part) told coming = told
 returned_at End told coming = told
 returned_at _ told coming = coming
 
 -- These bytes lead to the place, and so much was told on the way: what completes a method's text from there makes, with what was told,
 -- a method's text of the whole; and nothing else does.
-pub record HasRead (bytes : List ℕ) (place : Place) (name : List ℕ) (params : List TypeCode) (returned : Option TypeCode) : Type 0 where
+pub record HasRead (bytes : List ℕ) (place : TextPlace) (name : List ℕ) (params : List TypeCode) (returned : Option TypeCode) : Type 0 where
   pub within : IsWithin place
   pub fits : length bytes + need place ≤ 65535
   pub leads : (rest more : List ℕ) (others : List TypeCode) (coming : Option TypeCode) → Completes place rest more others coming

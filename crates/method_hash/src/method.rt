@@ -4,10 +4,10 @@ ghost use Rattle.method_hash.specs.MethodText.{IsMethod, IsUnread};
 ghost use Rattle.method_hash.specs.Next.{next, need};
 ghost use Rattle.method_hash.specs.Reading.{name_noted, param_noted, returned_noted};
 ghost use Rattle.method_hash.specs.declared.method.MethodFault.TheVariants.{OutOfMemory};
-ghost use Rattle.method_hash.specs.declared.place.Place.{Place as Places};
-ghost use Rattle.method_hash.specs.declared.place.Place.TheVariants.{Name};
+ghost use Rattle.method_hash.specs.declared.place.TextPlace.{TextPlace as Places};
+ghost use Rattle.method_hash.specs.declared.place.TextPlace.TheVariants.{Name};
 
-use crate::place::Place;
+use crate::place::TextPlace;
 use class_desc::TypeCode;
 use mod_utf::list::{ByteList, Sequence};
 use std::alloc::{AllocError, Global};
@@ -78,7 +78,7 @@ pub type MethodList = Sequence<Method>;
 #[derive(Drop)]
 struct Draft {
     /// Where reading has come to.
-    place: Place,
+    place: TextPlace,
     name: ByteList,
     params: CodeList,
     result: Option<TypeCode>,
@@ -86,24 +86,24 @@ struct Draft {
 
 impl Draft {
     /// Notes what a byte tells that leads to a place.
-    fn note(&mut self, byte: u8, next: Place) -> Result<(), AllocError>
+    fn note(&mut self, byte: u8, next: TextPlace) -> Result<(), AllocError>
         ensures place { OnOk result (self.new.place ≡ next) }
         ensures name { OnOk result (self.new.name ≡ self.old.name ++ name_noted self.old.place byte) }
         ensures params { OnOk result (self.new.params ≡ self.old.params ++ param_noted self.old.place byte) }
         ensures returned { OnOk result (self.new.result ≡ returned_noted self.old.place byte self.old.result) }
     {
         match self.place {
-            Place::Name(_) => {
+            TextPlace::Name(_) => {
                 if byte != b'(' {
                     self.name.push(byte)?;
                 }
             }
-            Place::Parameters(_) => {
+            TextPlace::Parameters(_) => {
                 if let Some(code) = TypeCode::from_letter(byte) {
                     self.params.push(code)?;
                 }
             }
-            Place::Returned => self.result = TypeCode::from_letter(byte),
+            TextPlace::Returned => self.result = TypeCode::from_letter(byte),
             _ => {}
         }
         self.place = next;
@@ -112,7 +112,7 @@ impl Draft {
 }
 
 /// Where reading stands behind a byte, before which so many were read; None where no method's text that is short enough goes on so.
-fn step(place: Place, byte: u8, at: usize) -> Option<Place>
+fn step(place: TextPlace, byte: u8, at: usize) -> Option<TextPlace>
     requires { at < 2 ^ 62 }
     ensures some { IfSome result (λ q. (next place byte ≡ Some q) × (at + 1 + need q ≤ 65535)) }
     ensures none { IfNone result ((next place byte ≡ None) ⊎ ((q : Places) × (next place byte ≡ Some q) × (65535 < at + 1 + need q))) }
@@ -134,7 +134,7 @@ impl Method {
         ensures err { IfErr result (λ fault. IsUnread text.now fault) }
     {
         let mut draft = Draft {
-            place: Place::Name(0),
+            place: TextPlace::Name(0),
             name: ByteList::new(alloc),
             params: CodeList::new(alloc),
             result: None,

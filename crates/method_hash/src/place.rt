@@ -1,6 +1,6 @@
 //! Where reading a method's text has come to.
 ghost use Rattle.std.specs.Prelude.{◌≡◌, ◌↔◌, IsTrue};
-ghost use Rattle.method_hash.specs.declared.place.Place.TheVariants.{End};
+ghost use Rattle.method_hash.specs.declared.place.TextPlace.TheVariants.{End};
 ghost use Rattle.method_hash.specs.MethodText.{is_name_byte, is_class_byte};
 ghost use Rattle.method_hash.specs.Next.{begin, part_next, next, in_parameter, in_result, need};
 
@@ -31,7 +31,7 @@ pub(crate) enum Begun {
 
 /// Where in a method's text reading stands.
 #[derive(Clone, Copy, Debug, PartialEq, Eq)]
-pub(crate) enum Place {
+pub(crate) enum TextPlace {
     /// In the name, of which so many bytes were read.
     Name(u32),
     /// Before a parameter or the closing parenthesis; so many parameters were read.
@@ -90,46 +90,50 @@ impl Part {
     }
 }
 
-impl Place {
+impl TextPlace {
     /// Where reading stands behind so much of a parameter's type.
-    fn in_parameter(count: u32, begun: Begun) -> Place
+    fn in_parameter(count: u32, begun: Begun) -> TextPlace
         ensures { result ≡ in_parameter count begun }
     {
         match begun {
-            Begun::Whole => Place::Parameters(count),
-            Begun::In(part) => Place::Parameter(count, part),
+            Begun::Whole => TextPlace::Parameters(count),
+            Begun::In(part) => TextPlace::Parameter(count, part),
         }
     }
 
     /// Where reading stands behind so much of the result's type.
-    fn in_result(begun: Begun) -> Place
+    fn in_result(begun: Begun) -> TextPlace
         ensures { result ≡ in_result begun }
     {
         match begun {
-            Begun::Whole => Place::End,
-            Begun::In(part) => Place::ReturnedType(part),
+            Begun::Whole => TextPlace::End,
+            Begun::In(part) => TextPlace::ReturnedType(part),
         }
     }
 
     /// Where reading stands behind a further byte; None where no method's text goes on with it.
     #[tactic(auto, unfolding(crate::specs::Next::next))]
-    pub(crate) fn next(self, byte: u8) -> Option<Place>
+    pub(crate) fn next(self, byte: u8) -> Option<TextPlace>
         ensures { result ≡ next self byte }
     {
         match self {
-            Place::Name(read) if byte == b'(' && read > 0 => Some(Place::Parameters(0)),
-            Place::Name(read) if is_name_byte(byte) && read < MOST => Some(Place::Name(read + 1)),
-            Place::Name(_) => None,
-            Place::Parameters(_) if byte == b')' => Some(Place::Returned),
-            Place::Parameters(read) if read < MOST => {
-                Some(Place::in_parameter(read + 1, begin(byte)?))
+            TextPlace::Name(read) if byte == b'(' && read > 0 => Some(TextPlace::Parameters(0)),
+            TextPlace::Name(read) if is_name_byte(byte) && read < MOST => Some(TextPlace::Name(
+                read + 1,
+            )),
+            TextPlace::Name(_) => None,
+            TextPlace::Parameters(_) if byte == b')' => Some(TextPlace::Returned),
+            TextPlace::Parameters(read) if read < MOST => {
+                Some(TextPlace::in_parameter(read + 1, begin(byte)?))
             }
-            Place::Parameters(_) => None,
-            Place::Parameter(count, part) => { Some(Place::in_parameter(count, part.next(byte)?)) }
-            Place::Returned if byte == b'V' => Some(Place::End),
-            Place::Returned => Some(Place::in_result(begin(byte)?)),
-            Place::ReturnedType(part) => Some(Place::in_result(part.next(byte)?)),
-            Place::End => None,
+            TextPlace::Parameters(_) => None,
+            TextPlace::Parameter(count, part) => {
+                Some(TextPlace::in_parameter(count, part.next(byte)?))
+            }
+            TextPlace::Returned if byte == b'V' => Some(TextPlace::End),
+            TextPlace::Returned => Some(TextPlace::in_result(begin(byte)?)),
+            TextPlace::ReturnedType(part) => Some(TextPlace::in_result(part.next(byte)?)),
+            TextPlace::End => None,
         }
     }
 
@@ -138,7 +142,7 @@ impl Place {
         ensures { IsTrue result ↔ (self ≡ End) }
     {
         match self {
-            Place::End => true,
+            TextPlace::End => true,
             _ => false,
         }
     }
@@ -148,15 +152,15 @@ impl Place {
         ensures { result ≡ need self }
     {
         match self {
-            Place::Name(0) => 4,
-            Place::Name(_) => 3,
-            Place::Parameters(_) => 2,
-            Place::Parameter(_, Part::Class) => 4,
-            Place::Parameter(_, _) => 3,
-            Place::Returned => 1,
-            Place::ReturnedType(Part::Class) => 2,
-            Place::ReturnedType(_) => 1,
-            Place::End => 0,
+            TextPlace::Name(0) => 4,
+            TextPlace::Name(_) => 3,
+            TextPlace::Parameters(_) => 2,
+            TextPlace::Parameter(_, Part::Class) => 4,
+            TextPlace::Parameter(_, _) => 3,
+            TextPlace::Returned => 1,
+            TextPlace::ReturnedType(Part::Class) => 2,
+            TextPlace::ReturnedType(_) => 1,
+            TextPlace::End => 0,
         }
     }
 }

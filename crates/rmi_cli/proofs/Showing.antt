@@ -1,7 +1,7 @@
 -- What reading the whole input as a stream answers.
 use Rattle.std.proofs.Common.{◌≡◌, ℕ, ◌+◌, ◌-◌, ◌≤◌, ◌<◌, List, length, take, Option, Some, Result, Ok, Err, IfOk, refl, arith}
 use Rattle.std.specs.Prelude.{IfErr, IsErrAnd}
-use Rattle.wire_io.specs.Pulled.{Place}
+use Rattle.wire_io.specs.Pulled.{PullState}
 use Rattle.ser_values.specs.declared.graph.Graph.{Graph}
 use Rattle.ser_read.specs.declared.fault.StreamFault.{StreamFault}
 use Rattle.ser_read.specs.declared.fault.StreamFault.TheVariants.{TooLarge, Truncated}
@@ -13,7 +13,7 @@ use Rattle.ser_read.proofs.ToEnd.{graph_parts}
 use Rattle.ser_values.specs.declared.limits.TheConstants.{MESSAGE_BYTES}
 use Rattle.rmi_cli.specs.Shown.{TakesGraph, IsFaultOf, StopsAt}
 
-pub graph_taken : (p q : Place) (result : Result Graph StreamFault) → p.at ≡ 0 → p.stop ≡ MESSAGE_BYTES → q.at ≤ q.stop
+pub graph_taken : (p q : PullState) (result : Result Graph StreamFault) → p.at ≡ 0 → p.stop ≡ MESSAGE_BYTES → q.at ≤ q.stop
     → IfOk result (λ graph. TakesStream p q graph.nodes graph.items) → IfOk result (λ graph. TakesGraph p.left q.left graph.nodes graph.items)
 graph_taken p q (Err e) start stop le t = tt
 graph_taken p q (Ok graph) start stop le t =
@@ -42,7 +42,7 @@ fault_told left at stop (Err e) start s gives limited = record {
       rw (room, s) at (limited input told (omega (arith, start, s)));
 }
 
-pub stops_there : (p q : Place) (result : Result Graph StreamFault) → p.at ≡ 0 → p.stop ≡ MESSAGE_BYTES → IfErr result (λ e. BreaksWhole p q e stream_at)
+pub stops_there : (p q : PullState) (result : Result Graph StreamFault) → p.at ≡ 0 → p.stop ≡ MESSAGE_BYTES → IfErr result (λ e. BreaksWhole p q e stream_at)
     → IfErr result (StopsAt p.left q.left)
 stops_there p q (Ok graph) start stop breaks = tt
 stops_there p q (Err e) start stop breaks = record { start = p; stop = q; before = refl; after = refl; first = start; limit = stop; is = breaks }

@@ -2,7 +2,7 @@
 use Rattle.std.specs.Prelude.{◌≡◌, ℕ, ◌<◌, ◌≤◌, ◌⊎◌, List, [], length, take, Option, Some, Ok, Err}
 use Rattle.class_desc.specs.declared.slot.Item.{Item}
 use Rattle.wire_io.specs.Wire.{Wires, with_front, with_end, NothingLeft}
-use Rattle.wire_io.specs.Pulled.{Place}
+use Rattle.wire_io.specs.Pulled.{PullState}
 use Rattle.ser_values.specs.declared.limits.TheConstants.{MESSAGE_BYTES, PARTS}
 use Rattle.ser_values.specs.declared.node.Node.{Node}
 use Rattle.ser_values.specs.Shape.{parts_in}
@@ -39,8 +39,8 @@ pub record IsFaultOf (left : Option (List ℕ)) (fault : StreamFault) : Type 0 w
 
 -- What was taken of the input, told or not, comes to this fault and goes no further.
 pub record StopsAt (left_before left_after : Option (List ℕ)) (fault : StreamFault) : Type 0 where
-  pub start : Place
-  pub stop : Place
+  pub start : PullState
+  pub stop : PullState
   pub before : start.left ≡ left_before
   pub after : stop.left ≡ left_after
   pub first : start.at ≡ 0

@@ -4,7 +4,7 @@ use Rattle.std.specs.Int.{w32, to_be_bytes}
 use Rattle.class_desc.specs.declared.slot.Item.{Item}
 use Rattle.class_desc.specs.declared.slot.Item.TheVariants as items
 use Rattle.ser_values.specs.declared.node.Node.{Node}
-use Rattle.ser_values.specs.declared.node.Place.TheVariants as places
+use Rattle.ser_values.specs.declared.node.SlotPlace.TheVariants as places
 use Rattle.ser_values.specs.Node.{Want, inside}
 use Rattle.ser_values.specs.Spelled.{Token, raw, truth, want, note, One, SpellsBlocks, SpellsToken, SpellsAll, Spelling, Spell, a_null, again, fresh, never, Spells}
 

@@ -3,7 +3,7 @@ use Rattle.std.proofs.Common.{◌≡◌, ℕ, if◌then◌else◌, ◌^◌, suc,
 use Rattle.class_desc.specs.declared.slot.Slot.{Slot}
 use Rattle.class_desc.specs.declared.slot.Item.{Item}
 use Rattle.class_desc.specs.declared.slot.Item.TheVariants as items
-use Rattle.wire_io.specs.Pulled.{Place, Takes}
+use Rattle.wire_io.specs.Pulled.{PullState, Takes}
 use Rattle.ser_values.specs.Reading.{◌>>=◌, Fault, short, Progress, Plain, Step, take_at, size_at, byte_at, blocks_at, items_at}
 use Rattle.ser_values.specs.Spelled.{joined}
 use Rattle.std.proofs.lemmas.List.{append-nil}
@@ -43,7 +43,7 @@ until_same : {Y : Type 0} (within : Bool) (r s : Result Y Fault) → r ≡ s →
 until_same {Y} within r s h = ap (λ (r : Result Y Fault). until within r) h
 
 -- Bytes were taken, and what reads the items after those that were read, reads all. Each item took a byte at least.
-pub record Slack (p q : Place) (inner : ℕ → Step Slot) (within : Bool) (first now : Progress) (is : List Item) : Type 0 where
+pub record Slack (p q : PullState) (inner : ℕ → Step Slot) (within : Bool) (first now : Progress) (is : List Item) : Type 0 where
   pub taken : List ℕ
   pub bytes : AreBytes taken
   pub takes : Takes p q taken
@@ -56,7 +56,7 @@ unfolding added_all
 added_joined xs [] = ap joined (sym (append-nil xs))
 added_joined xs (i ∷ is) = ap (λ (b : List Item). added_all b is) (added_is xs i) ∙ added_joined (xs ++ i ∷ []) is ∙ ap joined (append_assoc xs (i ∷ []) is)
 
-pub slack_start : (p : Place) (inner : ℕ → Step Slot) (within : Bool) (first : Progress) → Slack p p inner within first first []
+pub slack_start : (p : PullState) (inner : ℕ → Step Slot) (within : Bool) (first : Progress) → Slack p p inner within first first []
 unfolding items_at
 slack_start p inner within first = record {
   taken = [];
@@ -207,26 +207,26 @@ one_byte (b ∷ taken) c h =
     let tail : taken ++ [] ≡ [] = ap (λ (x : ℕ × List ℕ). x.1) e in
     rw (head, sym (append-nil taken) ∙ tail) refl
 
-pub slack_goes : {p q : Place} {inner : ℕ → Step Slot} {within : Bool} {first now : Progress} {is : List Item} (s : Slack p q inner within first now is)
+pub slack_goes : {p q : PullState} {inner : ℕ → Step Slot} {within : Bool} {first now : Progress} {is : List Item} (s : Slack p q inner within first now is)
     → Goes p q (λ end. items_at end (inner end) within first) (λ end bs. after_all is (blocks_at end (inner end) within (suc (s.spare + length bs)) now bs))
 slack_goes s = record { taken = s.taken; bytes = s.bytes; takes = s.takes; is = s.reads }
 
-pub slack_leads : {p q : Place} {inner : ℕ → Step Slot} {within : Bool} {first now : Progress} {is : List Item} (s : Slack p q inner within first now is)
+pub slack_leads : {p q : PullState} {inner : ℕ → Step Slot} {within : Bool} {first now : Progress} {is : List Item} (s : Slack p q inner within first now is)
     → Leads short p q (λ end bs. until within (items_at end (inner end) within first bs)) (λ end bs. until within (after_all is (blocks_at end (inner end) within (suc (s.spare + length bs)) now bs)))
 slack_leads {within = within} s = record { taken = s.taken; bytes = s.bytes; takes = s.takes; is = λ rest. until_same within _ _ (s.reads rest); least = s.least }
 
 -- and then a code was read
-byte_leads : {q m : Place} (inner : ℕ → Step Slot) (within : Bool) (spare : ℕ) (now : Progress) (is : List Item) (c : ℕ) → Reads short q m (λ end. byte_at) (λ rest. (c, rest))
+byte_leads : {q m : PullState} (inner : ℕ → Step Slot) (within : Bool) (spare : ℕ) (now : Progress) (is : List Item) (c : ℕ) → Reads short q m (λ end. byte_at) (λ rest. (c, rest))
     → Leads short q m (λ end bs. until within (after_all is (blocks_at end (inner end) within (suc (spare + length bs)) now bs))) (λ end bs. until within (after_all is (blocks_at end (inner end) within (suc (spare + suc (length bs))) now (c ∷ bs))))
 byte_leads inner within spare now is c a = leads_read (λ end bs. until within (after_all is (blocks_at end (inner end) within (suc (spare + suc (length bs))) now (c ∷ bs)))) a
     (λ end bs rest here h. ap (λ (l : List ℕ). until within (after_all is (blocks_at end (inner end) within (suc (spare + length l)) now l))) (byte_cons bs c rest h))
     (λ end bs here h. first_err end (inner end) within (spare + length bs) now is bs h)
 
-pub slack_byte : {p q m : Place} {inner : ℕ → Step Slot} {within : Bool} {first now : Progress} {is : List Item} {c : ℕ} (s : Slack p q inner within first now is) → Reads short q m (λ end. byte_at) (λ rest. (c, rest))
+pub slack_byte : {p q m : PullState} {inner : ℕ → Step Slot} {within : Bool} {first now : Progress} {is : List Item} {c : ℕ} (s : Slack p q inner within first now is) → Reads short q m (λ end. byte_at) (λ rest. (c, rest))
     → Leads short p m (λ end bs. until within (items_at end (inner end) within first bs)) (λ end bs. until within (after_all is (blocks_at end (inner end) within (suc (s.spare + suc (length bs))) now (c ∷ bs))))
 slack_byte {inner = inner} {within = within} {now = now} {is = is} {c = c} s a = leads_two (slack_leads s) (byte_leads inner within s.spare now is c a)
 
-pub byte_goes : {p q m : Place} {inner : ℕ → Step Slot} {within : Bool} {first now : Progress} {is : List Item} {c : ℕ} (s : Slack p q inner within first now is) → Reads short q m (λ end. byte_at) (λ rest. (c, rest))
+pub byte_goes : {p q m : PullState} {inner : ℕ → Step Slot} {within : Bool} {first now : Progress} {is : List Item} {c : ℕ} (s : Slack p q inner within first now is) → Reads short q m (λ end. byte_at) (λ rest. (c, rest))
     → Goes p m (λ end. items_at end (inner end) within first) (λ end bs. after_all is (blocks_at end (inner end) within (suc (s.spare + suc (length bs))) now (c ∷ bs)))
 byte_goes {p} {q} {m} {inner} {within} {first} {now} {is} {c} s a = goes_two (slack_goes s) (record {
   taken = a.taken;
@@ -235,7 +235,7 @@ byte_goes {p} {q} {m} {inner} {within} {first} {now} {is} {c} s a = goes_two (sl
   is = λ rest. ap (λ (l : List ℕ). after_all is (blocks_at (m.at + length rest) (inner (m.at + length rest)) within (suc (s.spare + length l)) now l)) (byte_cons (a.taken ++ rest) c rest (a.is rest));
 })
 
-pub slack_next : {p q m r : Place} {inner : ℕ → Step Slot} {within : Bool} (ref : ℕ → Step Slot) {first now later : Progress} {is : List Item} {c : ℕ} {i : Item}
+pub slack_next : {p q m r : PullState} {inner : ℕ → Step Slot} {within : Bool} (ref : ℕ → Step Slot) {first now later : Progress} {is : List Item} {c : ℕ} {i : Item}
     → Slack p q inner within first now is → Reads short q m (λ end. byte_at) (λ rest. (c, rest)) → Reads short m r (λ end. item_at end (ref end) c now) (λ rest. (i, later, rest))
     → (within && nat_eq c 0x78) ≡ false → ((end : ℕ) (bs : List ℕ) → end ≡ q.at + suc (length bs) → inner end now (c ∷ bs) ≡ ref end now bs) → Slack p r inner within first later (added is i)
 unfolding byte_leads slack_leads leads_read
@@ -262,12 +262,12 @@ slack_next {p} {q} {m} {r} {inner} {within} ref {first} {now} {later} {is} {c} {
           rw whole (first_is ∙ block_step end (inner end) within (s.spare + length (c ∷ (b.taken ++ rest))) c is now (b.taken ++ rest) (ref end) i later rest other (same end (b.taken ++ rest) here) (b.is rest) ∙ ap (λ n. after_all (added is i) (blocks_at end (inner end) within n later rest)) most);
     }
 
-pub slack_more : {p q m r : Place} {inner : ℕ → Step Slot} (ref : ℕ → Step Slot) {first now later : Progress} {is : List Item} {c : ℕ} {i : Item}
+pub slack_more : {p q m r : PullState} {inner : ℕ → Step Slot} (ref : ℕ → Step Slot) {first now later : Progress} {is : List Item} {c : ℕ} {i : Item}
     → Slack p q inner true first now is → Reads short q m (λ end. byte_at) (λ rest. (c, rest)) → Reads short m r (λ end. item_at end (ref end) c now) (λ rest. (i, later, rest))
     → nat_eq c 0x78 ≡ false → ((end : ℕ) (bs : List ℕ) → end ≡ q.at + suc (length bs) → inner end now (c ∷ bs) ≡ ref end now bs) → Slack p r inner true first later (added is i)
 slack_more ref s a b other same = slack_next {within = true} ref s a b other same
 
-pub slack_end : {p q m : Place} {inner : ℕ → Step Slot} {first now : Progress} {is : List Item} {c : ℕ}
+pub slack_end : {p q m : PullState} {inner : ℕ → Step Slot} {first now : Progress} {is : List Item} {c : ℕ}
     → Slack p q inner true first now is → Reads short q m (λ end. byte_at) (λ rest. (c, rest)) → c ≡ 0x78 → Reads short p m (λ end. items_at end (inner end) true first) (λ rest. (is, now, rest))
 unfolding blocks_at added_all slack_leads
 slack_end {p} {q} {m} {inner} {first} {now} {is} {c} s a h =

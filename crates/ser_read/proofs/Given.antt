@@ -6,7 +6,7 @@ use Rattle.class_desc.specs.declared.slot.Slot.{Slot}
 use Rattle.class_desc.specs.declared.slot.Item.{Item}
 use Rattle.class_desc.specs.declared.slot.Item.TheVariants as items
 use Rattle.ser_values.specs.declared.node.Node.{Node}
-use Rattle.ser_values.specs.declared.node.Place.TheVariants as places
+use Rattle.ser_values.specs.declared.node.SlotPlace.TheVariants as places
 use Rattle.ser_values.specs.Node.{has}
 use Rattle.ser_values.specs.Shape.{parts_in}
 use Rattle.ser_values.specs.Spelled.{joined, One, IsBlock, Spells, SpellsBlocks, IsStream}

@@ -7,7 +7,7 @@ use Rattle.class_desc.specs.declared.slot.Item.{Item}
 use Rattle.class_desc.specs.declared.slot.Item.TheVariants as items
 use Rattle.ser_values.specs.declared.node.Node.{Node}
 use Rattle.ser_values.specs.Spelled.{joined}
-use Rattle.wire_io.specs.Pulled.{Place}
+use Rattle.wire_io.specs.Pulled.{PullState}
 use Rattle.ser_values.specs.Reading.{short, byte_at}
 use Rattle.ser_values.proofs.PlainSound.{AreBytes}
 use Rattle.ser_read.specs.declared.block.Head.{Head}
@@ -381,7 +381,7 @@ head_goes_on end n head bytes left ws answers nodes contents more h all e =
     (subst (λ (l : List ℕ). IsAsked (wanted.Bytes n ∷ ws) (items.Bytes bytes ∷ answers) nodes l) whole s.asked, s.contents)
 
 -- the same, from what calls took
-pub goes_on_taken : {p q : Place} (n : ℕ) (head bytes : List ℕ) (left : ℕ) (ws : List Want) (answers : List Item) (nodes : List Node) (contents : List Item) → EndsInBlock n head bytes left
+pub goes_on_taken : {p q : PullState} (n : ℕ) (head bytes : List ℕ) (left : ℕ) (ws : List Want) (answers : List Item) (nodes : List Node) (contents : List Item) → EndsInBlock n head bytes left
     → (r : Reads (inside short) p q (λ end. serve_to_close end ws (inside_block bytes left)) (λ rest. (answers, nodes, contents, rest))) → IsAsked (wanted.Bytes n ∷ ws) (items.Bytes bytes ∷ answers) nodes (head ++ r.taken) × (contents ≡ joined (items.Bytes bytes ∷ answers))
 goes_on_taken {p} {q} n head bytes left ws answers nodes contents h r =
     head_goes_on (q.at + 0) n head bytes left ws answers nodes contents r.taken h r.bytes (ap (λ (l : List ℕ). serve_to_close (q.at + 0) ws (inside_block bytes left) l) (sym (append-nil r.taken)) ∙ r.is [])
@@ -390,7 +390,7 @@ abbrev stand_with : List Item → ℕ → Stand
 stand_with is k = record { progress = nothing_read.progress; items = is; block = k }
 
 -- the bytes in front, from what a call took
-pub head_taken : {p q : Place} (n : ℕ) (bytes : List ℕ) (later : Stand) → 0 < n → (r : Reads (inside short) p q (λ end. bytes_at end n nothing_read) (λ rest. (bytes, later, rest)))
+pub head_taken : {p q : PullState} (n : ℕ) (bytes : List ℕ) (later : Stand) → 0 < n → (r : Reads (inside short) p q (λ end. bytes_at end n nothing_read) (λ rest. (bytes, later, rest)))
     → EndsInBlock n r.taken bytes later.block × (later ≡ inside_block bytes later.block)
 unfolding bytes_at
 head_taken {p} {q} n bytes later lt r =

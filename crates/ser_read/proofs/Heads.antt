@@ -6,7 +6,7 @@ use Rattle.std.specs.Int.{Width, w32, byte_len}
 use Rattle.ser_values.specs.Reading.{short, ◌>>=◌, Fault, Plain, bad, bad_magic, byte_at, take_at, number_at, size_at, magic_at}
 use Rattle.ser_values.proofs.PlainSound.{bind_ok, chosen, passed, ok_is}
 use Rattle.ser_read.specs.declared.block.Head.{Head}
-use Rattle.wire_io.specs.Pulled.{Place}
+use Rattle.wire_io.specs.Pulled.{PullState}
 use Rattle.ser_read.specs.declared.block.Head.TheVariants.{Block}
 use Rattle.ser_read.specs.Here.{Reads}
 use Rattle.ser_read.specs.Heads.{one_head, any_head, is_empty, head_within, head_at}
@@ -104,7 +104,7 @@ pub head_err : (end : ℕ) (bs : List ℕ) (f : Fault) → any_head end bs ≡ E
 head_err end bs f h = heads_from end bs ∙ rw h refl
 
 -- a head takes a byte at least
-pub head_nearer : {p q : Place} {h : Head} → Reads short p q any_head (λ rest. (h, rest)) → q.at ≤ q.stop → q.stop - q.at < p.stop - p.at
+pub head_nearer : {p q : PullState} {h : Head} → Reads short p q any_head (λ rest. (h, rest)) → q.at ≤ q.stop → q.stop - q.at < p.stop - p.at
 head_nearer {p} {q} {h} r le =
     let some = any_less (q.at + 0) (r.taken ++ []) (h, []) (r.is []) in
     omega (arith, some, length-append r.taken [], r.takes.at, r.takes.stop)

@@ -2,7 +2,7 @@
 use Rattle.std.proofs.Common.{◌≡◌, ◌≢◌, false, ℕ, ◌+◌, ◌-◌, ◌<◌, ◌≤◌, cond, eqb, List, [], ◌∷◌, ◌++◌, length, drop, get_or, Result, Ok, Err, IfOk, refl, sym, ap, subst, ◌∙◌, append_assoc, arith, drop-cons, add-one, length-drop}
 use Rattle.std.proofs.lemmas.List.{append-nil, nil_from_length}
 use Rattle.std.proofs.lemmas.Bool.{eqb-true, ne_eqb}
-use Rattle.wire_io.specs.Pulled.{Place, Takes}
+use Rattle.wire_io.specs.Pulled.{PullState, Takes}
 use Rattle.class_desc.specs.declared.slot.Item.{Item}
 use Rattle.ser_values.specs.declared.node.Node.{Node}
 use Rattle.ser_values.specs.declared.graph.Graph.{Graph}
@@ -62,7 +62,7 @@ serve_end end front ws i s bs le = let k : drop i ws ≡ [] = nil_from_length (d
 
 -- ---- the whole stream
 
-pub closed_reads : {q r : Place} (ws : List Want) (answers : List Item) (s later : Stand) (nodes : List Node) (is : List Item) → Reads (inside short) q r (λ end. serve end ws s) (λ rest. (answers, later, rest)) → close_at r.at later ≡ Ok (nodes, is)
+pub closed_reads : {q r : PullState} (ws : List Want) (answers : List Item) (s later : Stand) (nodes : List Node) (is : List Item) → Reads (inside short) q r (λ end. serve end ws s) (λ rest. (answers, later, rest)) → close_at r.at later ≡ Ok (nodes, is)
     → Reads (inside short) q r (λ end. serve_to_close end ws s) (λ rest. (answers, nodes, is, rest))
 unfolding serve_to_close
 closed_reads {q} {r} ws answers s later nodes is b closed = record {
@@ -73,14 +73,14 @@ closed_reads {q} {r} ws answers s later nodes is b closed = record {
   least = λ front next others e. rw (b.least front next others e) refl;
 }
 
-pub close_reads : {p q r : Place} (ws : List Want) (answers : List Item) (s : Stand) (nodes : List Node) (is : List Item)
+pub close_reads : {p q r : PullState} (ws : List Want) (answers : List Item) (s : Stand) (nodes : List Node) (is : List Item)
     → Reads short p q (λ end bs. magic_at end (0xAC ∷ 0xED ∷ 0x00 ∷ 0x05 ∷ []) bs) (λ rest. rest) → Reads (inside short) q r (λ end. serve end ws nothing_read) (λ rest. (answers, s, rest)) → close_at r.at s ≡ Ok (nodes, is)
     → Reads (inside short) p r (λ end. wants_at end ws) (λ rest. (answers, nodes, is, rest))
 unfolding wants_at
 close_reads {p} {q} {r} ws answers s nodes is a b closed = want_then (λ end. serve_to_close end ws nothing_read) a (closed_reads ws answers nothing_read s nodes is b closed)
 
 -- a block is left where the end is wanted
-pub close_stops : {p q r : Place} (ws : List Want) (answers : List Item) (s : Stand) (e : StreamFault) → Reads short p q (λ end bs. magic_at end (0xAC ∷ 0xED ∷ 0x00 ∷ 0x05 ∷ []) bs) (λ rest. rest)
+pub close_stops : {p q r : PullState} (ws : List Want) (answers : List Item) (s : Stand) (e : StreamFault) → Reads short p q (λ end bs. magic_at end (0xAC ∷ 0xED ∷ 0x00 ∷ 0x05 ∷ []) bs) (λ rest. rest)
     → Reads (inside short) q r (λ end. serve end ws nothing_read) (λ rest. (answers, s, rest)) → e ≡ faults.Bad kinds.BlockLeft r.at → s.block ≢ 0 → WantBreaks p r e (λ end. wants_at end ws)
 unfolding wants_at serve_to_close close_at
 close_stops {p} {q} {r} ws answers s e a b is some =
@@ -97,7 +97,7 @@ magic_is end (w ∷ ws) bs rest e =
     byte_is bs a.0 a.1 ∙ (ap (λ z. z ∷ a.0.1) (eqb-true a.0.0 w p.0) ∙ ap (λ (l : List ℕ). w ∷ l) (magic_is end ws a.0.1 rest p.1))
 
 -- what was read is what was asked
-pub takes_asked : {p q : Place} (ws : List Want) (answers : List Item) (nodes : List Node) (is : List Item) → Reads (inside short) p q (λ end. wants_at end ws) (λ rest. (answers, nodes, is, rest)) → TakesAsked p q ws answers nodes is
+pub takes_asked : {p q : PullState} (ws : List Want) (answers : List Item) (nodes : List Node) (is : List Item) → Reads (inside short) p q (λ end. wants_at end ws) (λ rest. (answers, nodes, is, rest)) → TakesAsked p q ws answers nodes is
 unfolding wants_at
 takes_asked {p} {q} ws answers nodes is r =
     let end = q.at + 0 in
@@ -127,7 +127,7 @@ gives_asked after end ws answers nodes bytes rest now coming result h here asked
         (ap (λ (t : Whole). t.0) same, ap (λ (t : Whole). t.1) same, ap (λ (t : Whole). t.2) same, ap (λ (t : Whole). t.3) same)
     go (Err e) h read = fails_outside inside WantIsBad after e (wants_at end ws coming) (answers, nodes, joined answers, rest) read (λ kind at is. absurd (let same = sym is ∙ read in cc)) h
 
-pub taken_asked : (p q : Place) (ws : List Want) (result : Result (List Item × Graph) StreamFault) → IfOk result (λ x. Reads {Y = Whole} (inside short) p q (λ end. wants_at end ws) (λ rest. (x.0, x.1.nodes, x.1.items, rest)))
+pub taken_asked : (p q : PullState) (ws : List Want) (result : Result (List Item × Graph) StreamFault) → IfOk result (λ x. Reads {Y = Whole} (inside short) p q (λ end. wants_at end ws) (λ rest. (x.0, x.1.nodes, x.1.items, rest)))
     → IfOk result (λ x. TakesAsked p q ws x.0 x.1.nodes x.1.items)
 taken_asked p q ws (Ok x) h = takes_asked ws x.0 x.1.nodes x.1.items h
 taken_asked p q ws (Err e) h = tt

@@ -3,7 +3,7 @@ use Rattle.std.proofs.Common.{◌≡◌, ℕ, zero, suc, inl, inr, ◌+◌, ◌-
 use Rattle.std.proofs.lemmas.Bool.{cases_lt}
 use Rattle.std.proofs.lemmas.List.{append-nil, nil_from_length, take-append-le, drop-append-le, drop-drop}
 use Rattle.ser_values.specs.Reading.{Fault, Progress, Step, many_at, take_at, short}
-use Rattle.wire_io.specs.Pulled.{Place}
+use Rattle.wire_io.specs.Pulled.{PullState}
 use Rattle.ser_read.specs.Here.{Reads}
 use Rattle.ser_read.specs.NumberRuns.{of_front, run_of}
 use Rattle.ser_read.proofs.Loop.{front_of, regroup}
@@ -89,7 +89,7 @@ times_more n width = omega arith
 
 -- ---- blocks of them
 
-pub block_long : {p q : Place} (n : ℕ) (block : List ℕ) → Reads short p q (λ end. take_at n) (λ rest. (block, rest)) → length block ≡ n
+pub block_long : {p q : PullState} (n : ℕ) (block : List ℕ) → Reads short p q (λ end. take_at n) (λ rest. (block, rest)) → length block ≡ n
 block_long {p} {q} n block h = (taken_is n (h.taken ++ []) block [] (h.is [])).1
 
 pub run_start : {A : Type 0} (step : Step A) (n : ℕ) (now : Progress) (bs : List ℕ) → many_at step n now bs ≡ front_of [] (many_at step n now bs)

@@ -7,7 +7,7 @@ use Rattle.class_desc.specs.declared.slot.Item.{Item}
 use Rattle.class_desc.specs.declared.field.FieldDesc.{FieldDesc}
 use Rattle.ser_values.specs.declared.value.Value.{Value}
 use Rattle.ser_values.specs.declared.value.Part.{Part}
-use Rattle.ser_values.specs.declared.node.Place.TheVariants as places
+use Rattle.ser_values.specs.declared.node.SlotPlace.TheVariants as places
 use Rattle.ser_values.specs.Reading.{◌>>=◌, Fault, Kind, bad, too_many, Progress, Step, Slots, Row, part, unless, value_at, values_at, note_at, parts_at, chain_of, rows_of, class_fault, object_after, object_at, with_class, on_class}
 use Rattle.ser_read.specs.declared.row.ClassRow.{ClassRow}
 use Rattle.ser_read.specs.Codes.{codes_of}

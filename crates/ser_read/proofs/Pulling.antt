@@ -2,7 +2,7 @@
 use Rattle.std.proofs.Common.{◌≡◌, ℕ, zero, suc, ◌+◌, ◌-◌, ◌≤◌, true, List, [], ◌∷◌, ◌++◌, length, take, drop, length-append, Option, None, Some, refl, ◌∙◌, arith}
 use Rattle.std.proofs.Math.Seq.{take-append-add, drop-append-add}
 use Rattle.wire_io.specs.Wire.{with_front, NothingLeft}
-use Rattle.wire_io.specs.Pulled.{Place, Takes, Passes}
+use Rattle.wire_io.specs.Pulled.{PullState, Takes, Passes}
 use Rattle.ser_values.specs.Reading.{byte_at}
 use Rattle.ser_read.specs.declared.fault.StreamFault.TheVariants.{Truncated, TooLarge}
 use Rattle.ser_read.specs.declared.fault.Large.TheVariants.{Bytes}
@@ -15,7 +15,7 @@ ends : (at k : ℕ) → Fails (fault_after (drop k nil) (at + length (take k nil
 ends at zero = let p : at + 0 ≡ at = omega arith in rw p (refl, refl)
 ends at (suc k) = let p : at + 0 ≡ at = omega arith in rw p (refl, refl)
 
-pub byte_ends : (old new : Place) → Takes old new [] → NothingLeft new.left → (env_at old.left old.at old.stop).told ≡ true
+pub byte_ends : (old new : PullState) → Takes old new [] → NothingLeft new.left → (env_at old.left old.at old.stop).told ≡ true
     → Fails (env_at old.left old.at old.stop).after (Truncated old.at) (byte_at (coming_at old.left old.at old.stop))
 byte_ends old new t none = go old.left new.left t.left none
   where
@@ -26,7 +26,7 @@ byte_ends old new t none = go old.left new.left t.left none
         let e : os ≡ [] = let e1 : os ≡ bs = cc in e1 ∙ none in
         rw e (ends old.at (old.stop - old.at))
 
-pub byte_passes : (old new : Place) → Passes old new → (env_at old.left old.at old.stop).told ≡ true
+pub byte_passes : (old new : PullState) → Passes old new → (env_at old.left old.at old.stop).told ≡ true
     → Fails (env_at old.left old.at old.stop).after (TooLarge Bytes old.at) (byte_at (coming_at old.left old.at old.stop))
 byte_passes old new t = go old.left new.left t.left
   where
@@ -41,7 +41,7 @@ byte_passes old new t = go old.left new.left t.left
 
 -- ---- several bytes
 
-pub takes_told : (old new : Place) (bytes : List ℕ) → Takes old new bytes → new.at ≤ new.stop → (env_at old.left old.at old.stop).told ≡ true
+pub takes_told : (old new : PullState) (bytes : List ℕ) → Takes old new bytes → new.at ≤ new.stop → (env_at old.left old.at old.stop).told ≡ true
     → coming_at old.left old.at old.stop ≡ bytes ++ coming_at new.left new.at new.stop
 takes_told old new bytes t le = go old.left new.left t.left
   where
@@ -53,7 +53,7 @@ takes_told old new bytes t le = go old.left new.left t.left
         let e : os ≡ bytes ++ bs = cc in
         rw (e, k) (take-append-add bytes bs (new.stop - new.at))
 
-pub takes_env : (old new : Place) (bytes : List ℕ) → Takes old new bytes → new.at ≤ new.stop → env_at new.left new.at new.stop ≡ env_at old.left old.at old.stop
+pub takes_env : (old new : PullState) (bytes : List ℕ) → Takes old new bytes → new.at ≤ new.stop → env_at new.left new.at new.stop ≡ env_at old.left old.at old.stop
 takes_env old new bytes t le = go old.left new.left t.left
   where
     go : (o n : Option (List ℕ)) → o ≡ with_front bytes n → env_at n new.at new.stop ≡ env_at o old.at old.stop

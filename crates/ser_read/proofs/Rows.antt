@@ -10,7 +10,7 @@ use Rattle.class_desc.specs.TypeText.{element_of, is_array_text, is_component_te
 use Rattle.class_desc.specs.ClassDesc.{is_good_desc, fit_flags, are_ordered}
 use Rattle.ser_values.specs.declared.node.Node.{Node}
 use Rattle.ser_values.specs.declared.node.Node.TheVariants.{Desc}
-use Rattle.ser_values.specs.declared.node.Place.TheVariants.{Reference}
+use Rattle.ser_values.specs.declared.node.SlotPlace.TheVariants.{Reference}
 use Rattle.ser_values.specs.Reading.{Fault, Progress, short, bad, too_many, too_deep, bad_desc, negative_length, inner_exception, stream_of, magic_at, items_at, blocks_at, slot_at, coded, fresh_at, desc_at, desc_after, short_at, units_at, size_at, many_at, field_at, field_of, text_at, with_class, object_at, chain_of, array_at, array_of, enum_at}
 use Rattle.ser_read.specs.declared.fault.StreamFault.TheVariants.{TooLarge}
 use Rattle.ser_read.specs.declared.fault.Large.TheVariants.{Bytes}

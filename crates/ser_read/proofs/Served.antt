@@ -1,10 +1,10 @@
 -- What was read by wants that were served is a graph.
 use Rattle.std.proofs.Common.{◌≡◌, ℕ, zero, suc, ◌+◌, ◌-◌, ◌<◌, ◌≤◌, ◌^◌, eqb, List, [], ◌∷◌, ◌++◌, length, Result, Ok, Err, refl, sym, ap, subst, ◌∙◌, append-nil, arith, inl, inr}
-use Rattle.wire_io.specs.Pulled.{Place}
+use Rattle.wire_io.specs.Pulled.{PullState}
 use Rattle.class_desc.specs.declared.slot.Slot.{Slot}
 use Rattle.class_desc.specs.declared.slot.Item.{Item}
 use Rattle.class_desc.specs.declared.slot.Item.TheVariants as items
-use Rattle.ser_values.specs.declared.node.Place.TheVariants as places
+use Rattle.ser_values.specs.declared.node.SlotPlace.TheVariants as places
 use Rattle.ser_values.specs.Node as node
 use Rattle.ser_values.specs.Node.{has, item_wants}
 use Rattle.ser_values.specs.Shape.{is_joined, parts_in}
@@ -231,13 +231,13 @@ served_graph s h few =
 
 -- ---- one want more
 
-pub bytes_served : {p q : Place} (n : ℕ) (before after : Stand) (x : List ℕ) → Reads (inside short) p q (λ end. bytes_at end n before) (λ rest. (x, after, rest)) → IsServed before → IsServed after
+pub bytes_served : {p q : PullState} (n : ℕ) (before after : Stand) (x : List ℕ) → Reads (inside short) p q (λ end. bytes_at end n before) (λ rest. (x, after, rest)) → IsServed before → IsServed after
 unfolding want_at
 bytes_served {p} {q} n before after x r h =
     let one : bytes_at (q.at + 0) n before r.taken ≡ Ok (x, after, []) = ap (λ (bs : List ℕ). bytes_at (q.at + 0) n before bs) (sym (append-nil r.taken)) ∙ r.is [] in
     (record { want = wanted.Bytes n; end = q.at + 0; bytes = r.taken; answer = items.Bytes x } ∷ h.0, (before, r.bytes, rw one refl, h.1))
 
-pub slot_served : {p q : Place} (before after : Stand) (x : Slot) → Reads (inside short) p q (λ end. slot_next end before) (λ rest. (x, after, rest)) → IsServed before → IsServed after
+pub slot_served : {p q : PullState} (before after : Stand) (x : Slot) → Reads (inside short) p q (λ end. slot_next end before) (λ rest. (x, after, rest)) → IsServed before → IsServed after
 unfolding want_at
 slot_served {p} {q} before after x r h =
     let one : slot_next (q.at + 0) before r.taken ≡ Ok (x, after, []) = ap (λ (bs : List ℕ). slot_next (q.at + 0) before bs) (sym (append-nil r.taken)) ∙ r.is [] in

@@ -4,7 +4,7 @@ use Rattle.std.proofs.lemmas.Bool.{cases_lt, le-ltb}
 use Rattle.std.proofs.lemmas.List.{length-take-le}
 use Rattle.std.specs.Int.{Width}
 use Rattle.mod_utf.specs.Decoding.{decoded}
-use Rattle.wire_io.specs.Pulled.{Place}
+use Rattle.wire_io.specs.Pulled.{PullState}
 use Rattle.ser_values.specs.Reading.{◌>>=◌, value_at, elements_at, items_at, blocks_at, Fault, short, bad, negative_length, Progress, Step, mapped, byte_at, take_at, number_at, size_at, units_at, units_of, many_at}
 use Rattle.ser_read.specs.declared.fault.StreamFault.{StreamFault}
 use Rattle.ser_read.specs.declared.fault.StreamFault.TheVariants as faults
@@ -32,10 +32,10 @@ size_here : (end : ℕ) (w : Width) (bound at : ℕ) (bs : List ℕ) → end ≡
 unfolding size_at
 size_here end w bound at bs e = let h : end - length bs ≡ at = omega arith in ap (λ a. number_at w bs >>= λ n. if nat_lt n.0 bound then Ok n else Err (bad negative_length a)) h
 
-pub size_stops : {p q : Place} {e : StreamFault} (w : Width) (bound : ℕ) → Breaks p q e (λ end. number_at w) → Breaks p q e (λ end. size_at end w bound)
+pub size_stops : {p q : PullState} {e : StreamFault} (w : Width) (bound : ℕ) → Breaks p q e (λ end. number_at w) → Breaks p q e (λ end. size_at end w bound)
 size_stops {p} w bound h = breaks_said (λ end bs here. size_here end w bound p.at bs here) (first _ h)
 
-pub size_negative : {p q : Place} {n : ℕ} (w : Width) (bound : ℕ) → bound ≤ n → Reads short p q (λ end. number_at w) (λ rest. (n, rest)) → Breaks p q (faults.Bad kinds.NegativeLength p.at) (λ end. size_at end w bound)
+pub size_negative : {p q : PullState} {n : ℕ} (w : Width) (bound : ℕ) → bound ≤ n → Reads short p q (λ end. number_at w) (λ rest. (n, rest)) → Breaks p q (faults.Bad kinds.NegativeLength p.at) (λ end. size_at end w bound)
 size_negative {p} {q} {n} w bound le h =
     let great : nat_lt n bound ≡ false = le-ltb _ _ le in
     breaks_said (λ end bs here. size_here end w bound p.at bs here) (later _ h (bad_here kinds.NegativeLength p.at tt (λ end bs here. rw great refl)))
@@ -46,17 +46,17 @@ units_here : (end n at : ℕ) (bs : List ℕ) → end ≡ at + length bs → uni
 unfolding units_at
 units_here end n at bs e = let h : end - length bs ≡ at = omega arith in ap (λ a. take_at n bs >>= λ t. units_of a (decoded t.0) >>= λ units. Ok (units, t.1)) h
 
-pub units_stop : {p q : Place} {e : StreamFault} (n : ℕ) → Breaks p q e (λ end. take_at n) → Breaks p q e (λ end. units_at end n)
+pub units_stop : {p q : PullState} {e : StreamFault} (n : ℕ) → Breaks p q e (λ end. take_at n) → Breaks p q e (λ end. units_at end n)
 units_stop {p} n h = breaks_said (λ end bs here. units_here end n p.at bs here) (first _ h)
 
-pub units_stop_by : {p q : Place} {e : StreamFault} {m : ℕ} (n : ℕ) → Breaks p q e (λ end. take_at m) → m ≡ n → Breaks p q e (λ end. units_at end n)
+pub units_stop_by : {p q : PullState} {e : StreamFault} {m : ℕ} (n : ℕ) → Breaks p q e (λ end. take_at m) → m ≡ n → Breaks p q e (λ end. units_at end n)
 units_stop_by {p} {q} {e} n h is = units_stop n (subst (λ (k : ℕ). Breaks p q e (λ end. take_at k)) is h)
 
 -- so many of some bytes
 pub front_long : (n k : ℕ) (bytes : List ℕ) → k ≡ n → n ≤ length bytes → length (take k bytes) ≡ n
 front_long n k bytes same within = rw same (length-take-le n bytes within)
 
-pub units_bad : {p q : Place} {bytes : List ℕ} {at : ℕ} (n : ℕ) → decoded bytes ≡ Err at → Reads short p q (λ end. take_at n) (λ rest. (bytes, rest)) → Breaks p q (faults.Bad kinds.BadUtf (p.at + at)) (λ end. units_at end n)
+pub units_bad : {p q : PullState} {bytes : List ℕ} {at : ℕ} (n : ℕ) → decoded bytes ≡ Err at → Reads short p q (λ end. take_at n) (λ rest. (bytes, rest)) → Breaks p q (faults.Bad kinds.BadUtf (p.at + at)) (λ end. units_at end n)
 units_bad {p} {q} {bytes} {at} n is h = breaks_said (λ end bs here. units_here end n p.at bs here) (later _ h (bad_here kinds.BadUtf (p.at + at) tt (λ end bs here. rw is refl)))
 
 -- ---- bytes, piece by piece
@@ -85,20 +85,20 @@ all_err_item step front cs i c now bs f lt is h = all_err step front cs i c now 
 -- ---- items
 
 -- the position behind a code
-behind_code : {q m : Place} {c : ℕ} (end : ℕ) (bs : List ℕ) → Reads short q m (λ end. byte_at) (λ rest. (c, rest)) → end ≡ m.at + length bs → end ≡ q.at + suc (length bs)
+behind_code : {q m : PullState} {c : ℕ} (end : ℕ) (bs : List ℕ) → Reads short q m (λ end. byte_at) (λ rest. (c, rest)) → end ≡ m.at + length bs → end ≡ q.at + suc (length bs)
 behind_code {q} {m} {c} end bs a here =
     let one : a.taken ≡ c ∷ [] = one_byte a.taken c a.is in
     let len : length a.taken ≡ 1 = ap (λ (x : List ℕ). length x) one in
     omega (arith, here, a.takes.at, len)
 
-pub slack_stops : {p q m r : Place} {e : StreamFault} {inner : ℕ → Step Slot} {within : Bool} (ref : ℕ → Step Slot) {before now : Progress} {is : List Item} {c : ℕ}
+pub slack_stops : {p q m r : PullState} {e : StreamFault} {inner : ℕ → Step Slot} {within : Bool} (ref : ℕ → Step Slot) {before now : Progress} {is : List Item} {c : ℕ}
     → Slack p q inner within before now is → Reads short q m (λ end. byte_at) (λ rest. (c, rest)) → (within && nat_eq c 0x78) ≡ false → ((end : ℕ) (bs : List ℕ) → end ≡ q.at + suc (length bs) → inner end now (c ∷ bs) ≡ ref end now bs)
     → Breaks m r e (λ end. item_at end (ref end) c now) → Breaks p r e (λ end bs. until within (items_at end (inner end) within before bs))
 slack_stops {p} {q} {m} {r} {e} {inner} {within} ref {before} {now} {is} {c} s a other same h =
     loop_stops (slack_byte s a) (λ end bs f here err. until_err within _ f (item_err end (inner end) within (s.spare + suc (length bs)) c is now bs (ref end) f other (same end bs (behind_code end bs a here)) err)) h
 
 -- the same up to the end of the bytes
-pub whole_stops : {p q m r : Place} {inner : ℕ → Step Slot} (ref : ℕ → Step Slot) {before now : Progress} {is : List Item} {c : ℕ} (e : StreamFault)
+pub whole_stops : {p q m r : PullState} {inner : ℕ → Step Slot} (ref : ℕ → Step Slot) {before now : Progress} {is : List Item} {c : ℕ} (e : StreamFault)
     → Slack p q inner false before now is → Reads short q m (λ end. byte_at) (λ rest. (c, rest)) → ((end : ℕ) (bs : List ℕ) → end ≡ q.at + suc (length bs) → inner end now (c ∷ bs) ≡ ref end now bs)
     → Breaks m r e (λ end. item_at end (ref end) c now) → BreaksWhole p r e (λ end. items_at end (inner end) false before)
 whole_stops {p} {q} {m} {r} {inner} ref {before} {now} {is} {c} (faults.Truncated at) s a same h =

@@ -5,11 +5,11 @@ use Rattle.std.proofs.lemmas.List.{take_all, drop_all, length-take-le, length-dr
 use Rattle.class_desc.specs.declared.slot.Slot.{Slot}
 use Rattle.class_desc.specs.declared.slot.Item.{Item}
 use Rattle.wire_io.specs.Wire.{NothingLeft}
-use Rattle.wire_io.specs.Pulled.{Place, place, Takes}
+use Rattle.wire_io.specs.Pulled.{PullState, pull_state, Takes}
 use Rattle.wire_io.proofs.Pulling.{takes_nothing, takes_more, takes_stop}
 use Rattle.ser_values.specs.declared.graph.Graph.{Graph}
 use Rattle.ser_values.specs.declared.node.Node.{Node}
-use Rattle.ser_values.specs.declared.node.Place.TheVariants as places
+use Rattle.ser_values.specs.declared.node.SlotPlace.TheVariants as places
 use Rattle.ser_values.specs.Numbered.{IsGraph}
 use Rattle.ser_values.specs.Reading.{◌>>=◌, Fault, Kind, short, bad, too_many, too_deep, Progress, Step, magic_at, blocks_at, items_at, slot_at}
 use Rattle.ser_read.specs.declared.fault.StreamFault.{StreamFault}
@@ -74,10 +74,10 @@ fails_to_end after faults.OutOfMemory r h = tt
 
 -- ---- where reading ends at a fault
 
-pub breaks_whole : {Y : Type 0} {p q : Place} {e : StreamFault} {read : ℕ → List ℕ → Result Y Fault} → Breaks p q e read → BreaksWhole p q e read
+pub breaks_whole : {Y : Type 0} {p q : PullState} {e : StreamFault} {read : ℕ → List ℕ → Result Y Fault} → Breaks p q e read → BreaksWhole p q e read
 breaks_whole {Y} {p} {q} {e} {read} h = record { is = breaks_as (λ end bs f here is. to_end_err e (read end bs) f is) h }
 
-pub no_code : {p q m : Place} {inner : ℕ → Step Slot} {first now : Progress} {is : List Item} (e : StreamFault) → Slack p q inner false first now is → NoCode q m e → BreaksWhole p m e (λ end. items_at end (inner end) false first)
+pub no_code : {p q m : PullState} {inner : ℕ → Step Slot} {first now : Progress} {is : List Item} (e : StreamFault) → Slack p q inner false first now is → NoCode q m e → BreaksWhole p m e (λ end. items_at end (inner end) false first)
 unfolding blocks_at added_all
 no_code {p} {q} {m} {inner} {first} (TooLarge Bytes at) s h =
     let k : q.at + 0 ≡ q.at = omega arith in
@@ -92,7 +92,7 @@ no_code faults.OutOfMemory s h = absurd h
 
 -- ---- what was taken
 
-pub slack_all : {p q m : Place} {inner : ℕ → Step Slot} {first now : Progress} {is : List Item}
+pub slack_all : {p q m : PullState} {inner : ℕ → Step Slot} {first now : Progress} {is : List Item}
     → Slack p q inner false first now is → Takes q m [] → NothingLeft m.left → ReadsAll p m (λ end. items_at end (inner end) false first) (is, now, [])
 unfolding blocks_at added_all
 slack_all {p} {q} {m} {inner} {first} {now} {is} s t nothing = record {
@@ -103,7 +103,7 @@ slack_all {p} {q} {m} {inner} {first} {now} {is} s t nothing = record {
   is = rw t.at (rw append-nil at (s.reads []));
 }
 
-pub then_all : {A Y : Type 0} {p q r : Place} {first : ℕ → List ℕ → Result A Fault} {mid : List ℕ → A} (k : ℕ → A → Result Y Fault) {y : Y}
+pub then_all : {A Y : Type 0} {p q r : PullState} {first : ℕ → List ℕ → Result A Fault} {mid : List ℕ → A} (k : ℕ → A → Result Y Fault) {y : Y}
     → Reads short p q first mid → ReadsAll q r (λ end bs. k end (mid bs)) y → ReadsAll p r (λ end bs. first end bs >>= k end) y
 then_all {A} {Y} {p} {q} {r} {first} {mid} k {y} a b = record {
   taken = a.taken ++ b.taken;
@@ -113,7 +113,7 @@ then_all {A} {Y} {p} {q} {r} {first} {mid} k {y} a b = record {
   is = rw (rw (← b.takes.at) at (a.is b.taken)) b.is;
 }
 
-pub map_all : {X Y : Type 0} {p q : Place} {read : ℕ → List ℕ → Result X Fault} {x : X} (f : X → Y) → ReadsAll p q read x → ReadsAll p q (λ end bs. read end bs >>= λ x. Ok (f x)) (f x)
+pub map_all : {X Y : Type 0} {p q : PullState} {read : ℕ → List ℕ → Result X Fault} {x : X} (f : X → Y) → ReadsAll p q read x → ReadsAll p q (λ end bs. read end bs >>= λ x. Ok (f x)) (f x)
 map_all f a = record { taken = a.taken; bytes = a.bytes; takes = a.takes; nothing = a.nothing; is = rw a.is refl }
 
 -- ---- a whole stream
@@ -132,15 +132,15 @@ stream_err : (end : ℕ) (bs : List ℕ) (f : Fault) → magic_at end (0xAC ∷ 
 unfolding stream_at
 stream_err end bs f h = rw h refl
 
-pub magic_breaks : {p q : Place} {e : StreamFault} → Breaks p q e (λ end. magic_at end (0xAC ∷ 0xED ∷ 0x00 ∷ 0x05 ∷ [])) → BreaksWhole p q e stream_at
+pub magic_breaks : {p q : PullState} {e : StreamFault} → Breaks p q e (λ end. magic_at end (0xAC ∷ 0xED ∷ 0x00 ∷ 0x05 ∷ [])) → BreaksWhole p q e stream_at
 unfolding stream_at
 magic_breaks h = breaks_whole (first (λ end bs. graph_in (contents end bs)) h)
 
-pub items_break : {p q r : Place} {e : StreamFault} → Reads short p q (λ end. magic_at end (0xAC ∷ 0xED ∷ 0x00 ∷ 0x05 ∷ [])) (λ rest. rest)
+pub items_break : {p q r : PullState} {e : StreamFault} → Reads short p q (λ end. magic_at end (0xAC ∷ 0xED ∷ 0x00 ∷ 0x05 ∷ [])) (λ rest. rest)
     → BreaksWhole q r e (λ end. items_at end (slot_at end 200 places.Reference []) false nothing_read) → BreaksWhole p r e stream_at
 items_break {p} {q} {r} {e} a b = record { is = breaks_two (leads_read (λ end bs. graph_in (to_end e (contents end bs))) a (λ end bs rest here is. stream_is e end bs rest is) (λ end bs here is. to_end_err e (stream_at end bs) short (stream_err end bs short is))) (first (λ end x. Ok (x.1.nodes, x.0)) b.is) }
 
-pub stream_reads : {p q r : Place} (is : List Item) (later : Progress) → Reads short p q (λ end. magic_at end (0xAC ∷ 0xED ∷ 0x00 ∷ 0x05 ∷ [])) (λ rest. rest)
+pub stream_reads : {p q r : PullState} (is : List Item) (later : Progress) → Reads short p q (λ end. magic_at end (0xAC ∷ 0xED ∷ 0x00 ∷ 0x05 ∷ [])) (λ rest. rest)
     → ReadsAll q r (λ end. items_at end (slot_at end 200 places.Reference []) false nothing_read) (is, later, []) → ReadsAll p r stream_at (later.nodes, is)
 unfolding stream_at
 stream_reads is later a b = then_all (λ end bs. graph_in (contents end bs)) a (map_all (λ x. (x.1.nodes, x.0)) b)
@@ -153,20 +153,20 @@ Whole o at stop view result = (env_at o at stop).told ≡ true → Gives (env_at
 
 -- from what a call took
 pub whole_of : {S X : Type 0} (left : S → Option (List ℕ)) (faults : S → ℕ) (p q : Pull S) (view : X → Answer) (result : Result X StreamFault) → q.at ≤ q.stop
-    → IfOk result (λ x. ReadsAll (place left faults p) (place left faults q) stream_at (view x)) → IfErr result (λ e. BreaksWhole (place left faults p) (place left faults q) e stream_at)
+    → IfOk result (λ x. ReadsAll (pull_state left faults p) (pull_state left faults q) stream_at (view x)) → IfErr result (λ e. BreaksWhole (pull_state left faults p) (pull_state left faults q) e stream_at)
     → IsTold left p → Gives (env left p).after view result (to_end (env left p).after (stream_at (env left p).end (coming left p)))
 unfolding env coming
 whole_of left faults p q view (Ok x) le a b told =
-    let old = place left faults p in
-    let new = place left faults q in
+    let old = pull_state left faults p in
+    let new = pull_state left faults q in
     let t = all_told old new a.taken (Truncated q.at) a.takes le told (λ known. byte_ends new new (takes_nothing new) a.nothing known) in
     ap (λ e. to_end e (stream_at (env_at old.left old.at old.stop).end (coming_at old.left old.at old.stop))) t.after
     ∙ ap (λ n. stream_at n (coming_at old.left old.at old.stop)) t.end ∙ ap (λ bs. stream_at q.at bs) t.all ∙ a.is
 whole_of left faults p q view (Err e) le a b told =
-    let old = place left faults p in
+    let old = pull_state left faults p in
     fails_to_end (env_at old.left old.at old.stop).after e (stream_at (env_at old.left old.at old.stop).end (coming_at old.left old.at old.stop)) (breaks_told b.is le told)
 
-pub whole_caused : {X : Type 0} (p q : Place) (view : X → Answer) (result : Result X StreamFault) → IfOk result (λ x. ReadsAll p q stream_at (view x)) → IfErr result (λ e. BreaksWhole p q e stream_at) → Caused p.faults q.faults result
+pub whole_caused : {X : Type 0} (p q : PullState) (view : X → Answer) (result : Result X StreamFault) → IfOk result (λ x. ReadsAll p q stream_at (view x)) → IfErr result (λ e. BreaksWhole p q e stream_at) → Caused p.faults q.faults result
 whole_caused p q view (Ok x) a b = a.takes.faults
 whole_caused {X} p q view (Err e) a b = breaks_caused X b.is
 
@@ -205,12 +205,12 @@ pub gives_past : {S X : Type 0} (left : S → Option (List ℕ)) (p : Pull S) (b
 unfolding env coming
 gives_past left p bytes view result h le more g = past (left p.source.now) p.at p.stop bytes view result h le more g
 
-pub takes_stream : {p q : Place} {nodes : List Node} {items : List Item} → ReadsAll p q stream_at (nodes, items) → TakesStream p q nodes items
+pub takes_stream : {p q : PullState} {nodes : List Node} {items : List Item} → ReadsAll p q stream_at (nodes, items) → TakesStream p q nodes items
 takes_stream {p} {q} {nodes} {items} a =
     let s = stream_at_sound q.at a.taken (nodes, items) a.bytes a.is in
     record { taken = a.taken; takes = a.takes; nothing = a.nothing; read = a.is; stream = s; parts = s.few_parts }
 
-pub graph_of : {p q : Place} {nodes : List Node} {items : List Item} → ReadsAll p q stream_at (nodes, items) → IsGraph nodes items
+pub graph_of : {p q : PullState} {nodes : List Node} {items : List Item} → ReadsAll p q stream_at (nodes, items) → IsGraph nodes items
 graph_of {p} {q} {nodes} {items} a = graph_at q.at a.taken (nodes, items) a.bytes a.is
 
 abbrev pub graph_parts : Graph → Answer
@@ -228,10 +228,10 @@ pub is_read : (after : StreamFault) (end : ℕ) (bytes : List ℕ) (nodes : List
 is_read after end bytes nodes items (Ok graph) e h = same_parts nodes items (graph_parts graph) (sym e ∙ h)
 is_read after end bytes nodes items (Err e) is h = fails_outside (λ f. f) IsBad after e (stream_at end bytes) (nodes, items) is (λ kind at g. never (sym is ∙ g.0)) h
 
-pub taken_streams : (p q : Place) (result : Result Graph StreamFault) → IfOk result (λ graph. ReadsAll p q stream_at (graph.nodes, graph.items)) → IfOk result (λ graph. TakesStream p q graph.nodes graph.items)
+pub taken_streams : (p q : PullState) (result : Result Graph StreamFault) → IfOk result (λ graph. ReadsAll p q stream_at (graph.nodes, graph.items)) → IfOk result (λ graph. TakesStream p q graph.nodes graph.items)
 taken_streams p q (Ok graph) h = takes_stream h
 taken_streams p q (Err e) h = tt
 
-pub whole_raised : {X Y : Type 0} {p q : Place} {e : StreamFault} {read : ℕ → List ℕ → Result Y Fault} (result : Result X StreamFault) → IsErrAnd result (λ f. f ≡ e) → BreaksWhole p q e read → IfErr result (λ e. BreaksWhole p q e read)
+pub whole_raised : {X Y : Type 0} {p q : PullState} {e : StreamFault} {read : ℕ → List ℕ → Result Y Fault} (result : Result X StreamFault) → IsErrAnd result (λ f. f ≡ e) → BreaksWhole p q e read → IfErr result (λ e. BreaksWhole p q e read)
 whole_raised (Ok x) is h = absurd is
 whole_raised {X} {Y} {p} {q} {e} {read} (Err f) is h = subst (λ g. BreaksWhole p q g read) (sym is) h

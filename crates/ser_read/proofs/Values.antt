@@ -1,6 +1,6 @@
 -- Values and elements of primitive types.
 use Rattle.std.proofs.Common.{◌≡◌, ℕ, List, Result, Ok, Err, refl}
-use Rattle.wire_io.specs.Pulled.{Place}
+use Rattle.wire_io.specs.Pulled.{PullState}
 use Rattle.ser_values.specs.Reading.{short, ◌>>=◌, Fault, Plain, Progress, Step, mapped, plain}
 use Rattle.ser_read.specs.declared.fault.StreamFault.{StreamFault}
 use Rattle.ser_read.specs.Here.{Reads, Breaks}
@@ -14,12 +14,12 @@ twice {A} {B} {C} f g step now bs = go (step now bs)
     go (Ok x) = refl
     go (Err e) = refl
 
-pub mapped_reads : {A B : Type 0} {p q : Place} (f : A → B) (step : Step A) (now : Progress) (x : A) → Reads short p q (λ end. step now) (λ rest. (x, now, rest)) → Reads short p q (λ end. mapped f step now) (λ rest. (f x, now, rest))
+pub mapped_reads : {A B : Type 0} {p q : PullState} (f : A → B) (step : Step A) (now : Progress) (x : A) → Reads short p q (λ end. step now) (λ rest. (x, now, rest)) → Reads short p q (λ end. mapped f step now) (λ rest. (f x, now, rest))
 mapped_reads f step now x h = then (λ end y. Ok (f y.0, y.1, y.2)) h (done (λ end bs. refl))
 
-pub mapped_stops : {A B : Type 0} {p q : Place} {e : StreamFault} (f : A → B) (step : Step A) (now : Progress) → Breaks p q e (λ end. step now) → Breaks p q e (λ end. mapped f step now)
+pub mapped_stops : {A B : Type 0} {p q : PullState} {e : StreamFault} (f : A → B) (step : Step A) (now : Progress) → Breaks p q e (λ end. step now) → Breaks p q e (λ end. mapped f step now)
 mapped_stops f step now h = first (λ end y. Ok (f y.0, y.1, y.2)) h
 
 -- what changes no nodes
-pub plain_stops : {A : Type 0} {p q : Place} {e : StreamFault} {read : ℕ → List ℕ → Plain A} (now : Progress) → Breaks p q e read → Breaks p q e (λ end. plain (read end) now)
+pub plain_stops : {A : Type 0} {p q : PullState} {e : StreamFault} {read : ℕ → List ℕ → Plain A} (now : Progress) → Breaks p q e read → Breaks p q e (λ end. plain (read end) now)
 plain_stops now h = first (λ end y. Ok (y.0, now, y.1)) h

@@ -1,6 +1,6 @@
 -- What is read inside wants.
 use Rattle.std.proofs.Common.{◌≡◌, ℕ, List, Result, Ok, Err, IfOk, refl}
-use Rattle.wire_io.specs.Pulled.{Place}
+use Rattle.wire_io.specs.Pulled.{PullState}
 use Rattle.ser_values.specs.Reading.{Fault, short, bad}
 use Rattle.ser_read.specs.declared.fault.StreamFault.{StreamFault}
 use Rattle.ser_read.specs.declared.fault.StreamKind.{StreamKind}
@@ -28,12 +28,12 @@ inside_is kinds.InnerException at h = refl
 inside_is kinds.OldExternal at h = refl
 
 -- what is read first, and the wants after it
-pub want_then : {A Y : Type 0} {p q r : Place} {first : ℕ → List ℕ → Result A Fault} {mid : List ℕ → A} (k : ℕ → A → Result Y WantFault) {out : List ℕ → Y}
+pub want_then : {A Y : Type 0} {p q r : PullState} {first : ℕ → List ℕ → Result A Fault} {mid : List ℕ → A} (k : ℕ → A → Result Y WantFault) {out : List ℕ → Y}
     → Reads short p q first mid → Reads (inside short) q r (λ end bs. k end (mid bs)) out → Reads (inside short) p r (λ end bs. lifted (first end bs) ▸ k end) out
 want_then k a b = reads_two a b (λ end bs rest is. rw is refl) (λ end bs is. rw is refl)
 
 -- a call's last step
-pub want_last : {X A Y : Type 0} {p q : Place} (r : Place) {first : ℕ → List ℕ → Result A Fault} {mid : List ℕ → A} (k : ℕ → A → Result Y WantFault) (inner : ℕ → List ℕ → Result Y Fault) (out : X → List ℕ → Y) (result : Result X StreamFault)
+pub want_last : {X A Y : Type 0} {p q : PullState} (r : PullState) {first : ℕ → List ℕ → Result A Fault} {mid : List ℕ → A} (k : ℕ → A → Result Y WantFault) (inner : ℕ → List ℕ → Result Y Fault) (out : X → List ℕ → Y) (result : Result X StreamFault)
     → Reads short p q first mid → ((end : ℕ) (bs : List ℕ) → k end (mid bs) ≡ lifted (inner end bs)) → IfOk result (λ x. Reads short q r inner (out x)) → IfOk result (λ x. Reads (inside short) p r (λ end bs. lifted (first end bs) ▸ k end) (out x))
 want_last r k inner out (Ok x) a same b = want_then k a (said (λ end bs here. same end bs) (reads_two b (done (λ end bs. refl)) (λ end bs rest is. rw is refl) (λ end bs is. rw is refl)))
 want_last r k inner out (Err e) a same b = tt

@@ -1,6 +1,6 @@
 -- Which bytes spell what a list of wants asks for.
 use Rattle.std.specs.Prelude.{◌≡◌, ◌≤◌, ℕ, List, [], ◌∷◌, length, Result, Ok, Err}
-use Rattle.wire_io.specs.Pulled.{Place, Takes}
+use Rattle.wire_io.specs.Pulled.{PullState, Takes}
 use Rattle.class_desc.specs.declared.slot.Item.{Item}
 use Rattle.class_desc.specs.declared.slot.Item.TheVariants as items
 use Rattle.ser_values.specs.declared.node.Node.{Node}
@@ -46,7 +46,7 @@ pub record IsAsked (wants : List Want) (answers : List Item) (nodes : List Node)
   pub few_parts : parts_in nodes ≤ PARTS
 
 -- A front of the bytes was taken, which is a stream of what these wants ask for.
-pub record TakesAsked (old new : Place) (wants : List Want) (answers : List Item) (nodes : List Node) (contents : List Item) : Type 0 where
+pub record TakesAsked (old new : PullState) (wants : List Want) (answers : List Item) (nodes : List Node) (contents : List Item) : Type 0 where
   pub bytes : List ℕ
   pub takes : Takes old new (0xAC ∷ 0xED ∷ 0x00 ∷ 0x05 ∷ bytes)
   pub asked : IsAsked wants answers nodes bytes

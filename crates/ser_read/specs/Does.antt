@@ -4,8 +4,8 @@ use Rattle.class_desc.specs.declared.slot.Slot.{Slot}
 use Rattle.class_desc.specs.declared.slot.Slot.TheVariants.{Null}
 use Rattle.wire_io.specs.declared.pull.Pull.{Pull}
 use Rattle.ser_values.specs.declared.limits.TheConstants.{NODES}
-use Rattle.ser_values.specs.declared.node.Place.{Place}
-use Rattle.ser_values.specs.declared.node.Place.TheVariants as places
+use Rattle.ser_values.specs.declared.node.SlotPlace.{SlotPlace}
+use Rattle.ser_values.specs.declared.node.SlotPlace.TheVariants as places
 use Rattle.ser_values.specs.Reading.{Step}
 use Rattle.ser_read.specs.declared.fault.StreamFault.{StreamFault}
 use Rattle.ser_read.specs.declared.table.Table.{Table}
@@ -23,7 +23,7 @@ abbrev pub GivesNode : Result Slot StreamFault → Type 0
 GivesNode result = IfOk result (λ slot. slot ≢ Null)
 
 -- In the place of a text it is a node.
-abbrev pub GivesText : Place → Result Slot StreamFault → Type 0
+abbrev pub GivesText : SlotPlace → Result Slot StreamFault → Type 0
 GivesText place result = place ≡ places.Text → GivesNode result
 
 -- One node more has room.

@@ -2,7 +2,7 @@
 use Rattle.std.specs.Prelude.{◌≡◌, ℕ, ◌+◌, ◌-◌, ◌≤◌, ◌<◌, Bool, true, false, List, [], ◌∷◌, ◌++◌, length, take, drop, Option, None, Some, Result, Ok, Err, IfOk, IfErr}
 use Rattle.std.specs.List.{AllByRecursion}
 use Rattle.wire_io.specs.Wire.{Rose, NothingLeft}
-use Rattle.wire_io.specs.Pulled.{Place, place, Takes, Passes}
+use Rattle.wire_io.specs.Pulled.{PullState, pull_state, Takes, Passes}
 use Rattle.wire_io.specs.declared.pull.Pull.{Pull}
 use Rattle.wire_io.specs.declared.pull.PullEnd.{PullEnd}
 use Rattle.wire_io.specs.declared.pull.PullEnd.TheVariants as ends
@@ -129,7 +129,7 @@ abbrev pub NeedsAll : {Y F : Type 0} → F → ℕ → List ℕ → (ℕ → Lis
 NeedsAll more at taken read = (front : List ℕ) (next : ℕ) (others : List ℕ) → taken ≡ front ++ next ∷ others → read (at + length front) front ≡ Err more
 
 -- Bytes were taken, and whatever comes after them, reading gives `out` of that. None of them could be left out.
-pub record Reads {Y F : Type 0} (more : F) (old new : Place) (read : ℕ → List ℕ → Result Y F) (out : List ℕ → Y) : Type 0 where
+pub record Reads {Y F : Type 0} (more : F) (old new : PullState) (read : ℕ → List ℕ → Result Y F) (out : List ℕ → Y) : Type 0 where
   pub taken : List ℕ
   pub bytes : AreBytes taken
   pub takes : Takes old new taken
@@ -138,12 +138,12 @@ pub record Reads {Y F : Type 0} (more : F) (old new : Place) (read : ℕ → Lis
 
 -- Whether the bytes are told or not, what a call answers is read from those that it took.
 abbrev pub ReadsTaken : {S X Y : Type 0} → (S → Option (List ℕ)) → (S → ℕ) → Pull S → Pull S → Result X StreamFault → (ℕ → List ℕ → Result Y Fault) → (X → List ℕ → Y) → Type 0
-ReadsTaken left faults old new result read out = IfOk result (λ x. Reads short (place left faults old) (place left faults new) read (out x))
+ReadsTaken left faults old new result read out = IfOk result (λ x. Reads short (pull_state left faults old) (pull_state left faults new) read (out x))
 
 -- ---- what was taken on a fault, and why reading ends there
 
 -- Bytes were taken, and whatever comes after them, reading gives the fault of which this is said. None of them could be left out.
-pub record Decides {Y F : Type 0} (more : F) (old new : Place) (read : ℕ → List ℕ → Result Y F) (is_fault : Result Y F → Type 0) : Type 0 where
+pub record Decides {Y F : Type 0} (more : F) (old new : PullState) (read : ℕ → List ℕ → Result Y F) (is_fault : Result Y F → Type 0) : Type 0 where
   pub taken : List ℕ
   pub bytes : AreBytes taken
   pub takes : Takes old new taken
@@ -151,14 +151,14 @@ pub record Decides {Y F : Type 0} (more : F) (old new : Place) (read : ℕ → L
   pub least : NeedsAll more old.at taken read
 
 -- Bytes were taken up to this place, at which the fault stands, and reading wants more of them.
-pub record FallsShort {Y F : Type 0} (old new : Place) (at : ℕ) (read : ℕ → List ℕ → Result Y F) (fault : F) : Type 0 where
+pub record FallsShort {Y F : Type 0} (old new : PullState) (at : ℕ) (read : ℕ → List ℕ → Result Y F) (fault : F) : Type 0 where
   pub taken : List ℕ
   pub takes : Takes old new taken
   pub here : at ≡ new.at
   pub is : read new.at taken ≡ Err fault
 
 -- Bytes were taken, and none of them could be left out.
-pub record TakesNeeded {Y F : Type 0} (more : F) (old new : Place) (read : ℕ → List ℕ → Result Y F) : Type 0 where
+pub record TakesNeeded {Y F : Type 0} (more : F) (old new : PullState) (read : ℕ → List ℕ → Result Y F) : Type 0 where
   pub taken : List ℕ
   pub takes : Takes old new taken
   pub least : NeedsAll more old.at taken read
@@ -167,19 +167,19 @@ pub record TakesNeeded {Y F : Type 0} (more : F) (old new : Place) (read : ℕ �
 -- gives the fault of a kind at a position. What is wrong, or too deep, or one node too many, is decided by the bytes taken, whatever comes
 -- after them, and by no fewer of them. The input ends behind the bytes taken, or goes on there past the limit, or the source fails there, and
 -- reading them wants more. Where there is no memory, none of the bytes taken could be left out.
-abbrev pub BreaksBy : {Y F : Type 0} → (Fault → F) → (Result Y F → StreamKind → ℕ → Type 0) → Place → Place → StreamFault → (ℕ → List ℕ → Result Y F) → Type 0
+abbrev pub BreaksBy : {Y F : Type 0} → (Fault → F) → (Result Y F → StreamKind → ℕ → Type 0) → PullState → PullState → StreamFault → (ℕ → List ℕ → Result Y F) → Type 0
 BreaksBy said of_kind old new (Bad kind at) read = Decides (said short) old new read (λ r. of_kind r kind at)
 BreaksBy said of_kind old new (TooLarge Nodes at) read = Decides (said short) old new read (λ r. r ≡ Err (said (too_many at)))
 BreaksBy said of_kind old new (TooLarge Depth at) read = Decides (said short) old new read (λ r. r ≡ Err (said (too_deep at)))
-BreaksBy said of_kind old new (TooLarge Bytes at) read = (mid : Place) × FallsShort old mid at read (said short) × Passes mid new
+BreaksBy said of_kind old new (TooLarge Bytes at) read = (mid : PullState) × FallsShort old mid at read (said short) × Passes mid new
 BreaksBy said of_kind old new (Truncated at) read = FallsShort old new at read (said short) × NothingLeft new.left
 BreaksBy said of_kind old new ReadFault read = FallsShort old new new.at read (said short) × Rose old.faults new.faults
 BreaksBy said of_kind old new OutOfMemory read = TakesNeeded (said short) old new read
 
 -- the same where a stream is read whole
-pub record Breaks {Y : Type 0} (old new : Place) (fault : StreamFault) (read : ℕ → List ℕ → Result Y Fault) : Type 0 where
+pub record Breaks {Y : Type 0} (old new : PullState) (fault : StreamFault) (read : ℕ → List ℕ → Result Y Fault) : Type 0 where
   pub is : BreaksBy (λ f. f) IsBad old new fault read
 
 -- Whether the bytes are told or not, a fault that a call answers is what the bytes that it took come to.
 abbrev pub StopsTaken : {S X Y : Type 0} → (S → Option (List ℕ)) → (S → ℕ) → Pull S → Pull S → Result X StreamFault → (ℕ → List ℕ → Result Y Fault) → Type 0
-StopsTaken left faults old new result read = IfErr result (λ e. Breaks (place left faults old) (place left faults new) e read)
+StopsTaken left faults old new result read = IfErr result (λ e. Breaks (pull_state left faults old) (pull_state left faults new) e read)

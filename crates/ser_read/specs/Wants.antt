@@ -4,10 +4,10 @@ use Rattle.class_desc.specs.declared.slot.Slot.{Slot}
 use Rattle.class_desc.specs.declared.slot.Item.{Item}
 use Rattle.class_desc.specs.declared.slot.Item.TheVariants as items
 use Rattle.ser_values.specs.declared.node.Node.{Node}
-use Rattle.ser_values.specs.declared.node.Place.TheVariants as places
+use Rattle.ser_values.specs.declared.node.SlotPlace.TheVariants as places
 use Rattle.ser_values.specs.declared.limits.TheConstants.{LEVELS}
 use Rattle.ser_values.specs.Reading.{Fault, short, bad, bad_code, reset, inner_exception, Progress, byte_at, slot_at, coded, magic_at}
-use Rattle.wire_io.specs.Pulled.{Place, place}
+use Rattle.wire_io.specs.Pulled.{PullState, pull_state}
 use Rattle.wire_io.specs.declared.pull.Pull.{Pull}
 use Rattle.ser_read.specs.declared.fault.StreamKind.{StreamKind}
 use Rattle.ser_read.specs.declared.fault.StreamKind.TheVariants as kinds
@@ -140,16 +140,16 @@ abbrev pub GivesWant : {S X Y : Type 0} → (S → Option (List ℕ)) → Pull S
 GivesWant left old new result read out = GivesToldBy WantFails left old new result read out
 
 -- What was taken where a call answers this fault, and why reading ends there.
-pub record WantBreaks {Y : Type 0} (old new : Place) (fault : StreamFault) (read : ℕ → List ℕ → Result Y WantFault) : Type 0 where
+pub record WantBreaks {Y : Type 0} (old new : PullState) (fault : StreamFault) (read : ℕ → List ℕ → Result Y WantFault) : Type 0 where
   pub is : BreaksBy inside WantIsBad old new fault read
 
 -- Whether the bytes are told or not, what a call answers is read from those that it took.
 abbrev pub WantTaken : {S X Y : Type 0} → (S → Option (List ℕ)) → (S → ℕ) → Pull S → Pull S → Result X StreamFault → (ℕ → List ℕ → Result Y WantFault) → (X → List ℕ → Y) → Type 0
-WantTaken left faults old new result read out = IfOk result (λ x. Reads (inside short) (place left faults old) (place left faults new) read (out x))
+WantTaken left faults old new result read out = IfOk result (λ x. Reads (inside short) (pull_state left faults old) (pull_state left faults new) read (out x))
 
 -- Whether the bytes are told or not, a fault that a call answers is what the bytes that it took come to.
 abbrev pub StopsWant : {S X Y : Type 0} → (S → Option (List ℕ)) → (S → ℕ) → Pull S → Pull S → Result X StreamFault → (ℕ → List ℕ → Result Y WantFault) → Type 0
-StopsWant left faults old new result read = IfErr result (λ e. WantBreaks (place left faults old) (place left faults new) e read)
+StopsWant left faults old new result read = IfErr result (λ e. WantBreaks (pull_state left faults old) (pull_state left faults new) e read)
 
 -- ---- lists of wants
 

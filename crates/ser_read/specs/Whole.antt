@@ -2,10 +2,10 @@
 use Rattle.std.specs.Prelude.{◌≡◌, ℕ, ◌-◌, ◌≤◌, false, List, [], ◌∷◌, length, Result, Ok, Err}
 use Rattle.class_desc.specs.declared.slot.Item.{Item}
 use Rattle.wire_io.specs.Wire.{NothingLeft, Rose}
-use Rattle.wire_io.specs.Pulled.{Place, Takes, Passes}
+use Rattle.wire_io.specs.Pulled.{PullState, Takes, Passes}
 use Rattle.ser_values.specs.declared.graph.Graph.{Graph}
 use Rattle.ser_values.specs.declared.node.Node.{Node}
-use Rattle.ser_values.specs.declared.node.Place.TheVariants as places
+use Rattle.ser_values.specs.declared.node.SlotPlace.TheVariants as places
 use Rattle.ser_values.specs.declared.limits.TheConstants.{LEVELS, PARTS}
 use Rattle.ser_values.specs.Shape.{parts_in}
 use Rattle.ser_values.specs.Spelled.{IsStream}
@@ -42,7 +42,7 @@ to_end (Truncated at) read = read
 to_end after read = going_on read
 
 -- The bytes to the end of the input were taken, and reading gives `y` of them.
-pub record ReadsAll {Y : Type 0} (old new : Place) (read : ℕ → List ℕ → Result Y Fault) (y : Y) : Type 0 where
+pub record ReadsAll {Y : Type 0} (old new : PullState) (read : ℕ → List ℕ → Result Y Fault) (y : Y) : Type 0 where
   pub taken : List ℕ
   pub bytes : AreBytes taken
   pub takes : Takes old new taken
@@ -51,17 +51,17 @@ pub record ReadsAll {Y : Type 0} (old new : Place) (read : ℕ → List ℕ → 
 
 -- What was taken where a fault is answered and what is read goes on to the end of the input: behind the bytes that could be all, the input goes
 -- on past the limit.
-pub record BreaksWhole {Y : Type 0} (old new : Place) (fault : StreamFault) (read : ℕ → List ℕ → Result Y Fault) : Type 0 where
+pub record BreaksWhole {Y : Type 0} (old new : PullState) (fault : StreamFault) (read : ℕ → List ℕ → Result Y Fault) : Type 0 where
   pub is : Breaks old new fault (λ end bs. to_end fault (read end bs))
 
 -- No code came here, and the input does not end here.
-abbrev pub NoCode : Place → Place → StreamFault → Type 0
+abbrev pub NoCode : PullState → PullState → StreamFault → Type 0
 NoCode old new (TooLarge Bytes at) = (at ≡ old.at) × Passes old new
 NoCode old new ReadFault = Takes old new [] × Rose old.faults new.faults
 NoCode old new _ = ⊥
 
 -- The bytes to the end of the input were taken, and they are a stream of these nodes and items, within the limit of parts.
-pub record TakesStream (old new : Place) (nodes : List Node) (items : List Item) : Type 0 where
+pub record TakesStream (old new : PullState) (nodes : List Node) (items : List Item) : Type 0 where
   pub taken : List ℕ
   pub takes : Takes old new taken
   pub nothing : NothingLeft new.left

@@ -1,7 +1,7 @@
 //! Codes, handles, names and items by themselves.
 ghost use Rattle.std.specs.Prelude.{◌≡◌, ◌≢◌, List, ℕ, IfOk, OnOk};
 ghost use Rattle.class_desc.specs.declared.slot.Slot.TheVariants.{Null};
-ghost use Rattle.ser_values.specs.declared.node.Place.TheVariants.{Text};
+ghost use Rattle.ser_values.specs.declared.node.SlotPlace.TheVariants.{Text};
 ghost use Rattle.ser_values.specs.declared.node.Node.TheVariants.{Desc};
 ghost use Rattle.ser_values.specs.Reading.{Progress, many_at, plain, short_at, null_at, handle_at, admits_code, code_fault, blank};
 ghost use Rattle.ser_read.specs.Named.{add_bytes, added};
@@ -15,13 +15,10 @@ use crate::pulled::{four, short_text};
 use crate::table::Table;
 use class_desc::{ClassDesc, FieldList, Item, Items, Slot};
 use mod_utf::list::{ByteList, NameList, Units};
-use ser_values::{Node, Place};
+use ser_values::{FIRST_HANDLE, Node, SlotPlace};
 use std::alloc::{AllocError, Global};
 use wire_io::pull::Pull;
 use wire_io::source::Source;
-
-/// The handle of the first node.
-const FIRST_HANDLE: u32 = 0x7E_0000;
 
 /// A fault at a position.
 pub(crate) fn bad(kind: StreamKind, at: u64) -> StreamFault
@@ -31,16 +28,16 @@ pub(crate) fn bad(kind: StreamKind, at: u64) -> StreamFault
 }
 
 /// Whether a node of a code may stand in a place for the first time.
-pub(crate) fn admits_code(place: Place, code: u8) -> bool
+pub(crate) fn admits_code(place: SlotPlace, code: u8) -> bool
     ensures { result ≡ admits_code place code }
 {
     match place {
-        Place::Reference => {
+        SlotPlace::Reference => {
             0x72 <= code && code <= 0x76 || (code == 0x7C || (code == 0x7D || code == 0x7E))
         }
-        Place::Class => code == 0x72 || code == 0x7D,
-        Place::Parent => code == 0x72 || code == 0x7D,
-        Place::Text => code == 0x74 || code == 0x7C,
+        SlotPlace::Class => code == 0x72 || code == 0x7D,
+        SlotPlace::Parent => code == 0x72 || code == 0x7D,
+        SlotPlace::Text => code == 0x74 || code == 0x7C,
     }
 }
 
@@ -73,16 +70,16 @@ pub(crate) fn blank(alloc: Global) -> Node
 }
 
 /// Null, whose code at this position was read.
-pub(crate) fn null(place: Place, at: u64) -> Result<Slot, StreamFault>
+pub(crate) fn null(place: SlotPlace, at: u64) -> Result<Slot, StreamFault>
     ensures gives { (after : StreamFault) (now : Progress) (bs : List ℕ) → Gives after (λ slot. (slot, now, bs)) result (null_at place at now bs) }
     ensures cause { (faults : ℕ) → Caused faults faults result }
     ensures some { place ≡ Text → IfOk result (λ slot. slot ≢ Null) }
 {
     match place {
-        Place::Reference => Ok(Slot::Null),
-        Place::Parent => Ok(Slot::Null),
-        Place::Class => Err(bad(StreamKind::BadCode, at)),
-        Place::Text => Err(bad(StreamKind::BadCode, at)),
+        SlotPlace::Reference => Ok(Slot::Null),
+        SlotPlace::Parent => Ok(Slot::Null),
+        SlotPlace::Class => Err(bad(StreamKind::BadCode, at)),
+        SlotPlace::Text => Err(bad(StreamKind::BadCode, at)),
     }
 }
 
@@ -91,7 +88,7 @@ pub(crate) fn null(place: Place, at: u64) -> Result<Slot, StreamFault>
 pub(crate) fn handle<S: Source>(
     pull: &mut Pull<'_, S>,
     table: &Table,
-    place: Place,
+    place: SlotPlace,
     at: u64,
 ) -> Result<Slot, StreamFault>
     ensures some { IfOk result (λ slot. slot ≢ Null) }

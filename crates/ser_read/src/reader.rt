@@ -19,7 +19,7 @@ use crate::table::Table;
 use class_desc::{Item, Items, Slot};
 use mod_utf::list::{ByteList, TryCopy};
 use ser_values::limits::LEVELS;
-use ser_values::{Graph, Node, Place};
+use ser_values::{Graph, Node, SlotPlace};
 use std::alloc::Global;
 use std::marker::Model;
 use wire_io::pull::Pull;
@@ -89,7 +89,7 @@ fn reference<S: Source>(
 {
     match next_head(pull)? {
         Head::Block(_) => Err(bad(StreamKind::BlockLeft, pull.at)),
-        Head::Code(code, at) => coded(alloc, pull, table, Place::Reference, LEVELS, at, code),
+        Head::Code(code, at) => coded(alloc, pull, table, SlotPlace::Reference, LEVELS, at, code),
     }
 }
 

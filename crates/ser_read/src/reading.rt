@@ -20,7 +20,7 @@ use crate::pieces::{admits_code, bad, code_fault, handle, null};
 use crate::pulled::{byte, long_text, short_text};
 use crate::table::Table;
 use class_desc::Slot;
-use ser_values::{Node, Place};
+use ser_values::{Node, SlotPlace};
 use std::alloc::Global;
 use wire_io::pull::Pull;
 use wire_io::source::Source;
@@ -31,7 +31,7 @@ fn slot<S: Source>(
     alloc: Global,
     pull: &mut Pull<'_, S>,
     table: &mut Table,
-    place: Place,
+    place: SlotPlace,
     left: u32,
 ) -> Result<Slot, StreamFault>
     requires left { left ≤ LEVELS }
@@ -50,7 +50,7 @@ pub(crate) fn coded<S: Source>(
     alloc: Global,
     pull: &mut Pull<'_, S>,
     table: &mut Table,
-    place: Place,
+    place: SlotPlace,
     left: u32,
     at: u64,
     code: u8,
@@ -73,7 +73,7 @@ fn not_null<S: Source>(
     alloc: Global,
     pull: &mut Pull<'_, S>,
     table: &mut Table,
-    place: Place,
+    place: SlotPlace,
     left: u32,
     at: u64,
     code: u8,
@@ -173,7 +173,7 @@ fn class<S: Source>(
     requires left { left ≤ LEVELS }
     ensures { Does S.left S.faults pull.old pull.new table.old table.new result (LeavesRoom table.new) (λ end. class_named (slot_at end left) table.old.unread.items at) }
 {
-    match slot(alloc, pull, table, Place::Class, left)? {
+    match slot(alloc, pull, table, SlotPlace::Class, left)? {
         Slot::Null => Err(bad(StreamKind::BadCode, at)),
         Slot::Node(class) => {
             if table.is_full() {

@@ -1,6 +1,6 @@
 //! Lists of wants.
 ghost use Rattle.std.specs.Prelude.{◌≡◌, ◌∷◌, ◌++◌, List, ℕ, OnOk, IfOk, None};
-ghost use Rattle.wire_io.specs.Pulled.{place};
+ghost use Rattle.wire_io.specs.Pulled.{pull_state};
 ghost use Rattle.class_desc.specs.declared.slot.Item.{Item};
 ghost use Rattle.ser_values.specs.declared.node.Node.{Node};
 ghost use Rattle.ser_read.specs.Here.{coming, IsTold, Caused};
@@ -101,7 +101,7 @@ pub fn read_wants<S: Source>(
     ensures cause { Caused (S.faults pull.old.source.now) (S.faults pull.new.source.now) result }
     ensures gives { GivesWant S.left pull.old pull.new result (λ end. wants_at end wants.now) (λ x rest. (x.0, x.1.nodes, x.1.items, rest)) }
     ensures stops { StopsWant S.left S.faults pull.old pull.new result (λ end. wants_at end wants.now) }
-    ensures spelled { IfOk result (λ x. TakesAsked (place S.left S.faults pull.old) (place S.left S.faults pull.new) wants.now x.0 x.1.nodes x.1.items) }
+    ensures spelled { IfOk result (λ x. TakesAsked (pull_state S.left S.faults pull.old) (pull_state S.left S.faults pull.new) wants.now x.0 x.1.nodes x.1.items) }
     ensures complete { (answers : List Item) (nodes : List Node) (bytes rest : List ℕ) → IsTold S.left pull.old → coming S.left pull.old ≡ 0xAC ∷ 0xED ∷ 0x00 ∷ 0x05 ∷ (bytes ++ rest) → IsAsked wants.now answers nodes bytes → AnswersAsked answers nodes rest (coming S.left pull.new) result }
 {
     read_each(alloc, pull, wants)

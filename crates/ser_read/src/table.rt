@@ -8,7 +8,7 @@ ghost use Rattle.ser_values.specs.declared.node.Node.TheVariants.{Desc, Object};
 use crate::fault::StreamKind;
 use class_desc::{ClassDesc, ENUM, Slot, TypeCode, element_code, is_primitive};
 use ser_values::limits::{NODES, PARTS};
-use ser_values::{Node, NodeList, PartList, Place, elements_in, fits_node, is_desc, is_text};
+use ser_values::{Node, NodeList, PartList, SlotPlace, elements_in, fits_node, is_desc, is_text};
 use std::alloc::{AllocError, Global};
 
 /// For how many nodes there is room when the first one is added: as many as most calls have. A memory allocator keeps blocks of up to about
@@ -264,23 +264,23 @@ impl Table {
     }
 
     /// Why the node of a handle is not taken in a place.
-    pub(crate) fn handle_fault(&self, place: Place, number: u32) -> Option<StreamKind>
+    pub(crate) fn handle_fault(&self, place: SlotPlace, number: u32) -> Option<StreamKind>
         ensures kind { option_map kind_of result ≡ handle_fault place (has self.now.unread.items number) (slice_get self.now.nodes.items number) }
         ensures known { IfSome result IsInBytes }
     {
         match self.node(number) {
             None => Some(StreamKind::BadHandle),
             Some(node) => match place {
-                Place::Reference => None,
-                Place::Text => {
+                SlotPlace::Reference => None,
+                SlotPlace::Text => {
                     if is_text(node) {
                         None
                     } else {
                         Some(StreamKind::WrongHandleKind)
                     }
                 }
-                Place::Class => self.desc_fault(number, node),
-                Place::Parent => self.desc_fault(number, node),
+                SlotPlace::Class => self.desc_fault(number, node),
+                SlotPlace::Parent => self.desc_fault(number, node),
             },
         }
     }

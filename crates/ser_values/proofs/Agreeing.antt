@@ -4,8 +4,8 @@ use Rattle.std.proofs.lemmas.Bool.{cases_lt}
 use Rattle.class_desc.specs.declared.slot.Slot.{Slot}
 use Rattle.class_desc.specs.declared.slot.Slot.TheVariants as slots
 use Rattle.ser_values.specs.declared.node.Node.{Node}
-use Rattle.ser_values.specs.declared.node.Place.{Place}
-use Rattle.ser_values.specs.declared.node.Place.TheVariants as places
+use Rattle.ser_values.specs.declared.node.SlotPlace.{SlotPlace}
+use Rattle.ser_values.specs.declared.node.SlotPlace.TheVariants as places
 use Rattle.ser_values.specs.Node.{has, is_desc, admits, takes, admits_null, inside}
 use Rattle.ser_values.proofs.Lists.{has-append_no, has-append_other, some_same, still_not}
 use Rattle.ser_values.proofs.Spelling.{both}
@@ -49,7 +49,7 @@ agree_two A B unread n x y u v m k i j a b = record {
 
 -- ---- slots in their places
 
-pub chained_null : (A B : List Node) (p : Place) (s : Slot) → s ≡ slots.Null → admits_null p ≡ true → Chained A B p s
+pub chained_null : (A B : List Node) (p : SlotPlace) (s : Slot) → s ≡ slots.Null → admits_null p ≡ true → Chained A B p s
 unfolding admits_null
 chained_null A B places.Reference s e h = tt
 chained_null A B places.Text s e h = tt
@@ -60,7 +60,7 @@ chained_null A B places.Parent s e h = rw e go
     go zero = tt
     go (suc n) = tt
 
-pub chained_again : (A B : List Node) (unread : List ℕ) (n k : ℕ) (i : Node) (p : Place) (s : Slot) → IsState A B unread n → s ≡ slots.Node k → slice_get A k ≡ Some i → k < n → takes p (has unread k) i ≡ true → Chained A B p s
+pub chained_again : (A B : List Node) (unread : List ℕ) (n k : ℕ) (i : Node) (p : SlotPlace) (s : Slot) → IsState A B unread n → s ≡ slots.Node k → slice_get A k ≡ Some i → k < n → takes p (has unread k) i ≡ true → Chained A B p s
 unfolding takes
 chained_again A B unread n k i places.Reference s st e is lt h = tt
 chained_again A B unread n k i places.Text s st e is lt h = tt
@@ -75,7 +75,7 @@ chained_again A B unread n k i places.Parent s st e is lt h = rw e (st.known k i
     whole false h = refl
     whole true h = absurd cc
 
-pub chained_fresh : (A B : List Node) (p : Place) (s : Slot) (i : Node) → admits p i ≡ true → (is_desc i ≡ true → SameUp A B s) → Chained A B p s
+pub chained_fresh : (A B : List Node) (p : SlotPlace) (s : Slot) (i : Node) → admits p i ≡ true → (is_desc i ≡ true → SameUp A B s) → Chained A B p s
 unfolding admits
 chained_fresh A B places.Reference s i h up = tt
 chained_fresh A B places.Text s i h up = tt

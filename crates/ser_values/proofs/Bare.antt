@@ -14,8 +14,8 @@ use Rattle.ser_values.specs.declared.value.Values.{Values}
 use Rattle.ser_values.specs.declared.value.Part.{Part}
 use Rattle.ser_values.specs.declared.node.Node.{Node}
 use Rattle.ser_values.specs.declared.node.Node.TheVariants.{Text, Desc, Proxy, Object, Array, Class, Enum}
-use Rattle.ser_values.specs.declared.node.Place.{Place}
-use Rattle.ser_values.specs.declared.node.Place.TheVariants as places
+use Rattle.ser_values.specs.declared.node.SlotPlace.{SlotPlace}
+use Rattle.ser_values.specs.declared.node.SlotPlace.TheVariants as places
 use Rattle.ser_values.specs.declared.note_bytes.NotePlace.{NotePlace}
 use Rattle.ser_values.specs.Builder.{put}
 use Rattle.ser_values.specs.Node.{has, is_desc, is_text, admits, takes, Want, item_wants, value_wants, part_wants, before, after, inside}
@@ -110,14 +110,14 @@ text_same (Array c vs) = refl
 text_same (Class c) = refl
 text_same (Enum c t) = refl
 
-admits_same : (p : Place) (i : Node) → admits p (bare i) ≡ admits p i
+admits_same : (p : SlotPlace) (i : Node) → admits p (bare i) ≡ admits p i
 unfolding admits
 admits_same places.Reference i = refl
 admits_same places.Class i = desc_same i
 admits_same places.Parent i = desc_same i
 admits_same places.Text i = text_same i
 
-takes_same : (p : Place) (u : Bool) (i : Node) → takes p u (bare i) ≡ takes p u i
+takes_same : (p : SlotPlace) (u : Bool) (i : Node) → takes p u (bare i) ≡ takes p u i
 unfolding takes
 takes_same places.Reference u i = refl
 takes_same places.Class u i = ap (λ b. b && not u) (desc_same i)

@@ -13,7 +13,7 @@ use Rattle.ser_values.specs.declared.value.Values.TheVariants as kinds
 use Rattle.ser_values.specs.declared.value.Part.{Part}
 use Rattle.ser_values.specs.declared.node.Node.{Node}
 use Rattle.ser_values.specs.declared.node.Node.TheVariants.{Desc, Proxy, Object, Array, Class, Enum}
-use Rattle.ser_values.specs.declared.node.Place.TheVariants as places
+use Rattle.ser_values.specs.declared.node.SlotPlace.TheVariants as places
 use Rattle.ser_values.specs.Node.{is_desc, is_text, inside}
 use Rattle.ser_values.specs.Shape.{are_short, is_joined, count_of, fit_elements, fits_array, is_enum, is_shaped, parts_in}
 use Rattle.ser_values.specs.Spelled.{Token, want, note, number, short_text, element_tokens, part_tokens, One, SpellsItems, SpellsAll, Spelling}

@@ -8,8 +8,8 @@ use Rattle.class_desc.specs.declared.slot.Slot.TheVariants as slots
 use Rattle.class_desc.specs.declared.slot.Item.{Item}
 use Rattle.ser_values.specs.declared.node.Node.{Node}
 use Rattle.ser_values.specs.declared.node.Node.TheVariants.{Text, Desc, Proxy, Object, Array, Class, Enum}
-use Rattle.ser_values.specs.declared.node.Place.{Place}
-use Rattle.ser_values.specs.declared.node.Place.TheVariants as places
+use Rattle.ser_values.specs.declared.node.SlotPlace.{SlotPlace}
+use Rattle.ser_values.specs.declared.node.SlotPlace.TheVariants as places
 use Rattle.ser_values.specs.Node.{has, is_desc, is_text, admits, admits_null, takes, inside}
 use Rattle.ser_values.specs.Shape.{is_shaped, parts_in, count_of}
 use Rattle.ser_values.specs.Spelled.{Token, want, note, number, part_tokens, element_tokens, writers, short_text, long_text, Form, a_text, a_long_text, a_desc, a_proxy, an_object, an_external, an_array, a_class, an_enum, SpellsAll, Spelling, Spell, a_null, again, fresh, never, Spells, IsStream}
@@ -44,7 +44,7 @@ units_in [] h k i e = absurd cc
 
 -- ---- null and handles
 
-null_settled : (F N : List Node) (p : Place) (s : Slot) → s ≡ slots.Null → admits_null p ≡ true → Settled F N p s
+null_settled : (F N : List Node) (p : SlotPlace) (s : Slot) → s ≡ slots.Null → admits_null p ≡ true → Settled F N p s
 unfolding admits_null
 null_settled F N places.Reference s e h = tt
 null_settled F N places.Text s e h = absurd cc
@@ -55,7 +55,7 @@ null_settled F N places.Parent s e h = rw e go
     go zero = tt
     go (suc n) = tt
 
-null_read : (p : Place) (at : ℕ) (now : Progress) (bs : List ℕ) → admits_null p ≡ true → null_at p at now bs ≡ Ok (slots.Null, now, bs)
+null_read : (p : SlotPlace) (at : ℕ) (now : Progress) (bs : List ℕ) → admits_null p ≡ true → null_at p at now bs ≡ Ok (slots.Null, now, bs)
 unfolding admits_null
 null_read places.Reference at now bs h = refl
 null_read places.Parent at now bs h = refl
@@ -65,14 +65,14 @@ not_has : (b : Bool) → not b ≡ true → b ≡ false
 not_has false h = refl
 not_has true h = absurd cc
 
-handle_settled : (F : List Node) (unread : List ℕ) (now : Progress) (p : Place) (s : Slot) (k : ℕ) (i : Node) → Ready F unread now → s ≡ slots.Node k → slice_get F k ≡ Some i → k < length now.nodes → takes p (has unread k) i ≡ true → Settled F now.nodes p s
+handle_settled : (F : List Node) (unread : List ℕ) (now : Progress) (p : SlotPlace) (s : Slot) (k : ℕ) (i : Node) → Ready F unread now → s ≡ slots.Node k → slice_get F k ≡ Some i → k < length now.nodes → takes p (has unread k) i ≡ true → Settled F now.nodes p s
 unfolding takes
 handle_settled F unread now places.Reference s k i r what is lt h = tt
 handle_settled F unread now places.Text s k i r what is lt h = λ j e. (let same : k ≡ j = cc in subst (λ z. slice_get F z ≡ slice_get now.nodes z) same (r.texts k i lt is h))
 handle_settled F unread now places.Class s k i r what is lt h = let a = both (is_desc i) (not (has unread k)) h in rw what (r.known k i lt (not_has (has unread k) a.1) is a.0)
 handle_settled F unread now places.Parent s k i r what is lt h = let a = both (is_desc i) (not (has unread k)) h in rw what (r.known k i lt (not_has (has unread k) a.1) is a.0)
 
-handle_fine : (F : List Node) (unread : List ℕ) (now : Progress) (p : Place) (k : ℕ) (i : Node) → Ready F unread now → slice_get F k ≡ Some i → k < length now.nodes → takes p (has unread k) i ≡ true → handle_fault p (has unread k) (slice_get now.nodes k) ≡ None
+handle_fine : (F : List Node) (unread : List ℕ) (now : Progress) (p : SlotPlace) (k : ℕ) (i : Node) → Ready F unread now → slice_get F k ≡ Some i → k < length now.nodes → takes p (has unread k) i ≡ true → handle_fault p (has unread k) (slice_get now.nodes k) ≡ None
 unfolding takes
 handle_fine F unread now places.Reference k i r is lt h = let w = found_at now.nodes k lt in rw w.1 refl
 handle_fine F unread now places.Text k i r is lt h = let e : slice_get now.nodes k ≡ Some i = sym (r.texts k i lt is h) ∙ is in rw e (rw h refl)
@@ -90,7 +90,7 @@ handle_fine F unread now places.Parent k i r is lt h =
 abbrev read_as : Slot → Progress → List ℕ → Result (Slot × Progress × List ℕ) Fault
 read_as s now bs = Ok (s, now, bs)
 
-handle_read : (p : Place) (unread : List ℕ) (at k : ℕ) (now : Progress) (bs rest : List ℕ) → k < 65536 → bs ≡ to_be_bytes w32 (0x7E0000 + k) ++ rest → handle_fault p (has unread k) (slice_get now.nodes k) ≡ None → handle_at p unread at now bs ≡ read_as (slots.Node k) now rest
+handle_read : (p : SlotPlace) (unread : List ℕ) (at k : ℕ) (now : Progress) (bs rest : List ℕ) → k < 65536 → bs ≡ to_be_bytes w32 (0x7E0000 + k) ++ rest → handle_fault p (has unread k) (slice_get now.nodes k) ≡ None → handle_at p unread at now bs ≡ read_as (slots.Node k) now rest
 unfolding handle_at
 handle_read p unread at k now bs rest lt e fine =
     let number : number_at w32 bs ≡ Ok (0x7E0000 + k, rest) = number_back_32 (0x7E0000 + k) bs rest (omega arith) e in
@@ -100,7 +100,7 @@ handle_read p unread at k now bs rest lt e fine =
 
 -- ---- a node that gets a handle
 
-code_admitted : (nodes : List Node) (i : Node) (code : ℕ) (bs ts : List Token) (p : Place) → Form nodes i code bs ts → admits p i ≡ true → admits_code p code ≡ true
+code_admitted : (nodes : List Node) (i : Node) (code : ℕ) (bs ts : List Token) (p : SlotPlace) → Form nodes i code bs ts → admits p i ≡ true → admits_code p code ≡ true
 unfolding admits is_desc is_text
 code_admitted nodes _ _ _ _ places.Reference (a_text t f) h = refl
 code_admitted nodes _ _ _ _ places.Text (a_text t f) h = refl
@@ -119,7 +119,7 @@ code_admitted nodes _ _ _ _ places.Reference (a_class c) h = refl
 code_admitted nodes _ _ _ _ places.Reference (an_enum c t) h = refl
 code_admitted nodes _ _ _ _ _ _ h = absurd cc
 
-coded_fresh : (end left : ℕ) (inner : Slots) (p : Place) (unread : List ℕ) (at code : ℕ) (now : Progress) (bs : List ℕ) → eqb code 0x70 ≡ false → eqb code 0x71 ≡ false → admits_code p code ≡ true → 0 < left → length now.nodes < 65536
+coded_fresh : (end left : ℕ) (inner : Slots) (p : SlotPlace) (unread : List ℕ) (at code : ℕ) (now : Progress) (bs : List ℕ) → eqb code 0x70 ≡ false → eqb code 0x71 ≡ false → admits_code p code ≡ true → 0 < left → length now.nodes < 65536
     → coded end left inner p unread at code now bs ≡ fresh_at end at inner unread code now bs
 unfolding coded
 coded_fresh end zero inner p unread at code now bs a b c lt few = absurd (omega arith)
@@ -182,7 +182,7 @@ fresh_reads F given S inner complete begin sh end at unread k i code bs ts now b
     let e : k ≡ length later.nodes = sym len in
     at_number F unread later (length later.nodes) k rest m _ e (enum_reads F S inner complete unread at c t later b1 rest m up shaped (here_at F (Enum c t) (length later.nodes) k e is) (after_at S unread (Enum c t) (want (places.Text, slots.Node t) ∷ []) (length later.nodes) k b1 rest m e h2) r)))
 
-fresh_settled : (F : List Node) (unread : List ℕ) (later : Progress) (p : Place) (s : Slot) (k : ℕ) (i : Node) → Ready F unread later → s ≡ slots.Node k → slice_get F k ≡ Some i → k < length later.nodes → has unread k ≡ false → admits p i ≡ true → Settled F later.nodes p s
+fresh_settled : (F : List Node) (unread : List ℕ) (later : Progress) (p : SlotPlace) (s : Slot) (k : ℕ) (i : Node) → Ready F unread later → s ≡ slots.Node k → slice_get F k ≡ Some i → k < length later.nodes → has unread k ≡ false → admits p i ≡ true → Settled F later.nodes p s
 unfolding admits
 fresh_settled F unread later places.Reference s k i r what is lt none h = tt
 fresh_settled F unread later places.Text s k i r what is lt none h = λ j e. (let same : k ≡ j = cc in subst (λ z. slice_get F z ≡ slice_get later.nodes z) same (r.texts k i lt is h))
@@ -191,7 +191,7 @@ fresh_settled F unread later places.Parent s k i r what is lt none h = rw what (
 
 -- ---- any reference
 
-record CodedReads (F : List Node) (end left : ℕ) (inner : Slots) (unread : List ℕ) (p : Place) (s : Slot) (now : Progress) (bs rest : List ℕ) (m : ℕ) : Type 0 where
+record CodedReads (F : List Node) (end left : ℕ) (inner : Slots) (unread : List ℕ) (p : SlotPlace) (s : Slot) (now : Progress) (bs rest : List ℕ) (m : ℕ) : Type 0 where
   code : ℕ
   after : List ℕ
   begins : bs ≡ code ∷ after
@@ -200,7 +200,7 @@ record CodedReads (F : List Node) (end left : ℕ) (inner : Slots) (unread : Lis
 reads_by : (F : List Node) (unread : List ℕ) (now : Progress) (s : Slot) (rest : List ℕ) (m : ℕ) (r q : Result (Slot × Progress × List ℕ) Fault) → r ≡ q → Reads F unread now s rest m q → Reads F unread now s rest m r
 reads_by F unread now s rest m r q e h = rw e h
 
-spell_reads : (F : List Node) → Given F → (S : Spelling) (inner : Slots) → IsComplete F S inner → AllBegin S → ((unread : List ℕ) → Shrinks (S unread)) → ((unread : List ℕ) → Grows (S unread)) → (end left : ℕ) (unread : List ℕ) (p : Place) (s : Slot) (now : Progress) (bs rest : List ℕ) (m : ℕ)
+spell_reads : (F : List Node) → Given F → (S : Spelling) (inner : Slots) → IsComplete F S inner → AllBegin S → ((unread : List ℕ) → Shrinks (S unread)) → ((unread : List ℕ) → Grows (S unread)) → (end left : ℕ) (unread : List ℕ) (p : SlotPlace) (s : Slot) (now : Progress) (bs rest : List ℕ) (m : ℕ)
     → Spell F left S unread (p, s) (length now.nodes) bs rest m → Ready F unread now → CodedReads F end left inner unread p s now bs rest m
 unfolding coded
 spell_reads F given S inner complete begin sh grow end left unread p s now bs rest m (a_null what ok e same) ready = record {
@@ -243,7 +243,7 @@ spell_reads F given S inner complete begin sh grow end left unread p s now bs re
       record { reads = mine; settled = fresh_settled F unread mine.later p s k i mine.after.ready what is (omega arith) (has_not unread (length now.nodes) ready.below k le) ok });
 }
 
-at_code : (F : List Node) (end left : ℕ) (inner slot : Slots) (unread : List ℕ) (p : Place) (s : Slot) (now : Progress) (bs rest : List ℕ) (m : ℕ) → ((code : ℕ) (after : List ℕ) → slot p unread now (code ∷ after) ≡ coded end left inner p unread (end - length (code ∷ after)) code now after)
+at_code : (F : List Node) (end left : ℕ) (inner slot : Slots) (unread : List ℕ) (p : SlotPlace) (s : Slot) (now : Progress) (bs rest : List ℕ) (m : ℕ) → ((code : ℕ) (after : List ℕ) → slot p unread now (code ∷ after) ≡ coded end left inner p unread (end - length (code ∷ after)) code now after)
     → CodedReads F end left inner unread p s now bs rest m → ReadsIn F unread p now s rest m (slot p unread now bs)
 at_code F end left inner slot unread p s now bs rest m opens c =
     let r = c.read (end - length (c.code ∷ c.after)) in

@@ -10,7 +10,7 @@ use Rattle.class_desc.specs.declared.desc.ClassDesc.{ClassDesc}
 use Rattle.class_desc.specs.ClassDesc.{is_good_desc, fit_flags}
 use Rattle.ser_values.specs.declared.node.Node.{Node}
 use Rattle.ser_values.specs.declared.node.Node.TheVariants.{Text, Desc}
-use Rattle.ser_values.specs.declared.node.Place.TheVariants as places
+use Rattle.ser_values.specs.declared.node.SlotPlace.TheVariants as places
 use Rattle.ser_values.specs.Node.{is_desc, is_text, inside}
 use Rattle.ser_values.specs.Shape.{is_short, fits_type, are_typed, is_joined, is_shaped, parts_of}
 use Rattle.ser_values.specs.Spelled.{Token, raw, want, note, number, short_text, field_tokens, SpellsItems, SpellsAll, Spelling}

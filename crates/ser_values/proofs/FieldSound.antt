@@ -16,7 +16,7 @@ use Rattle.class_desc.specs.TypeText.{code_of}
 use Rattle.ser_values.specs.declared.value.Values.{Values}
 use Rattle.ser_values.specs.declared.value.Values.TheVariants as kinds
 use Rattle.ser_values.specs.declared.node.Node.{Node}
-use Rattle.ser_values.specs.declared.node.Place.TheVariants as places
+use Rattle.ser_values.specs.declared.node.SlotPlace.TheVariants as places
 use Rattle.ser_values.specs.Shape.{is_short, fits_type, fits_node, fit_elements, count_of}
 use Rattle.ser_values.specs.Ranges.{ElementsFit}
 use Rattle.ser_values.specs.Spelled.{Token, raw, truth, want, number, reference, element_tokens, SpellsAll, Spelling}

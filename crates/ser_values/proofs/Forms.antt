@@ -15,7 +15,7 @@ use Rattle.ser_values.specs.declared.value.Values.{Values}
 use Rattle.ser_values.specs.declared.value.Part.{Part}
 use Rattle.ser_values.specs.declared.node.Node.{Node}
 use Rattle.ser_values.specs.declared.node.Node.TheVariants.{Text, Desc, Proxy, Object, Array, Class, Enum}
-use Rattle.ser_values.specs.declared.node.Place.TheVariants as places
+use Rattle.ser_values.specs.declared.node.SlotPlace.TheVariants as places
 use Rattle.ser_values.specs.Node.{is_desc}
 use Rattle.ser_values.specs.Shape.{is_short, are_short, is_joined, are_typed, fits_chain, fit_elements, count_of, fits_array, is_shaped}
 use Rattle.ser_values.specs.Spelled.{Token, raw, want, note, number, short_text, long_text, field_tokens, element_tokens, writers, part_tokens, Form, a_text, a_long_text, a_desc, a_proxy, an_object, an_external, an_array, a_class, an_enum}

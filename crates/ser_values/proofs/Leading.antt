@@ -8,8 +8,8 @@ use Rattle.class_desc.specs.declared.slot.Slot.TheVariants as slots
 use Rattle.class_desc.specs.ClassDesc.{is_good_desc}
 use Rattle.ser_values.specs.declared.node.Node.{Node}
 use Rattle.ser_values.specs.declared.node.Node.TheVariants.{Desc, Proxy}
-use Rattle.ser_values.specs.declared.node.Place.{Place}
-use Rattle.ser_values.specs.declared.node.Place.TheVariants as places
+use Rattle.ser_values.specs.declared.node.SlotPlace.{SlotPlace}
+use Rattle.ser_values.specs.declared.node.SlotPlace.TheVariants as places
 use Rattle.ser_values.specs.Shape.{is_short, are_short}
 use Rattle.ser_values.specs.Spelled.{Token, raw, truth, want, note, number, short_text, long_text}
 use Rattle.ser_values.proofs.Spelling.{both}
@@ -32,7 +32,7 @@ abbrev pub SameUp : List Node → List Node → Slot → Type 0
 SameUp A B s = (n : ℕ) → SameChain A B n s
 
 -- what is known of a slot once it was read in a place
-abbrev pub Chained : List Node → List Node → Place → Slot → Type 0
+abbrev pub Chained : List Node → List Node → SlotPlace → Slot → Type 0
 Chained A B places.Class s = SameUp A B s
 Chained A B places.Parent s = SameUp A B s
 Chained A B _ s = Unit {0}

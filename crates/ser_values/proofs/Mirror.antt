@@ -5,8 +5,8 @@ use Rattle.class_desc.specs.declared.slot.Slot.{Slot}
 use Rattle.class_desc.specs.declared.slot.Slot.TheVariants as slots
 use Rattle.ser_values.specs.declared.node.Node.{Node}
 use Rattle.ser_values.specs.declared.node.Node.TheVariants.{Text, Desc, Proxy, Object, Array, Class, Enum}
-use Rattle.ser_values.specs.declared.node.Place.{Place}
-use Rattle.ser_values.specs.declared.node.Place.TheVariants as places
+use Rattle.ser_values.specs.declared.node.SlotPlace.{SlotPlace}
+use Rattle.ser_values.specs.declared.node.SlotPlace.TheVariants as places
 use Rattle.ser_values.specs.Node.{has, is_desc, is_text, inside}
 use Rattle.ser_values.specs.Shape.{parts_of, parts_in}
 use Rattle.ser_values.specs.Reading.{Fault, ◌>>=◌, Progress}
@@ -38,7 +38,7 @@ pub up_keeps : (F N M : List Node) → Keeps F N M → (s : Slot) → SameUp F N
 up_keeps F N M keeps s h n = chain_keeps F N M keeps n s (h n)
 
 -- what is known of a slot that was read in a place
-abbrev pub Settled : List Node → List Node → Place → Slot → Type 0
+abbrev pub Settled : List Node → List Node → SlotPlace → Slot → Type 0
 Settled F N places.Reference s = Unit {0}
 Settled F N places.Class s = SameUp F N s
 Settled F N places.Parent s = SameUp F N s

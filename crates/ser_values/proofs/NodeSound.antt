@@ -14,7 +14,7 @@ use Rattle.class_desc.specs.declared.desc.ClassDesc.{ClassDesc}
 use Rattle.class_desc.specs.ClassDesc.{is_good_desc, fit_flags}
 use Rattle.ser_values.specs.declared.node.Node.{Node}
 use Rattle.ser_values.specs.declared.node.Node.TheVariants.{Text, Desc}
-use Rattle.ser_values.specs.declared.node.Place.TheVariants as places
+use Rattle.ser_values.specs.declared.node.SlotPlace.TheVariants as places
 use Rattle.ser_values.specs.Node.{is_desc, is_text, inside}
 use Rattle.ser_values.specs.Shape.{is_short, are_typed, is_joined, is_shaped}
 use Rattle.ser_values.specs.Ranges.{ItemFits, ItemsFit, TextFits, NameFits, InRange}

@@ -9,7 +9,7 @@ use Rattle.class_desc.specs.declared.slot.Item.{Item}
 use Rattle.class_desc.specs.declared.slot.Item.TheVariants as items
 use Rattle.ser_values.specs.declared.value.Part.{Part}
 use Rattle.ser_values.specs.declared.node.Node.{Node}
-use Rattle.ser_values.specs.declared.node.Place.TheVariants as places
+use Rattle.ser_values.specs.declared.node.SlotPlace.TheVariants as places
 use Rattle.ser_values.specs.Shape.{joined_from, is_joined, fits_part}
 use Rattle.ser_values.specs.Ranges.{ItemFits, ItemsFit, PartFits}
 use Rattle.ser_values.specs.Spelled.{note, value_token, part_tokens, IsBlock, joined, SpellsBlocks, SpellsItems, SpellsAll, Spelling}

@@ -11,7 +11,7 @@ use Rattle.ser_values.specs.declared.value.Values.{Values}
 use Rattle.ser_values.specs.declared.value.Values.TheVariants as kinds
 use Rattle.ser_values.specs.declared.value.Part.{Part}
 use Rattle.ser_values.specs.declared.node.Node.{Node}
-use Rattle.ser_values.specs.declared.node.Place.TheVariants as places
+use Rattle.ser_values.specs.declared.node.SlotPlace.TheVariants as places
 use Rattle.ser_values.specs.Shape.{count_of}
 use Rattle.ser_values.specs.Spelled.{Token, raw, truth, note, number, reference, value_token, element_tokens, part_tokens, IsBlock, joined, One, SpellsBlocks, SpellsItems, SpellsAll, Spelling}
 use Rattle.ser_values.specs.Ranges.{ElementsFit, PartFits}

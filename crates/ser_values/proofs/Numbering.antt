@@ -4,8 +4,8 @@ use Rattle.std.proofs.lemmas.Bool.{eqb-true, eqb-false, cases_eq}
 use Rattle.std.proofs.lemmas.List.{length-append, length-map, append-nil}
 use Rattle.class_desc.specs.declared.slot.Slot.TheVariants as slots
 use Rattle.ser_values.specs.declared.node.Node.{Node}
-use Rattle.ser_values.specs.declared.node.Place.{Place}
-use Rattle.ser_values.specs.declared.node.Place.TheVariants.{Reference, Class, Parent, Text}
+use Rattle.ser_values.specs.declared.node.SlotPlace.{SlotPlace}
+use Rattle.ser_values.specs.declared.node.SlotPlace.TheVariants.{Reference, Class, Parent, Text}
 use Rattle.ser_values.specs.Node.{has, Want, before, after, is_desc, takes, inside}
 use Rattle.ser_values.specs.Visits.{Visiting, VisitAll, Visit, a_null, again, fresh, never, Visits}
 use Rattle.ser_values.specs.Numbered.{Numbering, NumberAll, Numbers, no_numbers, Numbered}
@@ -52,7 +52,7 @@ desc_takes F unread j i once sub hj h =
     let n = has-map_place F unread j once sub hj p.1 in
     rw (is_desc-node_by (place_in F) i, p.0, n) refl
 
-takes_move : (F unread : List ℕ) (p : Place) (j : ℕ) (i : Node) → Once F → ((x : ℕ) → has unread x ≡ true → has F x ≡ true) → has F j ≡ true → takes p (has unread j) i ≡ true → takes p (has (map (place_in F) unread) (place_in F j)) (node_by (place_in F) i) ≡ true
+takes_move : (F unread : List ℕ) (p : SlotPlace) (j : ℕ) (i : Node) → Once F → ((x : ℕ) → has unread x ≡ true → has F x ≡ true) → has F j ≡ true → takes p (has unread j) i ≡ true → takes p (has (map (place_in F) unread) (place_in F j)) (node_by (place_in F) i) ≡ true
 unfolding takes
 takes_move F unread Reference j i once sub hj h = refl
 takes_move F unread Text j i once sub hj h = is_text-node_by (place_in F) i ∙ h

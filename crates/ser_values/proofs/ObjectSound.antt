@@ -15,7 +15,7 @@ use Rattle.ser_values.specs.declared.value.Values.TheVariants as kinds
 use Rattle.ser_values.specs.declared.value.Part.{Part}
 use Rattle.ser_values.specs.declared.node.Node.{Node}
 use Rattle.ser_values.specs.declared.node.Node.TheVariants.{Text, Desc, Proxy, Object, Array, Class, Enum}
-use Rattle.ser_values.specs.declared.node.Place.TheVariants as places
+use Rattle.ser_values.specs.declared.node.SlotPlace.TheVariants as places
 use Rattle.ser_values.specs.Node.{is_desc, is_text, inside}
 use Rattle.ser_values.specs.Shape.{is_joined, is_shaped, fits_chain, fits_object, fit_values, fits_array, fit_elements, count_of, is_enum}
 use Rattle.ser_values.specs.Ranges.{PartFits}

@@ -16,7 +16,7 @@ use Rattle.ser_values.specs.declared.value.Values.{Values}
 use Rattle.ser_values.specs.declared.value.Values.TheVariants as kinds
 use Rattle.ser_values.specs.declared.value.Part.{Part}
 use Rattle.ser_values.specs.declared.node.Node.{Node}
-use Rattle.ser_values.specs.declared.node.Place.TheVariants as places
+use Rattle.ser_values.specs.declared.node.SlotPlace.TheVariants as places
 use Rattle.ser_values.specs.Shape.{is_short, fits_type, are_typed, fits_value, fit_values, count_of}
 use Rattle.ser_values.specs.Spelled.{Token, raw, truth, want, note, number, short_text, reference, field_tokens, value_token, element_tokens, part_tokens}
 use Rattle.ser_values.specs.Ranges.{ValueFits, ElementsFit, PartFits}

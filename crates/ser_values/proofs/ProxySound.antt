@@ -10,7 +10,7 @@ use Rattle.class_desc.specs.declared.slot.Slot.TheVariants as slots
 use Rattle.class_desc.specs.declared.desc.ProxyDesc.{ProxyDesc}
 use Rattle.ser_values.specs.declared.node.Node.{Node}
 use Rattle.ser_values.specs.declared.node.Node.TheVariants.{Desc, Proxy}
-use Rattle.ser_values.specs.declared.node.Place.TheVariants as places
+use Rattle.ser_values.specs.declared.node.SlotPlace.TheVariants as places
 use Rattle.ser_values.specs.Node.{is_desc, is_text}
 use Rattle.ser_values.specs.Shape.{is_short, are_short, is_shaped}
 use Rattle.ser_values.specs.Ranges.{TextFits}

@@ -21,7 +21,7 @@ use Rattle.ser_values.specs.declared.value.Values.TheVariants as kinds
 use Rattle.ser_values.specs.declared.value.Part.{Part}
 use Rattle.ser_values.specs.declared.node.Node.{Node}
 use Rattle.ser_values.specs.declared.node.Node.TheVariants.{Text, Desc, Proxy, Object, Array, Class, Enum}
-use Rattle.ser_values.specs.declared.node.Place.TheVariants as places
+use Rattle.ser_values.specs.declared.node.SlotPlace.TheVariants as places
 use Rattle.ser_values.specs.Node.{has, Want, item_wants, value_wants, part_wants, field_wants, slot_wants, element_wants, before, after}
 use Rattle.ser_values.specs.Shape.{is_joined, parts_of, parts_in}
 use Rattle.ser_values.specs.Ranges.{ItemsFit, InRange}

@@ -20,8 +20,8 @@ use Rattle.ser_values.specs.declared.value.Values.TheVariants as kinds
 use Rattle.ser_values.specs.declared.value.Part.{Part}
 use Rattle.ser_values.specs.declared.node.Node.{Node}
 use Rattle.ser_values.specs.declared.node.Node.TheVariants.{Text, Desc, Proxy, Object, Array, Class, Enum}
-use Rattle.ser_values.specs.declared.node.Place.{Place}
-use Rattle.ser_values.specs.declared.node.Place.TheVariants as places
+use Rattle.ser_values.specs.declared.node.SlotPlace.{SlotPlace}
+use Rattle.ser_values.specs.declared.node.SlotPlace.TheVariants as places
 use Rattle.ser_values.specs.Node.{has, Want, is_desc, is_text, admits, item_wants, value_wants, part_wants, field_wants, slot_wants, element_wants, before, after}
 use Rattle.ser_values.specs.Shape.{joined_from, is_joined, fits_node, fits_type, are_typed, fits_value, fit_values, fits_part, fits_above, fits_chain, is_external, fits_object, fit_elements, count_of, fits_array, is_enum, is_shaped}
 use Rattle.ser_values.specs.Renumber.{place_in, slot_by, item_by, field_by, value_by, part_by, values_by, node_by, node_or_by, reordered}
@@ -73,7 +73,7 @@ is_text-node_by f (Array c vs) = refl
 is_text-node_by f (Class c) = refl
 is_text-node_by f (Enum c t) = refl
 
-pub admits-node_by : (f : ℕ → ℕ) (p : Place) (i : Node) → admits p (node_by f i) ≡ admits p i
+pub admits-node_by : (f : ℕ → ℕ) (p : SlotPlace) (i : Node) → admits p (node_by f i) ≡ admits p i
 unfolding admits
 admits-node_by f places.Reference i = refl
 admits-node_by f places.Class i = is_desc-node_by f i

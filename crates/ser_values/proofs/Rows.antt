@@ -15,7 +15,7 @@ use Rattle.class_desc.specs.ClassDesc.{is_good_desc, fit_flags, are_ordered}
 use Rattle.ser_values.specs.declared.value.Values.TheVariants.{Refs}
 use Rattle.ser_values.specs.declared.node.Node.{Node}
 use Rattle.ser_values.specs.declared.node.Node.TheVariants.{Text, Desc, Object, Array}
-use Rattle.ser_values.specs.declared.node.Place.TheVariants.{Reference}
+use Rattle.ser_values.specs.declared.node.SlotPlace.TheVariants.{Reference}
 use Rattle.ser_values.specs.Node.{has, is_desc}
 use Rattle.ser_values.specs.Numbered.{IsGraph}
 use Rattle.ser_values.specs.Spelled.{IsStream}

@@ -3,7 +3,7 @@ use Rattle.std.proofs.Common.{◌≡◌, ℕ, zero, suc, ◌-◌, ◌<◌, Bool,
 use Rattle.std.proofs.lemmas.List.{reverse-append}
 use Rattle.class_desc.specs.declared.slot.Slot.{Slot}
 use Rattle.class_desc.specs.declared.slot.Slot.TheVariants as slots
-use Rattle.ser_values.specs.declared.node.Place.{Place}
+use Rattle.ser_values.specs.declared.node.SlotPlace.{SlotPlace}
 use Rattle.ser_values.specs.declared.walking.Task.{Task}
 use Rattle.ser_values.specs.declared.walking.Task.TheVariants as tasks
 use Rattle.ser_values.specs.declared.node.Node.{Node}
@@ -64,7 +64,7 @@ visit_is nodes zero unread (place, slots.Node j) order = go (slice_get nodes j)
     go None = refl
     go (Some i) = refl
 
-pub fresh_run : (nodes : List Node) (left j : ℕ) (place : Place) (i : Node) (ts : List Task) (unread order : List ℕ) → slice_get nodes j ≡ Some i → has order j ≡ false → is_new nodes left place i ≡ true
+pub fresh_run : (nodes : List Node) (left j : ℕ) (place : SlotPlace) (i : Node) (ts : List Task) (unread order : List ℕ) → slice_get nodes j ≡ Some i → has order j ≡ false → is_new nodes left place i ≡ true
     → run nodes (tasks.Visit place (slots.Node j) left ∷ ts) unread order ≡ tick (run nodes (wanted (left - 1) (before i) ++ tasks.Number j (left - 1) ∷ ts) unread order)
 unfolding run
 fresh_run nodes left j place i ts unread order is unseen new =
@@ -78,22 +78,22 @@ fresh_run nodes left j place i ts unread order is unseen new =
 checked : (nodes : List Node) (ts : List Task) (unread : List ℕ) (b : Bool) (o : List ℕ) (w : Walk) → w ≡ check b o → (w >>= run nodes ts unread) ≡ (check b o >>= run nodes ts unread)
 checked nodes ts unread b o w e = ap (λ w. w >>= run nodes ts unread) e
 
-pub null_run : (nodes : List Node) (left : ℕ) (place : Place) (ts : List Task) (unread order : List ℕ) → run nodes (tasks.Visit place slots.Null left ∷ ts) unread order ≡ (check (admits_null place) order >>= run nodes ts unread)
+pub null_run : (nodes : List Node) (left : ℕ) (place : SlotPlace) (ts : List Task) (unread order : List ℕ) → run nodes (tasks.Visit place slots.Null left ∷ ts) unread order ≡ (check (admits_null place) order >>= run nodes ts unread)
 unfolding run
 null_run nodes left place ts unread order = checked nodes ts unread _ _ _ (visit_is nodes left unread (place, slots.Null) order)
 
-pub again_run : (nodes : List Node) (left j : ℕ) (place : Place) (i : Node) (ts : List Task) (unread order : List ℕ) → slice_get nodes j ≡ Some i → has order j ≡ true
+pub again_run : (nodes : List Node) (left j : ℕ) (place : SlotPlace) (i : Node) (ts : List Task) (unread order : List ℕ) → slice_get nodes j ≡ Some i → has order j ≡ true
     → run nodes (tasks.Visit place (slots.Node j) left ∷ ts) unread order ≡ (check (takes place (has unread j) i) order >>= run nodes ts unread)
 unfolding run
 again_run nodes left j place i ts unread order is seen = checked nodes ts unread _ _ _ (visit_is nodes left unread (place, slots.Node j) order ∙ rw is (rw seen refl))
 
-pub none_run : (nodes : List Node) (left j : ℕ) (place : Place) (ts : List Task) (unread order : List ℕ) → slice_get nodes j ≡ None → run nodes (tasks.Visit place (slots.Node j) left ∷ ts) unread order ≡ stop
+pub none_run : (nodes : List Node) (left j : ℕ) (place : SlotPlace) (ts : List Task) (unread order : List ℕ) → slice_get nodes j ≡ None → run nodes (tasks.Visit place (slots.Node j) left ∷ ts) unread order ≡ stop
 unfolding run
 none_run nodes left j place ts unread order is =
     let e : visit_at nodes left unread (place, slots.Node j) order ≡ stop = visit_is nodes left unread (place, slots.Node j) order ∙ rw is refl in
     ap (λ w. w >>= run nodes ts unread) e
 
-pub old_run : (nodes : List Node) (left j : ℕ) (place : Place) (i : Node) (ts : List Task) (unread order : List ℕ) → slice_get nodes j ≡ Some i → has order j ≡ false → is_new nodes left place i ≡ false
+pub old_run : (nodes : List Node) (left j : ℕ) (place : SlotPlace) (i : Node) (ts : List Task) (unread order : List ℕ) → slice_get nodes j ≡ Some i → has order j ≡ false → is_new nodes left place i ≡ false
     → run nodes (tasks.Visit place (slots.Node j) left ∷ ts) unread order ≡ stop
 unfolding run
 old_run nodes left j place i ts unread order is unseen old =
@@ -114,12 +114,12 @@ takes_step : (b : Bool) (order : List ℕ) (f : List ℕ → Walk) → Steps (Ok
 takes_step true order f = refl
 takes_step false order f = refl
 
-pub again_step : (nodes : List Node) (left j : ℕ) (place : Place) (i : Node) (ts : List Task) (unread order : List ℕ) (b : Bool) → slice_get nodes j ≡ Some i → has order j ≡ true → b ≡ takes place (has unread j) i
+pub again_step : (nodes : List Node) (left j : ℕ) (place : SlotPlace) (i : Node) (ts : List Task) (unread order : List ℕ) (b : Bool) → slice_get nodes j ≡ Some i → has order j ≡ true → b ≡ takes place (has unread j) i
     → Steps (Ok b) (run nodes (tasks.Visit place (slots.Node j) left ∷ ts) unread order) (run nodes ts unread order)
 again_step nodes left j place i ts unread order b is seen e =
     rw (again_run nodes left j place i ts unread order is seen) (rw e (takes_step (takes place (has unread j) i) order (run nodes ts unread)))
 
-pub null_step : (nodes : List Node) (left : ℕ) (place : Place) (ts : List Task) (unread order : List ℕ) (b : Bool) → b ≡ admits_null place
+pub null_step : (nodes : List Node) (left : ℕ) (place : SlotPlace) (ts : List Task) (unread order : List ℕ) (b : Bool) → b ≡ admits_null place
     → Steps (Ok b) (run nodes (tasks.Visit place slots.Null left ∷ ts) unread order) (run nodes ts unread order)
 null_step nodes left place ts unread order b e =
     rw (null_run nodes left place ts unread order) (rw e (takes_step (admits_null place) order (run nodes ts unread)))
@@ -131,7 +131,7 @@ close_run nodes ts unread order = refl
 pub stacked_push : (ts : List Task) (t : Task) → stacked (ts ++ t ∷ []) ≡ t ∷ stacked ts
 stacked_push ts t = reverse-append ts (t ∷ [])
 
-pub run_one : (nodes : List Node) (left : ℕ) (place : Place) (slot : Slot) (order : List ℕ) → end_of (run nodes (tasks.Visit place slot left ∷ []) [] order) ≡ end_of (visit_at nodes left [] (place, slot) order)
+pub run_one : (nodes : List Node) (left : ℕ) (place : SlotPlace) (slot : Slot) (order : List ℕ) → end_of (run nodes (tasks.Visit place slot left ∷ []) [] order) ≡ end_of (visit_at nodes left [] (place, slot) order)
 unfolding run end_of
 run_one nodes left place slot order = then_end (visit_at nodes left [] (place, slot) order)
   where

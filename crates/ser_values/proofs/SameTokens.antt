@@ -7,8 +7,8 @@ use Rattle.class_desc.specs.declared.slot.Slot.{Slot}
 use Rattle.class_desc.specs.declared.slot.Item.{Item}
 use Rattle.class_desc.specs.declared.slot.Item.TheVariants as items
 use Rattle.ser_values.specs.declared.node.Node.{Node}
-use Rattle.ser_values.specs.declared.node.Place.{Place}
-use Rattle.ser_values.specs.declared.node.Place.TheVariants as places
+use Rattle.ser_values.specs.declared.node.SlotPlace.{SlotPlace}
+use Rattle.ser_values.specs.declared.node.SlotPlace.TheVariants as places
 use Rattle.ser_values.specs.Node.{Want}
 use Rattle.ser_values.specs.Spelled.{Token, raw, truth, want, note, IsBlock, joined, One, SpellsBlocks, SpellsItems, SpellsAll, Spelling, Spell, a_null, again, fresh, never, Spells}
 use Rattle.ser_values.proofs.Apart.{front_same, same_32, heads}
@@ -18,11 +18,11 @@ use Rattle.ser_values.proofs.Agreeing.{IsState, Agree, agree_none, agree_two}
 
 -- ---- what is shown, and how each reference begins
 
-abbrev pub SameSlot : List Node → List Node → List ℕ → Place → Slot → Slot → ℕ → List ℕ → List ℕ → ℕ → ℕ → Type 0
+abbrev pub SameSlot : List Node → List Node → List ℕ → SlotPlace → Slot → Slot → ℕ → List ℕ → List ℕ → ℕ → ℕ → Type 0
 SameSlot A B unread p s t n x y m k = (s ≡ t) × Chained A B p s × Agree A B unread n x y m k
 
 abbrev pub AreSame : List Node → List Node → Spelling → Spelling → Type 0
-AreSame A B S T = (unread : List ℕ) (p : Place) (s t : Slot) (n : ℕ) (bs x y : List ℕ) (m k : ℕ) → S unread (p, s) n bs x m → T unread (p, t) n bs y k → IsState A B unread n → SameSlot A B unread p s t n x y m k
+AreSame A B S T = (unread : List ℕ) (p : SlotPlace) (s t : Slot) (n : ℕ) (bs x y : List ℕ) (m k : ℕ) → S unread (p, s) n bs x m → T unread (p, t) n bs y k → IsState A B unread n → SameSlot A B unread p s t n x y m k
 
 -- neither a block nor the end of an annotation
 pub record Begins (bs : List ℕ) : Type 0 where
@@ -165,7 +165,7 @@ tokens_same A B S T same bs bt unread (truth false ∷ ts) (truth false ∷ us) 
 tokens_same A B S T same bs bt unread (truth true ∷ ts) (truth false ∷ us) G n b x y m k h g l st = absurd (truths_apart h.2.0 b h.0 g.0 h.2.1 g.2.0)
 tokens_same A B S T same bs bt unread (truth false ∷ ts) (truth true ∷ us) G n b x y m k h g l st = absurd (truths_apart g.2.0 b g.0 h.0 g.2.1 h.2.0)
 tokens_same A B S T same bs bt unread (want w ∷ ts) (want v ∷ us) G n b x y m k h g l st =
-    let second : T unread (w.0, v.1) n b g.0 g.1 = subst (λ (p : Place). T unread (p, v.1) n b g.0 g.1) (sym l.0) g.2 in
+    let second : T unread (w.0, v.1) n b g.0 g.1 = subst (λ (p : SlotPlace). T unread (p, v.1) n b g.0 g.1) (sym l.0) g.2 in
     let r = same unread w.0 w.1 v.1 n b h.0 g.0 h.1 g.1 h.2 second st in
     let a = r.2 in
     let more = tokens_same A B S T same bs bt unread ts us G h.1 h.0 x y m k h.3 (tokens_on A B (T unread) us n h.1 g.1 h.0 g.0 y k a.rests a.counts g.3) (l.1 r.0 r.1) a.state in

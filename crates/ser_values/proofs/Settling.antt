@@ -20,8 +20,8 @@ use Rattle.ser_values.specs.declared.value.Value.TheVariants as values
 use Rattle.ser_values.specs.declared.value.Values.TheVariants as kinds
 use Rattle.ser_values.specs.declared.node.Node.{Node}
 use Rattle.ser_values.specs.declared.node.Node.TheVariants.{Text, Desc, Proxy, Object, Array, Class, Enum}
-use Rattle.ser_values.specs.declared.node.Place.{Place}
-use Rattle.ser_values.specs.declared.node.Place.TheVariants as places
+use Rattle.ser_values.specs.declared.node.SlotPlace.{SlotPlace}
+use Rattle.ser_values.specs.declared.node.SlotPlace.TheVariants as places
 use Rattle.ser_values.specs.declared.limits.TheConstants.{LEVELS, NODES, PARTS}
 use Rattle.ser_values.specs.Node.{has}
 use Rattle.ser_values.specs.Shape.{fits_type, is_enum}
@@ -82,16 +82,16 @@ abbrev Run : Type 0 → Type 0
 Run Y = Env → List ℕ → Result Y Fault
 
 -- With some bytes more it is refused, or answers `x` and leaves these bytes and what comes then.
-data Outcome {X Y : Type 0} (shape : X → List ℕ → Y) (Q : X → Type 0) (r : Run Y) (bs more : List ℕ) : Type 0 where
-  refuses : ((e : Env) (rest : List ℕ) → length (bs ++ (more ++ rest)) ≤ e.fuel → Refused (r e (bs ++ (more ++ rest)))) → Outcome shape Q r bs more
-  goes_on : (x : X) (left : List ℕ) → Q x → length left ≤ length bs → ((e : Env) (rest : List ℕ) → length (bs ++ (more ++ rest)) ≤ e.fuel → r e (bs ++ (more ++ rest)) ≡ Ok (shape x (left ++ rest))) → Outcome shape Q r bs more
+data RunEnd {X Y : Type 0} (shape : X → List ℕ → Y) (Q : X → Type 0) (r : Run Y) (bs more : List ℕ) : Type 0 where
+  refuses : ((e : Env) (rest : List ℕ) → length (bs ++ (more ++ rest)) ≤ e.fuel → Refused (r e (bs ++ (more ++ rest)))) → RunEnd shape Q r bs more
+  goes_on : (x : X) (left : List ℕ) → Q x → length left ≤ length bs → ((e : Env) (rest : List ℕ) → length (bs ++ (more ++ rest)) ≤ e.fuel → r e (bs ++ (more ++ rest)) ≡ Ok (shape x (left ++ rest))) → RunEnd shape Q r bs more
 
 -- It wants none where it is not short without them.
 record Settles {X Y : Type 0} (shape : X → List ℕ → Y) (Q : X → Type 0) (r : Run Y) (bs : List ℕ) : Type 0 where
   more : List ℕ
   bytes : AreBytes more
   least : (e : Env) → length bs ≤ e.fuel → NotShort (r e bs) → more ≡ []
-  outcome : Outcome shape Q r bs more
+  outcome : RunEnd shape Q r bs more
 
 abbrev two : {A : Type 0} → A → List ℕ → A × List ℕ
 two a b = (a, b)
@@ -115,7 +115,7 @@ cond_settles shape Q false x y bs h g = g refl
 weaker : {X Y : Type 0} (shape : X → List ℕ → Y) (Q R : X → Type 0) (r : Run Y) (bs : List ℕ) → ((x : X) → Q x → R x) → Settles shape Q r bs → Settles shape R r bs
 weaker shape Q R r bs f s = record { more = s.more; bytes = s.bytes; least = s.least; outcome = by s.outcome }
   where
-    by : Outcome shape Q r bs s.more → Outcome shape R r bs s.more
+    by : RunEnd shape Q r bs s.more → RunEnd shape R r bs s.more
     by (refuses h) = refuses h
     by (goes_on x left q le h) = goes_on x left (f x q) le h
 
@@ -123,7 +123,7 @@ weaker shape Q R r bs f s = record { more = s.more; bytes = s.bytes; least = s.l
 at_settles : {X Y : Type 0} (shape : X → List ℕ → Y) (Q : X → Type 0) (r : Run Y) (pick : Env → List ℕ → Env) (bs : List ℕ) → ((e : Env) (b : List ℕ) → length b ≤ e.fuel → length b ≤ (pick e b).fuel) → Settles shape Q r bs → Settles shape Q (λ e b. r (pick e b) b) bs
 at_settles shape Q r pick bs f s = record { more = s.more; bytes = s.bytes; least = λ e v n. s.least (pick e bs) (f e bs v) n; outcome = by s.outcome }
   where
-    by : Outcome shape Q r bs s.more → Outcome shape Q (λ e b. r (pick e b) b) bs s.more
+    by : RunEnd shape Q r bs s.more → RunEnd shape Q (λ e b. r (pick e b) b) bs s.more
     by (refuses h) = refuses (λ e rest v. h (pick e (bs ++ (s.more ++ rest))) rest (f e (bs ++ (s.more ++ rest)) v))
     by (goes_on x left q le h) = goes_on x left q le (λ e rest v. h (pick e (bs ++ (s.more ++ rest))) rest (f e (bs ++ (s.more ++ rest)) v))
 
@@ -134,7 +134,7 @@ lower e = record { end = e.end; at = e.at; fuel = e.fuel - 1 }
 behind : {X Y : Type 0} (shape : X → List ℕ → Y) (Q : X → Type 0) (c : ℕ) (r one : Run Y) (bs : List ℕ) → ((e : Env) (b : List ℕ) → suc (length b) ≤ e.fuel → r e (c ∷ b) ≡ one (lower e) b) → Settles shape Q one bs → Settles shape Q r (c ∷ bs)
 behind shape Q c r one bs same s = record { more = s.more; bytes = s.bytes; least = λ e v n. s.least (lower e) (omega arith) (subst (λ y. NotShort y) (same e bs v) n); outcome = by s.outcome }
   where
-    by : Outcome shape Q one bs s.more → Outcome shape Q r (c ∷ bs) s.more
+    by : RunEnd shape Q one bs s.more → RunEnd shape Q r (c ∷ bs) s.more
     by (refuses h) = refuses (λ e rest v. subst (λ y. Refused y) (sym (same e (bs ++ (s.more ++ rest)) v)) (h (lower e) rest (omega arith)))
     by (goes_on x left q le h) = goes_on x left q (omega arith) (λ e rest v. same e (bs ++ (s.more ++ rest)) v ∙ h (lower e) rest (omega arith))
 
@@ -150,7 +150,7 @@ then_settles : {X Y V Z : Type 0} (shape : X → List ℕ → Y) (form : V → L
     → ((x : X) (left : List ℕ) → Q x → length left ≤ length bs → Settles form R (λ e b. f e (shape x b)) left) → Settles form R (λ e b. r e b >>= f e) bs
 then_settles shape form Q R r f bs s g = by s.outcome
   where
-    by : Outcome shape Q r bs s.more → Settles form R (λ e b. r e b >>= f e) bs
+    by : RunEnd shape Q r bs s.more → Settles form R (λ e b. r e b >>= f e) bs
     by (refuses h) = record { more = s.more; bytes = s.bytes; least = λ e v n. s.least e v (first_not_short (r e bs) (f e) n); outcome = refuses (λ e rest v. refused_first (r e (bs ++ (s.more ++ rest))) (f e) (h e rest v)) }
     by (goes_on x left q le h) = record {
       more = s.more ++ t.more;
@@ -185,7 +185,7 @@ then_settles shape form Q R r f bs s g = by s.outcome
             let k = length-append t.more rest in
             omega arith
 
-        onto : Outcome form R (λ e b. f e (shape x b)) left t.more → Outcome form R (λ e b. r e b >>= f e) bs (s.more ++ t.more)
+        onto : RunEnd form R (λ e b. f e (shape x b)) left t.more → RunEnd form R (λ e b. r e b >>= f e) bs (s.more ++ t.more)
         onto (refuses k) = refuses (λ e rest v. subst (λ y. Refused y) (sym (one e rest v)) (k e rest (short_of e rest v)))
         onto (goes_on w after p less k) = goes_on w after p (omega arith) (λ e rest v. one e rest v ∙ k e rest (short_of e rest v))
 
@@ -328,24 +328,24 @@ IsNode slots.Null = ⊥
 IsNode (slots.Node k) = Unit {0}
 
 -- a text is no null
-abbrev SlotOk : Place → Slot → Type 0
+abbrev SlotOk : SlotPlace → Slot → Type 0
 SlotOk places.Text s = IsNode s
 SlotOk places.Class s = Unit {0}
 SlotOk places.Parent s = Unit {0}
 SlotOk places.Reference s = Unit {0}
 
-node_ok : (p : Place) (s : Slot) → IsNode s → SlotOk p s
+node_ok : (p : SlotPlace) (s : Slot) → IsNode s → SlotOk p s
 node_ok places.Text s h = h
 node_ok places.Class s h = tt
 node_ok places.Parent s h = tt
 node_ok places.Reference s h = tt
 
 record SlotsSettle (inner : ℕ → Slots) : Type 0 where
-  coded : (p : Place) (unread : List ℕ) (now : Progress) (c : ℕ) (bs : List ℕ) → Settles three (λ (x : Slot × Progress). SlotOk p x.0) (λ e b. inner e.end p unread now (c ∷ b)) bs
-  none : (end : ℕ) (p : Place) (unread : List ℕ) (now : Progress) → inner end p unread now [] ≡ Err short
-  wrong : (end : ℕ) (p : Place) (unread : List ℕ) (now : Progress) (b : List ℕ) → Refused (inner end p unread now (0x78 ∷ b))
+  coded : (p : SlotPlace) (unread : List ℕ) (now : Progress) (c : ℕ) (bs : List ℕ) → Settles three (λ (x : Slot × Progress). SlotOk p x.0) (λ e b. inner e.end p unread now (c ∷ b)) bs
+  none : (end : ℕ) (p : SlotPlace) (unread : List ℕ) (now : Progress) → inner end p unread now [] ≡ Err short
+  wrong : (end : ℕ) (p : SlotPlace) (unread : List ℕ) (now : Progress) (b : List ℕ) → Refused (inner end p unread now (0x78 ∷ b))
 
-slot_settles : (inner : ℕ → Slots) → SlotsSettle inner → (p : Place) (unread : List ℕ) → StepSettles (SlotOk p) (λ e. inner e.end p unread)
+slot_settles : (inner : ℕ → Slots) → SlotsSettle inner → (p : SlotPlace) (unread : List ℕ) → StepSettles (SlotOk p) (λ e. inner e.end p unread)
 slot_settles inner h p unread now [] = record {
   more = 0x78 ∷ [];
   bytes = (omega arith, tt);
@@ -354,7 +354,7 @@ slot_settles inner h p unread now [] = record {
 }
 slot_settles inner h p unread now (c ∷ bs) = behind three (λ x. SlotOk p x.0) c (λ e b. inner e.end p unread now b) (λ e b. inner e.end p unread now (c ∷ b)) bs (λ e b v. refl) (h.coded p unread now c bs)
 
-any_slot : (inner : ℕ → Slots) → SlotsSettle inner → (p : Place) (unread : List ℕ) → StepSettles {A = Slot} Any (λ e. inner e.end p unread)
+any_slot : (inner : ℕ → Slots) → SlotsSettle inner → (p : SlotPlace) (unread : List ℕ) → StepSettles {A = Slot} Any (λ e. inner e.end p unread)
 any_slot inner h p unread now bs = weaker three (λ x. SlotOk p x.0) Any (λ e b. inner e.end p unread now b) bs (λ x q. tt) (slot_settles inner h p unread now bs)
 
 -- ---- blocks
@@ -393,7 +393,7 @@ one_more end inner in_note most c now bs = ap (λ y. cond (in_note && eqb c 0x78
     by false true = then_same (size_at end w32 (2 ^ 31) bs) _ _ block ∙ then_twice (size_at end w32 (2 ^ 31) bs) (λ n. take_at n.0 n.1 >>= λ p. Ok (items.Bytes p.0, now, p.1)) (and_more end inner in_note most)
     by false false = then_twice (inner now (c ∷ bs)) (λ s. Ok (items.Ref s.0, s.1, s.2)) (and_more end inner in_note most)
 
-item_settles : (inner : ℕ → Slots) → SlotsSettle inner → (p : Place) (unread : List ℕ) (c : ℕ) → StepSettles {A = Item} Any (λ e. item_of e.end (inner e.end p unread) c)
+item_settles : (inner : ℕ → Slots) → SlotsSettle inner → (p : SlotPlace) (unread : List ℕ) (c : ℕ) → StepSettles {A = Item} Any (λ e. item_of e.end (inner e.end p unread) c)
 item_settles inner h p unread c now bs =
     cond_settles three Any (eqb c 0x77) _ _ bs (λ e. bytes_then Any (λ e. byte_at) _ bs (byte_settles bs) block) (λ e.
     cond_settles three Any (eqb c 0x7A) _ _ bs (λ e. bytes_then Any (λ e. size_at e.end w32 (2 ^ 31)) _ bs (size_settles w32 (2 ^ 31) bs) block)
@@ -406,7 +406,7 @@ item_settles inner h p unread c now bs =
 fuel_less : (e : Env) (n : ℕ) → suc n ≤ e.fuel → e.fuel ≡ suc (e.fuel - 1)
 fuel_less e n le = omega arith
 
-blocks_settle : (inner : ℕ → Slots) → SlotsSettle inner → (p : Place) (unread : List ℕ) (n : ℕ) (now : Progress) (bs : List ℕ) → length bs ≤ n → Settles three (λ (x : List Item × Progress). Unit {0}) (λ e b. blocks_at e.end (inner e.end p unread) true (suc e.fuel) now b) bs
+blocks_settle : (inner : ℕ → Slots) → SlotsSettle inner → (p : SlotPlace) (unread : List ℕ) (n : ℕ) (now : Progress) (bs : List ℕ) → length bs ≤ n → Settles three (λ (x : List Item × Progress). Unit {0}) (λ e b. blocks_at e.end (inner e.end p unread) true (suc e.fuel) now b) bs
 unfolding blocks_at
 blocks_settle inner h p unread n now [] le = record { more = 0x78 ∷ []; bytes = (omega arith, tt); least = λ e v k. absurd k; outcome = goes_on ([], now) [] tt (omega arith) (λ e rest v. refl) }
 blocks_settle inner h p unread zero now (c ∷ bs) le = absurd (omega arith)
@@ -423,7 +423,7 @@ blocks_settle inner h p unread (suc n) now (c ∷ bs) le =
 abbrev fueled : Env → List ℕ → Env
 fueled e b = record { end = e.end; at = e.at; fuel = length b }
 
-items_settle : (inner : ℕ → Slots) → SlotsSettle inner → (p : Place) (unread : List ℕ) → StepSettles {A = List Item} Any (λ e. items_at e.end (inner e.end p unread) true)
+items_settle : (inner : ℕ → Slots) → SlotsSettle inner → (p : SlotPlace) (unread : List ℕ) → StepSettles {A = List Item} Any (λ e. items_at e.end (inner e.end p unread) true)
 unfolding items_at
 items_settle inner h p unread now bs = at_settles three Any (λ e b. mapped joined (blocks_at e.end (inner e.end p unread) true (suc e.fuel)) now b) fueled bs (λ e b v. omega arith)
     (step_then Any Any (λ e b. blocks_at e.end (inner e.end p unread) true (suc e.fuel) now b) (λ e x. Ok (joined x.0, x.1, x.2)) bs (blocks_settle inner h p unread (length bs) now bs (omega arith)) (λ is after left q le. none_settles Any (joined is) after left tt))
@@ -439,7 +439,7 @@ field_settles inner h unread now bs = bytes_then Any (λ e. byte_at) _ bs (byte_
     by (Some code) left = bytes_then Any (λ e. short_at e.end) _ left (short_settles left) (λ name rest le. cond_settles three Any (is_primitive code) _ _ rest (λ e. none_settles Any (field code name slots.Null) now rest tt) (λ e.
         step_then Any Any (λ e b. inner e.end places.Text unread now b) _ rest (any_slot inner h places.Text unread now rest) (λ t after more q less. cond_settles three Any (fits_type after.nodes code t) _ _ more (λ e. none_settles Any (field code name t) after more tt) (λ e. refused_settles three Any _ more (λ e b. tt)))))
 
-value_settles : (inner : ℕ → Slots) → SlotsSettle inner → (p : Place) (unread : List ℕ) (code : TypeCode) → StepSettles Any (λ e. value_at (inner e.end p unread) code)
+value_settles : (inner : ℕ → Slots) → SlotsSettle inner → (p : SlotPlace) (unread : List ℕ) (code : TypeCode) → StepSettles Any (λ e. value_at (inner e.end p unread) code)
 unfolding value_at
 value_settles inner h p unread codes.B now bs = mapped_settles values.B (λ e. plain byte_at) byte_step now bs
 value_settles inner h p unread codes.C now bs = mapped_settles values.C (λ e. plain (number_at w16)) (number_step w16) now bs
@@ -452,12 +452,12 @@ value_settles inner h p unread codes.Z now bs = mapped_settles (λ b. values.Z (
 value_settles inner h p unread codes.Array now bs = mapped_settles values.Ref (λ e. inner e.end p unread) (any_slot inner h p unread) now bs
 value_settles inner h p unread codes.Object now bs = mapped_settles values.Ref (λ e. inner e.end p unread) (any_slot inner h p unread) now bs
 
-values_settle : (inner : ℕ → Slots) → SlotsSettle inner → (p : Place) (unread : List ℕ) (fs : List FieldDesc) → StepSettles Any (λ e. values_at (inner e.end p unread) fs)
+values_settle : (inner : ℕ → Slots) → SlotsSettle inner → (p : SlotPlace) (unread : List ℕ) (fs : List FieldDesc) → StepSettles Any (λ e. values_at (inner e.end p unread) fs)
 unfolding values_at
 values_settle inner h p unread [] now bs = none_settles Any [] now bs tt
 values_settle inner h p unread (f ∷ fs) now bs = step_then Any Any (λ e b. value_at (inner e.end p unread) f.code now b) _ bs (value_settles inner h p unread f.code now bs) (λ v after left q le. step_then Any Any (λ e b. values_at (inner e.end p unread) fs after b) _ left (values_settle inner h p unread fs after left) (λ vs last rest k less. none_settles Any (v ∷ vs) last rest tt))
 
-elements_settle : (inner : ℕ → Slots) → SlotsSettle inner → (p : Place) (unread : List ℕ) (code : TypeCode) (n : ℕ) → StepSettles Any (λ e. elements_at (inner e.end p unread) code n)
+elements_settle : (inner : ℕ → Slots) → SlotsSettle inner → (p : SlotPlace) (unread : List ℕ) (code : TypeCode) (n : ℕ) → StepSettles Any (λ e. elements_at (inner e.end p unread) code n)
 unfolding elements_at
 elements_settle inner h p unread codes.B n now bs = mapped_settles kinds.Bytes (λ e. many_at (plain byte_at) n) (many_settles (λ e. plain byte_at) byte_step n) now bs
 elements_settle inner h p unread codes.C n now bs = mapped_settles kinds.Chars (λ e. many_at (plain (number_at w16)) n) (many_settles (λ e. plain (number_at w16)) (number_step w16) n) now bs
@@ -470,12 +470,12 @@ elements_settle inner h p unread codes.Z n now bs = mapped_settles kinds.Bools (
 elements_settle inner h p unread codes.Array n now bs = mapped_settles kinds.Refs (λ e. many_at (inner e.end p unread) n) (many_settles (λ e. inner e.end p unread) (any_slot inner h p unread) n) now bs
 elements_settle inner h p unread codes.Object n now bs = mapped_settles kinds.Refs (λ e. many_at (inner e.end p unread) n) (many_settles (λ e. inner e.end p unread) (any_slot inner h p unread) n) now bs
 
-note_settles : (inner : ℕ → Slots) → SlotsSettle inner → (p : Place) (unread : List ℕ) (b : Bool) → StepSettles {A = List Item} Any (λ e. note_at e.end (inner e.end p unread) b)
+note_settles : (inner : ℕ → Slots) → SlotsSettle inner → (p : SlotPlace) (unread : List ℕ) (b : Bool) → StepSettles {A = List Item} Any (λ e. note_at e.end (inner e.end p unread) b)
 unfolding note_at
 note_settles inner h p unread true now bs = items_settle inner h p unread now bs
 note_settles inner h p unread false now bs = none_settles Any [] now bs tt
 
-parts_settle : (inner : ℕ → Slots) → SlotsSettle inner → (p : Place) (unread : List ℕ) (rs : List Row) → StepSettles Any (λ e. parts_at e.end (inner e.end p unread) rs)
+parts_settle : (inner : ℕ → Slots) → SlotsSettle inner → (p : SlotPlace) (unread : List ℕ) (rs : List Row) → StepSettles Any (λ e. parts_at e.end (inner e.end p unread) rs)
 unfolding parts_at
 parts_settle inner h p unread [] now bs = none_settles Any [] now bs tt
 parts_settle inner h p unread (r ∷ rs) now bs =
@@ -576,23 +576,23 @@ fresh_settles inner h unread code now bs =
     cond_settles three (λ x. IsNode x.0) (eqb code 0x7E) _ _ bs (λ e. class_then inner h unread (λ e. enum_at e.at (inner e.end places.Text unread)) (enum_settles inner h unread) now bs)
     (λ e8. refused_settles three (λ x. IsNode x.0) _ bs (λ e b. tt)))))))))
 
-null_settles : (p : Place) → StepSettles (SlotOk p) (λ e. null_at p e.at)
+null_settles : (p : SlotPlace) → StepSettles (SlotOk p) (λ e. null_at p e.at)
 null_settles places.Reference now bs = none_settles (SlotOk places.Reference) slots.Null now bs tt
 null_settles places.Parent now bs = none_settles (SlotOk places.Parent) slots.Null now bs tt
 null_settles places.Class now bs = refused_settles three (λ x. SlotOk places.Class x.0) _ bs (λ e b. tt)
 null_settles places.Text now bs = refused_settles three (λ x. SlotOk places.Text x.0) _ bs (λ e b. tt)
 
-handle_settles : (p : Place) (unread : List ℕ) → StepSettles (SlotOk p) (λ e. handle_at p unread e.at)
+handle_settles : (p : SlotPlace) (unread : List ℕ) → StepSettles (SlotOk p) (λ e. handle_at p unread e.at)
 unfolding handle_at
 handle_settles p unread now bs = bytes_then (SlotOk p) (λ e. number_at w32) _ bs (number_settles w32 bs) (λ k left le.
     cond_settles three (λ x. SlotOk p x.0) (ltb k 0x7E0000) _ _ left (λ low. refused_settles three (λ x. SlotOk p x.0) _ left (λ e b. tt)) (λ high.
     unless_settles three (λ x. SlotOk p x.0) (handle_fault p (has unread (k - 0x7E0000)) (slice_get now.nodes (k - 0x7E0000))) _ left (none_settles (SlotOk p) (slots.Node (k - 0x7E0000)) now left (node_ok p (slots.Node (k - 0x7E0000)) tt))))
 
-deep_settles : (p : Place) (left : ℕ) (r : Run (Slot × Progress × List ℕ)) (bs : List ℕ) → ((n : ℕ) → left ≡ suc n → Settles three (λ (x : Slot × Progress). SlotOk p x.0) r bs) → Settles three (λ (x : Slot × Progress). SlotOk p x.0) (λ e b. deep left e.at (r e b)) bs
+deep_settles : (p : SlotPlace) (left : ℕ) (r : Run (Slot × Progress × List ℕ)) (bs : List ℕ) → ((n : ℕ) → left ≡ suc n → Settles three (λ (x : Slot × Progress). SlotOk p x.0) r bs) → Settles three (λ (x : Slot × Progress). SlotOk p x.0) (λ e b. deep left e.at (r e b)) bs
 deep_settles p zero r bs h = refused_settles three (λ x. SlotOk p x.0) _ bs (λ e b. tt)
 deep_settles p (suc left) r bs h = h left refl
 
-coded_settles : (left : ℕ) (inner : ℕ → Slots) → ((n : ℕ) → left ≡ suc n → SlotsSettle inner) → (p : Place) (unread : List ℕ) (code : ℕ) → StepSettles (SlotOk p) (λ e. coded e.end left (inner e.end) p unread e.at code)
+coded_settles : (left : ℕ) (inner : ℕ → Slots) → ((n : ℕ) → left ≡ suc n → SlotsSettle inner) → (p : SlotPlace) (unread : List ℕ) (code : ℕ) → StepSettles (SlotOk p) (λ e. coded e.end left (inner e.end) p unread e.at code)
 unfolding coded
 coded_settles left inner h p unread code now bs =
     cond_settles three (λ x. SlotOk p x.0) (eqb code 0x70) _ _ bs (λ e. null_settles p now bs) (λ e0.
@@ -605,7 +605,7 @@ coded_settles left inner h p unread code now bs =
 abbrev at_code : Env → List ℕ → Env
 at_code e b = record { end = e.end; at = e.end - suc (length b); fuel = e.fuel }
 
-no_78 : (end left : ℕ) (inner : Slots) (p : Place) (unread : List ℕ) (at : ℕ) (now : Progress) (b : List ℕ) → Refused (coded end left inner p unread at 0x78 now b)
+no_78 : (end left : ℕ) (inner : Slots) (p : SlotPlace) (unread : List ℕ) (at : ℕ) (now : Progress) (b : List ℕ) → Refused (coded end left inner p unread at 0x78 now b)
 unfolding coded
 no_78 end left inner places.Reference unread at now b = tt
 no_78 end left inner places.Class unread at now b = tt
@@ -674,7 +674,7 @@ top_behind now c bs again = by s.outcome
     unwanted : (end most : ℕ) → suc (length bs) ≤ most → Refused (to_end end most now (c ∷ bs)) → s.more ≡ []
     unwanted end most v refused = s.least (env end most) (omega arith) (first_not_short (top_item c now end bs) (top_more end most) (refused_not_short _ (subst (λ y. Refused y) (stepped end most bs) refused)))
 
-    by : Outcome three (λ (x : Item × Progress). Unit {0}) (λ e b. item_of e.end (slot_at e.end LEVELS places.Reference []) c now b) bs s.more → Top now (c ∷ bs)
+    by : RunEnd three (λ (x : Item × Progress). Unit {0}) (λ e b. item_of e.end (slot_at e.end LEVELS places.Reference []) c now b) bs s.more → Top now (c ∷ bs)
     by (refuses h) = record {
       more = s.more;
       bytes = s.bytes;

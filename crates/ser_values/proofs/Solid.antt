@@ -10,8 +10,8 @@ use Rattle.class_desc.specs.declared.slot.Slot.TheVariants as slots
 use Rattle.class_desc.specs.ClassDesc.{is_good_desc}
 use Rattle.ser_values.specs.declared.node.Node.{Node}
 use Rattle.ser_values.specs.declared.node.Node.TheVariants.{Text, Desc, Proxy, Object, Array, Class, Enum}
-use Rattle.ser_values.specs.declared.node.Place.{Place}
-use Rattle.ser_values.specs.declared.node.Place.TheVariants as places
+use Rattle.ser_values.specs.declared.node.SlotPlace.{SlotPlace}
+use Rattle.ser_values.specs.declared.node.SlotPlace.TheVariants as places
 use Rattle.ser_values.specs.Node.{has, is_desc, is_text}
 use Rattle.ser_values.specs.Shape.{parts_in}
 use Rattle.ser_values.specs.Ranges.{InRange}
@@ -41,7 +41,7 @@ pub record IsTextAt (N : List Node) (s : Slot) : Type 0 where
   pub is : slice_get N number ≡ Some node
   pub text : is_text node ≡ true
 
-abbrev pub WholeIn : Place → List Node → List ℕ → Slot → Type 0
+abbrev pub WholeIn : SlotPlace → List Node → List ℕ → Slot → Type 0
 WholeIn places.Reference N unread s = Unit {0}
 WholeIn places.Class N unread s = WholeSlot N unread s
 WholeIn places.Parent N unread s = WholeSlot N unread s

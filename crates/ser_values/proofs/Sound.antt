@@ -8,8 +8,8 @@ use Rattle.class_desc.specs.declared.slot.Slot.{Slot}
 use Rattle.class_desc.specs.declared.slot.Slot.TheVariants as slots
 use Rattle.class_desc.specs.declared.slot.Item.{Item}
 use Rattle.ser_values.specs.declared.node.Node.{Node}
-use Rattle.ser_values.specs.declared.node.Place.{Place}
-use Rattle.ser_values.specs.declared.node.Place.TheVariants as places
+use Rattle.ser_values.specs.declared.node.SlotPlace.{SlotPlace}
+use Rattle.ser_values.specs.declared.node.SlotPlace.TheVariants as places
 use Rattle.ser_values.specs.Node.{has, is_desc, is_text, admits, admits_null, takes}
 use Rattle.ser_values.specs.Shape.{parts_in}
 use Rattle.ser_values.specs.Ranges.{ItemsFit, InRange}
@@ -61,13 +61,13 @@ fresh_sound S inner sound unread end at code now bs y e solid bytes room =
 
 -- ---- null and handles
 
-null_ok : (p : Place) (at : ℕ) (now : Progress) (bs : List ℕ) (y : Slot × Progress × List ℕ) → null_at p at now bs ≡ Ok y → (admits_null p ≡ true) × ((slots.Null, now, bs) ≡ y)
+null_ok : (p : SlotPlace) (at : ℕ) (now : Progress) (bs : List ℕ) (y : Slot × Progress × List ℕ) → null_at p at now bs ≡ Ok y → (admits_null p ≡ true) × ((slots.Null, now, bs) ≡ y)
 unfolding admits_null
 null_ok places.Reference at now bs y e = (refl, ok_is (slots.Null, now, bs) y e)
 null_ok places.Parent at now bs y e = (refl, ok_is (slots.Null, now, bs) y e)
 null_ok _ at now bs y e = absurd cc
 
-null_whole : (p : Place) (N : List Node) (unread : List ℕ) → admits_null p ≡ true → WholeIn p N unread slots.Null
+null_whole : (p : SlotPlace) (N : List Node) (unread : List ℕ) → admits_null p ≡ true → WholeIn p N unread slots.Null
 unfolding admits_null
 null_whole places.Reference N unread h = tt
 null_whole places.Class N unread h = tt
@@ -75,7 +75,7 @@ null_whole places.Parent N unread h = tt
 null_whole places.Text N unread h = absurd cc
 
 -- a handle that is taken
-record IsTaken (p : Place) (N : List Node) (unread : List ℕ) (k : ℕ) : Type 0 where
+record IsTaken (p : SlotPlace) (N : List Node) (unread : List ℕ) (k : ℕ) : Type 0 where
   in_it : k < length N
   whole : WholeIn p N unread (slots.Node k)
   takes_it : (F : List Node) → Sees F N unread → (i : Node) × (slice_get F k ≡ Some i) × (takes p (has unread k) i ≡ true)
@@ -92,7 +92,7 @@ text_test false h = absurd cc
 taken_desc : (N : List Node) (unread : List ℕ) (k : ℕ) (i : Node) → slice_get N k ≡ Some i → has unread k ≡ false → is_desc i ≡ true → (IsWhole N unread k) × ((F : List Node) → Sees F N unread → (x : Node) × (slice_get F k ≡ Some x) × ((is_desc x && not (has unread k)) ≡ true))
 taken_desc N unread k i is gone desc = (record { read = gone; node = i; is = is; desc = desc }, λ F sees. (i, sees.descs k i gone is desc, rw desc (rw gone refl)))
 
-taken : (p : Place) (N : List Node) (unread : List ℕ) (k : ℕ) (o : Option Node) → slice_get N k ≡ o → handle_fault p (has unread k) o ≡ None → IsTaken p N unread k
+taken : (p : SlotPlace) (N : List Node) (unread : List ℕ) (k : ℕ) (o : Option Node) → slice_get N k ≡ o → handle_fault p (has unread k) o ≡ None → IsTaken p N unread k
 unfolding takes
 taken places.Reference N unread k (Some i) is h = record { in_it = slice_get_within N k i is; whole = tt; takes_it = λ F sees. (let lt = slice_get_within N k i is in let long = sees.long in let x = found_at F k (omega arith) in (x.0, x.1, refl)) }
 taken places.Text N unread k (Some i) is h =
@@ -111,7 +111,7 @@ taken p N unread k None is h = absurd cc
 abbrev One : (List Node → Spelling) → ℕ → List Node → Spelling
 One S left F = Spell F left (S F)
 
-handle_sound : (S : List Node → Spelling) (left : ℕ) (p : Place) (unread : List ℕ) (at : ℕ) (now : Progress) (bs : List ℕ) (y : Slot × Progress × List ℕ) → handle_at p unread at now bs ≡ Ok y → Solid unread now → AreBytes bs → GotSlot (One S left) unread p now (0x71 ∷ bs) y
+handle_sound : (S : List Node → Spelling) (left : ℕ) (p : SlotPlace) (unread : List ℕ) (at : ℕ) (now : Progress) (bs : List ℕ) (y : Slot × Progress × List ℕ) → handle_at p unread at now bs ≡ Ok y → Solid unread now → AreBytes bs → GotSlot (One S left) unread p now (0x71 ∷ bs) y
 unfolding handle_at
 handle_sound S left p unread at now bs y e solid bytes =
     let a = bind_ok (number_at w32 bs) _ y e in
@@ -131,14 +131,14 @@ handle_sound S left p unread at now bs y e solid bytes =
 
 -- ---- any reference
 
-admitted : (p : Place) (code : ℕ) (i : Node) → is_desc i ≡ (eqb code 0x72 || eqb code 0x7D) → is_text i ≡ (eqb code 0x74 || eqb code 0x7C) → admits_code p code ≡ true → admits p i ≡ true
+admitted : (p : SlotPlace) (code : ℕ) (i : Node) → is_desc i ≡ (eqb code 0x72 || eqb code 0x7D) → is_text i ≡ (eqb code 0x74 || eqb code 0x7C) → admits_code p code ≡ true → admits p i ≡ true
 unfolding admits
 admitted places.Reference code i d t h = refl
 admitted places.Class code i d t h = d ∙ h
 admitted places.Parent code i d t h = d ∙ h
 admitted places.Text code i d t h = t ∙ h
 
-node_whole : (p : Place) (N : List Node) (unread : List ℕ) (s : Slot) (k : ℕ) (i : Node) → s ≡ slots.Node k → slice_get N k ≡ Some i → has unread k ≡ false → admits p i ≡ true → WholeIn p N unread s
+node_whole : (p : SlotPlace) (N : List Node) (unread : List ℕ) (s : Slot) (k : ℕ) (i : Node) → s ≡ slots.Node k → slice_get N k ≡ Some i → has unread k ≡ false → admits p i ≡ true → WholeIn p N unread s
 unfolding admits
 node_whole places.Reference N unread s k i what is gone h = tt
 node_whole places.Class N unread s k i what is gone h = rw what (record { read = gone; node = i; is = is; desc = h })
@@ -149,7 +149,7 @@ deep_ok : {A : Type 0} (left at : ℕ) (r : Result A Fault) (y : A) → deep lef
 deep_ok zero at r y e = absurd cc
 deep_ok (suc left) at r y e = (omega arith, e)
 
-coded_sound : (S : List Node → Spelling) (inner : Slots) → IsSound S inner → (end left : ℕ) (p : Place) (unread : List ℕ) (at code : ℕ) (now : Progress) (bs : List ℕ) (y : Slot × Progress × List ℕ) → coded end left inner p unread at code now bs ≡ Ok y → Solid unread now → AreBytes bs → GotSlot (One S left) unread p now (code ∷ bs) y
+coded_sound : (S : List Node → Spelling) (inner : Slots) → IsSound S inner → (end left : ℕ) (p : SlotPlace) (unread : List ℕ) (at code : ℕ) (now : Progress) (bs : List ℕ) (y : Slot × Progress × List ℕ) → coded end left inner p unread at code now bs ≡ Ok y → Solid unread now → AreBytes bs → GotSlot (One S left) unread p now (code ∷ bs) y
 unfolding coded
 coded_sound S inner sound end left p unread at code now bs y e solid bytes = elim (chosen (eqb code 0x70) _ _ _ e) [
   | inl q ↦
@@ -171,7 +171,7 @@ coded_sound S inner sound end left p unread at code now bs y e solid bytes = eli
   ]
 ]
 
-slot_by : (S T : List Node → Spelling) (inner : Slots) → IsSound S inner → (end left : ℕ) (unread : List ℕ) (p : Place) (now : Progress) (bs : List ℕ) (y : Slot × Progress × List ℕ) → ((F : List Node) (s : Slot) (bs rest : List ℕ) (m : ℕ) → Spell F left (S F) unread (p, s) (length now.nodes) bs rest m → T F unread (p, s) (length now.nodes) bs rest m)
+slot_by : (S T : List Node → Spelling) (inner : Slots) → IsSound S inner → (end left : ℕ) (unread : List ℕ) (p : SlotPlace) (now : Progress) (bs : List ℕ) (y : Slot × Progress × List ℕ) → ((F : List Node) (s : Slot) (bs rest : List ℕ) (m : ℕ) → Spell F left (S F) unread (p, s) (length now.nodes) bs rest m → T F unread (p, s) (length now.nodes) bs rest m)
     → (byte_at bs >>= λ c. coded end left inner p unread (end - length bs) c.0 now c.1) ≡ Ok y → Solid unread now → AreBytes bs → GotSlot T unread p now bs y
 slot_by S T inner sound end left unread p now bs y as_one e solid bytes =
     let a = bind_ok (byte_at bs) (λ c. coded end left inner p unread (end - length bs) c.0 now c.1) y e in

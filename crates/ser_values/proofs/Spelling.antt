@@ -16,7 +16,7 @@ use Rattle.ser_values.specs.declared.value.Values.TheVariants as kinds
 use Rattle.ser_values.specs.declared.value.Part.{Part}
 use Rattle.ser_values.specs.declared.node.Node.{Node}
 use Rattle.ser_values.specs.declared.node.Node.TheVariants.{Text, Desc, Proxy, Object, Array, Class, Enum}
-use Rattle.ser_values.specs.declared.node.Place.TheVariants as places
+use Rattle.ser_values.specs.declared.node.SlotPlace.TheVariants as places
 use Rattle.ser_values.specs.Node.{Want, item_wants, value_wants, part_wants, field_wants, slot_wants, element_wants, before, after, inside}
 use Rattle.ser_values.specs.Ranges.{ItemsFit}
 use Rattle.ser_values.specs.Shape.{is_joined, joined_from, fit_values, fits_part, fits_above, fits_chain}

@@ -26,8 +26,8 @@ use Rattle.ser_values.specs.declared.value.Value.TheVariants as values
 use Rattle.ser_values.specs.declared.value.Values.TheVariants as kinds
 use Rattle.ser_values.specs.declared.node.Node.{Node}
 use Rattle.ser_values.specs.declared.node.Node.TheVariants.{Text, Desc, Proxy, Object, Array, Class, Enum}
-use Rattle.ser_values.specs.declared.node.Place.{Place}
-use Rattle.ser_values.specs.declared.node.Place.TheVariants as places
+use Rattle.ser_values.specs.declared.node.SlotPlace.{SlotPlace}
+use Rattle.ser_values.specs.declared.node.SlotPlace.TheVariants as places
 use Rattle.ser_values.specs.Node.{has, is_desc, is_text, admits, admits_null}
 use Rattle.ser_values.specs.Shape.{fits_node, fits_type, is_enum}
 use Rattle.ser_values.specs.Spelled.{joined}
@@ -544,13 +544,13 @@ module _ (start : ℕ) (whole : List ℕ) where
   IsNode (slots.Node k) = Unit {0}
 
   -- a class is no null
-  abbrev Taken : Place → Slot → Type 0
+  abbrev Taken : SlotPlace → Slot → Type 0
   Taken places.Class s = IsNode s
   Taken places.Reference s = Unit {0}
   Taken places.Parent s = Unit {0}
   Taken places.Text s = Unit {0}
 
-  abbrev SlotGood : Place → Progress → List ℕ → Slot × Progress × List ℕ → Type 0
+  abbrev SlotGood : SlotPlace → Progress → List ℕ → Slot × Progress × List ℕ → Type 0
   SlotGood p now bs x = Good now bs x × Taken p x.0
 
   -- a node that got its handle, with its code's byte
@@ -558,9 +558,9 @@ module _ (start : ℕ) (whole : List ℕ) where
   NodeGood now bs x = Grown whole (length bs) (suc (length now.nodes + length bs)) x.1 x.2 × IsNode x.0
 
   abbrev SlotsGo : ℕ → (Option Stop → Slots) → Type 0
-  SlotsGo left inner = (p : Place) (unread : List ℕ) (now : Progress) (bs : List ℕ) → Here whole left now bs → Goes start whole bs (SlotGood p now bs) (λ o. inner o p unread now bs)
+  SlotsGo left inner = (p : SlotPlace) (unread : List ℕ) (now : Progress) (bs : List ℕ) → Here whole left now bs → Goes start whole bs (SlotGood p now bs) (λ o. inner o p unread now bs)
 
-  step_of : (left : ℕ) (inner : Option Stop → Slots) → SlotsGo left inner → (p : Place) (unread : List ℕ) → StepGoes left (λ o. inner o p unread)
+  step_of : (left : ℕ) (inner : Option Stop → Slots) → SlotsGo left inner → (p : SlotPlace) (unread : List ℕ) → StepGoes left (λ o. inner o p unread)
   step_of left inner h p unread now bs w = weaker bs (SlotGood p now bs) (Good now bs) (λ o. inner o p unread now bs) (λ x q. q.0) (h p unread now bs w)
 
   -- the node stands there
@@ -768,7 +768,7 @@ module _ (start : ℕ) (whole : List ℕ) where
       → Stood start whole (too_many ((start + length whole) - length (code ∷ bs)))
   many_as asking code bs r known gives h = stands (IsOneTooMany (start + length whole) (λ a. Known ((start + length whole) - length (code ∷ bs)) a)) (code ∷ bs) r (λ front l. record { asking = asking; known = known; refused = (record { byte = code; rest = bs; is = refl; that = gives }, h front l) })
 
-  fresh_goes : (place : Place) (left : ℕ) (inner : Option Stop → Slots) → inner None ≡ slot_at (start + length whole) left → SlotsGo left inner → (unread : List ℕ) (code : ℕ) (now : Progress) (bs : List ℕ) → IsConstruct place code → Opened whole left now bs → Rest whole (code ∷ bs)
+  fresh_goes : (place : SlotPlace) (left : ℕ) (inner : Option Stop → Slots) → inner None ≡ slot_at (start + length whole) left → SlotsGo left inner → (unread : List ℕ) (code : ℕ) (now : Progress) (bs : List ℕ) → IsConstruct place code → Opened whole left now bs → Rest whole (code ∷ bs)
       → Known ((start + length whole) - length (code ∷ bs)) (record { left = suc left; place = place; unread = unread; now = now })
       → Goes start whole bs (NodeGood now bs) (λ o. fresh_at (start + length whole) ((start + length whole) - length (code ∷ bs)) (inner o) unread code now bs)
   unfolding fresh_at
@@ -821,14 +821,14 @@ module _ (start : ℕ) (whole : List ℕ) where
 
   -- ---- null and handles
 
-  null_goes : (left : ℕ) (asking : Asking) (p : Place) → p ≡ asking.place → (code : ℕ) (now : Progress) (bs : List ℕ) → eqb code 0x70 ≡ true → Here whole left now (code ∷ bs) → Known ((start + length whole) - length (code ∷ bs)) asking → Goes start whole bs (SlotGood p now (code ∷ bs)) (λ o. null_at p ((start + length whole) - length (code ∷ bs)) now bs)
+  null_goes : (left : ℕ) (asking : Asking) (p : SlotPlace) → p ≡ asking.place → (code : ℕ) (now : Progress) (bs : List ℕ) → eqb code 0x70 ≡ true → Here whole left now (code ∷ bs) → Known ((start + length whole) - length (code ∷ bs)) asking → Goes start whole bs (SlotGood p now (code ∷ bs)) (λ o. null_at p ((start + length whole) - length (code ∷ bs)) now bs)
   unfolding admits_null
   null_goes left asking places.Reference same code now bs e w known = weaker bs (Good now (code ∷ bs)) (SlotGood places.Reference now (code ∷ bs)) _ (λ x q. (q, tt)) (after_code {A = Slot} left code now bs (λ o. Ok (slots.Null, now, bs)) w (λ v. none_goes left now bs v))
   null_goes left asking places.Parent same code now bs e w known = weaker bs (Good now (code ∷ bs)) (SlotGood places.Parent now (code ∷ bs)) _ (λ x q. (q, tt)) (after_code {A = Slot} left code now bs (λ o. Ok (slots.Null, now, bs)) w (λ v. none_goes left now bs v))
   null_goes left asking places.Class same code now bs e w known = fails bs (SlotGood places.Class now (code ∷ bs)) _ (coded_as asking (λ a c. IsNoCode a.place c) code bs w.rest known (subst (λ q. IsNoCode q code) same (subst (λ k. IsNoCode places.Class k) (sym (eqb-true code 0x70 e)) (refl, eqb-false 0x70 0x79 refl, eqb-false 0x70 0x7B refl))))
   null_goes left asking places.Text same code now bs e w known = fails bs (SlotGood places.Text now (code ∷ bs)) _ (coded_as asking (λ a c. IsNoCode a.place c) code bs w.rest known (subst (λ q. IsNoCode q code) same (subst (λ k. IsNoCode places.Text k) (sym (eqb-true code 0x70 e)) (refl, eqb-false 0x70 0x79 refl, eqb-false 0x70 0x7B refl))))
 
-  node_taken : (p : Place) (s : Slot) → IsNode s → Taken p s
+  node_taken : (p : SlotPlace) (s : Slot) → IsNode s → Taken p s
   node_taken places.Reference s h = tt
   node_taken places.Class s h = h
   node_taken places.Parent s h = tt
@@ -840,7 +840,7 @@ module _ (start : ℕ) (whole : List ℕ) where
   desc_kinds false true at own wrong k e = absurd cc
   desc_kinds false false at own wrong k e = kind_is wrong_handle_kind k at e (wrong refl)
 
-  handle_kinds : (p : Place) (unread : Bool) (o : Option Node) (at : ℕ) → (o ≡ None → Stood start whole (bad bad_handle at))
+  handle_kinds : (p : SlotPlace) (unread : Bool) (o : Option Node) (at : ℕ) → (o ≡ None → Stood start whole (bad bad_handle at))
       → ((i : Node) → o ≡ Some i → unread ≡ true → (p ≡ places.Class) ⊎ (p ≡ places.Parent) → Stood start whole (bad bad_desc at)) → ((i : Node) → o ≡ Some i → admits p i ≡ false → Stood start whole (bad wrong_handle_kind at))
       → (k : Kind) → handle_fault p unread o ≡ Some k → Stood start whole (bad k at)
   unfolding admits
@@ -866,7 +866,7 @@ module _ (start : ℕ) (whole : List ℕ) where
   beyond (i ∷ nodes) zero e = absurd cc
   beyond (i ∷ nodes) (suc k) e = let l = beyond nodes k e in omega arith
 
-  handle_goes : (left : ℕ) (p : Place) (unread : List ℕ) (code : ℕ) (now : Progress) (bs : List ℕ) → eqb code 0x71 ≡ true → Here whole left now (code ∷ bs) → Known ((start + length whole) - length (code ∷ bs)) (record { left = left; place = p; unread = unread; now = now }) → Goes start whole bs (SlotGood p now (code ∷ bs)) (λ o. handle_at p unread ((start + length whole) - length (code ∷ bs)) now bs)
+  handle_goes : (left : ℕ) (p : SlotPlace) (unread : List ℕ) (code : ℕ) (now : Progress) (bs : List ℕ) → eqb code 0x71 ≡ true → Here whole left now (code ∷ bs) → Known ((start + length whole) - length (code ∷ bs)) (record { left = left; place = p; unread = unread; now = now }) → Goes start whole bs (SlotGood p now (code ∷ bs)) (λ o. handle_at p unread ((start + length whole) - length (code ∷ bs)) now bs)
   unfolding handle_at
   handle_goes left p unread code now bs e w known =
       let at = (start + length whole) - length (code ∷ bs) in
@@ -898,7 +898,7 @@ module _ (start : ℕ) (whole : List ℕ) where
 
   -- ---- any reference
 
-  admitted_gives : (p : Place) (c : ℕ) → admits_code p c ≡ true → gives_handle c ≡ true
+  admitted_gives : (p : SlotPlace) (c : ℕ) → admits_code p c ≡ true → gives_handle c ≡ true
   admitted_gives places.Reference c h = h
   admitted_gives places.Class c h = elim (either (eqb c 0x72) (eqb c 0x7D) h) [
     | inl e ↦ subst (λ k. gives_handle k ≡ true) (sym (eqb-true c 0x72 e)) refl
@@ -930,7 +930,7 @@ module _ (start : ℕ) (whole : List ℕ) where
     level : (n : ℕ) → left ≡ suc n → left ≡ suc inside
     reads : (n : ℕ) → left ≡ suc n → inner None ≡ slot_at (start + length whole) inside
 
-  coded_goes : (left inside : ℕ) (inner : Option Stop → Slots) → Deeper left inside inner → SlotsGo inside inner → (p : Place) (unread : List ℕ) (code : ℕ) (now : Progress) (bs : List ℕ) → Here whole left now (code ∷ bs)
+  coded_goes : (left inside : ℕ) (inner : Option Stop → Slots) → Deeper left inside inner → SlotsGo inside inner → (p : SlotPlace) (unread : List ℕ) (code : ℕ) (now : Progress) (bs : List ℕ) → Here whole left now (code ∷ bs)
       → Known ((start + length whole) - length (code ∷ bs)) (record { left = left; place = p; unread = unread; now = now })
       → Goes start whole bs (SlotGood p now (code ∷ bs)) (λ o. coded (start + length whole) left (inner o) p unread ((start + length whole) - length (code ∷ bs)) code now bs)
   unfolding coded

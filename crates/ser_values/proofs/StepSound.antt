@@ -16,8 +16,8 @@ use Rattle.class_desc.specs.TypeText.{code_of}
 use Rattle.ser_values.specs.declared.value.Value.{Value}
 use Rattle.ser_values.specs.declared.value.Value.TheVariants as values
 use Rattle.ser_values.specs.declared.node.Node.{Node}
-use Rattle.ser_values.specs.declared.node.Place.{Place}
-use Rattle.ser_values.specs.declared.node.Place.TheVariants as places
+use Rattle.ser_values.specs.declared.node.SlotPlace.{SlotPlace}
+use Rattle.ser_values.specs.declared.node.SlotPlace.TheVariants as places
 use Rattle.ser_values.specs.Shape.{is_short, fits_type, fits_value, fit_values}
 use Rattle.ser_values.specs.Ranges.{ValueFits, NameFits}
 use Rattle.ser_values.specs.Spelled.{Token, truth, value_token, One, SpellsToken, SpellsAll, Spelling}
@@ -27,12 +27,12 @@ use Rattle.ser_values.proofs.Solid.{WholeIn, Solid, Got, got_none, got_two}
 
 -- ---- what is read of a reference
 
-pub record GotSlot (S : List Node → Spelling) (unread : List ℕ) (p : Place) (now : Progress) (bs : List ℕ) (y : Slot × Progress × List ℕ) : Type 0 where
+pub record GotSlot (S : List Node → Spelling) (unread : List ℕ) (p : SlotPlace) (now : Progress) (bs : List ℕ) (y : Slot × Progress × List ℕ) : Type 0 where
   pub got : Got unread now y.1 y.2 (λ F. S F unread (p, y.0) (length now.nodes) bs y.2 (length y.1.nodes))
   pub whole : WholeIn p y.1.nodes unread y.0
 
 abbrev pub IsSound : (List Node → Spelling) → Slots → Type 0
-IsSound S inner = (unread : List ℕ) (p : Place) (now : Progress) (bs : List ℕ) (y : Slot × Progress × List ℕ) → inner p unread now bs ≡ Ok y → Solid unread now → AreBytes bs → GotSlot S unread p now bs y
+IsSound S inner = (unread : List ℕ) (p : SlotPlace) (now : Progress) (bs : List ℕ) (y : Slot × Progress × List ℕ) → inner p unread now bs ≡ Ok y → Solid unread now → AreBytes bs → GotSlot S unread p now bs y
 
 -- ---- lists of tokens
 

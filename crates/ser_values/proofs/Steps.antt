@@ -14,8 +14,8 @@ use Rattle.class_desc.specs.TypeCode.{is_primitive, letter}
 use Rattle.ser_values.specs.declared.value.Value.{Value}
 use Rattle.ser_values.specs.declared.value.Value.TheVariants as values
 use Rattle.ser_values.specs.declared.node.Node.{Node}
-use Rattle.ser_values.specs.declared.node.Place.{Place}
-use Rattle.ser_values.specs.declared.node.Place.TheVariants as places
+use Rattle.ser_values.specs.declared.node.SlotPlace.{SlotPlace}
+use Rattle.ser_values.specs.declared.node.SlotPlace.TheVariants as places
 use Rattle.ser_values.specs.Shape.{fits_type, fits_node, fits_value, fit_values}
 use Rattle.ser_values.specs.Spelled.{Token, raw, truth, want, short_text, field_tokens, value_token, One, SpellsToken, SpellsAll, Spelling}
 use Rattle.ser_values.specs.Ranges.{ValueFits}
@@ -30,12 +30,12 @@ use Rattle.ser_values.proofs.Plains.{number_back_16, number_back_32, number_back
 
 -- ---- what is read of a reference
 
-pub record ReadsIn (F : List Node) (unread : List ℕ) (p : Place) (now : Progress) (s : Slot) (rest : List ℕ) (m : ℕ) (r : Result (Slot × Progress × List ℕ) Fault) : Type 0 where
+pub record ReadsIn (F : List Node) (unread : List ℕ) (p : SlotPlace) (now : Progress) (s : Slot) (rest : List ℕ) (m : ℕ) (r : Result (Slot × Progress × List ℕ) Fault) : Type 0 where
   pub reads : Reads F unread now s rest m r
   pub settled : Settled F reads.later.nodes p s
 
 abbrev pub IsComplete : List Node → Spelling → Slots → Type 0
-IsComplete F S inner = (unread : List ℕ) (p : Place) (s : Slot) (now : Progress) (bs rest : List ℕ) (m : ℕ) → S unread (p, s) (length now.nodes) bs rest m → Ready F unread now → ReadsIn F unread p now s rest m (inner p unread now bs)
+IsComplete F S inner = (unread : List ℕ) (p : SlotPlace) (s : Slot) (now : Progress) (bs rest : List ℕ) (m : ℕ) → S unread (p, s) (length now.nodes) bs rest m → Ready F unread now → ReadsIn F unread p now s rest m (inner p unread now bs)
 
 -- ---- lists of tokens
 

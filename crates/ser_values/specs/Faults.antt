@@ -14,8 +14,8 @@ use Rattle.class_desc.specs.ClassDesc.{IsFirstFault}
 use Rattle.class_desc.specs.declared.slot.Item.{Item}
 use Rattle.ser_values.specs.declared.node.Node.{Node}
 use Rattle.ser_values.specs.declared.node.Node.TheVariants.{Text, Desc}
-use Rattle.ser_values.specs.declared.node.Place.{Place}
-use Rattle.ser_values.specs.declared.node.Place.TheVariants as places
+use Rattle.ser_values.specs.declared.node.SlotPlace.{SlotPlace}
+use Rattle.ser_values.specs.declared.node.SlotPlace.TheVariants as places
 use Rattle.ser_values.specs.declared.limits.TheConstants.{LEVELS, NODES, PARTS}
 use Rattle.ser_values.specs.Node.{has, admits, admits_null}
 use Rattle.ser_values.specs.Shape.{is_enum}
@@ -27,7 +27,7 @@ use Rattle.ser_values.specs.Reading.{Kind, bad_magic, bad_code, bad_handle, wron
 -- the nodes so far, which are those whose handles were given.
 pub record Asking : Type 0 where
   pub left : ℕ
-  pub place : Place
+  pub place : SlotPlace
   pub unread : List ℕ
   pub now : Progress
 
@@ -83,11 +83,11 @@ pub record HasByte (holds : ℕ → Type 0) (here : List ℕ) : Type 0 where
   pub that : holds byte
 
 -- A place takes what begins with this byte: null, a handle, or a construct that gives one.
-abbrev pub is_code_of : Place → ℕ → Bool
+abbrev pub is_code_of : SlotPlace → ℕ → Bool
 is_code_of p code = if nat_eq code 0x70 then admits_null p else (nat_eq code 0x71 || admits_code p code)
 
 -- The place does not take what begins with this byte, which is no code of a fault's own.
-abbrev pub IsNoCode : Place → ℕ → Type 0
+abbrev pub IsNoCode : SlotPlace → ℕ → Type 0
 IsNoCode p code = (is_code_of p code ≡ false) × (code ≢ 0x79) × (code ≢ 0x7B)
 
 -- A handle, of which this holds.
@@ -275,7 +275,7 @@ pub record StandsAt (start : ℕ) (bytes : List ℕ) (position : ℕ) (shows : L
   pub shown : shows front here
 
 -- The code of a construct that gives a handle, and may stand in the place.
-abbrev pub IsConstruct : Place → ℕ → Type 0
+abbrev pub IsConstruct : SlotPlace → ℕ → Type 0
 IsConstruct p code = (gives_handle code ≡ true) × (admits_code p code ≡ true)
 
 -- There are as many nodes as there may be, before the construct or behind its class; so there are as many bytes, for each takes one at least.

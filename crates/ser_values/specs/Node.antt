@@ -13,8 +13,8 @@ use Rattle.ser_values.specs.declared.value.Values.TheVariants.{Refs}
 use Rattle.ser_values.specs.declared.value.Part.{Part}
 use Rattle.ser_values.specs.declared.node.Node.{Node}
 use Rattle.ser_values.specs.declared.node.Node.TheVariants.{Text, Desc, Proxy, Object, Array, Class, Enum}
-use Rattle.ser_values.specs.declared.node.Place.{Place}
-use Rattle.ser_values.specs.declared.node.Place.TheVariants as places
+use Rattle.ser_values.specs.declared.node.SlotPlace.{SlotPlace}
+use Rattle.ser_values.specs.declared.node.SlotPlace.TheVariants as places
 
 -- The number is in the list.
 unfoldable pub has : List ℕ → ℕ → Bool
@@ -37,20 +37,20 @@ is_text (Text t) = true
 is_text _ = false
 
 -- A node that is written there for the first time.
-unfoldable pub admits : Place → Node → Bool
+unfoldable pub admits : SlotPlace → Node → Bool
 admits places.Reference i = true
 admits places.Class i = is_desc i
 admits places.Parent i = is_desc i
 admits places.Text i = is_text i
 
 -- A node that was written before: a description is read whole before it is named.
-unfoldable pub takes : Place → Bool → Node → Bool
+unfoldable pub takes : SlotPlace → Bool → Node → Bool
 takes places.Reference unread i = true
 takes places.Class unread i = is_desc i && not unread
 takes places.Parent unread i = is_desc i && not unread
 takes places.Text unread i = is_text i
 
-unfoldable pub admits_null : Place → Bool
+unfoldable pub admits_null : SlotPlace → Bool
 admits_null places.Reference = true
 admits_null places.Class = false
 admits_null places.Parent = true
@@ -59,7 +59,7 @@ admits_null places.Text = false
 -- ---- what a node wants: the references that are written of it, each with the kind of its place
 
 abbrev pub Want : Type 0
-Want = Place × Slot
+Want = SlotPlace × Slot
 
 unfoldable pub item_wants : List Item → List Want
 item_wants [] = []

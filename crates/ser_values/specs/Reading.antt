@@ -21,8 +21,8 @@ use Rattle.ser_values.specs.declared.value.Values.TheVariants as kinds
 use Rattle.ser_values.specs.declared.value.Part.{Part}
 use Rattle.ser_values.specs.declared.node.Node.{Node}
 use Rattle.ser_values.specs.declared.node.Node.TheVariants.{Text, Desc, Proxy, Object, Array, Class, Enum}
-use Rattle.ser_values.specs.declared.node.Place.{Place}
-use Rattle.ser_values.specs.declared.node.Place.TheVariants as places
+use Rattle.ser_values.specs.declared.node.SlotPlace.{SlotPlace}
+use Rattle.ser_values.specs.declared.node.SlotPlace.TheVariants as places
 use Rattle.ser_values.specs.declared.limits.TheConstants.{LEVELS, NODES, PARTS}
 use Rattle.ser_values.specs.Node.{has, is_desc, is_text}
 use Rattle.ser_values.specs.Shape.{fits_type, is_enum}
@@ -101,7 +101,7 @@ Step A = Progress → List ℕ → Result (A × Progress × List ℕ) Fault
 
 -- how a reference is read in a place, with these descriptions unread
 abbrev pub Slots : Type 0
-Slots = Place → List ℕ → Step Slot
+Slots = SlotPlace → List ℕ → Step Slot
 
 -- what changes no nodes
 abbrev pub plain : {A : Type 0} → (List ℕ → Plain A) → Step A
@@ -318,7 +318,7 @@ enum_at at text class now bs = if is_enum (slice_get now.nodes class) then (text
 abbrev pub gives_handle : ℕ → Bool
 gives_handle code = nat_le 0x72 code && nat_le code 0x76 || (nat_eq code 0x7C || (nat_eq code 0x7D || nat_eq code 0x7E))
 
-abbrev pub admits_code : Place → ℕ → Bool
+abbrev pub admits_code : SlotPlace → ℕ → Bool
 admits_code places.Reference code = gives_handle code
 admits_code places.Class code = nat_eq code 0x72 || nat_eq code 0x7D
 admits_code places.Parent code = nat_eq code 0x72 || nat_eq code 0x7D
@@ -338,19 +338,19 @@ fresh_at end at inner unread code now bs =
     (if nat_eq code 0x7D then proxy_at end inner unread now bs else
     (if nat_eq code 0x7E then with_class inner unread at (enum_at at (inner places.Text unread)) now bs else Err (bad bad_code at))))))))
 
-abbrev pub null_at : Place → ℕ → Step Slot
+abbrev pub null_at : SlotPlace → ℕ → Step Slot
 null_at places.Reference at now bs = Ok (slots.Null, now, bs)
 null_at places.Parent at now bs = Ok (slots.Null, now, bs)
 null_at p at now bs = Err (bad bad_code at)
 
 -- why a node that has a handle is not taken
-abbrev pub handle_fault : Place → Bool → Option Node → Option Kind
+abbrev pub handle_fault : SlotPlace → Bool → Option Node → Option Kind
 handle_fault p unread None = Some bad_handle
 handle_fault places.Reference unread (Some i) = None
 handle_fault places.Text unread (Some i) = if is_text i then None else Some wrong_handle_kind
 handle_fault p unread (Some i) = if unread then Some bad_desc else (if is_desc i then None else Some wrong_handle_kind)
 
-unfoldable pub handle_at : Place → List ℕ → ℕ → Step Slot
+unfoldable pub handle_at : SlotPlace → List ℕ → ℕ → Step Slot
 handle_at p unread at now bs =
     number_at w32 bs >>= λ h.
     if nat_lt h.0 0x7E0000 then Err (bad bad_handle at)
@@ -361,7 +361,7 @@ abbrev pub deep : {A : Type 0} → ℕ → ℕ → Result A Fault → Result A F
 deep zero at r = Err (too_deep at)
 deep (suc left) at r = r
 
-unfoldable pub coded : ℕ → ℕ → Slots → Place → List ℕ → ℕ → ℕ → Step Slot
+unfoldable pub coded : ℕ → ℕ → Slots → SlotPlace → List ℕ → ℕ → ℕ → Step Slot
 coded end left inner p unread at code now bs =
     if nat_eq code 0x70 then null_at p at now bs else
     (if nat_eq code 0x71 then handle_at p unread at now bs else

@@ -20,7 +20,7 @@ use Rattle.ser_values.specs.declared.value.Values.TheVariants as kinds
 use Rattle.ser_values.specs.declared.value.Part.{Part}
 use Rattle.ser_values.specs.declared.node.Node.{Node}
 use Rattle.ser_values.specs.declared.node.Node.TheVariants.{Text, Desc, Proxy, Object, Array, Class, Enum}
-use Rattle.ser_values.specs.declared.node.Place.TheVariants as places
+use Rattle.ser_values.specs.declared.node.SlotPlace.TheVariants as places
 use Rattle.ser_values.specs.declared.limits.TheConstants.{LEVELS, NODES, PARTS}
 use Rattle.ser_values.specs.Node.{has, Want, admits, admits_null, takes, inside}
 use Rattle.ser_values.specs.Shape.{fits_chain, count_of, is_shaped, parts_in}

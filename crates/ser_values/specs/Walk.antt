@@ -4,7 +4,7 @@ use Rattle.std.specs.declared.alloc.AllocError.{AllocError}
 use Rattle.class_desc.specs.declared.slot.Slot.{Slot}
 use Rattle.class_desc.specs.declared.slot.Slot.TheVariants as slots
 use Rattle.ser_values.specs.declared.node.Node.{Node}
-use Rattle.ser_values.specs.declared.node.Place.{Place}
+use Rattle.ser_values.specs.declared.node.SlotPlace.{SlotPlace}
 use Rattle.ser_values.specs.declared.walking.Task.{Task}
 use Rattle.ser_values.specs.declared.walking.Task.TheVariants as tasks
 use Rattle.ser_values.specs.Node.{has, Want, before, after, is_desc, admits, admits_null, takes, inside}
@@ -51,19 +51,19 @@ number_item inner unread j order (Some i) = if has order j then stop else tick (
 abbrev pub number : List Node → Walking → List ℕ → ℕ → List ℕ → Walk
 number nodes inner unread j order = number_item inner unread j order (slice_get nodes j)
 
-abbrev pub is_new : List Node → ℕ → Place → Node → Bool
+abbrev pub is_new : List Node → ℕ → SlotPlace → Node → Bool
 is_new nodes left place i = not (nat_eq left 0) && (admits place i && is_shaped nodes i)
 
 abbrev pub check : Bool → List ℕ → Walk
 check true order = tick (ends order)
 check false order = stop
 
-abbrev pub visit_item : List Node → ℕ → Walking → List ℕ → Place → ℕ → List ℕ → Option Node → Walk
+abbrev pub visit_item : List Node → ℕ → Walking → List ℕ → SlotPlace → ℕ → List ℕ → Option Node → Walk
 visit_item nodes left inner unread place j order None = stop
 visit_item nodes left inner unread place j order (Some i) = if has order j then check (takes place (has unread j) i) order else
     (if is_new nodes left place i then tick (all (inner unread) (before i) order >>= number nodes inner unread j) else stop)
 
-abbrev pub visit_slot : List Node → ℕ → Walking → List ℕ → Place → Slot → List ℕ → Walk
+abbrev pub visit_slot : List Node → ℕ → Walking → List ℕ → SlotPlace → Slot → List ℕ → Walk
 visit_slot nodes left inner unread place slots.Null order = check (admits_null place) order
 visit_slot nodes left inner unread place (slots.Node j) order = visit_item nodes left inner unread place j order (slice_get nodes j)
 

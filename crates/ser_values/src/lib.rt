@@ -26,7 +26,7 @@ pub use builder::Builder;
 pub use fault::BuildFault;
 pub use graph::{Graph, same_graph};
 pub use loose::elements_in;
-pub use node::{Node, NodeList, NumberList, Place};
+pub use node::{FIRST_HANDLE, Node, NodeList, NumberList, SlotPlace};
 pub use note_bytes::NotePlace;
 pub use shape::{fits_node, is_desc, is_text};
 pub use value::{Part, PartList, Value, ValueList, Values};

@@ -62,9 +62,12 @@ pub type NodeList = Sequence<Node>;
 /// A list of nodes' numbers.
 pub type NumberList = Sequence<u32>;
 
+/// The handle of a stream's first node (Object Serialization 6.4.2, `baseWireHandle`); each further node has the next one.
+pub const FIRST_HANDLE: u32 = 0x7E_0000;
+
 /// Where in a stream a reference stands.
 #[derive(Clone, Copy, Debug, PartialEq, Eq)]
-pub enum Place {
+pub enum SlotPlace {
     /// As a value, an element or an item: any node and null may stand there.
     Reference,
     /// As the class of an object, an array, a class or an enum: a description.

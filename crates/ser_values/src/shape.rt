@@ -6,7 +6,7 @@ ghost use Rattle.ser_values.specs.Node.{is_desc, is_text, admits, admits_null, t
 ghost use Rattle.ser_values.specs.Shape.{is_short, are_short, joined_from, is_joined, fits_node, fits_type, are_typed, fits_value, fit_values, fits_part, fits_above, fits_next, or_above, fits_chain, is_external, fits_object, fit_elements, fits_array, is_enum, is_shaped, parts_of};
 
 use crate::loose::Loose;
-use crate::node::{Node, Place};
+use crate::node::{Node, SlotPlace};
 use crate::value::{Part, Value, Values};
 use class_desc::{
     BLOCK_DATA, ENUM, EXTERNALIZABLE, FieldDesc, Item, SERIALIZABLE, Slot, TypeCode, WRITE_METHOD,
@@ -49,40 +49,40 @@ pub fn is_text(node: &Node) -> bool
 
 /// Whether a node may be written for the first time in a place.
 #[tactic(auto, unfolding(crate::specs::Node::admits))]
-pub(crate) fn admits(place: Place, node: &Node) -> bool
+pub(crate) fn admits(place: SlotPlace, node: &Node) -> bool
     ensures { result ≡ admits place node.now }
 {
     match place {
-        Place::Reference => true,
-        Place::Class => is_desc(node),
-        Place::Parent => is_desc(node),
-        Place::Text => is_text(node),
+        SlotPlace::Reference => true,
+        SlotPlace::Class => is_desc(node),
+        SlotPlace::Parent => is_desc(node),
+        SlotPlace::Text => is_text(node),
     }
 }
 
 /// Whether null may stand in a place.
 #[tactic(auto, unfolding(crate::specs::Node::admits_null))]
-pub(crate) fn admits_null(place: Place) -> bool
+pub(crate) fn admits_null(place: SlotPlace) -> bool
     ensures { result ≡ admits_null place }
 {
     match place {
-        Place::Reference => true,
-        Place::Class => false,
-        Place::Parent => true,
-        Place::Text => false,
+        SlotPlace::Reference => true,
+        SlotPlace::Class => false,
+        SlotPlace::Parent => true,
+        SlotPlace::Text => false,
     }
 }
 
 /// Whether a node that has a handle may be named in a place.
 #[tactic(auto, unfolding(crate::specs::Node::takes))]
-pub(crate) fn takes(place: Place, unread: bool, node: &Node) -> bool
+pub(crate) fn takes(place: SlotPlace, unread: bool, node: &Node) -> bool
     ensures { result ≡ takes place unread node.now }
 {
     match place {
-        Place::Reference => true,
-        Place::Class => is_desc(node) && !unread,
-        Place::Parent => is_desc(node) && !unread,
-        Place::Text => is_text(node),
+        SlotPlace::Reference => true,
+        SlotPlace::Class => is_desc(node) && !unread,
+        SlotPlace::Parent => is_desc(node) && !unread,
+        SlotPlace::Text => is_text(node),
     }
 }
 

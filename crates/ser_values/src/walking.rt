@@ -8,7 +8,7 @@ ghost use Rattle.ser_values.specs.Walk.{run, all, wanted, closing, is_new, stack
 ghost use Rattle.ser_values.specs.Seen.{IsKept};
 
 use crate::loose::Loose;
-use crate::node::{Node, Place};
+use crate::node::{Node, SlotPlace};
 use crate::seen::Seen;
 use crate::shape::{admits, admits_null, is_desc, takes};
 use crate::value::{Part, Value, Values};
@@ -19,7 +19,7 @@ use std::alloc::{AllocError, Global};
 #[derive(Clone, Copy, Debug)]
 pub(crate) enum Task {
     /// Write what a slot names in a place, at most so many levels deep.
-    Visit(Place, Slot, u32),
+    Visit(SlotPlace, Slot, u32),
     /// Give a node its handle, and write what stands after it, at most so many levels deep.
     Number(u32, u32),
     /// The last unread description was written whole.
@@ -36,7 +36,7 @@ fn push_items(stack: &mut Vec<Task>, items: &[Item], left: u32) -> Result<(), Al
         i -= 1;
         match &items[i] {
             Item::Bytes(_) => {}
-            Item::Ref(slot) => stack.push(Task::Visit(Place::Reference, *slot, left))?,
+            Item::Ref(slot) => stack.push(Task::Visit(SlotPlace::Reference, *slot, left))?,
         }
     }
     Ok(())
@@ -51,7 +51,7 @@ fn push_values(stack: &mut Vec<Task>, values: &[Value], left: u32) -> Result<(),
     while i > 0 {
         i -= 1;
         if let Value::Ref(slot) = values[i] {
-            stack.push(Task::Visit(Place::Reference, slot, left))?;
+            stack.push(Task::Visit(SlotPlace::Reference, slot, left))?;
         }
     }
     Ok(())
@@ -80,7 +80,7 @@ fn push_fields(stack: &mut Vec<Task>, fields: &[FieldDesc], left: u32) -> Result
     while i > 0 {
         i -= 1;
         if !is_primitive(fields[i].code) {
-            stack.push(Task::Visit(Place::Text, fields[i].type_text, left))?;
+            stack.push(Task::Visit(SlotPlace::Text, fields[i].type_text, left))?;
         }
     }
     Ok(())
@@ -94,7 +94,7 @@ fn push_slots(stack: &mut Vec<Task>, slots: &[Slot], left: u32) -> Result<(), Al
     let mut i = slots.len();
     while i > 0 {
         i -= 1;
-        stack.push(Task::Visit(Place::Reference, slots[i], left))?;
+        stack.push(Task::Visit(SlotPlace::Reference, slots[i], left))?;
     }
     Ok(())
 }
@@ -110,7 +110,12 @@ fn push_elements(stack: &mut Vec<Task>, values: &Values, left: u32) -> Result<()
 }
 
 /// Puts one reference onto the stack.
-fn push_one(stack: &mut Vec<Task>, place: Place, slot: Slot, left: u32) -> Result<(), AllocError>
+fn push_one(
+    stack: &mut Vec<Task>,
+    place: SlotPlace,
+    slot: Slot,
+    left: u32,
+) -> Result<(), AllocError>
     ensures { OnOk result (stacked stack.new.items ≡ tasks.Visit place slot left ∷ stacked stack.old.items) }
 {
     stack.push(Task::Visit(place, slot, left))?;
@@ -126,10 +131,10 @@ fn push_before(stack: &mut Vec<Task>, node: &Node, left: u32) -> Result<(), Allo
         Node::Text(_) => Ok(()),
         Node::Desc(_) => Ok(()),
         Node::Proxy(_) => Ok(()),
-        Node::Object { class, .. } => push_one(stack, Place::Class, Slot::Node(*class), left),
-        Node::Array { class, .. } => push_one(stack, Place::Class, Slot::Node(*class), left),
-        Node::Class { class } => push_one(stack, Place::Class, Slot::Node(*class), left),
-        Node::Enum { class, .. } => push_one(stack, Place::Class, Slot::Node(*class), left),
+        Node::Object { class, .. } => push_one(stack, SlotPlace::Class, Slot::Node(*class), left),
+        Node::Array { class, .. } => push_one(stack, SlotPlace::Class, Slot::Node(*class), left),
+        Node::Class { class } => push_one(stack, SlotPlace::Class, Slot::Node(*class), left),
+        Node::Enum { class, .. } => push_one(stack, SlotPlace::Class, Slot::Node(*class), left),
     }
 }
 
@@ -141,23 +146,23 @@ fn push_after(stack: &mut Vec<Task>, node: &Node, left: u32) -> Result<(), Alloc
     match node {
         Node::Text(_) => Ok(()),
         Node::Desc(desc) => {
-            push_one(stack, Place::Parent, desc.parent, left)?;
+            push_one(stack, SlotPlace::Parent, desc.parent, left)?;
             push_items(stack, desc.note.as_slice(), left)?;
             push_fields(stack, desc.fields.as_slice(), left)
         }
         Node::Proxy(proxy) => {
-            push_one(stack, Place::Parent, proxy.parent, left)?;
+            push_one(stack, SlotPlace::Parent, proxy.parent, left)?;
             push_items(stack, proxy.note.as_slice(), left)
         }
         Node::Object { parts, .. } => push_parts(stack, parts.as_slice(), left),
         Node::Array { values, .. } => push_elements(stack, values, left),
         Node::Class { .. } => Ok(()),
-        Node::Enum { name, .. } => push_one(stack, Place::Text, Slot::Node(*name), left),
+        Node::Enum { name, .. } => push_one(stack, SlotPlace::Text, Slot::Node(*name), left),
     }
 }
 
 /// Whether a node without a handle may get one in a place, so many levels above the limit.
-fn is_new(loose: &Loose, left: u32, place: Place, node: &Node) -> bool
+fn is_new(loose: &Loose, left: u32, place: SlotPlace, node: &Node) -> bool
     ensures { result ≡ is_new loose.now.nodes.now left place node.now }
 {
     left != 0 && (admits(place, node) && loose.is_shaped(node))
@@ -168,7 +173,7 @@ fn visit(
     loose: &Loose,
     seen: &Seen,
     stack: &mut Vec<Task>,
-    place: Place,
+    place: SlotPlace,
     number: u32,
     left: u32,
 ) -> Result<bool, AllocError>

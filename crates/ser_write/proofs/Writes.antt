@@ -17,7 +17,7 @@ use Rattle.ser_values.specs.declared.node.Node.{Node}
 use Rattle.class_desc.specs.declared.field.FieldDesc.{FieldDesc}
 use Rattle.ser_values.specs.declared.value.Part.{Part}
 use Rattle.ser_values.specs.declared.node.Node.TheVariants.{Text, Desc, Proxy, Object, Array, Class, Enum}
-use Rattle.ser_values.specs.declared.node.Place.TheVariants as places
+use Rattle.ser_values.specs.declared.node.SlotPlace.TheVariants as places
 use Rattle.ser_values.specs.Shape.{is_short, count_of}
 use Rattle.ser_values.specs.Spelled.{put_block, Token, raw, truth, want, note, reference, short_text, long_text, field_tokens, value_token, element_tokens, part_tokens}
 use Rattle.ser_write.proofs.Begins.{begins_on}

@@ -7,7 +7,7 @@ use Rattle.ser_values.specs.declared.value.Values.{Values}
 use Rattle.ser_values.specs.declared.value.Values.TheVariants as kinds
 use Rattle.ser_values.specs.declared.node.Node.{Node}
 use Rattle.ser_values.specs.declared.node.Node.TheVariants.{Text, Desc, Proxy, Object, Array, Class, Enum}
-use Rattle.ser_values.specs.declared.node.Place.TheVariants as places
+use Rattle.ser_values.specs.declared.node.SlotPlace.TheVariants as places
 use Rattle.ser_values.specs.Shape.{count_of}
 use Rattle.ser_values.specs.Spelled.{Token, want, field_tokens, reference}
 use Rattle.ser_write.specs.Canonical.{text_bytes, title_bytes, interface_bytes, primitive_bytes, ending_tokens, object_tokens}

@@ -9,11 +9,8 @@ use crate::numbers::{Spelled, put_16, put_32, put_byte, put_each, put_long_text,
 use class_desc::{ClassDesc, EXTERNALIZABLE, FieldDesc, Slot, WRITE_METHOD, has_flag};
 use mod_utf::list::{ByteList, Units};
 use mod_utf::utf::encoded_len;
-use ser_values::{Node, Value, Values};
+use ser_values::{FIRST_HANDLE, Node, Value, Values};
 use std::alloc::{AllocError, Global};
-
-/// The handle of the first node.
-const FIRST_HANDLE: usize = 0x7E_0000;
 
 /// The greatest number of bytes in a block.
 const BLOCK: usize = 1024;
@@ -110,7 +107,7 @@ pub(crate) fn put_handle(out: &mut ByteList, number: u32) -> Result<(), AllocErr
     ensures kept { OnErr result (Begins out.old out.new) }
 {
     put_byte(out, 0x71)?;
-    put_32(out, FIRST_HANDLE + number as usize)
+    put_32(out, FIRST_HANDLE as usize + number as usize)
 }
 
 /// Appends a description's name and its number.

@@ -22,7 +22,7 @@ use Rattle.export_table.specs.declared.waits.Wait.{Wait}
 use Rattle.export_table.specs.Rows.{is_of, is_exported, is_pinned, is_among, new_row, changed, begun, ended, pinned_once, unpinned_once, unpinned}
 use Rattle.export_table.specs.Stands.{added_rows}
 use Rattle.export_table.specs.Table.{ExportTable}
-use Rattle.export_table.specs.Waits.{is_wait_of, goes_on, waiting, over, of_return, objects, is_awaited, until_of, listed, listed_each, acknowledged}
+use Rattle.export_table.specs.Waits.{is_wait_of, goes_on, waiting, over, of_return, objects, is_awaited, end_of_wait, listed, listed_each, acknowledged}
 use Rattle.space.specs.Acts.{acted, new_ids, returned_by}
 use Rattle.space.specs.Doubts.{taken_by, AreInDoubt}
 use Rattle.space.proofs.Holding.{any-weaker, held-call}
@@ -93,7 +93,7 @@ listed-awaits : (ack t : ℕ) (o q : ObjId) (u : Uid) (ws : List Wait) → 1 ≤
 listed-awaits ack t o q u ws some h = go (same_id q o) refl
   where
     new : Wait
-    new = record { object = q; uid = u; until = max (t + ack) (until_of q u ws) }
+    new = record { object = q; uid = u; until = max (t + ack) (end_of_wait q u ws) }
 
     on : Wait → Bool
     on w = goes_on t w && same_id w.object o
@@ -102,7 +102,7 @@ listed-awaits ack t o q u ws some h = go (same_id q o) refl
     other w = not (is_wait_of q u w)
 
     later : goes_on t new ≡ true
-    later = lt-ltb t (max (t + ack) (until_of q u ws)) (omega arith)
+    later = lt-ltb t (max (t + ack) (end_of_wait q u ws)) (omega arith)
 
     apart : same_id q o ≡ false → (w : Wait) → same_id w.object o ≡ true → (b : Bool) → same_id w.object q ≡ b → not (b && same_uid w.uid u) ≡ true
     apart e w k false l = refl

@@ -21,7 +21,7 @@ use Rattle.export_table.specs.declared.waits.Wait.{Wait}
 use Rattle.export_table.specs.declared.exports.ExportFault.{ExportFault}
 use Rattle.export_table.specs.declared.exports.ExportFault.TheVariants.{Full as ExportFull, OutOfMemory as NoMemory}
 use Rattle.export_table.specs.Table.{ExportTable}
-use Rattle.export_table.specs.Waits.{waiting, is_waiting, until_of, listed, listed_each}
+use Rattle.export_table.specs.Waits.{waiting, is_waiting, end_of_wait, listed, listed_each}
 use Rattle.export_table.proofs.RowLaws.{waiting-listed}
 use Rattle.space.specs.Acts.{awaiting_with, awaiting_after}
 use Rattle.export_table.specs.Stands.{waits_once, reference_of, end_of, references}
@@ -168,8 +168,8 @@ awaiting-step ack t uid o os waits some =
     ∙ ap (λ v. v || list_any (same_returned r) (references uid (o ∷ os))) (sym (any-waiting t r waits))
     ∙ sym (list_any-append (same_returned r) (waiting_refs reference_of end_of t waits) (references uid (o ∷ os))))
   where
-    one : (r : Returned) (b : Bool) → (if b then nat_lt t (max (t + ack) (until_of o uid waits)) else is_waiting t r.object r.uid waits) ≡ (if b then true else is_waiting t r.object r.uid waits)
-    one r true = lt-ltb t (max (t + ack) (until_of o uid waits)) (omega arith)
+    one : (r : Returned) (b : Bool) → (if b then nat_lt t (max (t + ack) (end_of_wait o uid waits)) else is_waiting t r.object r.uid waits) ≡ (if b then true else is_waiting t r.object r.uid waits)
+    one r true = lt-ltb t (max (t + ack) (end_of_wait o uid waits)) (omega arith)
     one r false = refl
 
     both : (b w v : Bool) → ((if b then true else w) || v) ≡ (w || (b || v))

@@ -18,9 +18,9 @@ pub record Takes (config : SpaceConfig) (h events : List Event) (turns : List Tu
   pub after : h2 ≡ h ++ events
 
 -- Why none of these events is taken after the history h: there is none, or the first of them is refused.
-abbrev pub Stops : SpaceConfig → List Event → List Event → Option Refused → Type 0
-Stops config h events None = events ≡ []
-Stops config h events (Some refused) = (e : Event) × (more : List Event) × (events ≡ e ∷ more) × Step config h e (Err refused) h
+abbrev pub ListStops : SpaceConfig → List Event → List Event → Option Refused → Type 0
+ListStops config h events None = events ≡ []
+ListStops config h events (Some refused) = (e : Event) × (more : List Event) × (events ≡ e ∷ more) × Step config h e (Err refused) h
 
 -- After the history h a front of these events is taken, with these turns, and leaves the history h2; they are all the events, or the
 -- next one is refused.
@@ -29,7 +29,7 @@ pub record TakesFront (config : SpaceConfig) (h events : List Event) (turns : Li
   pub rest : List Event
   pub events_are : events ≡ front ++ rest
   pub taken : Takes config h front turns h2
-  pub stops : Stops config h2 rest refused
+  pub stops : ListStops config h2 rest refused
 
 -- After the history h these events are taken, the one after the other, and leave the history h2. At each of them the history's table keeps what
 -- there is a reason to keep, and the rest is withdrawn.

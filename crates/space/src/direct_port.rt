@@ -15,7 +15,7 @@ use std::alloc::Global;
 /// A port over a space and the number of its connection. The list has a parameter for its type, so that a
 /// contract sees what the port left behind `space`.
 #[derive(Drop)]
-pub struct PortOver<'a, L> {
+pub struct SpacePort<'a, L> {
     /// The space that answers.
     pub space: &'a mut Space,
     /// The number of the connection.
@@ -25,16 +25,16 @@ pub struct PortOver<'a, L> {
 }
 
 /// A port that hands each call to its space at once.
-pub type DirectPort<'a> = PortOver<'a, AskedLog>;
+pub type DirectPort<'a> = SpacePort<'a, AskedLog>;
 
-impl<'a> PortOver<'a, AskedLog> {
+impl<'a> SpacePort<'a, AskedLog> {
     /// The port of a connection. Its entries begin with the next turn.
     pub fn new(alloc: Global, space: &'a mut Space, by: u32) -> DirectPort<'a>
         ensures same_reference { result.space.ghost_name ≡ space.entry.ghost_name }
         ensures values { (result.space.now ≡ space.old) × (result.by ≡ by) × (result.asked.items ≡ []) }
         ensures ready { IsTied result.by result.space.now result.asked.items result.asked.capacity }
     {
-        PortOver {
+        SpacePort {
             space,
             by,
             asked: AskedLog::new(alloc),
@@ -45,7 +45,7 @@ impl<'a> PortOver<'a, AskedLog> {
     pub fn into_asked(self) -> PortEntries
         ensures { result ≡ self.entry.asked.items }
     {
-        let PortOver {
+        let SpacePort {
             space: _,
             by: _,
             asked,
@@ -54,7 +54,7 @@ impl<'a> PortOver<'a, AskedLog> {
     }
 }
 
-impl<'a> Port for PortOver<'a, AskedLog> {
+impl<'a> Port for SpacePort<'a, AskedLog> {
     ghost asked = { λ p. p.asked.items };
 
     ghost room_of = { λ p. 2 ^ 64 - 1 };

@@ -30,7 +30,7 @@ mod withdrawals;
 pub use asked::{Asked, AskedEnd, AskedList};
 pub use asked_log::{AskedLog, PortEntries};
 pub use asked_view::AskedView;
-pub use direct_port::{DirectPort, PortOver};
+pub use direct_port::{DirectPort, SpacePort};
 pub use history::{Ask, Event, Refused, Reply, SpaceConfig, Turn};
 pub use journal_text::{journal, summary};
 pub use lists::{ObjectKind, Turns};

@@ -1,5 +1,6 @@
 //! Many clients: as many as can be come in no order, half of them come again, and the leases of the others end.
-ghost use Rattle.std.specs.Prelude.{◌<◌, ◌^◌};
+ghost use Rattle.std.specs.Prelude.{◌<◌};
+ghost use Rattle.history.specs.declared.limits.TheConstants.{END_OF_TIME};
 
 use history::{Ask, Refused, SpaceConfig};
 use mod_utf::list::ByteList;
@@ -59,7 +60,7 @@ fn dirty(alloc: Global, client: [u8; 2], number: i64) -> Result<Ask, Refused> {
 
 /// Makes a turn, whose answer counts for nothing unless it is refused.
 fn take(space: &mut Space, moment: u64, ask: Ask) -> Result<(), Refused>
-    requires { moment < 2 ^ 62 }
+    requires { moment < END_OF_TIME }
 {
     let _turn = space.turn(1, moment, ask)?;
     Ok(())
@@ -73,7 +74,7 @@ fn come(
     moment: u64,
     number: i64,
 ) -> Result<(), Refused>
-    requires { moment < 2 ^ 62 }
+    requires { moment < END_OF_TIME }
 {
     for k in 0..clients {
         take(space, moment, dirty(alloc, scattered(k), number)?)?;

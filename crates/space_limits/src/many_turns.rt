@@ -1,5 +1,6 @@
 //! Many turns: time passes, a client renews its lease and a call runs 50,000 times, while 65,536 objects are exported.
-ghost use Rattle.std.specs.Prelude.{◌<◌, ◌^◌};
+ghost use Rattle.std.specs.Prelude.{◌<◌};
+ghost use Rattle.history.specs.declared.limits.TheConstants.{END_OF_TIME};
 
 use crate::{first_objects, numbered, object, open};
 use history::{Ask, Refused};
@@ -18,7 +19,7 @@ const ROUNDS: u32 = 50_000;
 
 /// Makes a turn, whose answer counts for nothing unless it is refused.
 fn take(space: &mut Space, moment: u64, ask: Ask) -> Result<(), Refused>
-    requires { moment < 2 ^ 62 }
+    requires { moment < END_OF_TIME }
 {
     let _turn = space.turn(1, moment, ask)?;
     Ok(())

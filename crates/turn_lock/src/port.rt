@@ -14,7 +14,7 @@ use std::alloc::Global;
 use std::sync::Wait;
 
 /// A port over a pass. The list has a parameter for its type, so that a contract sees what the port left behind `pass`.
-pub struct PortOver<'a, R: Wait, L> {
+pub struct PassPort<'a, R: Wait, L> {
     rt: &'a R,
     lock: &'a TurnLock,
     pass: &'a mut Pass,
@@ -22,9 +22,9 @@ pub struct PortOver<'a, R: Wait, L> {
 }
 
 /// A port whose turns wait for their ticket: those of one connection, whose number is its pass's.
-pub type SeatPort<'a, R> = PortOver<'a, R, AskedLog>;
+pub type SeatPort<'a, R> = PassPort<'a, R, AskedLog>;
 
-impl<'a, R: Wait> PortOver<'a, R, AskedLog> {
+impl<'a, R: Wait> PassPort<'a, R, AskedLog> {
     /// The port of a pass of this lock. Its entries begin with the next turn. A pass has room for 2^31 turns.
     pub fn new(rt: &'a R, alloc: Global, lock: &'a TurnLock, pass: &'a mut Pass) -> SeatPort<'a, R>
         requires own { IsPassOf lock.now pass.old }
@@ -32,7 +32,7 @@ impl<'a, R: Wait> PortOver<'a, R, AskedLog> {
         ensures values { (result.pass.now ≡ pass.old) × (result.lock.now ≡ lock.now) × (result.asked.items ≡ []) }
         ensures ready { IsTied (view_of result.pass.now).number (seen_space (view_of result.pass.now)) result.asked.items result.asked.capacity }
     {
-        PortOver {
+        PassPort {
             rt,
             lock,
             pass,
@@ -47,7 +47,7 @@ impl<'a, R: Wait> PortOver<'a, R, AskedLog> {
         // The pass that the port was made with, the third of its fields, is as the port left it.
         ensures left { self.exit.1.1.0.now ≡ self.entry.pass.now }
     {
-        let PortOver {
+        let PassPort {
             rt: _,
             lock: _,
             pass: _,
@@ -57,7 +57,7 @@ impl<'a, R: Wait> PortOver<'a, R, AskedLog> {
     }
 }
 
-impl<'a, R: Wait> Port for PortOver<'a, R, AskedLog> {
+impl<'a, R: Wait> Port for PassPort<'a, R, AskedLog> {
     ghost asked = { λ p. p.asked.items };
 
     ghost room_of = { λ p. p.pass.now.room };

@@ -10,7 +10,7 @@ ghost use Rattle.turn_lock.specs.Ports.{PassWent};
 ghost use Rattle.turn_lock.specs.Rule.{InOrder};
 
 use crate::handles::{Pass, Root, TurnLock};
-use crate::port::{PortOver, SeatPort};
+use crate::port::{PassPort, SeatPort};
 use history::{Ask, Refused, Turn};
 use space::{Port, PortEntries};
 use std::alloc::Global;
@@ -30,7 +30,7 @@ impl Root {
         ensures ready { IsTied (view_of result.pass.now).number (seen_space (view_of result.pass.now)) result.asked.items result.asked.capacity }
     {
         let pass = &mut self.pass;
-        PortOver::new(rt, alloc, lock, pass)
+        PassPort::new(rt, alloc, lock, pass)
     }
 
     /// The root's own pass, number 0.

@@ -1,6 +1,6 @@
 //! Annotations: blocks of bytes and references, up to their end.
 ghost use Rattle.std.specs.Prelude.{◌-◌, ◌≤◌, true};
-ghost use Rattle.ser_values.specs.declared.node.Place.TheVariants.{Reference};
+ghost use Rattle.ser_values.specs.declared.node.SlotPlace.TheVariants.{Reference};
 ghost use Rattle.ser_values.specs.declared.limits.TheConstants.{LEVELS};
 ghost use Rattle.ser_values.specs.Reading.{slot_at, coded, items_at, note_at};
 ghost use Rattle.ser_read.specs.Named.{item_at};
@@ -12,7 +12,7 @@ use crate::pulled::{byte, count, take};
 use crate::reading::coded;
 use crate::table::Table;
 use class_desc::{Item, Items};
-use ser_values::Place;
+use ser_values::SlotPlace;
 use std::alloc::Global;
 use wire_io::pull::Pull;
 use wire_io::source::Source;
@@ -82,6 +82,6 @@ pub(crate) fn item<S: Source>(
         let n = count(pull)?;
         Ok(Item::Bytes(take(alloc, pull, u64::from(n))?))
     } else {
-        Ok(Item::Ref(coded(alloc, pull, table, Place::Reference, left, at, code)?))
+        Ok(Item::Ref(coded(alloc, pull, table, SlotPlace::Reference, left, at, code)?))
     }
 }

@@ -1,6 +1,6 @@
 //! Arrays.
 ghost use Rattle.std.specs.Prelude.{◌≤◌, ◌<◌, length, Some};
-ghost use Rattle.ser_values.specs.declared.node.Place.TheVariants.{Reference};
+ghost use Rattle.ser_values.specs.declared.node.SlotPlace.TheVariants.{Reference};
 ghost use Rattle.ser_values.specs.declared.limits.TheConstants.{LEVELS, NODES};
 ghost use Rattle.ser_values.specs.Reading.{slot_at, many_at, elements_at, with_class, array_at, array_of};
 ghost use Rattle.ser_read.specs.Does.{Does, Any, GivesNode};
@@ -13,7 +13,7 @@ use crate::reading::{class, slot};
 use crate::table::Table;
 use class_desc::{Slot, SlotList, TypeCode, is_primitive};
 use mod_utf::list::ByteList;
-use ser_values::{Node, Place, Values};
+use ser_values::{Node, SlotPlace, Values};
 use std::alloc::Global;
 use wire_io::pull::Pull;
 use wire_io::source::Source;
@@ -118,7 +118,7 @@ fn slots<S: Source>(
 {
     let mut slots = SlotList::new(alloc);
     for _ in 0..n {
-        let slot = slot(alloc, pull, table, Place::Reference, left)?;
+        let slot = slot(alloc, pull, table, SlotPlace::Reference, left)?;
         slots.push(slot)?;
     }
     Ok(slots)

@@ -1,6 +1,6 @@
 //! Constants of enums, and classes as values.
 ghost use Rattle.std.specs.Prelude.{◌≤◌, ◌<◌, length};
-ghost use Rattle.ser_values.specs.declared.node.Place.TheVariants.{Text};
+ghost use Rattle.ser_values.specs.declared.node.SlotPlace.TheVariants.{Text};
 ghost use Rattle.ser_values.specs.declared.limits.TheConstants.{LEVELS, NODES};
 ghost use Rattle.ser_values.specs.Reading.{slot_at, with_class, class_at, enum_at};
 ghost use Rattle.ser_read.specs.Does.{Does, GivesNode};
@@ -10,7 +10,7 @@ use crate::pieces::bad;
 use crate::reading::{class, slot};
 use crate::table::Table;
 use class_desc::Slot;
-use ser_values::{Node, Place};
+use ser_values::{Node, SlotPlace};
 use std::alloc::Global;
 use wire_io::pull::Pull;
 use wire_io::source::Source;
@@ -69,7 +69,7 @@ fn constant_in<S: Source>(
         return Err(bad(StreamKind::BadDesc, at));
     }
     let number = table.begin(Node::Enum { class, name: 0 })?;
-    match slot(alloc, pull, table, Place::Text, left)? {
+    match slot(alloc, pull, table, SlotPlace::Text, left)? {
         Slot::Null => unreachable!(),
         Slot::Node(name) => {
             table.fill(number, Node::Enum { class, name });

@@ -1,6 +1,6 @@
 //! Descriptions of classes and of dynamic proxy classes.
 ghost use Rattle.std.specs.Prelude.{◌≤◌, ◌<◌, length, Some};
-ghost use Rattle.ser_values.specs.declared.node.Place.TheVariants.{Text};
+ghost use Rattle.ser_values.specs.declared.node.SlotPlace.TheVariants.{Text};
 ghost use Rattle.ser_values.specs.declared.limits.TheConstants.{LEVELS, NODES};
 ghost use Rattle.ser_values.specs.Reading.{slot_at, many_at, field_at, field_of, desc_at, proxy_at};
 ghost use Rattle.ser_read.specs.Fronts.{desc_behind};
@@ -17,7 +17,7 @@ use class_desc::{
     ClassDesc, FieldDesc, FieldList, Items, ProxyDesc, Slot, TypeCode, check_desc, is_primitive,
 };
 use mod_utf::list::Units;
-use ser_values::{Node, Place};
+use ser_values::{Node, SlotPlace};
 use std::alloc::Global;
 use wire_io::pull::Pull;
 use wire_io::source::Source;
@@ -75,7 +75,7 @@ fn desc_behind<S: Source>(
         return Err(bad(StreamKind::BadDesc, at));
     }
     desc.note = items(alloc, pull, table, left)?;
-    desc.parent = slot(alloc, pull, table, Place::Parent, left)?;
+    desc.parent = slot(alloc, pull, table, SlotPlace::Parent, left)?;
     Ok(desc)
 }
 
@@ -142,7 +142,7 @@ fn field_of<S: Source>(
             type_text: Slot::Null,
         });
     }
-    let type_text = slot(alloc, pull, table, Place::Text, left)?;
+    let type_text = slot(alloc, pull, table, SlotPlace::Text, left)?;
     if !table.fits_type(code, type_text) {
         return Err(bad(StreamKind::BadDesc, at));
     }
@@ -171,7 +171,7 @@ pub(super) fn proxy<S: Source>(
     table.open(number)?;
     let names = names(alloc, pull, n)?;
     let note = items(alloc, pull, table, left)?;
-    let parent = slot(alloc, pull, table, Place::Parent, left)?;
+    let parent = slot(alloc, pull, table, SlotPlace::Parent, left)?;
     table.close();
     table.fill(
         number,

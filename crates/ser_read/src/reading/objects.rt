@@ -1,6 +1,6 @@
 //! Objects: for each class of the chain its values and its annotation.
 ghost use Rattle.std.specs.Prelude.{◌≤◌, ◌<◌, ◌+◌, length};
-ghost use Rattle.ser_values.specs.declared.node.Place.TheVariants.{Reference};
+ghost use Rattle.ser_values.specs.declared.node.SlotPlace.TheVariants.{Reference};
 ghost use Rattle.ser_values.specs.declared.limits.TheConstants.{LEVELS, NODES, PARTS};
 ghost use Rattle.ser_values.specs.Reading.{slot_at, value_at, with_class, object_at};
 ghost use Rattle.ser_read.specs.Rows.{values_by, part_by, parts_by, object_by};
@@ -15,7 +15,7 @@ use crate::row::ClassRow;
 use crate::shape::shape_of;
 use crate::table::Table;
 use class_desc::{Slot, TypeCode, is_primitive};
-use ser_values::{Node, Part, PartList, Place, Value, ValueList};
+use ser_values::{Node, Part, PartList, SlotPlace, Value, ValueList};
 use std::alloc::Global;
 use wire_io::pull::Pull;
 use wire_io::source::Source;
@@ -167,7 +167,7 @@ fn value<S: Source>(
     if is_primitive(code) {
         primitive(pull, code)
     } else {
-        let slot = slot(alloc, pull, table, Place::Reference, left)?;
+        let slot = slot(alloc, pull, table, SlotPlace::Reference, left)?;
         Ok(Value::Ref(slot))
     }
 }

@@ -8,6 +8,7 @@ use Rattle.call_dispatch.specs.Rows.{Exchange, GoOn}
 use Rattle.call_dispatch.specs.Dialogue.{Opening, protocol_of, opened}
 use Rattle.call_dispatch.specs.Progress.{Stands}
 use Rattle.call_dispatch.proofs.messages.serve_many.Given as goal
+use Rattle.call_dispatch.specs.declared.results.TheConstants.{RETURN_BYTES}
 
 -- So many exchanges stand, and the connection goes on; each took and wrote at most so much, made at most three turns, invoked the worker at
 -- most once and drew at most two identifiers.
@@ -20,7 +21,7 @@ invariant-loop-after g l = ((start : Spot) (opening : Opening) → protocol_of o
     (spot_of g.S.Source.left g.K.Sink.held g.C.Clock.given g.P.Port.asked g.W.Worker.calls g.W.Worker.seen g.W.Worker.state l.connection) l.connection.pull.at l.sent (opened opening exchanges))
     × (l.served ≤ 2 ^ 28)
     × (l.connection.pull.at ≤ l.initial.connection.pull.at + 2 ^ 24 * l.served)
-    × (l.sent ≤ l.before + 2 ^ 30 * l.served)
+    × (l.sent ≤ l.before + RETURN_BYTES * l.served)
     × IsLent l.initial.connection l.connection
     × Grew (counts_of g.S.Source.faults g.K.Sink.faults l.initial.connection) (counts_of g.S.Source.faults g.K.Sink.faults l.connection)
     × Balanced (g.P.Port.asked l.connection.port.now)

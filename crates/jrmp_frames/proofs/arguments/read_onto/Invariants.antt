@@ -1,5 +1,5 @@
 use Rattle.std.proofs.Common.{◌≡◌, None}
-use Rattle.wire_io.specs.Pulled.{place}
+use Rattle.wire_io.specs.Pulled.{pull_state}
 use Rattle.jrmp_frames.proofs.Each.{Comes}
 use Rattle.jrmp_frames.proofs.arguments.read_onto.Given as goal
 
@@ -8,5 +8,5 @@ invariant-loop-code g l =
     record {
       lent : l.pull.source.ghost_name ≡ l.fn.pull.source.ghost_name;
       kept : l.reader.refused ≡ None;
-      comes : Comes (place g.S.Source.left g.S.Source.faults l.fn.pull) (place g.S.Source.left g.S.Source.faults l.pull) l.params l.code-index l.fn.reader.stand l.reader.stand l.args;
+      comes : Comes (pull_state g.S.Source.left g.S.Source.faults l.fn.pull) (pull_state g.S.Source.left g.S.Source.faults l.pull) l.params l.code-index l.fn.reader.stand l.reader.stand l.args;
     }

@@ -1,10 +1,10 @@
 use Rattle.std.proofs.Common.{◌≡◌, List, ℕ, length}
-use Rattle.wire_io.specs.Pulled.{place, Takes}
+use Rattle.wire_io.specs.Pulled.{pull_state, Takes}
 use Rattle.jrmp_frames.proofs.endpoint.skip.Given as goal
 
 -- So many bytes were taken.
 abbrev pub invariant-loop-skipped : goal.invariant-loop-skipped
 invariant-loop-skipped g l =
     ((bytes : List ℕ) × (length bytes ≡ l._skipped)
-    × Takes (place g.S.Source.left g.S.Source.faults l.initial.pull) (place g.S.Source.left g.S.Source.faults l.pull) bytes)
+    × Takes (pull_state g.S.Source.left g.S.Source.faults l.initial.pull) (pull_state g.S.Source.left g.S.Source.faults l.pull) bytes)
     × (l.pull.source.ghost_name ≡ l.initial.pull.source.ghost_name)

@@ -1,7 +1,7 @@
 use Rattle.std.proofs.Common.{◌≡◌, ◌∙◌, ◌<◌, List, ℕ, length, take, sym, subst, arith, length-take-le, length-set}
 use Rattle.std.proofs.lemmas.Result.{err_from_is_err_and}
 use Rattle.std.proofs.lemmas.List.{take_more_set, take_all}
-use Rattle.wire_io.specs.Pulled.{place, Takes}
+use Rattle.wire_io.specs.Pulled.{pull_state, Takes}
 use Rattle.wire_io.proofs.Pulling.{takes_more}
 use Rattle.jrmp_frames.proofs.Reading.{stops_in, stops_next}
 use Rattle.jrmp_frames.proofs.uid.read_uid.Goals as goal
@@ -26,4 +26,4 @@ pub returns-clause-gives : goal.returns-clause-gives
 returns-clause-gives g c =
     let all = c.loop-i.invariant.long in
     let whole = take_all c.loop-i.i c.loop-i.bytes (omega (arith, all, c.loop-i-test.false)) in
-    subst (λ (l : List ℕ). Takes (place g.S.Source.left g.S.Source.faults c.args.pull.now) (place g.S.Source.left g.S.Source.faults c.loop-i.pull) l) (whole ∙ sym c.uid_of.ensures.inverse) c.loop-i.invariant.takes
+    subst (λ (l : List ℕ). Takes (pull_state g.S.Source.left g.S.Source.faults c.args.pull.now) (pull_state g.S.Source.left g.S.Source.faults c.loop-i.pull) l) (whole ∙ sym c.uid_of.ensures.inverse) c.loop-i.invariant.takes

@@ -1,5 +1,5 @@
 use Rattle.std.proofs.Common.{◌≡◌, ◌≤◌, ◌-◌, length, take}
-use Rattle.wire_io.specs.Pulled.{place}
+use Rattle.wire_io.specs.Pulled.{pull_state}
 use Rattle.ser_read.specs.Wants.{run_at}
 use Rattle.ser_values.specs.Reading.{short}
 use Rattle.ser_read.specs.Wants.{inside}
@@ -13,7 +13,7 @@ invariant-loop-done g l =
       lent : l.pull.source.ghost_name ≡ l.fn.pull.source.ghost_name;
       within : l.done ≤ length l.buf;
       long : length l.buf ≡ length l.fn.buf;
-      leads : Leads (inside short) (place g.S.Source.left g.S.Source.faults l.fn.pull) (place g.S.Source.left g.S.Source.faults l.pull) (λ end. run_at end (length l.fn.buf) l.fn.block) (λ end bs. behind (take l.done l.buf) (run_at end (length l.buf - l.done) l.block bs));
+      leads : Leads (inside short) (pull_state g.S.Source.left g.S.Source.faults l.fn.pull) (pull_state g.S.Source.left g.S.Source.faults l.pull) (λ end. run_at end (length l.fn.buf) l.fn.block) (λ end bs. behind (take l.done l.buf) (run_at end (length l.buf - l.done) l.block bs));
     }
 
 abbrev pub decreases-loop-done : goal.decreases-loop-done

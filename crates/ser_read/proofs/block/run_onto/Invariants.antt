@@ -1,5 +1,5 @@
 use Rattle.std.proofs.Common.{◌≡◌}
-use Rattle.wire_io.specs.Pulled.{place}
+use Rattle.wire_io.specs.Pulled.{pull_state}
 use Rattle.ser_read.specs.Wants.{run_at}
 use Rattle.ser_values.specs.Reading.{short}
 use Rattle.ser_read.specs.Wants.{inside}
@@ -11,7 +11,7 @@ abbrev pub invariant-loop-left : goal.invariant-loop-left
 invariant-loop-left g l =
     record {
       lent : l.pull.source.ghost_name ≡ l.fn.pull.source.ghost_name;
-      leads : Leads (inside short) (place g.S.Source.left g.S.Source.faults l.fn.pull) (place g.S.Source.left g.S.Source.faults l.pull) (λ end. run_at end l.n l.fn.block) (λ end bs. behind l.bytes (run_at end l.left l.block bs));
+      leads : Leads (inside short) (pull_state g.S.Source.left g.S.Source.faults l.fn.pull) (pull_state g.S.Source.left g.S.Source.faults l.pull) (λ end. run_at end l.n l.fn.block) (λ end bs. behind l.bytes (run_at end l.left l.block bs));
     }
 
 abbrev pub decreases-loop-left : goal.decreases-loop-left

@@ -1,7 +1,7 @@
 use Rattle.std.proofs.Common.{◌≡◌, Err, ◌-◌, ◌∙◌, FitsSigned, ◌∷◌, [], Some, None, true, false, arith, refl, rules, sym, ap, Option, option_map, slice_get}
 use Rattle.std.proofs.lemmas.Bool.{ne_eqb}
 use Rattle.class_desc.specs.declared.slot.Slot.TheVariants as slots
-use Rattle.ser_values.specs.declared.node.Place.TheVariants.{Reference, Text}
+use Rattle.ser_values.specs.declared.node.SlotPlace.TheVariants.{Reference, Text}
 use Rattle.ser_values.specs.Reading.{Kind, short, bad, enum_at, fresh_at, note_at, slot_at, coded, field_at, field_of, value_at, Progress, push, fill, blank, proxy_at, array_of, array_at, type_in}
 use Rattle.ser_read.specs.Rows.{part_by, values_by, parts_by}
 use Rattle.ser_read.specs.Tables.{now_of}

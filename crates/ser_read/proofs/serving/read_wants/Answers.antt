@@ -1,4 +1,4 @@
-use Rattle.wire_io.specs.Pulled.{place}
+use Rattle.wire_io.specs.Pulled.{pull_state}
 use Rattle.ser_read.specs.Here.{coming, env}
 use Rattle.ser_read.specs.Wants.{wants_at}
 use Rattle.ser_read.proofs.InOrder.{taken_asked, gives_asked}
@@ -6,7 +6,7 @@ use Rattle.ser_read.proofs.Breaking.{want_caused_of, want_gives_of}
 use Rattle.ser_read.proofs.serving.read_wants.Goals as goal
 
 pub returns-clause-cause : goal.returns-clause-cause
-returns-clause-cause g c = want_caused_of (place g.S.Source.left g.S.Source.faults c.args.pull.now) (place g.S.Source.left g.S.Source.faults c.read_each.new.pull) (λ end. wants_at end c.args.wants.now) c.read_each.result _ c.read_each.ensures.reads c.read_each.ensures.stops
+returns-clause-cause g c = want_caused_of (pull_state g.S.Source.left g.S.Source.faults c.args.pull.now) (pull_state g.S.Source.left g.S.Source.faults c.read_each.new.pull) (λ end. wants_at end c.args.wants.now) c.read_each.result _ c.read_each.ensures.reads c.read_each.ensures.stops
 
 pub returns-clause-gives : goal.returns-clause-gives
 returns-clause-gives g c = want_gives_of g.S.Source.left g.S.Source.faults c.args.pull.now c.read_each.new.pull c.read_each.result (λ end. wants_at end c.args.wants.now) (λ x rest. (x.0, x.1.nodes, x.1.items, rest)) c.read_each.new.pull.within c.read_each.ensures.reads c.read_each.ensures.stops

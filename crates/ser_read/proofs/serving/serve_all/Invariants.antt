@@ -1,5 +1,5 @@
 use Rattle.std.proofs.Common.{◌≡◌, drop, None}
-use Rattle.wire_io.specs.Pulled.{place}
+use Rattle.wire_io.specs.Pulled.{pull_state}
 use Rattle.ser_read.specs.Wants.{serve}
 use Rattle.ser_values.specs.Reading.{short}
 use Rattle.ser_read.specs.Wants.{inside}
@@ -12,5 +12,5 @@ invariant-loop-want g l =
     record {
       lent : l.pull.source.ghost_name ≡ l.fn.pull.source.ghost_name;
       kept : l.reader.refused ≡ None;
-      leads : Leads (inside short) (place g.S.Source.left g.S.Source.faults l.fn.pull) (place g.S.Source.left g.S.Source.faults l.pull) (λ end. serve end l.wants l.fn.reader.stand) (λ end bs. given_before l.answers (serve end (drop l.want-index l.wants) l.reader.stand bs));
+      leads : Leads (inside short) (pull_state g.S.Source.left g.S.Source.faults l.fn.pull) (pull_state g.S.Source.left g.S.Source.faults l.pull) (λ end. serve end l.wants l.fn.reader.stand) (λ end bs. given_before l.answers (serve end (drop l.want-index l.wants) l.reader.stand bs));
     }

@@ -1,5 +1,5 @@
 use Rattle.ser_read.specs.Tables.{now_of}
-use Rattle.wire_io.specs.Pulled.{place}
+use Rattle.wire_io.specs.Pulled.{pull_state}
 use Rattle.ser_read.specs.Whole.{stream_at, ReadsAll}
 use Rattle.ser_read.proofs.ToEnd.{magic_breaks, items_break, whole_raised, stream_reads, graph_of}
 use Rattle.ser_read.proofs.whole.graph.Goals as goal
@@ -11,7 +11,7 @@ returns-clause-reads g c =
 
 pub from_parts-requires : goal.from_parts-requires
 from_parts-requires g c =
-    let reads : ReadsAll (place g.S.Source.left g.S.Source.faults c.args.pull.now) (place g.S.Source.left g.S.Source.faults c.items_to_end.new.pull) stream_at (c.into_nodes.result, c.in_ok-items.items) =
+    let reads : ReadsAll (pull_state g.S.Source.left g.S.Source.faults c.args.pull.now) (pull_state g.S.Source.left g.S.Source.faults c.items_to_end.new.pull) stream_at (c.into_nodes.result, c.in_ok-items.items) =
     rw c.into_nodes.ensures (stream_reads c.in_ok-items.items (now_of c.items_to_end.new.table) c.in_ok-magic.ensures.reads (rw (c.new-table.ensures.nodes, c.new-table.ensures.parts, c.new-table.ensures.unread) at c.in_ok-items.ensures.reads)) in
     ∣ graph_of reads ∣₁
 

@@ -1,11 +1,11 @@
 use Rattle.std.proofs.Common.{◌+◌, length}
-use Rattle.wire_io.specs.Pulled.{place}
+use Rattle.wire_io.specs.Pulled.{pull_state}
 use Rattle.ser_read.proofs.Streams.{stream_at_complete}
 use Rattle.ser_read.proofs.ToEnd.{gives_within, gives_past, is_read, graph_parts, taken_streams, whole_of, whole_caused}
 use Rattle.ser_read.proofs.whole.read_to_end.Goals as goal
 
 pub returns-clause-cause : goal.returns-clause-cause
-returns-clause-cause g c = whole_caused (place g.S.Source.left g.S.Source.faults c.args.pull.now) (place g.S.Source.left g.S.Source.faults c.graph.new.pull) graph_parts c.graph.result c.graph.ensures.reads c.graph.ensures.stops
+returns-clause-cause g c = whole_caused (pull_state g.S.Source.left g.S.Source.faults c.args.pull.now) (pull_state g.S.Source.left g.S.Source.faults c.graph.new.pull) graph_parts c.graph.result c.graph.ensures.reads c.graph.ensures.stops
 
 pub returns-clause-gives : goal.returns-clause-gives
 returns-clause-gives g c = λ bytes told within. gives_within g.S.Source.left c.args.pull.now bytes graph_parts c.graph.result told within (whole_of g.S.Source.left g.S.Source.faults c.args.pull.now c.graph.new.pull graph_parts c.graph.result c.graph.new.pull.within c.graph.ensures.reads c.graph.ensures.stops)

@@ -2,7 +2,7 @@ use Rattle.std.proofs.Common.{◌≡◌, ◌<◌, ◌≤◌, ◌∙◌, sym, ref
 use Rattle.std.proofs.lemmas.List.{append-nil}
 use Rattle.ser_values.proofs.Lists.{slice_get-or}
 use Rattle.class_desc.specs.declared.slot.Slot.TheVariants as slots
-use Rattle.ser_values.specs.declared.node.Place.TheVariants as places
+use Rattle.ser_values.specs.declared.node.SlotPlace.TheVariants as places
 use Rattle.ser_values.specs.Spelled.{want}
 use Rattle.ser_write.specs.Canonical.{write_at}
 use Rattle.ser_write.specs.Nodes.{class_of, rest_tokens}

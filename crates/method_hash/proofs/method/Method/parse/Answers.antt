@@ -1,8 +1,8 @@
 use Rattle.std.proofs.Common.{true≢false, ◌≡◌, sym, take, length, subst, arith, get_or, refl}
 use Rattle.std.proofs.lemmas.List.{take_more, length-take-le}
 use Rattle.method_hash.specs.Reading.{HasRead}
-use Rattle.method_hash.specs.declared.place.Place.{Place}
-use Rattle.method_hash.specs.declared.place.Place.TheVariants.{End}
+use Rattle.method_hash.specs.declared.place.TextPlace.{TextPlace}
+use Rattle.method_hash.specs.declared.place.TextPlace.TheVariants.{End}
 use Rattle.method_hash.proofs.Whole.{breaks_in, breaks_at_end, read_on, read_whole, all_read}
 use Rattle.method_hash.proofs.method.Method.parse.Goals as goal
 
@@ -28,10 +28,10 @@ pub invariant_of-result : goal.invariant_of-result
 invariant_of-result c =
     let place_is : c.loop-at.draft.place ≡ End = c.if-not-is_end.ensures.0 refl in
     let h = all_read c.args.text.now c.loop-at.at c.loop-at.draft.place c.loop-at.draft.name c.loop-at.draft.params c.loop-at.draft.result (omega arith) c.loop-at.invariant in
-    record { spelled = ∣ rw (c.in_ok-text.ensures) (read_whole c.args.text.now c.loop-at.draft.name c.loop-at.draft.params c.loop-at.draft.result (subst (λ (p : Place). HasRead c.args.text.now p c.loop-at.draft.name c.loop-at.draft.params c.loop-at.draft.result) place_is h)) ∣₁ }
+    record { spelled = ∣ rw (c.in_ok-text.ensures) (read_whole c.args.text.now c.loop-at.draft.name c.loop-at.draft.params c.loop-at.draft.result (subst (λ (p : TextPlace). HasRead c.args.text.now p c.loop-at.draft.name c.loop-at.draft.params c.loop-at.draft.result) place_is h)) ∣₁ }
 
 pub returns-clause-ok : goal.returns-clause-ok
 returns-clause-ok c =
     let place_is : c.loop-at.draft.place ≡ End = c.if-not-is_end.ensures.0 refl in
     let h = all_read c.args.text.now c.loop-at.at c.loop-at.draft.place c.loop-at.draft.name c.loop-at.draft.params c.loop-at.draft.result (omega arith) c.loop-at.invariant in
-    read_whole c.args.text.now c.loop-at.draft.name c.loop-at.draft.params c.loop-at.draft.result (subst (λ (p : Place). HasRead c.args.text.now p c.loop-at.draft.name c.loop-at.draft.params c.loop-at.draft.result) place_is h)
+    read_whole c.args.text.now c.loop-at.draft.name c.loop-at.draft.params c.loop-at.draft.result (subst (λ (p : TextPlace). HasRead c.args.text.now p c.loop-at.draft.name c.loop-at.draft.params c.loop-at.draft.result) place_is h)

@@ -5,7 +5,7 @@ use Rattle.space.specs.Entries.{entry_of}
 use Rattle.space.specs.Ports.{Shows}
 use Rattle.space.proofs.AnswerLaws.{answer-as}
 use Rattle.space.proofs.TieSteps.{tied-as, tied-answered, shown-runs}
-use Rattle.space.proofs.direct_port.PortOverAskedLogPort.turn.Goals as goal
+use Rattle.space.proofs.direct_port.SpacePortAskedLogPort.turn.Goals as goal
 
 pub returns-in-Ok-clause-answer : goal.returns-in-Ok-clause-answer
 returns-in-Ok-clause-answer c =

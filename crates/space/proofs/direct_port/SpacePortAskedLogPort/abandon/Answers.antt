@@ -1,6 +1,6 @@
 use Rattle.std.proofs.Common.{arith}
 use Rattle.space.proofs.TieSteps.{tied-as, tied-abandoned}
-use Rattle.space.proofs.direct_port.PortOverAskedLogPort.abandon.Goals as goal
+use Rattle.space.proofs.direct_port.SpacePortAskedLogPort.abandon.Goals as goal
 
 pub returns-clause-ready : goal.returns-clause-ready
 returns-clause-ready c =

@@ -5,7 +5,7 @@ use Rattle.space.specs.Ports.{Shows}
 use Rattle.space.proofs.AnswerLaws.{answer-as}
 use Rattle.turn_lock.specs.Handles.{view_of}
 use Rattle.turn_lock.proofs.PortSteps.{tied_entered, tied_unentered, shown_there, went_entered, went_same, went_unentered}
-use Rattle.turn_lock.proofs.port.PortOverAskedLogPort.turn.Goals as goal
+use Rattle.turn_lock.proofs.port.PassPortAskedLogPort.turn.Goals as goal
 
 pub returns-in-Ok-clause-answer : goal.returns-in-Ok-clause-answer
 returns-in-Ok-clause-answer g c =

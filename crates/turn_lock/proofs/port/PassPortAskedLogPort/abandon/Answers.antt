@@ -1,7 +1,7 @@
 use Rattle.std.proofs.Common.{refl, arith}
 use Rattle.turn_lock.specs.Handles.{view_of}
 use Rattle.turn_lock.proofs.PortSteps.{tied_ended, went_ended, shown_now}
-use Rattle.turn_lock.proofs.port.PortOverAskedLogPort.abandon.Goals as goal
+use Rattle.turn_lock.proofs.port.PassPortAskedLogPort.abandon.Goals as goal
 
 pub abandon-place-requires-clause-runs : goal.abandon-place-requires-clause-runs
 abandon-place-requires-clause-runs g c =
