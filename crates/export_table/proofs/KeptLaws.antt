@@ -67,15 +67,15 @@ none-either false = refl
 
 -- What an event exports are objects of the kinds that its ask exports.
 exports-are : (config : SpaceConfig) (h : List Place) (e : Event) →
-    (place_of config h e).exported_here ≡ exported_from config.uid (next h) (length h) (is_exported_pinned e.ask) (kinds_exported (is_effective config h e.by e.ask) e.ask)
+    (place_of config h e).exported_here ≡ exported_from config.uid (next h) (is_exported_pinned e.ask) (kinds_exported (is_effective config h e.by e.ask) e.ask)
 unfolding place_of is_effective exports
 exports-are config h e = go e.ask
   where
-    made_by : (b : Bool) (made : List ℕ) → ◌≡◌ {A = List Exported} (if b then exported_from config.uid (next h) (length h) false made else []) (exported_from config.uid (next h) (length h) false (if b then made else []))
+    made_by : (b : Bool) (made : List ℕ) → ◌≡◌ {A = List Exported} (if b then exported_from config.uid (next h) false made else []) (exported_from config.uid (next h) false (if b then made else []))
     made_by true made = refl
     made_by false made = refl
 
-    go : (a : Ask) → (place_of config h (record e { ask = a })).exported_here ≡ exported_from config.uid (next h) (length h) (is_exported_pinned a) (kinds_exported (is_effective config h e.by a) a)
+    go : (a : Ask) → (place_of config h (record e { ask = a })).exported_here ≡ exported_from config.uid (next h) (is_exported_pinned a) (kinds_exported (is_effective config h e.by a) a)
     go (Open kind pinned) = refl
     go (Begin x) = none-either _
     go (Finish x made listed u) = made_by (nat_lt 0 (running h e.by x)) made
@@ -91,14 +91,14 @@ exports-are config h e = go e.ask
     go Tick = refl
 
 -- Objects of which no call runs, and for which no name stands, have the rows with which they are added.
-pub added-rows : (space : Uid) (k place : ℕ) (count pins : ObjId → ℕ) (pinned : Bool) (kinds : List ℕ) → AllByRecursion (λ (x : Exported). count x.id ≡ 0) (exported_from space k place pinned kinds) →
-    AllByRecursion (λ (x : Exported). pins x.id ≡ 0) (exported_from space k place pinned kinds) →
-    map (row_with count pins) (exported_from space k place pinned kinds) ≡ added_rows space k pinned kinds
-added-rows space k place count pins pinned [] none free = refl
-added-rows space k place count pins pinned (kind ∷ kinds) none free =
-    ap (λ (n : ℕ). record { id = id_at space k; kind = kind; pinned = pinned; running = n; pins = pins (id_at space k) } ∷ map (row_with count pins) (exported_from space (k + 1) place pinned kinds)) none.0
-    ∙ ap (λ (n : ℕ). record { id = id_at space k; kind = kind; pinned = pinned; running = 0; pins = n } ∷ map (row_with count pins) (exported_from space (k + 1) place pinned kinds)) free.0
-    ∙ ap (λ l. new_row (id_at space k) kind pinned ∷ l) (added-rows space (k + 1) place count pins pinned kinds none.1 free.1)
+pub added-rows : (space : Uid) (k : ℕ) (count pins : ObjId → ℕ) (pinned : Bool) (kinds : List ℕ) → AllByRecursion (λ (x : Exported). count x.id ≡ 0) (exported_from space k pinned kinds) →
+    AllByRecursion (λ (x : Exported). pins x.id ≡ 0) (exported_from space k pinned kinds) →
+    map (row_with count pins) (exported_from space k pinned kinds) ≡ added_rows space k pinned kinds
+added-rows space k count pins pinned [] none free = refl
+added-rows space k count pins pinned (kind ∷ kinds) none free =
+    ap (λ (n : ℕ). record { id = id_at space k; kind = kind; pinned = pinned; running = n; pins = pins (id_at space k) } ∷ map (row_with count pins) (exported_from space (k + 1) pinned kinds)) none.0
+    ∙ ap (λ (n : ℕ). record { id = id_at space k; kind = kind; pinned = pinned; running = 0; pins = n } ∷ map (row_with count pins) (exported_from space (k + 1) pinned kinds)) free.0
+    ∙ ap (λ l. new_row (id_at space k) kind pinned ∷ l) (added-rows space (k + 1) count pins pinned kinds none.1 free.1)
 
 pub exports-are-added : ExportsAreAdded
 exports-are-added config events e =
@@ -108,7 +108,7 @@ exports-are-added config events e =
     let H : List Place → Type 0 = λ h. rows_of h (place_of config (places config events) e).exported_here ≡ added_rows config.uid (next (places config events)) (is_exported_pinned e.ask) kinds in
     subst H (sym (places-push config events e)) (
     ap (rows_of (place_of config (places config events) e ∷ places config events)) (exports-are config (places config events) e)
-    ∙ added-rows config.uid (next (places config events)) (length (places config events)) (running_calls (place_of config (places config events) e ∷ places config events)) (names_for (place_of config (places config events) e ∷ places config events)) (is_exported_pinned e.ask) kinds
+    ∙ added-rows config.uid (next (places config events)) (running_calls (place_of config (places config events) e ∷ places config events)) (names_for (place_of config (places config events) e ∷ places config events)) (is_exported_pinned e.ask) kinds
     (subst P (exports-are config (places config events) e) (new-runs-none config events e)) (subst N (exports-are config (places config events) e) (new-unnamed config events e)))
 
 next-push : (p : Place) (h : List Place) → next (p ∷ h) ≡ next h + length p.exported_here
@@ -121,7 +121,7 @@ exports-are-counted config events e =
     ap next (places-push config events e) ∙ next-push (place_of config (places config events) e) (places config events)
     ∙ ap (λ (n : ℕ). next (places config events) + n) (
     ap length (exports-are config (places config events) e)
-    ∙ length-exported_from config.uid (next (places config events)) (length (places config events)) (is_exported_pinned e.ask) kinds)
+    ∙ length-exported_from config.uid (next (places config events)) (is_exported_pinned e.ask) kinds)
 
 -- ---- what is kept
 

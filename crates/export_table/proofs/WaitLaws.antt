@@ -17,7 +17,7 @@ use Rattle.history.specs.Places.{now}
 use Rattle.history.specs.Table.{place_of, places_back, places}
 use Rattle.history.proofs.AwaitingLaws.{returned-equality, awaiting-member, awaiting-once}
 use Rattle.history.proofs.ListLemmas.{IsEquality, AllOnce-distinct, AllOnce-filter, length-members, list_any-distinct, same_test, and_false}
-use Rattle.history.proofs.TableLaws.{IsNumbered, index-place_of, adds-place, places_back-numbered, moment-place_of, now-push, places-numbered}
+use Rattle.history.proofs.TableLaws.{IsNumbered, index-place_of, places_back-numbered, moment-place_of, now-push, places-numbered}
 use Rattle.dgc_server.proofs.Distinct.{Decides, any-filtered, turned}
 use Rattle.dgc_server.proofs.Outputs.{no_time}
 use Rattle.export_table.specs.Stands.{until_in, waits_once, WaitsStand}
@@ -51,10 +51,10 @@ unfolding until_of
 until-none ack r = refl
 
 pub numbered-place : (config : SpaceConfig) (events : List Event) (e : Event) → IsNumbered (place_of config (places config events) e ∷ places config events)
-numbered-place config events e = (index-place_of config (places config events) e, adds-place config (places config events) e, places-numbered config events)
+numbered-place config events e = (index-place_of config (places config events) e, places-numbered config events)
 
 numbered_back : (config : SpaceConfig) (es : List Event) (e : Event) → IsNumbered (place_of config (places_back config es) e ∷ places_back config es)
-numbered_back config es e = (index-place_of config (places_back config es) e, adds-place config (places_back config es) e, places_back-numbered config es)
+numbered_back config es e = (index-place_of config (places_back config es) e, places_back-numbered config es)
 
 -- No reference awaits longer than from now on.
 until_back : (ack : ℕ) (config : SpaceConfig) (es : List Event) (r : Returned) → until_of ack (places_back config es) r ≤ now (places_back config es) + ack

@@ -63,11 +63,11 @@ awaits-none ack t r = no_time t
 -- No place stands after the newest one.
 none_after : (u : Uid) (h : List Place) (p : Place) → IsNumbered h → length h ≤ p.index + 1 → is_acknowledged h u p ≡ false
 none_after u [] p n a = refl
-none_after u (q ∷ h) p n a = rw (le-ltb p.index q.index (let b = n.0 in omega arith)) (none_after u h p n.2 (omega arith))
+none_after u (q ∷ h) p n a = rw (le-ltb p.index q.index (let b = n.0 in omega arith)) (none_after u h p n.1 (omega arith))
 
 found_before : (test : Place → Bool) (h : List Place) (q : Place) → IsNumbered h → find test h ≡ Some q → q.index < length h
 found_before test [] q n f = absurd (cc)
-found_before test (p ∷ h) q n f = go (test p) f (found_before test h q n.2)
+found_before test (p ∷ h) q n f = go (test p) f (found_before test h q n.1)
   where
     go : (b : Bool) → cond b (Some p) (find test h) ≡ Some q → (find test h ≡ Some q → q.index < length h) → q.index < length (p ∷ h)
     go true f rest = let same : p ≡ q = cc in let i : p.index ≡ q.index = ap (λ (x : Place). x.index) same in let j = n.0 in omega arith
@@ -84,7 +84,7 @@ since-acknowledged ack t p h r n l a = rw l (go (find (returns r) h) refl)
     go : (f : Option Place) → find (returns r) h ≡ f → option_any (λ q. nat_lt t (q.moment + ack) && not (is_acknowledged (p ∷ h) r.uid q)) f ≡ false
     go None e = refl
     go (Some q) e =
-        let i : q.index < length h = found_before (returns r) h q n.2 e in
+        let i : q.index < length h = found_before (returns r) h q n.1 e in
         let j : nat_lt q.index p.index ≡ true = lt-ltb q.index p.index (let b = n.0 in omega arith) in
         rw (j, a) (and_false (nat_lt t (q.moment + ack)))
 
@@ -98,7 +98,7 @@ since-passed ack t p h r l a = rw l (go (find (returns r) h))
 
 awaits-since : (ack t : ℕ) (h : List Place) (r : Returned) → IsNumbered h → awaits ack t h r ≡ awaits_since_return ack t h r
 awaits-since ack t [] r n = awaits-none ack t r
-awaits-since ack t (p ∷ h) r n = go (awaits-since ack t h r n.2) (returns r p) refl (is_ack_of r.uid p.event.ask) refl
+awaits-since ack t (p ∷ h) r n = go (awaits-since ack t h r n.1) (returns r p) refl (is_ack_of r.uid p.event.ask) refl
   where
     go : awaits ack t h r ≡ awaits_since_return ack t h r → (b : Bool) → returns r p ≡ b → (c : Bool) → is_ack_of r.uid p.event.ask ≡ c → awaits ack t (p ∷ h) r ≡ awaits_since_return ack t (p ∷ h) r
     go ih true l c a = awaits-returned ack t p h r n l ∙ sym (since-returned ack t p h r n l)

@@ -53,7 +53,7 @@ withdrawals-below : (config : SpaceConfig) (h : List Place) → IsNumbered h →
 withdrawals-below config [] n = rw withdrawals-none tt
 withdrawals-below config (p ∷ h) n =
     rw withdrawals-push (every-append (λ (w : Withdrawal). w.place < length (p ∷ h)) (withdrawals config h) (withdrawals_at_end config (p ∷ h))
-    (every-weaker (λ (w : Withdrawal). w.place < length h) (λ (w : Withdrawal). w.place < length (p ∷ h)) (λ w a. omega arith) (withdrawals config h) (withdrawals-below config h n.2))
+    (every-weaker (λ (w : Withdrawal). w.place < length h) (λ (w : Withdrawal). w.place < length (p ∷ h)) (λ w a. omega arith) (withdrawals config h) (withdrawals-below config h n.1))
     (every-weaker (λ (w : Withdrawal). w.place ≡ p.index) (λ (w : Withdrawal). w.place < length (p ∷ h)) (λ w a. let b = n.0 in omega arith) (withdrawals_at_end config (p ∷ h)) (at_place p.index (withdrawn config (p ∷ h)))))
 
 filter-all : {X : Type 0} (test : X → Bool) (xs : List X) → AllByRecursion (λ x. test x ≡ true) xs → filter test xs ≡ xs
@@ -70,7 +70,7 @@ objects-at n (x ∷ xs) = ap (λ l. x.id ∷ l) (objects-at n xs)
 
 untold-within : (h : List Place) → IsNumbered h → first_untold h ≤ length h
 untold-within [] n = omega arith
-untold-within (p ∷ h) n = go (is_abandon p.event.ask) (untold-within h n.2)
+untold-within (p ∷ h) n = go (is_abandon p.event.ask) (untold-within h n.1)
   where
     go : (b : Bool) → first_untold h ≤ length h → unwrap_or (option_map (λ (q : Place). q.index + 1) (cond (not b) (Some p) (find (λ (q : Place). not (is_abandon q.event.ask)) h))) 0 ≤ length (p ∷ h)
     go true ih = omega arith

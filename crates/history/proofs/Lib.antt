@@ -4,6 +4,7 @@ pub mod CollectorLaws
 pub mod Examples
 pub mod LeaseRows
 pub mod GoneLaws
+pub mod KeptSince
 pub mod LeaseLaws
 pub mod ListLemmas
 pub mod NameCounts

@@ -19,7 +19,7 @@ use Rattle.history.specs.Names.{name_in, name_bound, object_bound, is_bind_of, i
 use Rattle.history.specs.Laws.{is_unbound_after, begins_name, StandsForLast, NamesInOrder}
 use Rattle.history.proofs.ListLemmas.{every-weaker, every-reverse, reverse-cons, filter-same, filter-filter, list_any-filter, IsEquality, AllOnce-filter, AllOnce-push, same_test, and_false}
 use Rattle.history.specs.Table.{place_of, places_back, places}
-use Rattle.history.proofs.TableLaws.{IsNumbered, index-place_of, adds-place, places_back-numbered, places-numbered}
+use Rattle.history.proofs.TableLaws.{IsNumbered, index-place_of, places_back-numbered, places-numbered}
 
 -- ---- one more place
 
@@ -58,12 +58,12 @@ stands-for-last (p ∷ h) n = stands_for-push p h n ∙ go (stands-for-last h n)
 places-below : (h : List Place) → IsNumbered h → AllByRecursion (λ (q : Place). q.index < length h) h
 places-below [] n = tt
 places-below (p ∷ h) n =
-    ((let b = n.0 in omega arith), every-weaker (λ (q : Place). q.index < length h) (λ (q : Place). q.index < length (p ∷ h)) (λ q a. omega arith) h (places-below h n.2))
+    ((let b = n.0 in omega arith), every-weaker (λ (q : Place). q.index < length h) (λ (q : Place). q.index < length (p ∷ h)) (λ q a. omega arith) h (places-below h n.1))
 
 -- No place stands after the newest one.
 none_after : (n : List ℕ) (h : List Place) (p : Place) → IsNumbered h → length h ≤ p.index + 1 → is_unbound_after h n p ≡ false
 none_after n [] p i a = refl
-none_after n (q ∷ h) p i a = rw (le-ltb p.index q.index (let b = i.0 in omega arith)) (none_after n h p i.2 (omega arith))
+none_after n (q ∷ h) p i a = rw (le-ltb p.index q.index (let b = i.0 in omega arith)) (none_after n h p i.1 (omega arith))
 
 begins-before : (p : Place) (h : List Place) (q : Place) → q.index < p.index →
     begins_name (p ∷ h) q ≡ (option_any (λ n. not (unbinds p n)) (name_bound q.event.ask) && begins_name h q)
@@ -121,14 +121,14 @@ in_order-push p h i =
     ap (filter_map (λ (q : Place). name_bound q.event.ask))
     (filter-same (begins_name (p ∷ h)) (λ q. option_any (λ n. not (unbinds p n)) (name_bound q.event.ask) && begins_name h q) (reverse h)
     (every-weaker (λ (q : Place). q.index < length h) (λ q. begins_name (p ∷ h) q ≡ (option_any (λ n. not (unbinds p n)) (name_bound q.event.ask) && begins_name h q))
-    (λ q l. begins-before p h q (let b = i.0 in omega arith)) (reverse h) (every-reverse (λ (q : Place). q.index < length h) h (places-below h i.2)))
+    (λ q l. begins-before p h q (let b = i.0 in omega arith)) (reverse h) (every-reverse (λ (q : Place). q.index < length h) h (places-below h i.1)))
     ∙ sym (filter-filter (λ q. option_any (λ n. not (unbinds p n)) (name_bound q.event.ask)) (begins_name h) (reverse h)))
     ∙ filter_map-filter (λ (q : Place). name_bound q.event.ask) (λ n. not (unbinds p n)) (filter (begins_name h) (reverse h)))
     ∙ ap (λ l. filter (λ n. not (unbinds p n)) (filter_map (λ (q : Place). name_bound q.event.ask) (filter (begins_name h) (reverse h))) ++ l) (begins-here p h i)
 
 names-begun : (h : List Place) → IsNumbered h → names h ≡ begun_in_order h
 names-begun [] i = names-none
-names-begun (p ∷ h) i = names-push p h i ∙ ap (λ l. filter (λ n. not (unbinds p n)) l ++ name_begun p) (names-begun h i.2) ∙ sym (in_order-push p h i)
+names-begun (p ∷ h) i = names-push p h i ∙ ap (λ l. filter (λ n. not (unbinds p n)) l ++ name_begun p) (names-begun h i.1) ∙ sym (in_order-push p h i)
 
 -- THE NAMES stand in the order of the places that begin them.
 pub names-in-order : (config : SpaceConfig) (events : List Event) → NamesInOrder config events
@@ -253,7 +253,7 @@ member-after effective a ns n stands ih = go effective a
 pub names-after : (config : SpaceConfig) (e : Event) (h : List Place) → IsNumbered h →
     names (place_of config h e ∷ h) ≡ after_ask (place_of config h e).effective (option_and_then (stands_for h) (name_in e.ask)) e.ask (names h)
 unfolding after_ask place_of
-names-after config e h i = names-push (place_of config h e) h (index-place_of config h e, adds-place config h e, i)
+names-after config e h i = names-push (place_of config h e) h (index-place_of config h e, i)
 
 pub stands-after : (config : SpaceConfig) (e : Event) (h : List Place) (n : List ℕ) →
     stands_for (place_of config h e ∷ h) n ≡ stands_after (place_of config h e).effective e.ask n (stands_for h n)

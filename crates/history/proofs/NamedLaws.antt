@@ -20,7 +20,7 @@ use Rattle.history.specs.Laws.{NamedIsExported}
 use Rattle.history.proofs.ListLemmas.{reverse-cons}
 use Rattle.history.proofs.CollectorLaws.{kept-needed}
 use Rattle.history.proofs.NameLaws.{stands_for-push, stands_for-none}
-use Rattle.history.proofs.TableLaws.{ask-place_of, places-numbered, places-push, places-none, table-place}
+use Rattle.history.proofs.TableLaws.{ask-place_of, places-push, places-none, table-place}
 
 -- ---- from event to event
 
@@ -50,7 +50,7 @@ pub stays : (config : SpaceConfig) (events : List Event) (e : Event) (o : ObjId)
     has (table config (places config events) ++ (place_of config (places config events) e).exported_here) o ≡ true →
     has (table config (place_of config (places config events) e ∷ places config events)) o ≡ true
 stays config events e o k h =
-    ap (λ l. has l o) (table-place config (places config events) e (places-numbered config events))
+    ap (λ l. has l o) (table-place config (places config events) e)
     ∙ has-kept (is_kept config (place_of config (places config events) e ∷ places config events)) (table config (places config events) ++ (place_of config (places config events) e).exported_here) o k h
 
 pub in-front : (xs ys : List Exported) (o : ObjId) → has xs o ≡ true → has (xs ++ ys) o ≡ true

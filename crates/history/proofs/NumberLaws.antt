@@ -16,10 +16,9 @@ use Rattle.history.specs.declared.places.Place.{Place}
 use Rattle.history.specs.declared.places.Exported.{Exported}
 use Rattle.history.specs.Places.{has, kind_of, added, next, id_at, exported_from}
 use Rattle.history.specs.Table.{is_kept, table, exports, place_of, places_back, places}
-use Rattle.history.specs.Laws.{is_kept_since_export, NextIsCounted}
+use Rattle.history.specs.Laws.{NextIsCounted}
 use Rattle.std.proofs.lemmas.List.Folds.{list_any-append}
 use Rattle.history.proofs.ListLemmas.{every-weaker, or_true}
-use Rattle.history.proofs.TableLaws.{table-is-kept}
 
 -- The objects of a list are a space's k-th and those that follow.
 abbrev pub NumberedFrom : Uid → ℕ → List Exported → Type 0
@@ -33,13 +32,13 @@ NumberedFrom-append space k (x ∷ xs) ys a b =
     let moved : k + suc (length xs) ≡ k + 1 + length xs = omega arith in
     (a.0, NumberedFrom-append space (k + 1) xs ys a.1 (subst P moved b))
 
-pub exported_from-numbered : (space : Uid) (k place : ℕ) (pinned : Bool) (kinds : List ℕ) → NumberedFrom space k (exported_from space k place pinned kinds)
-exported_from-numbered space k place pinned [] = tt
-exported_from-numbered space k place pinned (kind ∷ kinds) = (refl, exported_from-numbered space (k + 1) place pinned kinds)
+pub exported_from-numbered : (space : Uid) (k : ℕ) (pinned : Bool) (kinds : List ℕ) → NumberedFrom space k (exported_from space k pinned kinds)
+exported_from-numbered space k pinned [] = tt
+exported_from-numbered space k pinned (kind ∷ kinds) = (refl, exported_from-numbered space (k + 1) pinned kinds)
 
-pub length-exported_from : (space : Uid) (k place : ℕ) (pinned : Bool) (kinds : List ℕ) → length (exported_from space k place pinned kinds) ≡ length kinds
-length-exported_from space k place pinned [] = refl
-length-exported_from space k place pinned (kind ∷ kinds) = ap suc (length-exported_from space (k + 1) place pinned kinds)
+pub length-exported_from : (space : Uid) (k : ℕ) (pinned : Bool) (kinds : List ℕ) → length (exported_from space k pinned kinds) ≡ length kinds
+length-exported_from space k pinned [] = refl
+length-exported_from space k pinned (kind ∷ kinds) = ap suc (length-exported_from space (k + 1) pinned kinds)
 
 -- THE NEXT OBJECT has the number of those that were exported before it.
 pub next-added : (h : List Place) → NextIsCounted h
@@ -49,8 +48,8 @@ next-added (p ∷ h) = ap (λ n. n + length p.exported_here) (next-added h) ∙ 
 
 exports-numbered : (config : SpaceConfig) (h : List Place) (a : Ask) → NumberedFrom config.uid (next h) (exports config h a)
 unfolding exports
-exports-numbered config h (Open kind pinned) = exported_from-numbered config.uid (next h) (length h) pinned (kind ∷ [])
-exports-numbered config h (Finish object made listed uid) = exported_from-numbered config.uid (next h) (length h) false made
+exports-numbered config h (Open kind pinned) = exported_from-numbered config.uid (next h) pinned (kind ∷ [])
+exports-numbered config h (Finish object made listed uid) = exported_from-numbered config.uid (next h) false made
 exports-numbered config h _ = tt
 
 -- What an event exports goes on where the history ended.
@@ -141,13 +140,6 @@ AllApart-filter test (x ∷ xs) a = go (test x) (AllApart-filter test xs a.1)
     go : (b : Bool) → AllApart (filter test xs) → AllApart (cond b (x ∷ filter test xs) (filter test xs))
     go true r = (has-filter test xs x.id a.0, r)
     go false r = r
-
--- NO OBJECT of the table stands there twice.
-pub table-apart : (config : SpaceConfig) (h : List Event) → AllApart (table config (places config h))
-table-apart config h =
-    let P : List Exported → Type 0 = λ l. AllApart l in
-    subst P (sym (table-is-kept config h))
-    (AllApart-filter (is_kept_since_export (is_kept config) (places config h)) (added (places config h)) (NumberedFrom-apart config.uid 0 (added (places config h)) (added-numbered config h)))
 
 -- WHAT IS IN THE TABLE was exported.
 pub table-exported : (config : SpaceConfig) (h : List Place) (o : ObjId) → has (table config h) o ≡ true → has (added h) o ≡ true

@@ -23,9 +23,9 @@ abbrev pub prefixes : History → List History
 prefixes [] = []
 prefixes (p ∷ before) = (p ∷ before) ∷ prefixes before
 
--- An object is kept at every prefix of a history from the one that ends with its export on.
+-- An object is kept at every prefix of a history that has exported it.
 abbrev pub is_kept_since_export : (History → Exported → Bool) → History → Exported → Bool
-is_kept_since_export kept h x = list_all (λ g. nat_le (length g) x.place || kept g x) (prefixes h)
+is_kept_since_export kept h x = list_all (λ g. not (has (added g) x.id) || kept g x) (prefixes h)
 
 -- The table has those of all objects ever exported that are kept at every prefix from their export on.
 abbrev pub TableIsKept : SpaceConfig → List Event → Type 0

@@ -40,8 +40,7 @@ next (p ∷ before) = next before + length p.exported_here
 abbrev pub id_at : Uid → ℕ → ObjId
 id_at space k = record { number = pos (16 + k); space = space }
 
--- Objects of these kinds, exported at a place, the first of them as the space's k-th.
-abbrev pub exported_from : Uid → ℕ → ℕ → Bool → List ℕ → List Exported
-exported_from space k place pinned [] = []
-exported_from space k place pinned (kind ∷ kinds) =
-    record { id = id_at space k; kind = kind; pinned = pinned; place = place } ∷ exported_from space (k + 1) place pinned kinds
+-- Objects of these kinds, the first of them as the space's k-th.
+abbrev pub exported_from : Uid → ℕ → Bool → List ℕ → List Exported
+exported_from space k pinned [] = []
+exported_from space k pinned (kind ∷ kinds) = record { id = id_at space k; kind = kind; pinned = pinned } ∷ exported_from space (k + 1) pinned kinds

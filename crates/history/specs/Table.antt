@@ -41,8 +41,8 @@ is_effective config h by _ = true
 
 -- The objects that an effective ask exports after a history: an Open one, a Finish one for each entry of `made`.
 unfoldable pub exports : SpaceConfig → History → Ask → List Exported
-exports config h (Open kind pinned) = exported_from config.uid (next h) (length h) pinned (kind ∷ [])
-exports config h (Finish object made listed uid) = exported_from config.uid (next h) (length h) false made
+exports config h (Open kind pinned) = exported_from config.uid (next h) pinned (kind ∷ [])
+exports config h (Finish object made listed uid) = exported_from config.uid (next h) false made
 exports config h _ = []
 
 -- The objects to which an effective ask returns references: a Finish to its new ones and to those of `listed` that are in the

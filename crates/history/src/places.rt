@@ -14,8 +14,6 @@ pub struct Exported {
     pub kind: u32,
     /// Whether it was opened pinned.
     pub pinned: bool,
-    /// The place of the event that exported it.
-    pub place: u64,
 }
 
 /// A list of exported objects.
@@ -33,10 +31,7 @@ impl TryCopy for Exported {
 
 impl Same for Exported {
     fn is_same(&self, other: &Exported) -> bool {
-        self.id.is_same(&other.id)
-            && self.kind == other.kind
-            && self.pinned == other.pinned
-            && self.place == other.place
+        self.id.is_same(&other.id) && self.kind == other.kind && self.pinned == other.pinned
     }
 }
 

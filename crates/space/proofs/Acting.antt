@@ -1,5 +1,5 @@
 -- What an ask does to the export table and to the running calls is what its event does to the history.
-use Rattle.std.proofs.Common.{◌≡◌, ℕ, ◌+◌, ◌<◌, List, [], ◌∷◌, ◌++◌, length, refl, ap, sym, subst, ◌∙◌, map, max, arith, Option, Some, None, append-nil}
+use Rattle.std.proofs.Common.{◌≡◌, ℕ, ◌+◌, ◌<◌, List, [], ◌∷◌, ◌++◌, refl, ap, sym, subst, ◌∙◌, map, max, arith, Option, Some, None, append-nil}
 use Rattle.std.specs.Prelude.{Bool, true, false, ◌&&◌, ◌==◌, filter, flat_map, nat_lt, if◌then◌else◌, is_none, is_some, option_and_then, option_to_list}
 use Rattle.std.specs.List.{AllByRecursion}
 use Rattle.std.proofs.lemmas.List.{map-append}
@@ -48,14 +48,14 @@ abbrev pub stood_for : List Place → Ask → Option ObjId
 stood_for h a = option_and_then (stands_for h) (name_in a)
 
 -- THE ROWS after an ask.
-acted-rows : (config : SpaceConfig) (old new pold pnew : ObjId → ℕ) (objects : List Exported) (t : ExportTable) (place : ℕ) (stood : Option ObjId) (effective : Bool) (now_at : ℕ) (a : Ask) →
+acted-rows : (config : SpaceConfig) (old new pold pnew : ObjId → ℕ) (objects : List Exported) (t : ExportTable) (stood : Option ObjId) (effective : Bool) (now_at : ℕ) (a : Ask) →
     ((o : ObjId) → new o + one_if (effective && is_end_of o a) ≡ old o + one_if (effective && is_begin_of o a)) →
     ((o : ObjId) → pnew o + one_if (names_less effective stood a o) ≡ pold o + one_if (names_more effective a o)) →
-    t.space ≡ config.uid → t.rows ≡ map (row_with old pold) objects → AllByRecursion (λ (x : Exported). new x.id ≡ 0) (opened_by config t.added place effective a) →
-    AllByRecursion (λ (x : Exported). pnew x.id ≡ 0) (opened_by config t.added place effective a) →
-    (acted stood effective now_at a t).rows ≡ map (row_with new pnew) (objects ++ opened_by config t.added place effective a)
+    t.space ≡ config.uid → t.rows ≡ map (row_with old pold) objects → AllByRecursion (λ (x : Exported). new x.id ≡ 0) (opened_by config t.added effective a) →
+    AllByRecursion (λ (x : Exported). pnew x.id ≡ 0) (opened_by config t.added effective a) →
+    (acted stood effective now_at a t).rows ≡ map (row_with new pnew) (objects ++ opened_by config t.added effective a)
 unfolding one_if
-acted-rows config old new pold pnew objects t place stood effective now_at a step names space rows none free = go a effective step names none free
+acted-rows config old new pold pnew objects t stood effective now_at a step names space rows none free = go a effective step names none free
   where
     whole : (f : Exported → Export) → map f objects ≡ map f (objects ++ [])
     whole f = ap (map f) (rw append-nil refl)
@@ -84,15 +84,15 @@ acted-rows config old new pold pnew objects t place stood effective now_at a ste
 
     go : (a : Ask) → (effective : Bool) → ((o : ObjId) → new o + one_if (effective && is_end_of o a) ≡ old o + one_if (effective && is_begin_of o a)) →
         ((o : ObjId) → pnew o + one_if (names_less effective stood a o) ≡ pold o + one_if (names_more effective a o)) →
-        AllByRecursion (λ (x : Exported). new x.id ≡ 0) (opened_by config t.added place effective a) →
-        AllByRecursion (λ (x : Exported). pnew x.id ≡ 0) (opened_by config t.added place effective a) →
-        (acted stood effective now_at a t).rows ≡ map (row_with new pnew) (objects ++ opened_by config t.added place effective a)
+        AllByRecursion (λ (x : Exported). new x.id ≡ 0) (opened_by config t.added effective a) →
+        AllByRecursion (λ (x : Exported). pnew x.id ≡ 0) (opened_by config t.added effective a) →
+        (acted stood effective now_at a t).rows ≡ map (row_with new pnew) (objects ++ opened_by config t.added effective a)
     go (Open kind pinned) effective s m none free =
         ap (λ l. l ++ new_row (id_at t.space t.added) kind pinned ∷ []) (rows ∙ row-same old new pold pnew (λ o. still effective (new o) (old o) (s o)) (λ o. still effective (pnew o) (pold o) (m o)) objects)
         ∙ ap (λ u. map (row_with new pnew) objects ++ new_row (id_at u t.added) kind pinned ∷ []) space
         ∙ ap (λ (n : ℕ). map (row_with new pnew) objects ++ record { id = id_at config.uid t.added; kind = kind; pinned = pinned; running = n; pins = 0 } ∷ []) (sym none.0)
         ∙ ap (λ (n : ℕ). map (row_with new pnew) objects ++ record { id = id_at config.uid t.added; kind = kind; pinned = pinned; running = new (id_at config.uid t.added); pins = n } ∷ []) (sym free.0)
-        ∙ sym (map-append (row_with new pnew) objects (opened_by config t.added place effective (Open kind pinned)))
+        ∙ sym (map-append (row_with new pnew) objects (opened_by config t.added effective (Open kind pinned)))
     go (Begin o) true s m none free = ap (changed begun o) rows ∙ row-changed old new pold pnew begun o (λ x. begun-row old new pold pnew x (same_id x.id o) (more x) (still true (pnew x.id) (pold x.id) (m x.id))) objects ∙ whole (row_with new pnew)
       where
         more : (x : Exported) → new x.id ≡ old x.id + one_if (same_id x.id o)
@@ -111,8 +111,8 @@ acted-rows config old new pold pnew objects t place stood effective now_at a ste
         ap (λ l. changed ended o l ++ new_rows t.space t.added made) rows
         ∙ ap (λ l. l ++ new_rows t.space t.added made) (row-changed old new pold pnew ended o (λ x. ended-row old new pold pnew x (same_id x.id o) (less x) (still true (pnew x.id) (pold x.id) (m x.id))) objects)
         ∙ ap (λ v. map (row_with new pnew) objects ++ new_rows v t.added made) space
-        ∙ ap (λ l. map (row_with new pnew) objects ++ l) (sym (added-rows config.uid t.added place new pnew false made none free))
-        ∙ sym (map-append (row_with new pnew) objects (exported_from config.uid t.added place false made))
+        ∙ ap (λ l. map (row_with new pnew) objects ++ l) (sym (added-rows config.uid t.added new pnew false made none free))
+        ∙ sym (map-append (row_with new pnew) objects (exported_from config.uid t.added false made))
       where
         less : (x : Exported) → new x.id + one_if (same_id x.id o) ≡ old x.id
         less x = let step = s x.id in let turn = ap one_if (id-turned x.id o) in omega (arith, step, turn)
@@ -131,21 +131,21 @@ pub rows-act : (config : SpaceConfig) (events : List Event) (e : Event) (t : Exp
     (acted (stood_for (places config events) e.ask) (is_effective config (places config events) e.by e.ask) at e.ask t).rows
     ≡ rows_of (place_of config (places config events) e ∷ places config events) (table config (places config events) ++ (place_of config (places config events) e).exported_here)
 rows-act config events e t at space count rows =
-    let adds : opened_by config t.added (length (places config events)) (is_effective config (places config events) e.by e.ask) e.ask ≡ (place_of config (places config events) e).exported_here =
-    ap (λ n. opened_by config n (length (places config events)) (is_effective config (places config events) e.by e.ask) e.ask) count ∙ sym (adds-are config (places config events) e) in
+    let adds : opened_by config t.added (is_effective config (places config events) e.by e.ask) e.ask ≡ (place_of config (places config events) e).exported_here =
+    ap (λ n. opened_by config n (is_effective config (places config events) e.by e.ask) e.ask) count ∙ sym (adds-are config (places config events) e) in
     let P : List Exported → Type 0 = λ l. AllByRecursion (λ (x : Exported). running_calls (place_of config (places config events) e ∷ places config events) x.id ≡ 0) l in
     let N : List Exported → Type 0 = λ l. AllByRecursion (λ (x : Exported). names_for (place_of config (places config events) e ∷ places config events) x.id ≡ 0) l in
     acted-rows config (running_calls (places config events)) (running_calls (place_of config (places config events) e ∷ places config events))
-    (names_for (places config events)) (names_for (place_of config (places config events) e ∷ places config events)) (table config (places config events)) t (length (places config events))
+    (names_for (places config events)) (names_for (place_of config (places config events) e ∷ places config events)) (table config (places config events)) t
     (stood_for (places config events) e.ask) (is_effective config (places config events) e.by e.ask) at e.ask (count-push config events e) (names-counted config events e) space rows
     (subst P (sym adds) (new-runs-none config events e)) (subst N (sym adds) (new-unnamed config events e))
     ∙ ap (λ l. rows_of (place_of config (places config events) e ∷ places config events) (table config (places config events) ++ l)) adds
 
 -- ---- the objects that are returned
 
-pub new-ids : (space : Uid) (k place : ℕ) (pinned : Bool) (kinds : List ℕ) → ids (exported_from space k place pinned kinds) ≡ new_ids space k kinds
-new-ids space k place pinned [] = refl
-new-ids space k place pinned (kind ∷ kinds) = ap (λ l. id_at space k ∷ l) (new-ids space (k + 1) place pinned kinds)
+pub new-ids : (space : Uid) (k : ℕ) (pinned : Bool) (kinds : List ℕ) → ids (exported_from space k pinned kinds) ≡ new_ids space k kinds
+new-ids space k pinned [] = refl
+new-ids space k pinned (kind ∷ kinds) = ap (λ l. id_at space k ∷ l) (new-ids space (k + 1) pinned kinds)
 
 pub live-same : (h : List Place) (objects : List Exported) (rows : List Export) → rows ≡ rows_of h objects → (os : List ObjId) → filter (has objects) os ≡ filter (is_exported rows) os
 live-same h objects rows r [] = refl
@@ -161,9 +161,9 @@ unfolding place_of is_effective lists exports
 returned-is config h e rows r = go e.ask
   where
     finish : (v : Bool) (made : List ℕ) (listed : List ObjId) (u : Uid) →
-        map (λ (o : ObjId). record { object = o; uid = u }) (if v then ids (exported_from config.uid (next h) (length h) false made) ++ filter (has (table config h)) listed else []) ++ []
+        map (λ (o : ObjId). record { object = o; uid = u }) (if v then ids (exported_from config.uid (next h) false made) ++ filter (has (table config h)) listed else []) ++ []
         ≡ references u (if v then new_ids config.uid (next h) made ++ filter (is_exported rows) listed else []) ++ []
-    finish true made listed u = ap (λ l. references u l ++ []) (ap (λ l. l ++ filter (has (table config h)) listed) (new-ids config.uid (next h) (length h) false made)
+    finish true made listed u = ap (λ l. references u l ++ []) (ap (λ l. l ++ filter (has (table config h)) listed) (new-ids config.uid (next h) false made)
         ∙ ap (λ l. new_ids config.uid (next h) made ++ l) (live-same h (table config h) rows r listed))
     finish false made listed u = refl
 

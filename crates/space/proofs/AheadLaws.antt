@@ -11,7 +11,7 @@ use Rattle.history.specs.Table.{is_effective, is_kept, table, place_of, places, 
 use Rattle.history.proofs.GoneLaws.{withdrawals-push}
 use Rattle.history.proofs.Partitions.{one_if}
 use Rattle.history.proofs.RunningLaws.{reserved-push}
-use Rattle.history.proofs.TableLaws.{places-push, places-numbered, table-place, withdrawn-place}
+use Rattle.history.proofs.TableLaws.{places-push, table-place, withdrawn-place}
 use Rattle.dgc_server.specs.Stands.{LeaseTable}
 use Rattle.export_table.specs.Table.{ExportTable}
 use Rattle.space.specs.declared.runs.Run.{Run}
@@ -50,7 +50,7 @@ objects-next config events e leases leases' x y runs runs' withdrawn_before with
     let rows_before : length x.rows ≡ length (table config (places config events)) = ap length k.stands.rows_are ∙ length-map (table config (places config events)) (row_of (places config events)) in
     let rows_after : length y.rows ≡ length (filter kept all) =
     ap length l.stands.rows_are ∙ length-map (table config (places config (events ++ e ∷ []))) (row_of (places config (events ++ e ∷ [])))
-    ∙ ap (λ h. length (table config h)) (places-push config events e) ∙ ap length (table-place config (places config events) e (places-numbered config events)) in
+    ∙ ap (λ h. length (table config h)) (places-push config events e) ∙ ap length (table-place config (places config events) e) in
     let goes_before : length withdrawn_before ≡ length (withdrawals config (places config events)) = ap length k.stands.withdrawn_are in
     let goes_now : length (withdrawals_at_end config (place_of config (places config events) e ∷ places config events)) ≡ length (filter (λ o. not (kept o)) all) =
     length-map (withdrawn config (place_of config (places config events) e ∷ places config events)) (λ (o : Exported). record { object = o.id; place = (place_of config (places config events) e).index })

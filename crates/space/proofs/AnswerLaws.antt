@@ -59,11 +59,11 @@ reply-row config h e d few short = go e.ask
     ended o true s = tt
     ended o false s = λ r. (let yes = lt-ltb 0 (running h e.by o) r in cc)
 
-    all-made : (made : List ℕ) → length (ids (exported_from config.uid (next h) (length h) false made)) ≡ length made
-    all-made made = length-map (exported_from config.uid (next h) (length h) false made) (λ (x : Exported). x.id) ∙ exported_from-length config.uid (next h) (length h) false made
+    all-made : (made : List ℕ) → length (ids (exported_from config.uid (next h) false made)) ≡ length made
+    all-made made = length-map (exported_from config.uid (next h) false made) (λ (x : Exported). x.id) ∙ exported_from-length config.uid (next h) false made
 
     finished : (o : ObjId) (made : List ℕ) (listed : List ObjId) (uid : Uid) (v : Bool) → nat_lt 0 (running h e.by o) ≡ v →
-        IsReplyTo (λ x. 0 < running h e.by x) (Finish o made listed uid) (if v then Finished (ids (if v then exported_from config.uid (next h) (length h) false made else [])) else NotRunning)
+        IsReplyTo (λ x. 0 < running h e.by x) (Finish o made listed uid) (if v then Finished (ids (if v then exported_from config.uid (next h) false made else [])) else NotRunning)
     finished o made listed uid true s = all-made made
     finished o made listed uid false s = λ r. (let yes = lt-ltb 0 (running h e.by o) r in cc)
 

@@ -45,7 +45,7 @@ new-length space k (kind ∷ kinds) = ap suc (new-length space (k + 1) kinds)
 new-once : (space : Uid) (k : ℕ) (kinds : List ℕ) → AllOnce same_id (new_ids space k kinds)
 new-once space k kinds =
     let P : List ObjId → Type 0 = λ l. AllOnce same_id l in
-    subst P (new-ids space k 0 false kinds) (apart-once (exported_from space k 0 false kinds) (NumberedFrom-apart space k (exported_from space k 0 false kinds) (exported_from-numbered space k 0 false kinds)))
+    subst P (new-ids space k false kinds) (apart-once (exported_from space k false kinds) (NumberedFrom-apart space k (exported_from space k false kinds) (exported_from-numbered space k false kinds)))
 
 -- A return whose call runs, after events.
 pub record IsReturn (config : SpaceConfig) (events : List Event) (e : Event) (rows : List Export) (waits : List Wait) (x : ObjId) (made : List ℕ) (listed : List ObjId) (u : Uid) : Type 0 where
@@ -61,11 +61,11 @@ new-absent config events e rows waits x made listed u r o h =
     not-exported-nowhere config events o (new-not-old config events e o (
     ap (λ l. has l o) (adds-are config (places config events) e
     ∙ ap (λ v. opened v e.ask) r.effective ∙ ap (opened true) r.asked)
-    ∙ sym (any-ids (exported_from config.uid (next (places config events)) (length (places config events)) false made) o)
-    ∙ ap (list_any (same_id o)) (new-ids config.uid (next (places config events)) (length (places config events)) false made) ∙ h))
+    ∙ sym (any-ids (exported_from config.uid (next (places config events)) false made) o)
+    ∙ ap (list_any (same_id o)) (new-ids config.uid (next (places config events)) false made) ∙ h))
   where
     opened : Bool → Ask → List Exported
-    opened v a = opened_by config (next (places config events)) (length (places config events)) v a
+    opened v a = opened_by config (next (places config events)) v a
 
 absent : (b : Bool) → (b ≡ true → ⊥) → b ≡ false
 absent true n = absurd (n refl)

@@ -28,7 +28,7 @@ use Rattle.history.specs.Table.{is_effective, exports, is_kept, table, place_of,
 use Rattle.history.proofs.GoneLaws.{pending, pending-push, withdrawals-push}
 use Rattle.history.proofs.ListLemmas.{every-weaker}
 use Rattle.history.proofs.StepLaws.{IsLegal-step}
-use Rattle.history.proofs.TableLaws.{places-push, places-numbered, length-places, now-push, table-place, units-push, ask-place_of, index-place_of}
+use Rattle.history.proofs.TableLaws.{places-push, length-places, now-push, table-place, units-push, ask-place_of, index-place_of}
 use Rattle.dgc_server.specs.Counts.{without_all}
 use Rattle.dgc_server.specs.Stands.{LeaseTable, StandsFor}
 use Rattle.export_table.specs.declared.rows.Export.{Export}
@@ -225,7 +225,7 @@ stands-push config events e leases leases1 leases2 exports t runs runs1 withdraw
           ap (filter (row_kept (max e.moment (now (places config events))) (held_by config.lease_ms (max e.moment (now (places config events))) (told_calls config events e)) t.waits)) a.rows_are
           ∙ filter-rows (place_of config (places config events) e ∷ places config events) (row_kept (max e.moment (now (places config events))) (held_by config.lease_ms (max e.moment (now (places config events))) (told_calls config events e)) t.waits)
           (is_kept config (place_of config (places config events) e ∷ places config events)) (table config (places config events) ++ (place_of config (places config events) e).exported_here) (rows-kept config events e leases1 t runs1 a)
-          ∙ ap (rows_of (place_of config (places config events) e ∷ places config events)) (sym (table-place config (places config events) e (places-numbered config events))));
+          ∙ ap (rows_of (place_of config (places config events) e ∷ places config events)) (sym (table-place config (places config events) e)));
       waits_stand = waits-going (max e.moment (now (places config events))) config.ack_ms (place_of config (places config events) e ∷ places config events) t.waits a.waits_stand;
       runs_stand = a.runs_stand;
       withdrawn_are = ap (λ l. l ++ map (withdrawal_at (length events)) (going_now config events e t)) k.stands.withdrawn_are ∙ ap (λ os. withdrawals config (places config events) ++ map (withdrawal_at (length events)) os) goes ∙ sym (withdrawn-next config events e);
@@ -342,8 +342,8 @@ unfolding reply place_of is_effective exports
 reply-is config h e opened rows effective k rs f = go e.ask ∙ ap (λ n. reply_at config n (rows_of h (table config h)) (names h) (stood_for h e.ask) (is_effective config h e.by e.ask) e.ask) (sym k)
     ∙ ap (λ l. reply_at config opened l (names h) (stood_for h e.ask) (is_effective config h e.by e.ask) e.ask) (sym rs) ∙ ap (λ v. reply_at config opened rows (names h) (stood_for h e.ask) v e.ask) (sym f)
   where
-    finished : (v : Bool) (made : List ℕ) → (if v then Finished (ids (if v then exported_from config.uid (next h) (length h) false made else [])) else NotRunning) ≡ (if v then Finished (new_ids config.uid (next h) made) else NotRunning)
-    finished true made = ap (λ l. Finished l) (new-ids config.uid (next h) (length h) false made)
+    finished : (v : Bool) (made : List ℕ) → (if v then Finished (ids (if v then exported_from config.uid (next h) false made else [])) else NotRunning) ≡ (if v then Finished (new_ids config.uid (next h) made) else NotRunning)
+    finished true made = ap (λ l. Finished l) (new-ids config.uid (next h) false made)
     finished false made = refl
 
     found : (s : Option ObjId) → reply_found (table config h) s ≡ found_reply (rows_of h (table config h)) s

@@ -35,7 +35,7 @@ use Rattle.history.proofs.NamedCalls.{call_with-alike}
 use Rattle.history.proofs.NumberLaws.{has-filter}
 use Rattle.history.proofs.Partitions.{one_if}
 use Rattle.history.proofs.RunningLaws.{reserved-push}
-use Rattle.history.proofs.TableLaws.{places-push, places-numbered, table-place, now-push, moment-place_of, ask-place_of, units-push}
+use Rattle.history.proofs.TableLaws.{places-push, table-place, now-push, moment-place_of, ask-place_of, units-push}
 use Rattle.dgc_server.specs.Counts.{clients_with_call, pairs_with_call}
 use Rattle.space.specs.Kept.{live_calls, IsWithin}
 use Rattle.space.proofs.Clients.{distinct-fewer, client-equality, left-more}
@@ -109,7 +109,7 @@ filter-shorter {X} test (x ∷ xs) = go (test x) (filter-shorter test xs)
 pub exports-next : (config : SpaceConfig) (events : List Event) (e : Event) → length (table config (place_of config (places config events) e ∷ places config events)) ≤ exports_with_event config (places config events) e
 unfolding exports_with_event
 exports-next config events e =
-    let next = ap length (table-place config (places config events) e (places-numbered config events)) in
+    let next = ap length (table-place config (places config events) e) in
     let fewer = filter-shorter (is_kept config (place_of config (places config events) e ∷ places config events)) (table config (places config events) ++ (place_of config (places config events) e).exported_here) in
     let both = length-append (table config (places config events)) (place_of config (places config events) e).exported_here in
     omega (arith, next, fewer, both)
@@ -176,7 +176,7 @@ was-there config events e o old new =
     (sym (list_any-append (λ (x : Exported). same_id x.id o) (table config (places config events)) (place_of config (places config events) e).exported_here) ∙ within (has (table config (places config events) ++ (place_of config (places config events) e).exported_here) o) refl))
   where
     is_next : has (filter (is_kept config (place_of config (places config events) e ∷ places config events)) (table config (places config events) ++ (place_of config (places config events) e).exported_here)) o ≡ true
-    is_next = ap (λ l. has l o) (sym (table-place config (places config events) e (places-numbered config events))) ∙ new
+    is_next = ap (λ l. has l o) (sym (table-place config (places config events) e)) ∙ new
 
     none : (test : Exported → Bool) (xs : List Exported) → has xs o ≡ false → has (filter test xs) o ≡ false
     none test xs h = has-filter test xs o h

@@ -24,7 +24,8 @@ use Rattle.history.proofs.AlikeCalls.{AllAlike, is_held-alike}
 use Rattle.history.proofs.AwaitingLaws.{is_awaited-members}
 use Rattle.history.proofs.GoneLaws.{pending, gone-push}
 use Rattle.history.proofs.ListLemmas.{every-append, every-weaker}
-use Rattle.history.proofs.NumberLaws.{NumberedFrom-apart, adds-numbered, has-self, AllApart, table-apart, table-exported}
+use Rattle.history.proofs.KeptSince.{table-apart}
+use Rattle.history.proofs.NumberLaws.{NumberedFrom-apart, adds-numbered, has-self, AllApart, table-exported}
 use Rattle.history.proofs.RunningLaws.{is_running-calls}
 use Rattle.history.proofs.TableLaws.{places-numbered, table-place, now-push, withdrawn-place}
 use Rattle.dgc_server.specs.Counts.{without_all}
@@ -58,7 +59,7 @@ is-next config events e = record {
   apart = table-all-apart config events e;
   old = λ y h. table-exported config (places config events) y h;
   new = λ y h. old-not-new config events e y h;
-  next = table-place config (places config events) e (places-numbered config events);
+  next = table-place config (places config events) e;
 }
 
 -- ---- what leaves it

@@ -58,14 +58,14 @@ reply-ids config h e os s = go e.ask s
     ended true n t = absurd (cc)
     ended false n t = absurd (cc)
 
-    made-few : (made : List ℕ) → ids (exported_from config.uid (next h) (length h) false made) ≡ os → length os ≤ length made
+    made-few : (made : List ℕ) → ids (exported_from config.uid (next h) false made) ≡ os → length os ≤ length made
     made-few made t =
         let same = ap length t in
-        let all = length-map (exported_from config.uid (next h) (length h) false made) (λ (x : Exported). x.id) in
-        let long = exported_from-length config.uid (next h) (length h) false made in
+        let all = length-map (exported_from config.uid (next h) false made) (λ (x : Exported). x.id) in
+        let long = exported_from-length config.uid (next h) false made in
         omega (arith, same, all, long)
 
-    finished : (v : Bool) (made : List ℕ) → (if v then Finished (ids (if v then exported_from config.uid (next h) (length h) false made else [])) else NotRunning) ≡ Finished os → length os ≤ length made
+    finished : (v : Bool) (made : List ℕ) → (if v then Finished (ids (if v then exported_from config.uid (next h) false made else [])) else NotRunning) ≡ Finished os → length os ≤ length made
     finished true made t = made-few made (cc)
     finished false made t = absurd (cc)
 

@@ -12,31 +12,31 @@ use Rattle.history.specs.Places.{exported_from, next}
 use Rattle.history.specs.Table.{is_effective, exports, place_of}
 use Rattle.space.specs.Acts.{opens}
 
--- The objects that an ask exports at a place, the first of them as the space's k-th.
-abbrev pub opened_by : SpaceConfig → ℕ → ℕ → Bool → Ask → List Exported
-opened_by config k place effective (Open kind pinned) = exported_from config.uid k place pinned (kind ∷ [])
-opened_by config k place effective (Finish object made listed uid) = if effective then exported_from config.uid k place false made else []
-opened_by config k place effective _ = []
+-- The objects that an ask exports, the first of them as the space's k-th.
+abbrev pub opened_by : SpaceConfig → ℕ → Bool → Ask → List Exported
+opened_by config k effective (Open kind pinned) = exported_from config.uid k pinned (kind ∷ [])
+opened_by config k effective (Finish object made listed uid) = if effective then exported_from config.uid k false made else []
+opened_by config k effective _ = []
 
-pub exported_from-length : (space : Uid) (k place : ℕ) (pinned : Bool) (kinds : List ℕ) → length (exported_from space k place pinned kinds) ≡ length kinds
-exported_from-length space k place pinned [] = refl
-exported_from-length space k place pinned (kind ∷ kinds) = ap suc (exported_from-length space (k + 1) place pinned kinds)
+pub exported_from-length : (space : Uid) (k : ℕ) (pinned : Bool) (kinds : List ℕ) → length (exported_from space k pinned kinds) ≡ length kinds
+exported_from-length space k pinned [] = refl
+exported_from-length space k pinned (kind ∷ kinds) = ap suc (exported_from-length space (k + 1) pinned kinds)
 
-pub opened-length : (config : SpaceConfig) (k place : ℕ) (effective : Bool) (a : Ask) → length (opened_by config k place effective a) ≡ opens effective a
-opened-length config k place effective (Open kind pinned) = refl
-opened-length config k place true (Finish object made listed uid) = exported_from-length config.uid k place false made
-opened-length config k place false (Finish object made listed uid) = refl
-opened-length config k place effective _ = refl
+pub opened-length : (config : SpaceConfig) (k : ℕ) (effective : Bool) (a : Ask) → length (opened_by config k effective a) ≡ opens effective a
+opened-length config k effective (Open kind pinned) = refl
+opened-length config k true (Finish object made listed uid) = exported_from-length config.uid k false made
+opened-length config k false (Finish object made listed uid) = refl
+opened-length config k effective _ = refl
 
 none-either : {X : Type 0} (b : Bool) → ◌≡◌ {A = List X} (if b then [] else []) []
 none-either true = refl
 none-either false = refl
 
-pub adds-are : (config : SpaceConfig) (h : List Place) (e : Event) → (place_of config h e).exported_here ≡ opened_by config (next h) (length h) (is_effective config h e.by e.ask) e.ask
+pub adds-are : (config : SpaceConfig) (h : List Place) (e : Event) → (place_of config h e).exported_here ≡ opened_by config (next h) (is_effective config h e.by e.ask) e.ask
 unfolding place_of is_effective exports
 adds-are config h e = go e.ask
   where
-    go : (a : Ask) → (place_of config h (record e { ask = a })).exported_here ≡ opened_by config (next h) (length h) (is_effective config h e.by a) a
+    go : (a : Ask) → (place_of config h (record e { ask = a })).exported_here ≡ opened_by config (next h) (is_effective config h e.by a) a
     go (Open kind pinned) = refl
     go (Dirty x y z w) = refl
     go (Clean x y z w) = refl
@@ -53,4 +53,4 @@ adds-are config h e = go e.ask
 
 -- How many they are.
 pub adds-length : (config : SpaceConfig) (h : List Place) (e : Event) → length (place_of config h e).exported_here ≡ opens (is_effective config h e.by e.ask) e.ask
-adds-length config h e = ap length (adds-are config h e) ∙ opened-length config (next h) (length h) (is_effective config h e.by e.ask) e.ask
+adds-length config h e = ap length (adds-are config h e) ∙ opened-length config (next h) (is_effective config h e.by e.ask) e.ask

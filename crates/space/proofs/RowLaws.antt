@@ -26,7 +26,8 @@ use Rattle.history.specs.Replies.{ids}
 use Rattle.history.specs.Running.{running_calls}
 use Rattle.history.specs.Table.{table, places}
 use Rattle.history.proofs.ListLemmas.{every-weaker, AllOnce-filter, AllOnce-distinct, IsEquality, length-members}
-use Rattle.history.proofs.NumberLaws.{AllApart, has-self, table-apart}
+use Rattle.history.proofs.KeptSince.{table-apart}
+use Rattle.history.proofs.NumberLaws.{AllApart, has-self}
 use Rattle.dgc_server.proofs.Distinct.{all_once, absent_is}
 use Rattle.dgc_server.proofs.Rising.{rising-clients, rising-once}
 use Rattle.space.specs.Kept.{live_calls}

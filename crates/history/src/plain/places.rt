@@ -79,27 +79,25 @@ pub fn id_at(space: Uid, k: u64) -> ObjId
     }
 }
 
-/// Objects of these kinds, exported at a place, the first of them as the space's k-th.
+/// Objects of these kinds, the first of them as the space's k-th.
 pub fn exported_from(
     alloc: Global,
     space: Uid,
     k: u64,
-    place: u64,
     pinned: bool,
     kinds: &[u32],
 ) -> Result<Vec<Exported>, AllocError>
     requires { k + length kinds.now < END_OF_NUMBERS }
-    ensures { IfOk result (λ objects. objects.items ≡ words.exported_from space k place pinned kinds.now) }
+    ensures { IfOk result (λ objects. objects.items ≡ words.exported_from space k pinned kinds.now) }
 {
     match kinds {
         [] => Ok(Vec::new(alloc)),
         [kind, rest @ ..] => {
-            let mut objects = exported_from(alloc, space, k + 1, place, pinned, rest)?;
+            let mut objects = exported_from(alloc, space, k + 1, pinned, rest)?;
             let first = Exported {
                 id: id_at(space, k),
                 kind: *kind,
                 pinned,
-                place,
             };
             objects.insert(0, first)?;
             Ok(objects)

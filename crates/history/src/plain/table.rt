@@ -216,17 +216,14 @@ pub fn exports(
     ensures { IfOk result (λ objects. objects.items ≡ words.exports config.now places.now ask.now) }
 {
     let k = next(alloc, places)?;
-    let place = places.len() as u64;
     match ask {
-        Ask::Open { kind, pinned } => {
-            exported_from(alloc, config.uid, k, place, *pinned, &[*kind])
-        }
+        Ask::Open { kind, pinned } => { exported_from(alloc, config.uid, k, *pinned, &[*kind]) }
         Ask::Finish {
             object: _,
             made,
             listed: _,
             uid: _,
-        } => exported_from(alloc, config.uid, k, place, false, made.as_slice()),
+        } => exported_from(alloc, config.uid, k, false, made.as_slice()),
         _ => Ok(Vec::new(alloc)),
     }
 }

@@ -1,4 +1,4 @@
-use Rattle.history.proofs.TableLaws.{table-is-kept}
+use Rattle.history.proofs.KeptSince.{table-is-kept}
 use Rattle.history.proofs.laws.the_table_is_what_was_kept_since_its_export.Goals as goal
 
 pub returns : goal.returns
