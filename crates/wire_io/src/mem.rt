@@ -1,5 +1,5 @@
 //! Sources, sinks and clocks in memory, whose calls are known exactly.
-ghost use Rattle.std.specs.Prelude.{◌≡◌, ◌↔◌, [], ◌++◌, ◌∷◌, length, take, drop, min, Some, IfOk, OnOk, OnErr, IsErr, IsTrue, Contains, slice_get};
+ghost use Rattle.std.specs.Prelude.{◌≡◌, ◌≤◌, ◌↔◌, [], ◌++◌, ◌∷◌, length, take, drop, min, Some, IfOk, OnOk, OnErr, IsErr, IsTrue, Contains, slice_get};
 ghost use Rattle.wire_io.specs.Wire.{Read, Written, Gave};
 ghost use Rattle.wire_io.specs.Mem.{most_given, count_given, after_read, after_failed_read, after_write, after_failed_write, moment_at, moments_given, after_call};
 ghost use Rattle.wire_io.specs.declared.limits.TheConstants.{LAST_MOMENT};
