@@ -110,7 +110,7 @@ const OPENED: &str = "space 600000 300000 7 9
 0 0 open 0 pinned
 ";
 
-/// Whether these lines, parted by `;`, are the events of a space since there was its one object. No lines say nothing of it.
+/// Whether these lines, separated by `;`, are the events of a space since there was its one object. No lines say nothing of it.
 pub(crate) fn are_events(rt: &impl Abort, alloc: Global, space: &Space, lines: &str) -> bool {
     if lines.is_empty() {
         return true;

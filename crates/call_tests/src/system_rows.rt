@@ -5,7 +5,7 @@ use std::process::Abort;
 
 /// What the space is beforehand, and the moments of the turns, all 0 where none is told; what a connection gets after its opening; how its invocations come out; what it is
 /// answered after the acknowledgement; what the space is asked; what the worker is; and the end; and, in some lines, the events of the space,
-/// parted by `;`. Here names are bound and references held.
+/// separated by `;`. Here names are bound and references held.
 const SYSTEM: &str =
     "open | | registry list | | return 0F 01 uid 8000 texts 00000000 | list | | Ended
 open | | registry lookup name_a | | return 0F 02 uid 8000 exception 001D =java.rmi.NotBoundException:_a 78 70 | lookup | | Ended

@@ -16,7 +16,7 @@ use Rattle.history.specs.Awaiting.{is_ack_of, is_awaited as awaited_in}
 use Rattle.history.specs.LeaseCalls.{lease_calls}
 use Rattle.history.specs.Leases.{is_held}
 use Rattle.history.specs.Names.{is_name_of, is_named, names, names_of}
-use Rattle.history.specs.Places.{now, next, id_at, exported_from}
+use Rattle.history.specs.Places.{History, now, next, id_at, exported_from}
 use Rattle.history.specs.Running.{begins_any, ends_any, running, running_calls, is_running}
 use Rattle.history.specs.Table.{is_pinned, is_kept, is_effective, exports, place_of, places}
 use Rattle.history.proofs.AwaitingLaws.{is_awaited-members}
@@ -43,13 +43,13 @@ others-leave-waits config events e waits silent acks s =
     (λ u. ap (is_ack_of u) (ask-place_of config (places config events) e) ∙ acks u) s in
     let R : List Returned → Type 0 = λ rs. AreWaits config.ack_ms (max e.moment (now (places config events))) (place_of config (places config events) e ∷ places config events)
     (listed_all reference_of end_of (λ x n. record { object = x.object; uid = x.uid; until = n }) config.ack_ms (max e.moment (now (places config events))) rs waits) in
-    let H : List Place → Type 0 = λ h. AreWaits config.ack_ms (max e.moment (now (places config events))) h waits in
+    let H : History → Type 0 = λ h. AreWaits config.ack_ms (max e.moment (now (places config events))) h waits in
     subst H (sym (places-push config events e)) (subst R silent pushed)
 
 pub others-leave-rows : OthersLeaveRows
 unfolding one_if
 others-leave-rows config events e objects begins ends still =
-    let H : List Place → Type 0 = λ h. rows_of (places config events) objects ≡ rows_of h objects in
+    let H : History → Type 0 = λ h. rows_of (places config events) objects ≡ rows_of h objects in
     subst H (sym (places-push config events e)) (row-same (running_calls (places config events)) (running_calls (place_of config (places config events) e ∷ places config events)) (names_for (places config events)) (names_for (place_of config (places config events) e ∷ places config events)) step (names-still config events e still) objects)
   where
     step : (o : ObjId) → running_calls (place_of config (places config events) e ∷ places config events) o ≡ running_calls (places config events) o
@@ -66,7 +66,7 @@ none-either true = refl
 none-either false = refl
 
 -- What an event exports are objects of the kinds that its ask exports.
-exports-are : (config : SpaceConfig) (h : List Place) (e : Event) →
+exports-are : (config : SpaceConfig) (h : History) (e : Event) →
     (place_of config h e).exported_here ≡ exported_from config.uid (next h) (is_exported_pinned e.ask) (kinds_exported (is_effective config h e.by e.ask) e.ask)
 unfolding place_of is_effective exports
 exports-are config h e = go e.ask
@@ -105,13 +105,13 @@ exports-are-added config events e =
     let kinds : List ℕ = kinds_exported (is_effective config (places config events) e.by e.ask) e.ask in
     let P : List Exported → Type 0 = λ l. AllByRecursion (λ (x : Exported). running_calls (place_of config (places config events) e ∷ places config events) x.id ≡ 0) l in
     let N : List Exported → Type 0 = λ l. AllByRecursion (λ (x : Exported). names_for (place_of config (places config events) e ∷ places config events) x.id ≡ 0) l in
-    let H : List Place → Type 0 = λ h. rows_of h (place_of config (places config events) e).exported_here ≡ added_rows config.uid (next (places config events)) (is_exported_pinned e.ask) kinds in
+    let H : History → Type 0 = λ h. rows_of h (place_of config (places config events) e).exported_here ≡ added_rows config.uid (next (places config events)) (is_exported_pinned e.ask) kinds in
     subst H (sym (places-push config events e)) (
     ap (rows_of (place_of config (places config events) e ∷ places config events)) (exports-are config (places config events) e)
     ∙ added-rows config.uid (next (places config events)) (running_calls (place_of config (places config events) e ∷ places config events)) (names_for (place_of config (places config events) e ∷ places config events)) (is_exported_pinned e.ask) kinds
     (subst P (exports-are config (places config events) e) (new-runs-none config events e)) (subst N (exports-are config (places config events) e) (new-unnamed config events e)))
 
-next-push : (p : Place) (h : List Place) → next (p ∷ h) ≡ next h + length p.exported_here
+next-push : (p : Place) (h : History) → next (p ∷ h) ≡ next h + length p.exported_here
 unfolding next
 next-push p h = refl
 
@@ -135,20 +135,20 @@ refs-awaited t o (w ∷ ws) = go (nat_lt t w.until) (refs-awaited t o ws)
     go true e = ap (λ v. same_id w.object o || v) e
     go false e = e
 
-awaited-is : (ack t : ℕ) (h : List Place) (o : ObjId) (waits : List Wait) → AreWaits ack t h waits → is_awaited t o waits ≡ awaited_in ack t h o
+awaited-is : (ack t : ℕ) (h : History) (o : ObjId) (waits : List Wait) → AreWaits ack t h waits → is_awaited t o waits ≡ awaited_in ack t h o
 awaited-is ack t h o waits s =
     sym (refs-awaited t o waits)
     ∙ sym (is_awaited-members ack t h o (waiting_refs reference_of end_of t waits) (refs-await reference_of end_of ack t t h waits (omega arith) s))
 
 -- Some name stands for an object where more than none do.
-pub named-counted : (h : List Place) (o : ObjId) → nat_lt 0 (length (names_of h o)) ≡ is_named h o
+pub named-counted : (h : History) (o : ObjId) → nat_lt 0 (length (names_of h o)) ≡ is_named h o
 unfolding is_named names_of
 named-counted h o = sym (list_any-length (is_name_of h o) (names h))
 
 pub rows-are-kept : RowsAreKept
 unfolding is_kept is_pinned
 rows-are-kept config events waits x s =
-    let h : List Place = places config events in
+    let h : History = places config events in
     let held : Bool = is_held config.lease_ms (now h) (lease_calls h) x.id in
     ap (λ v. (x.pinned || v || nat_lt 0 (running_calls h x.id)) || is_awaited (now h) x.id waits || held) (named-counted h x.id)
     ∙ ap (λ v. (x.pinned || is_named h x.id || v) || is_awaited (now h) x.id waits || held) (sym (is_running-calls h x.id))

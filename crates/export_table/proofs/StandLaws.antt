@@ -11,12 +11,11 @@ use Rattle.history.specs.declared.asks.SpaceConfig.{SpaceConfig}
 use Rattle.history.specs.declared.asks.Event.{Event}
 use Rattle.history.specs.declared.asks.Ask.{Ask}
 use Rattle.history.specs.declared.asks.Ask.TheVariants.{Begin, Finish, Abandon, Ack, Bind, Rebind, Unbind, Lookup}
-use Rattle.history.specs.declared.places.Place.{Place}
 use Rattle.history.specs.declared.places.Exported.{Exported}
 use Rattle.history.specs.declared.places.Returned.{Returned}
 use Rattle.history.specs.Awaiting.{same_returned, returned, return_uid, is_ack_of, awaiting, awaiting_of, until_of}
 use Rattle.history.specs.Names.{name_in, object_bound, is_name_change, is_name_of, names, names_of, stands_for}
-use Rattle.history.specs.Places.{has, now}
+use Rattle.history.specs.Places.{History, has, now}
 use Rattle.history.specs.Running.{is_begin_of, is_end_of, running_calls}
 use Rattle.history.specs.Table.{is_effective, table, place_of, places}
 use Rattle.history.proofs.ListLemmas.{list_any-length, list_any-map, and_false, Somewhere-test, test-Somewhere}
@@ -60,12 +59,12 @@ refs-length ref until t ws = go (filter (λ w. nat_lt t (until w)) ws)
     go (v ∷ vs) = ap suc (go vs)
 
 -- HOW MANY REFERENCES AWAIT, by a list of waits.
-pub awaiting-counted : {W : Type 0} (ref : W → Returned) (until : W → ℕ) (ack m t : ℕ) (h : List Place) (ws : List W) → m ≤ t → WaitsStand ref until ack m h ws →
+pub awaiting-counted : {W : Type 0} (ref : W → Returned) (until : W → ℕ) (ack m t : ℕ) (h : History) (ws : List W) → m ≤ t → WaitsStand ref until ack m h ws →
     length (awaiting ack t h) ≡ length (filter (λ w. nat_lt t (until w)) ws)
 awaiting-counted ref until ack m t h ws le s =
     count-awaiting ack t h (waiting_refs ref until t ws) (refs-waiting-once ref until t ws s.once) (refs-await ref until ack m t h ws le s) ∙ refs-length ref until t ws
 
-pub awaiting_of-counted : {W : Type 0} (ref : W → Returned) (until : W → ℕ) (ack m t : ℕ) (h : List Place) (o : ObjId) (ws : List W) → m ≤ t → WaitsStand ref until ack m h ws →
+pub awaiting_of-counted : {W : Type 0} (ref : W → Returned) (until : W → ℕ) (ack m t : ℕ) (h : History) (o : ObjId) (ws : List W) → m ≤ t → WaitsStand ref until ack m h ws →
     length (awaiting_of ack t h o) ≡ length (filter (λ w. nat_lt t (until w) && same_id (ref w).object o) ws)
 awaiting_of-counted ref until ack m t h o ws le s =
     count-awaiting_of ack t h o (waiting_refs ref until t ws) (refs-waiting-once ref until t ws s.once) (refs-await ref until ack m t h ws le s) ∙ refs-of ref until t o ws
@@ -96,7 +95,7 @@ listed-stays-once ack t o uid waits once =
 
 -- ---- what ended is forgotten
 
-pub waits-going : (m : ℕ) (ack : ℕ) (h : List Place) (ws : List Wait) → WaitsStand reference_of end_of ack m h ws → WaitsStand reference_of end_of ack m h (waiting m ws)
+pub waits-going : (m : ℕ) (ack : ℕ) (h : History) (ws : List Wait) → WaitsStand reference_of end_of ack m h ws → WaitsStand reference_of end_of ack m h (waiting m ws)
 waits-going m ack h ws w = record {
   once = AllOnce-filter (λ a b. same_returned (reference_of a) (reference_of b)) (λ v. nat_lt m (end_of v)) ws w.once;
   each = λ r. going-until reference_of end_of m r ws w.once ∙ w.each r;
@@ -109,11 +108,11 @@ abbrev pub row_with : (ObjId → ℕ) → (ObjId → ℕ) → Exported → Expor
 row_with count pins x = record { id = x.id; kind = x.kind; pinned = x.pinned; running = count x.id; pins = pins x.id }
 
 -- How many names stand for an object.
-abbrev pub names_for : List Place → ObjId → ℕ
+abbrev pub names_for : History → ObjId → ℕ
 names_for h o = length (names_of h o)
 
 -- They are some of the names.
-names-few : (h : List Place) (o : ObjId) → names_for h o ≤ length (names h)
+names-few : (h : History) (o : ObjId) → names_for h o ≤ length (names h)
 unfolding names_of
 names-few h o = go (names h)
   where
@@ -135,10 +134,10 @@ named-pins config events n o s =
     (names (places config events)) (Somewhere-test (same_bytes n) (names (places config events)) (names-member config events n ∙ ap is_some s)))
 
 -- An object is exported by the rows exactly where it is in the table.
-pub exported-has : (h : List Place) (objects : List Exported) (o : ObjId) → is_exported (rows_of h objects) o ≡ has objects o
+pub exported-has : (h : History) (objects : List Exported) (o : ObjId) → is_exported (rows_of h objects) o ≡ has objects o
 exported-has h objects o = list_any-map (is_of o) (row_of h) objects
 
-pub kind-is : (h : List Place) (objects : List Exported) (o : ObjId) → kind_of (rows_of h objects) o ≡ option_map (λ (x : Exported). x.kind) (find (λ x. same_id x.id o) objects)
+pub kind-is : (h : History) (objects : List Exported) (o : ObjId) → kind_of (rows_of h objects) o ≡ option_map (λ (x : Exported). x.kind) (find (λ x. same_id x.id o) objects)
 kind-is h [] o = refl
 kind-is h (x ∷ objects) o = go (same_id x.id o) (kind-is h objects o)
   where
@@ -148,7 +147,7 @@ kind-is h (x ∷ objects) o = go (same_id x.id o) (kind-is h objects o)
     go false e = e
 
 -- How many calls run of an object that is exported, and of any.
-pub running-there : (h : List Place) (objects : List Exported) (o : ObjId) → has objects o ≡ true → running_of (rows_of h objects) o ≡ running_calls h o
+pub running-there : (h : History) (objects : List Exported) (o : ObjId) → has objects o ≡ true → running_of (rows_of h objects) o ≡ running_calls h o
 running-there h [] o t = absurd (cc)
 running-there h (x ∷ objects) o t = go (same_id x.id o) refl t (running-there h objects o)
   where
@@ -157,7 +156,7 @@ running-there h (x ∷ objects) o t = go (same_id x.id o) refl t (running-there 
     go true e t rest = ap (running_calls h) (same_id-equal x.id o e)
     go false e t rest = rest t
 
-pub running-few : (h : List Place) (objects : List Exported) (o : ObjId) → running_of (rows_of h objects) o ≤ running_calls h o
+pub running-few : (h : History) (objects : List Exported) (o : ObjId) → running_of (rows_of h objects) o ≤ running_calls h o
 running-few h [] o = omega arith
 running-few h (x ∷ objects) o = go (same_id x.id o) refl (running-few h objects o)
   where
@@ -167,7 +166,7 @@ running-few h (x ∷ objects) o = go (same_id x.id o) refl (running-few h object
     go false e rest = rest
 
 -- How many pins an object has that is exported, and any.
-pub pins-there : (h : List Place) (objects : List Exported) (o : ObjId) → has objects o ≡ true → pins_of (rows_of h objects) o ≡ names_for h o
+pub pins-there : (h : History) (objects : List Exported) (o : ObjId) → has objects o ≡ true → pins_of (rows_of h objects) o ≡ names_for h o
 pins-there h [] o t = absurd (cc)
 pins-there h (x ∷ objects) o t = go (same_id x.id o) refl t (pins-there h objects o)
   where
@@ -176,7 +175,7 @@ pins-there h (x ∷ objects) o t = go (same_id x.id o) refl t (pins-there h obje
     go true e t rest = ap (names_for h) (same_id-equal x.id o e)
     go false e t rest = rest t
 
-pub pins-few : (h : List Place) (objects : List Exported) (o : ObjId) → pins_of (rows_of h objects) o ≤ length (names h)
+pub pins-few : (h : History) (objects : List Exported) (o : ObjId) → pins_of (rows_of h objects) o ≤ length (names h)
 pins-few h [] o = omega arith
 pins-few h (x ∷ objects) o = go (same_id x.id o) (pins-few h objects o)
   where
@@ -270,7 +269,7 @@ return-lists config events e uid waits r s =
     (λ u. ap (is_ack_of u) asked ∙ no-ack e.ask uid u r) s in
     let all : returned (place_of config (places config events) e) ≡ references uid (place_of config (places config events) e).returned_here =
     ap (λ u. flat_map (λ x. map (λ o. record { object = o; uid = x }) (place_of config (places config events) e).returned_here) (option_to_list u)) (ap return_uid asked ∙ r) ∙ one_list uid (place_of config (places config events) e).returned_here in
-    let H : List Place → Type 0 = λ h. AreWaits config.ack_ms (max e.moment (now (places config events))) h (listed_each config.ack_ms (max e.moment (now (places config events))) uid (place_of config (places config events) e).returned_here waits) in
+    let H : History → Type 0 = λ h. AreWaits config.ack_ms (max e.moment (now (places config events))) h (listed_each config.ack_ms (max e.moment (now (places config events))) uid (place_of config (places config events) e).returned_here waits) in
     let R : List Returned → Type 0 = λ rs. AreWaits config.ack_ms (max e.moment (now (places config events))) (place_of config (places config events) e ∷ places config events)
     (listed_all reference_of end_of (λ x n. record { object = x.object; uid = x.uid; until = n }) config.ack_ms (max e.moment (now (places config events))) rs waits) in
     let W : List Wait → Type 0 = λ ws. AreWaits config.ack_ms (max e.moment (now (places config events))) (place_of config (places config events) e ∷ places config events) ws in
@@ -281,7 +280,7 @@ return-lists config events e uid waits r s =
 
 pub ack-ends : AckEnds
 ack-ends config events e uid waits a s =
-    let H : List Place → Type 0 = λ h. AreWaits config.ack_ms (max e.moment (now (places config events))) h (filter (λ w. not (same_uid w.uid uid)) waits) in
+    let H : History → Type 0 = λ h. AreWaits config.ack_ms (max e.moment (now (places config events))) h (filter (λ w. not (same_uid w.uid uid)) waits) in
     subst H (sym (places-push config events e)) (waits-push-ack reference_of end_of config events e uid waits a s)
 
 -- ---- THE LAWS of rows
@@ -300,7 +299,7 @@ begin-counts config events e o objects asked eff =
     let new : ObjId → ℕ = running_calls (place_of config (places config events) e ∷ places config events) in
     let pold : ObjId → ℕ = names_for (places config events) in
     let pnew : ObjId → ℕ = names_for (place_of config (places config events) e ∷ places config events) in
-    let H : List Place → Type 0 = λ h. changed begun o (rows_of (places config events) objects) ≡ rows_of h objects in
+    let H : History → Type 0 = λ h. changed begun o (rows_of (places config events) objects) ≡ rows_of h objects in
     subst H (sym (places-push config events e)) (row-changed old new pold pnew begun o (λ x. begun-row old new pold pnew x (same_id x.id o) (step x.id) (asked-no-name config events e (Begin o) asked refl x.id)) objects)
   where
     step : (x : ObjId) → running_calls (place_of config (places config events) e ∷ places config events) x ≡ running_calls (places config events) x + one_if (same_id x o)
@@ -318,7 +317,7 @@ end-counts config events e o objects asked eff =
     let new : ObjId → ℕ = running_calls (place_of config (places config events) e ∷ places config events) in
     let pold : ObjId → ℕ = names_for (places config events) in
     let pnew : ObjId → ℕ = names_for (place_of config (places config events) e ∷ places config events) in
-    let H : List Place → Type 0 = λ h. changed ended o (rows_of (places config events) objects) ≡ rows_of h objects in
+    let H : History → Type 0 = λ h. changed ended o (rows_of (places config events) objects) ≡ rows_of h objects in
     subst H (sym (places-push config events e)) (row-changed old new pold pnew ended o (λ x. ended-row old new pold pnew x (same_id x.id o) (step x.id) (names-still config events e (no-name e.ask asked) x.id)) objects)
   where
     no-name : (a : Ask) → EndsCallOf o a → is_name_change a ≡ false
@@ -383,7 +382,7 @@ names-step config events e a asked eff o =
     omega (arith, step, less, more)
 
 -- What a name that is bound stood for: nothing.
-pub bind-stood : (config : SpaceConfig) (h : List Place) (by : ℕ) (n : List ℕ) (o : ObjId) → is_effective config h by (Bind n o) ≡ true → stands_for h n ≡ None
+pub bind-stood : (config : SpaceConfig) (h : History) (by : ℕ) (n : List ℕ) (o : ObjId) → is_effective config h by (Bind n o) ≡ true → stands_for h n ≡ None
 unfolding is_effective
 bind-stood config h by n o eff = go (stands_for h n) (and_parts (has (table config h) o) (is_none (stands_for h n)) eff).1
   where
@@ -393,7 +392,7 @@ bind-stood config h by n o eff = go (stands_for h n) (and_parts (has (table conf
 
 pub bind-pins : BindPins
 bind-pins config events e n o objects asked eff =
-    let H : List Place → Type 0 = λ h. changed pinned_once o (rows_of (places config events) objects) ≡ rows_of h objects in
+    let H : History → Type 0 = λ h. changed pinned_once o (rows_of (places config events) objects) ≡ rows_of h objects in
     subst H (sym (places-push config events e)) (rows-pinned (running_calls (places config events)) (running_calls (place_of config (places config events) e ∷ places config events)) (names_for (places config events)) (names_for (place_of config (places config events) e ∷ places config events)) o
     (names-no-call config events e (ap is_name_change asked)) step objects)
   where
@@ -407,7 +406,7 @@ bind-pins config events e n o objects asked eff =
 
 pub rebind-pins : RebindPins
 rebind-pins config events e n o objects asked eff =
-    let H : List Place → Type 0 = λ h. unpinned (stands_for (places config events) n) (changed pinned_once o (rows_of (places config events) objects)) ≡ rows_of h objects in
+    let H : History → Type 0 = λ h. unpinned (stands_for (places config events) n) (changed pinned_once o (rows_of (places config events) objects)) ≡ rows_of h objects in
     let more : ObjId → ℕ = λ y. names_for (places config events) y + one_if (same_id o y) in
     let calls : ObjId → ℕ = running_calls (places config events) in
     subst H (sym (places-push config events e)) (
@@ -417,7 +416,7 @@ rebind-pins config events e n o objects asked eff =
 
 pub unbind-unpins : UnbindUnpins
 unbind-unpins config events e n objects asked eff =
-    let H : List Place → Type 0 = λ h. unpinned (stands_for (places config events) n) (rows_of (places config events) objects) ≡ rows_of h objects in
+    let H : History → Type 0 = λ h. unpinned (stands_for (places config events) n) (rows_of (places config events) objects) ≡ rows_of h objects in
     subst H (sym (places-push config events e)) (rows-unpinned (running_calls (places config events)) (running_calls (place_of config (places config events) e ∷ places config events)) (names_for (places config events)) (names_for (place_of config (places config events) e ∷ places config events)) (stands_for (places config events) n)
     (names-no-call config events e (ap is_name_change asked)) step objects)
   where

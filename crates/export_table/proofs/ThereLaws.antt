@@ -12,13 +12,12 @@ use Rattle.history.specs.declared.asks.SpaceConfig.{SpaceConfig}
 use Rattle.history.specs.declared.asks.Event.{Event}
 use Rattle.history.specs.declared.asks.Ask.{Ask}
 use Rattle.history.specs.declared.asks.Ask.TheVariants.{Begin, Bind, Rebind}
-use Rattle.history.specs.declared.places.Place.{Place}
 use Rattle.history.specs.declared.places.Exported.{Exported}
 use Rattle.history.specs.Awaiting.{is_awaited}
 use Rattle.history.specs.LeaseCalls.{lease_calls}
 use Rattle.history.specs.Leases.{is_held}
 use Rattle.history.specs.Names.{is_named, is_name_of, name_in, names, names_of, stands_for}
-use Rattle.history.specs.Places.{has, now, added, id_at}
+use Rattle.history.specs.Places.{History, has, now, added, id_at}
 use Rattle.history.specs.Running.{begins_any, ends_any, running_calls}
 use Rattle.history.specs.Table.{is_pinned, is_kept, is_effective, table, place_of, places}
 use Rattle.history.proofs.ListLemmas.{every-weaker}
@@ -31,7 +30,7 @@ use Rattle.history.proofs.TableLaws.{places-push, places-none}
 
 -- ---- running calls are of objects of the table
 
-begun-there : (config : SpaceConfig) (h : List Place) (e : Event) (o : ObjId) → begins_any o (place_of config h e) ≡ true → has (table config h) o ≡ true
+begun-there : (config : SpaceConfig) (h : History) (e : Event) (o : ObjId) → begins_any o (place_of config h e) ≡ true → has (table config h) o ≡ true
 unfolding place_of is_effective
 begun-there config h e o b = go e.ask b
   where
@@ -43,7 +42,7 @@ begun-there config h e o b = go e.ask b
     go (Begin x) t = let two = and_parts (has (table config h) x) (same_id x o) t in ap (has (table config h)) (sym (same_id-equal x o two.1)) ∙ two.0
     go a t = never (place_of config h (record e { ask = a })).effective t
 
-kept-running : (config : SpaceConfig) (h : List Place) (x : Exported) → 0 < running_calls h x.id → is_kept config h x ≡ true
+kept-running : (config : SpaceConfig) (h : History) (x : Exported) → 0 < running_calls h x.id → is_kept config h x ≡ true
 unfolding is_kept is_pinned
 kept-running config h x r = rw (is_running-calls h x.id ∙ lt-ltb 0 (running_calls h x.id) r) (go x.pinned (is_named h x.id) (is_awaited config.ack_ms (now h) h x.id) (is_held config.lease_ms (now h) (lease_calls h) x.id))
   where
@@ -139,7 +138,7 @@ new-runs-none config events e =
 -- ---- no name stands for a new object
 
 -- An object to which a name is bound is in the table before.
-pinned-there : (config : SpaceConfig) (h : List Place) (e : Event) (o : ObjId) → names_more (is_effective config h e.by e.ask) e.ask o ≡ true → has (table config h) o ≡ true
+pinned-there : (config : SpaceConfig) (h : History) (e : Event) (o : ObjId) → names_more (is_effective config h e.by e.ask) e.ask o ≡ true → has (table config h) o ≡ true
 unfolding is_effective
 pinned-there config h e o b = go e.ask b
   where

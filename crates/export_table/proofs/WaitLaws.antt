@@ -13,7 +13,7 @@ use Rattle.history.specs.declared.places.Place.{Place}
 use Rattle.history.specs.declared.places.Returned.{Returned}
 use Rattle.history.specs.Awaiting.{same_returned, returns, is_ack_of, awaits, awaiting, awaiting_of, until_of}
 use Rattle.history.specs.Lists.{distinct, AllOnce}
-use Rattle.history.specs.Places.{now}
+use Rattle.history.specs.Places.{History, now}
 use Rattle.history.specs.Table.{place_of, places_back, places}
 use Rattle.history.proofs.AwaitingLaws.{returned-equality, awaiting-member, awaiting-once}
 use Rattle.history.proofs.ListLemmas.{IsEquality, AllOnce-distinct, AllOnce-filter, length-members, list_any-distinct, same_test, and_false}
@@ -36,12 +36,12 @@ distinct-same same e xs ys f =
 
 -- ---- until when
 
-pub awaits-until : (ack t : ℕ) (h : List Place) (r : Returned) → awaits ack t h r ≡ nat_lt t (until_of ack h r)
+pub awaits-until : (ack t : ℕ) (h : History) (r : Returned) → awaits ack t h r ≡ nat_lt t (until_of ack h r)
 unfolding awaits
 awaits-until ack t h r = refl
 
 -- ONE MORE EVENT: it returns the reference, or acknowledges its return, or neither.
-pub until-push : (ack : ℕ) (p : Place) (h : List Place) (r : Returned) → IsNumbered (p ∷ h) →
+pub until-push : (ack : ℕ) (p : Place) (h : History) (r : Returned) → IsNumbered (p ∷ h) →
     until_of ack (p ∷ h) r ≡ (if returns r p then p.moment + ack else if is_ack_of r.uid p.event.ask then 0 else until_of ack h r)
 unfolding until_of
 until-push ack p h r n = refl
@@ -83,11 +83,11 @@ until-bound ack config events r = until_back ack config (reverse events) r
 pub decides-returned : Decides same_returned
 decides-returned = record { equal = returned-equality.equal; self = returned-equality.self }
 
-pub count-awaiting : (ack t : ℕ) (h : List Place) (rs : List Returned) → AllOnce same_returned rs → ((r : Returned) → list_any (same_returned r) rs ≡ awaits ack t h r) → length (awaiting ack t h) ≡ length rs
+pub count-awaiting : (ack t : ℕ) (h : History) (rs : List Returned) → AllOnce same_returned rs → ((r : Returned) → list_any (same_returned r) rs ≡ awaits ack t h r) → length (awaiting ack t h) ≡ length rs
 count-awaiting ack t h rs once f =
     length-members same_returned returned-equality (awaiting ack t h) rs (awaiting-once ack t h) once (λ r. awaiting-member ack t h r ∙ sym (f r))
 
-pub count-awaiting_of : (ack t : ℕ) (h : List Place) (o : ObjId) (rs : List Returned) → AllOnce same_returned rs → ((r : Returned) → list_any (same_returned r) rs ≡ awaits ack t h r) →
+pub count-awaiting_of : (ack t : ℕ) (h : History) (o : ObjId) (rs : List Returned) → AllOnce same_returned rs → ((r : Returned) → list_any (same_returned r) rs ≡ awaits ack t h r) →
     length (awaiting_of ack t h o) ≡ length (filter (λ r. same_id r.object o) rs)
 unfolding awaiting_of
 count-awaiting_of ack t h o rs once f =
@@ -95,7 +95,7 @@ count-awaiting_of ack t h o rs once f =
     (AllOnce-filter same_returned (λ r. same_id r.object o) (awaiting ack t h) (awaiting-once ack t h)) (AllOnce-filter same_returned (λ r. same_id r.object o) rs once)
     (λ r. any-filtered decides-returned (λ x. same_id x.object o) r (awaiting ack t h) ∙ ap (λ v. v && same_id r.object o) (awaiting-member ack t h r ∙ sym (f r)) ∙ sym (any-filtered decides-returned (λ x. same_id x.object o) r rs))
 
-pub count-awaiting-with : (ack t : ℕ) (h : List Place) (rs more : List Returned) → ((r : Returned) → list_any (same_returned r) rs ≡ awaits ack t h r) →
+pub count-awaiting-with : (ack t : ℕ) (h : History) (rs more : List Returned) → ((r : Returned) → list_any (same_returned r) rs ≡ awaits ack t h r) →
     length (distinct same_returned (awaiting ack t h ++ more)) ≡ length (distinct same_returned (rs ++ more))
 count-awaiting-with ack t h rs more f =
     distinct-same same_returned returned-equality (awaiting ack t h ++ more) (rs ++ more)
@@ -140,7 +140,7 @@ later-time m t a b le e = same_test (nat_lt t a) (nat_lt t b) (λ h. lt-ltb t b 
     less x y h = elim (order x y) [ inl l ↦ l | inr g ↦ absurd (let f = le-ltb x y g in cc) ]
 
 -- Those that go on in the list are those that await.
-pub waits-await : {W : Type 0} (ref : W → Returned) (until : W → ℕ) (ack m t : ℕ) (h : List Place) (ws : List W) → m ≤ t → WaitsStand ref until ack m h ws → (r : Returned) →
+pub waits-await : {W : Type 0} (ref : W → Returned) (until : W → ℕ) (ack m t : ℕ) (h : History) (ws : List W) → m ≤ t → WaitsStand ref until ack m h ws → (r : Returned) →
     list_any (λ w. nat_lt t (until w) && same_returned (ref w) r) ws ≡ awaits ack t h r
 waits-await ref until ack m t h ws le s r =
     goes-until ref until t r ws s.once ∙ later-time m t (until_in ref until r ws) (until_of ack h r) le (s.each r) ∙ sym (awaits-until ack t h r)
@@ -166,7 +166,7 @@ refs-once {W} ref (w ∷ ws) once = (moved ws once.0, refs-once ref ws once.1)
     moved [] h = refl
     moved (v ∷ vs) h = let two = or_parts (same_returned (ref w) (ref v)) (list_any (λ u. same_returned (ref w) (ref u)) vs) h in rw (two.0, moved vs two.1) refl
 
-pub refs-await : {W : Type 0} (ref : W → Returned) (until : W → ℕ) (ack m t : ℕ) (h : List Place) (ws : List W) → m ≤ t → WaitsStand ref until ack m h ws → (r : Returned) →
+pub refs-await : {W : Type 0} (ref : W → Returned) (until : W → ℕ) (ack m t : ℕ) (h : History) (ws : List W) → m ≤ t → WaitsStand ref until ack m h ws → (r : Returned) →
     list_any (same_returned r) (waiting_refs ref until t ws) ≡ awaits ack t h r
 refs-await ref until ack m t h ws le s r = refs-any ref until t r ws ∙ waits-await ref until ack m t h ws le s r
 

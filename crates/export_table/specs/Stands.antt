@@ -1,6 +1,6 @@
 -- The history that an export table stands for: its waits are the returned references of the history that await their acknowledgement, and its
 -- rows have objects of the history, each with how many calls of it run and how many names stand for it.
-use Rattle.std.specs.Prelude.{◌≡◌, ◌≤◌, ℕ, ◌+◌, max, Bool, true, false, List, [], ◌∷◌, ◌++◌, length, map, if◌then◌else◌, Some}
+use Rattle.std.specs.Prelude.{◌≡◌, ◌≤◌, ℕ, ◌+◌, max, Bool, true, false, List, [], ◌∷◌, length, map, if◌then◌else◌, Some}
 use Rattle.object_ids.specs.declared.ids.ObjId.{ObjId}
 use Rattle.object_ids.specs.declared.ids.Uid.{Uid}
 use Rattle.history.specs.declared.asks.Ask.{Ask}
@@ -8,14 +8,13 @@ use Rattle.history.specs.declared.asks.Ask.TheVariants.{Open, Begin, Finish, Aba
 use Rattle.history.specs.declared.asks.Event.{Event}
 use Rattle.history.specs.declared.asks.SpaceConfig.{SpaceConfig}
 use Rattle.history.specs.declared.places.Exported.{Exported}
-use Rattle.history.specs.declared.places.Place.{Place}
 use Rattle.history.specs.declared.places.Returned.{Returned}
 use Rattle.history.specs.Awaiting.{same_returned, returned, return_uid, is_ack_of, awaits, awaiting, awaiting_of as awaiting_to, until_of}
 use Rattle.history.specs.LeaseCalls.{lease_calls}
 use Rattle.history.specs.Names.{is_name_change, names_of, stands_for}
-use Rattle.history.specs.Places.{has, now, next, id_at}
+use Rattle.history.specs.Places.{History, has, now, next, id_at}
 use Rattle.history.specs.Running.{begins_any, ends_any, running_calls}
-use Rattle.history.specs.Table.{is_effective, is_kept, place_of, places}
+use Rattle.history.specs.Table.{with_event, is_effective, is_kept, place_of, places}
 use Rattle.history.specs.Lists.{AllOnce}
 use Rattle.export_table.specs.declared.rows.Export.{Export}
 use Rattle.export_table.specs.declared.waits.Wait.{Wait}
@@ -39,7 +38,7 @@ pub record WaitsFor {W : Type 0} (ref : W → Returned) (until : W → ℕ) (m :
   pub each : (r : Returned) → max m (until_in ref until r ws) ≡ max m (f r)
 
 -- A list of waits stands for those of a history at a moment.
-abbrev pub WaitsStand : {W : Type 0} → (W → Returned) → (W → ℕ) → ℕ → ℕ → List Place → List W → Type 0
+abbrev pub WaitsStand : {W : Type 0} → (W → Returned) → (W → ℕ) → ℕ → ℕ → History → List W → Type 0
 WaitsStand ref until ack moment h ws = WaitsFor ref until moment (until_of ack h) ws
 
 -- What a wait of an export table is of, and until when it is one.
@@ -54,16 +53,16 @@ abbrev pub references : Uid → List ObjId → List Returned
 references uid os = map (λ o. record { object = o; uid = uid }) os
 
 -- The waits of an export table stand for those of a history.
-abbrev pub AreWaits : ℕ → ℕ → List Place → List Wait → Type 0
+abbrev pub AreWaits : ℕ → ℕ → History → List Wait → Type 0
 AreWaits ack moment h waits = WaitsStand reference_of end_of ack moment h waits
 
 -- ---- rows
 
 -- An exported object as an export table has it, with how many calls of it run, and a pin for each name that stands for it.
-abbrev pub row_of : List Place → Exported → Export
+abbrev pub row_of : History → Exported → Export
 row_of h x = record { id = x.id; kind = x.kind; pinned = x.pinned; running = running_calls h x.id; pins = length (names_of h x.id) }
 
-abbrev pub rows_of : List Place → List Exported → List Export
+abbrev pub rows_of : History → List Exported → List Export
 rows_of h objects = map (row_of h) objects
 
 -- ---- laws of waits
@@ -74,44 +73,44 @@ NoneAwaits = (ack : ℕ) → AreWaits ack 0 [] []
 
 -- What waits in the table is what awaits in the history, reference by reference and in number.
 abbrev pub WaitingAwaits : Type 0
-WaitingAwaits = (ack m t : ℕ) (h : List Place) (waits : List Wait) → m ≤ t → AreWaits ack m h waits →
+WaitingAwaits = (ack m t : ℕ) (h : History) (waits : List Wait) → m ≤ t → AreWaits ack m h waits →
     ((o : ObjId) (u : Uid) → is_waiting t o u waits ≡ awaits ack t h (record { object = o; uid = u }))
     × (length (waiting t waits) ≡ length (awaiting ack t h))
     × ((o : ObjId) → length (awaiting_of t o waits) ≡ length (awaiting_to ack t h o))
 
 -- Time that passes, and waits that end and are forgotten, leave it so.
 abbrev pub WaitingStands : Type 0
-WaitingStands = (ack m t : ℕ) (h : List Place) (waits : List Wait) → m ≤ t → AreWaits ack m h waits → AreWaits ack t h (waiting t waits)
+WaitingStands = (ack m t : ℕ) (h : History) (waits : List Wait) → m ≤ t → AreWaits ack m h waits → AreWaits ack t h (waiting t waits)
 
 -- A return lists each reference that it returns.
 abbrev pub ReturnLists : Type 0
 ReturnLists = (config : SpaceConfig) (events : List Event) (e : Event) (uid : Uid) (waits : List Wait) → return_uid e.ask ≡ Some uid →
     AreWaits config.ack_ms (now (places config events)) (places config events) waits →
-    AreWaits config.ack_ms (max e.moment (now (places config events))) (places config (events ++ e ∷ []))
+    AreWaits config.ack_ms (max e.moment (now (places config events))) (places config (with_event events e))
     (listed_each config.ack_ms (max e.moment (now (places config events))) uid (place_of config (places config events) e).returned_here waits)
 
 -- An acknowledgement ends the waits of its return.
 abbrev pub AckEnds : Type 0
 AckEnds = (config : SpaceConfig) (events : List Event) (e : Event) (uid : Uid) (waits : List Wait) → e.ask ≡ Ack uid →
     AreWaits config.ack_ms (now (places config events)) (places config events) waits →
-    AreWaits config.ack_ms (max e.moment (now (places config events))) (places config (events ++ e ∷ [])) (acknowledged uid waits)
+    AreWaits config.ack_ms (max e.moment (now (places config events))) (places config (with_event events e)) (acknowledged uid waits)
 
 -- An event that returns no references and is no acknowledgement leaves the waits.
 abbrev pub OthersLeaveWaits : Type 0
 OthersLeaveWaits = (config : SpaceConfig) (events : List Event) (e : Event) (waits : List Wait) → returned (place_of config (places config events) e) ≡ [] → ((u : Uid) → is_ack_of u e.ask ≡ false) →
     AreWaits config.ack_ms (now (places config events)) (places config events) waits →
-    AreWaits config.ack_ms (max e.moment (now (places config events))) (places config (events ++ e ∷ [])) waits
+    AreWaits config.ack_ms (max e.moment (now (places config events))) (places config (with_event events e)) waits
 
 -- ---- laws of rows
 
 -- A row says how many calls of its object run.
 abbrev pub RowsCount : Type 0
-RowsCount = (h : List Place) (objects : List Exported) (o : ObjId) → has objects o ≡ true → running_of (rows_of h objects) o ≡ running_calls h o
+RowsCount = (h : History) (objects : List Exported) (o : ObjId) → has objects o ≡ true → running_of (rows_of h objects) o ≡ running_calls h o
 
 -- A call that begins is one more.
 abbrev pub BeginCounts : Type 0
 BeginCounts = (config : SpaceConfig) (events : List Event) (e : Event) (o : ObjId) (objects : List Exported) → e.ask ≡ Begin o → is_effective config (places config events) e.by e.ask ≡ true →
-    changed begun o (rows_of (places config events) objects) ≡ rows_of (places config (events ++ e ∷ [])) objects
+    changed begun o (rows_of (places config events) objects) ≡ rows_of (places config (with_event events e)) objects
 
 -- The ask ends a call of this object.
 abbrev pub EndsCallOf : ObjId → Ask → Type 0
@@ -122,28 +121,28 @@ EndsCallOf o _ = ⊥
 -- A call that ends is one less.
 abbrev pub EndCounts : Type 0
 EndCounts = (config : SpaceConfig) (events : List Event) (e : Event) (o : ObjId) (objects : List Exported) → EndsCallOf o e.ask → is_effective config (places config events) e.by e.ask ≡ true →
-    changed ended o (rows_of (places config events) objects) ≡ rows_of (places config (events ++ e ∷ [])) objects
+    changed ended o (rows_of (places config events) objects) ≡ rows_of (places config (with_event events e)) objects
 
 -- An event that begins no call, ends none and changes no name leaves the rows.
 abbrev pub OthersLeaveRows : Type 0
 OthersLeaveRows = (config : SpaceConfig) (events : List Event) (e : Event) (objects : List Exported) → ((o : ObjId) → begins_any o (place_of config (places config events) e) ≡ false) → ((o : ObjId) → ends_any o (place_of config (places config events) e) ≡ false) →
     is_name_change e.ask ≡ false →
-    rows_of (places config events) objects ≡ rows_of (places config (events ++ e ∷ [])) objects
+    rows_of (places config events) objects ≡ rows_of (places config (with_event events e)) objects
 
 -- A name that is bound pins its object once more.
 abbrev pub BindPins : Type 0
 BindPins = (config : SpaceConfig) (events : List Event) (e : Event) (n : List ℕ) (o : ObjId) (objects : List Exported) → e.ask ≡ Bind n o → is_effective config (places config events) e.by e.ask ≡ true →
-    changed pinned_once o (rows_of (places config events) objects) ≡ rows_of (places config (events ++ e ∷ [])) objects
+    changed pinned_once o (rows_of (places config events) objects) ≡ rows_of (places config (with_event events e)) objects
 
 -- One that is bound, whatever it stood for, also takes a pin off the object for which it stood.
 abbrev pub RebindPins : Type 0
 RebindPins = (config : SpaceConfig) (events : List Event) (e : Event) (n : List ℕ) (o : ObjId) (objects : List Exported) → e.ask ≡ Rebind n o → is_effective config (places config events) e.by e.ask ≡ true →
-    unpinned (stands_for (places config events) n) (changed pinned_once o (rows_of (places config events) objects)) ≡ rows_of (places config (events ++ e ∷ [])) objects
+    unpinned (stands_for (places config events) n) (changed pinned_once o (rows_of (places config events) objects)) ≡ rows_of (places config (with_event events e)) objects
 
 -- One that is unbound takes a pin off the object for which it stood.
 abbrev pub UnbindUnpins : Type 0
 UnbindUnpins = (config : SpaceConfig) (events : List Event) (e : Event) (n : List ℕ) (objects : List Exported) → e.ask ≡ Unbind n → is_effective config (places config events) e.by e.ask ≡ true →
-    unpinned (stands_for (places config events) n) (rows_of (places config events) objects) ≡ rows_of (places config (events ++ e ∷ [])) objects
+    unpinned (stands_for (places config events) n) (rows_of (places config events) objects) ≡ rows_of (places config (with_event events e)) objects
 
 -- ---- laws of what is added
 
@@ -166,13 +165,13 @@ added_rows space k pinned (kind ∷ kinds) = new_row (id_at space k) kind pinned
 -- them runs, and no name stands for them.
 abbrev pub ExportsAreAdded : Type 0
 ExportsAreAdded = (config : SpaceConfig) (events : List Event) (e : Event) →
-    rows_of (places config (events ++ e ∷ [])) (place_of config (places config events) e).exported_here
+    rows_of (places config (with_event events e)) (place_of config (places config events) e).exported_here
     ≡ added_rows config.uid (next (places config events)) (is_exported_pinned e.ask) (kinds_exported (is_effective config (places config events) e.by e.ask) e.ask)
 
 -- As many more objects were ever exported as were added.
 abbrev pub ExportsAreCounted : Type 0
 ExportsAreCounted = (config : SpaceConfig) (events : List Event) (e : Event) →
-    next (places config (events ++ e ∷ [])) ≡ next (places config events) + length (kinds_exported (is_effective config (places config events) e.by e.ask) e.ask)
+    next (places config (with_event events e)) ≡ next (places config events) + length (kinds_exported (is_effective config (places config events) e.by e.ask) e.ask)
 
 -- ---- the law of what is kept
 

@@ -16,6 +16,7 @@ use Rattle.history.specs.declared.asks.Event.{Event}
 use Rattle.history.specs.Awaiting.{same_returned, returned, returns, is_ack_of, until_of, awaits, references, awaiting, is_awaited}
 use Rattle.history.specs.Laws.{is_acknowledged, awaits_since_return, AwaitsSinceReturn}
 use Rattle.history.specs.Table.{places}
+use Rattle.history.specs.Places.{History}
 use Rattle.history.proofs.ListLemmas.{IsEquality, AllOnce-distinct, list_any-distinct, list_any-filter, list_any-members, and_true, and_false, same_test, test-Somewhere, Somewhere, Somewhere-test}
 use Rattle.history.proofs.TableLaws.{IsNumbered, places-numbered}
 
@@ -34,22 +35,22 @@ no_time : (t : ℕ) → nat_lt t 0 ≡ false
 no_time t = le-ltb t 0 (omega arith)
 
 -- A place that returns the reference begins its wait anew.
-pub awaits-returned : (ack t : ℕ) (p : Place) (h : List Place) (r : Returned) → IsNumbered (p ∷ h) → returns r p ≡ true →
+pub awaits-returned : (ack t : ℕ) (p : Place) (h : History) (r : Returned) → IsNumbered (p ∷ h) → returns r p ≡ true →
     awaits ack t (p ∷ h) r ≡ nat_lt t (p.moment + ack)
 unfolding awaits until_of
 awaits-returned ack t p h r n l = rw l refl
 
-ended : (ack t : ℕ) (p : Place) (h : List Place) (r : Returned) → returns r p ≡ false → is_ack_of r.uid p.event.ask ≡ true → awaits ack t (p ∷ h) r ≡ false
+ended : (ack t : ℕ) (p : Place) (h : History) (r : Returned) → returns r p ≡ false → is_ack_of r.uid p.event.ask ≡ true → awaits ack t (p ∷ h) r ≡ false
 unfolding awaits until_of
 ended ack t p h r l a = rw (l, a) (no_time t)
 
 -- One that acknowledges the return ends it.
-pub awaits-acknowledged : (ack t : ℕ) (p : Place) (h : List Place) (r : Returned) → IsNumbered (p ∷ h) → returns r p ≡ false → is_ack_of r.uid p.event.ask ≡ true →
+pub awaits-acknowledged : (ack t : ℕ) (p : Place) (h : History) (r : Returned) → IsNumbered (p ∷ h) → returns r p ≡ false → is_ack_of r.uid p.event.ask ≡ true →
     awaits ack t (p ∷ h) r ≡ false
 awaits-acknowledged ack t p h r n l a = ended ack t p h r l a
 
 -- Any other leaves it.
-pub awaits-passed : (ack t : ℕ) (p : Place) (h : List Place) (r : Returned) → returns r p ≡ false → is_ack_of r.uid p.event.ask ≡ false →
+pub awaits-passed : (ack t : ℕ) (p : Place) (h : History) (r : Returned) → returns r p ≡ false → is_ack_of r.uid p.event.ask ≡ false →
     awaits ack t (p ∷ h) r ≡ awaits ack t h r
 unfolding awaits until_of
 awaits-passed ack t p h r l a = rw (l, a) refl
@@ -61,11 +62,11 @@ awaits-none ack t r = no_time t
 -- ---- since the last return
 
 -- No place stands after the newest one.
-none_after : (u : Uid) (h : List Place) (p : Place) → IsNumbered h → length h ≤ p.index + 1 → is_acknowledged h u p ≡ false
+none_after : (u : Uid) (h : History) (p : Place) → IsNumbered h → length h ≤ p.index + 1 → is_acknowledged h u p ≡ false
 none_after u [] p n a = refl
 none_after u (q ∷ h) p n a = rw (le-ltb p.index q.index (let b = n.0 in omega arith)) (none_after u h p n.1 (omega arith))
 
-found_before : (test : Place → Bool) (h : List Place) (q : Place) → IsNumbered h → find test h ≡ Some q → q.index < length h
+found_before : (test : Place → Bool) (h : History) (q : Place) → IsNumbered h → find test h ≡ Some q → q.index < length h
 found_before test [] q n f = absurd (cc)
 found_before test (p ∷ h) q n f = go (test p) f (found_before test h q n.1)
   where
@@ -73,11 +74,11 @@ found_before test (p ∷ h) q n f = go (test p) f (found_before test h q n.1)
     go true f rest = let same : p ≡ q = cc in let i : p.index ≡ q.index = ap (λ (x : Place). x.index) same in let j = n.0 in omega arith
     go false f rest = let i = rest f in omega arith
 
-since-returned : (ack t : ℕ) (p : Place) (h : List Place) (r : Returned) → IsNumbered (p ∷ h) → returns r p ≡ true →
+since-returned : (ack t : ℕ) (p : Place) (h : History) (r : Returned) → IsNumbered (p ∷ h) → returns r p ≡ true →
     awaits_since_return ack t (p ∷ h) r ≡ nat_lt t (p.moment + ack)
 since-returned ack t p h r n l = rw (l, none_after r.uid (p ∷ h) p n (let b = n.0 in omega arith)) (and_true (nat_lt t (p.moment + ack)))
 
-since-acknowledged : (ack t : ℕ) (p : Place) (h : List Place) (r : Returned) → IsNumbered (p ∷ h) → returns r p ≡ false → is_ack_of r.uid p.event.ask ≡ true →
+since-acknowledged : (ack t : ℕ) (p : Place) (h : History) (r : Returned) → IsNumbered (p ∷ h) → returns r p ≡ false → is_ack_of r.uid p.event.ask ≡ true →
     awaits_since_return ack t (p ∷ h) r ≡ false
 since-acknowledged ack t p h r n l a = rw l (go (find (returns r) h) refl)
   where
@@ -88,7 +89,7 @@ since-acknowledged ack t p h r n l a = rw l (go (find (returns r) h) refl)
         let j : nat_lt q.index p.index ≡ true = lt-ltb q.index p.index (let b = n.0 in omega arith) in
         rw (j, a) (and_false (nat_lt t (q.moment + ack)))
 
-since-passed : (ack t : ℕ) (p : Place) (h : List Place) (r : Returned) → returns r p ≡ false → is_ack_of r.uid p.event.ask ≡ false →
+since-passed : (ack t : ℕ) (p : Place) (h : History) (r : Returned) → returns r p ≡ false → is_ack_of r.uid p.event.ask ≡ false →
     awaits_since_return ack t (p ∷ h) r ≡ awaits_since_return ack t h r
 since-passed ack t p h r l a = rw l (go (find (returns r) h))
   where
@@ -96,7 +97,7 @@ since-passed ack t p h r l a = rw l (go (find (returns r) h))
     go None = refl
     go (Some q) = rw (a, and_false (nat_lt q.index p.index)) refl
 
-awaits-since : (ack t : ℕ) (h : List Place) (r : Returned) → IsNumbered h → awaits ack t h r ≡ awaits_since_return ack t h r
+awaits-since : (ack t : ℕ) (h : History) (r : Returned) → IsNumbered h → awaits ack t h r ≡ awaits_since_return ack t h r
 awaits-since ack t [] r n = awaits-none ack t r
 awaits-since ack t (p ∷ h) r n = go (awaits-since ack t h r n.1) (returns r p) refl (is_ack_of r.uid p.event.ask) refl
   where
@@ -112,7 +113,7 @@ awaits-since-return config events ack t r = awaits-since ack t (places config ev
 -- ---- what awaits
 
 -- A reference that awaits was returned.
-was_returned : (ack t : ℕ) (h : List Place) (r : Returned) → awaits ack t h r ≡ true → list_any (same_returned r) (references h) ≡ true
+was_returned : (ack t : ℕ) (h : History) (r : Returned) → awaits ack t h r ≡ true → list_any (same_returned r) (references h) ≡ true
 unfolding references
 was_returned ack t [] r a = absurd (let never = awaits-none ack t r in cc)
 was_returned ack t (p ∷ h) r a = list_any-append (same_returned r) (returned p) (references h) ∙ go (was_returned ack t h r) (returns r p) refl (is_ack_of r.uid p.event.ask) refl
@@ -123,7 +124,7 @@ was_returned ack t (p ∷ h) r a = list_any-append (same_returned r) (returned p
     go ih false l false d = rw l (ih (sym (awaits-passed ack t p h r l d) ∙ a))
 
 -- WHAT AWAITS is what is among those that await.
-pub awaiting-member : (ack t : ℕ) (h : List Place) (r : Returned) → list_any (same_returned r) (awaiting ack t h) ≡ awaits ack t h r
+pub awaiting-member : (ack t : ℕ) (h : History) (r : Returned) → list_any (same_returned r) (awaiting ack t h) ≡ awaits ack t h r
 unfolding awaiting
 awaiting-member ack t h r =
     list_any-distinct same_returned (same_returned r) (λ x y e. ap (same_returned r) (returned-equality.equal x y e)) (filter (awaits ack t h) (references h))
@@ -142,12 +143,12 @@ awaiting-member ack t h r =
       | inr there ↦ forth xs there
     ]
 
-pub awaiting-once : (ack t : ℕ) (h : List Place) → AllOnce same_returned (awaiting ack t h)
+pub awaiting-once : (ack t : ℕ) (h : History) → AllOnce same_returned (awaiting ack t h)
 unfolding awaiting
 awaiting-once ack t h = AllOnce-distinct same_returned returned-equality (filter (awaits ack t h) (references h))
 
 -- An object is awaited where any list with the same references has one to it.
-pub is_awaited-members : (ack t : ℕ) (h : List Place) (o : ObjId) (rs : List Returned) → ((r : Returned) → list_any (same_returned r) rs ≡ awaits ack t h r) →
+pub is_awaited-members : (ack t : ℕ) (h : History) (o : ObjId) (rs : List Returned) → ((r : Returned) → list_any (same_returned r) rs ≡ awaits ack t h r) →
     is_awaited ack t h o ≡ list_any (λ r. same_id r.object o) rs
 unfolding is_awaited
 is_awaited-members ack t h o rs f =

@@ -12,10 +12,9 @@ use Rattle.history.specs.Lists.{option_any}
 use Rattle.history.specs.declared.asks.SpaceConfig.{SpaceConfig}
 use Rattle.history.specs.declared.asks.Event.{Event}
 use Rattle.history.specs.declared.calls.Call.{Call}
-use Rattle.history.specs.declared.places.Place.{Place}
 use Rattle.history.specs.declared.places.Exported.{Exported}
 use Rattle.history.specs.declared.places.Returned.{Returned}
-use Rattle.history.specs.Places.{now}
+use Rattle.history.specs.Places.{History, now}
 use Rattle.history.specs.Running.{is_running}
 use Rattle.history.specs.Leases.{lease_end, has_time_left, counting_calls, highest_is_dirty, calls_of, holds, is_held}
 use Rattle.history.specs.LeaseCalls.{lease_calls}
@@ -57,7 +56,7 @@ named-some config events o = (
 
 -- ---- some reference
 
-awaited-some : (config : SpaceConfig) (h : List Place) (o : ObjId) → (is_awaited config.ack_ms (now h) h o ≡ true) ↔ SomeReferenceAwaits config h o
+awaited-some : (config : SpaceConfig) (h : History) (o : ObjId) → (is_awaited config.ack_ms (now h) h o ≡ true) ↔ SomeReferenceAwaits config h o
 unfolding is_awaited awaits
 awaited-some config h o = (λ a. found (awaiting config.ack_ms (now h) h) (λ r i. sym (awaiting-member config.ack_ms (now h) h r) ∙ i) (Somewhere-test (λ r. same_id r.object o) (awaiting config.ack_ms (now h) h) a), λ s. back s.0 s.1)
   where
@@ -99,7 +98,7 @@ sent lease t c o calls h = among calls (and_parts (has_time_left lease t (calls_
         go true p q f = inl p
         go false p q f = inr (f q)
 
-held-some : (config : SpaceConfig) (h : List Place) (o : ObjId) → (is_held config.lease_ms (now h) (lease_calls h) o ≡ true) ↔ SomeClientHolds config h o
+held-some : (config : SpaceConfig) (h : History) (o : ObjId) → (is_held config.lease_ms (now h) (lease_calls h) o ≡ true) ↔ SomeClientHolds config h o
 held-some config h o = (
   λ a. let one = witness (λ (x : Call). holds config.lease_ms (now h) (calls_of x.client (lease_calls h)) o) (lease_calls h)
       (Somewhere-test (λ (x : Call). holds config.lease_ms (now h) (calls_of x.client (lease_calls h)) o) (lease_calls h) (sym (is_held-calls config.lease_ms (now h) (lease_calls h) o) ∙ a)) in

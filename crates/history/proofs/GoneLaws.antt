@@ -14,22 +14,23 @@ use Rattle.history.specs.Table.{place_of, places_back, places, withdrawn, withdr
 pub use Rattle.history.specs.Replies.{pending}
 use Rattle.history.specs.Replies.{ids, is_abandon, gone}
 use Rattle.history.specs.Laws.{first_untold, withdrawn_from, GoneSinceLast}
+use Rattle.history.specs.Places.{History}
 use Rattle.history.proofs.ListLemmas.{every-append, every-weaker}
 use Rattle.history.proofs.TableLaws.{IsNumbered, index-place_of, ask-place_of, places_back-numbered}
 
 -- One more place withdraws what it withdraws.
-pub withdrawals-push : (config : SpaceConfig) (p : Place) (h : List Place) → withdrawals config (p ∷ h) ≡ withdrawals config h ++ withdrawals_at_end config (p ∷ h)
+pub withdrawals-push : (config : SpaceConfig) (p : Place) (h : History) → withdrawals config (p ∷ h) ≡ withdrawals config h ++ withdrawals_at_end config (p ∷ h)
 unfolding withdrawals
 withdrawals-push config p h = refl
 
 -- WHAT A TURN TELLS is what was still to be told, and what it withdraws itself.
-pub gone-push : (config : SpaceConfig) (h : List Place) (e : Event) → IsNumbered h →
+pub gone-push : (config : SpaceConfig) (h : History) (e : Event) → IsNumbered h →
     gone config h e ≡ pending config h ++ ids (withdrawn config (place_of config h e ∷ h))
 unfolding gone
 gone-push config h e n = refl
 
 -- Afterwards that is still to be told if the event was an Abandon, and nothing if it was none.
-pub pending-push : (config : SpaceConfig) (h : List Place) (e : Event) → IsNumbered (place_of config h e ∷ h) →
+pub pending-push : (config : SpaceConfig) (h : History) (e : Event) → IsNumbered (place_of config h e ∷ h) →
     pending config (place_of config h e ∷ h) ≡ (if is_abandon e.ask then gone config h e else [])
 unfolding pending gone
 pending-push config h e n = ap (λ a. if is_abandon a then pending config h ++ ids (withdrawn config (place_of config h e ∷ h)) else []) (ask-place_of config h e)
@@ -49,7 +50,7 @@ unfolding withdrawals
 withdrawals-none config = refl
 
 -- Each withdrawal stands at a place of the history.
-withdrawals-below : (config : SpaceConfig) (h : List Place) → IsNumbered h → AllByRecursion (λ (w : Withdrawal). w.place < length h) (withdrawals config h)
+withdrawals-below : (config : SpaceConfig) (h : History) → IsNumbered h → AllByRecursion (λ (w : Withdrawal). w.place < length h) (withdrawals config h)
 withdrawals-below config [] n = rw withdrawals-none tt
 withdrawals-below config (p ∷ h) n =
     rw withdrawals-push (every-append (λ (w : Withdrawal). w.place < length (p ∷ h)) (withdrawals config h) (withdrawals_at_end config (p ∷ h))
@@ -68,7 +69,7 @@ objects-at : (n : ℕ) (xs : List Exported) → map (λ (w : Withdrawal). w.obje
 objects-at n [] = refl
 objects-at n (x ∷ xs) = ap (λ l. x.id ∷ l) (objects-at n xs)
 
-untold-within : (h : List Place) → IsNumbered h → first_untold h ≤ length h
+untold-within : (h : History) → IsNumbered h → first_untold h ≤ length h
 untold-within [] n = omega arith
 untold-within (p ∷ h) n = go (is_abandon p.event.ask) (untold-within h n.1)
   where
@@ -77,7 +78,7 @@ untold-within (p ∷ h) n = go (is_abandon p.event.ask) (untold-within h n.1)
     go false ih = let b = n.0 in omega arith
 
 -- What the next place withdraws is told beside what was still to be told.
-told-next : (config : SpaceConfig) (h : List Place) (e : Event) → IsNumbered h →
+told-next : (config : SpaceConfig) (h : History) (e : Event) → IsNumbered h →
     withdrawn_from (first_untold h) config (place_of config h e ∷ h) ≡ withdrawn_from (first_untold h) config h ++ ids (withdrawn config (place_of config h e ∷ h))
 told-next config h e n =
     ap (λ ws. map (λ (w : Withdrawal). w.object) (filter (λ w. nat_le (first_untold h) w.place) ws)) (withdrawals-push config (place_of config h e) h)
@@ -90,7 +91,7 @@ told-next config h e n =
     (withdrawals_at_end config (place_of config h e ∷ h)) (at_place (place_of config h e).index (withdrawn config (place_of config h e ∷ h)))))
     ∙ objects-at (place_of config h e).index (withdrawn config (place_of config h e ∷ h)))
 
-told-after : (config : SpaceConfig) (h : List Place) (e : Event) → IsNumbered (place_of config h e ∷ h) →
+told-after : (config : SpaceConfig) (h : History) (e : Event) → IsNumbered (place_of config h e ∷ h) →
     withdrawn_from (first_untold (place_of config h e ∷ h)) config (place_of config h e ∷ h)
     ≡ (if is_abandon e.ask then withdrawn_from (first_untold h) config (place_of config h e ∷ h) else [])
 told-after config h e n = go (is_abandon e.ask) (ap is_abandon (ask-place_of config h e)) refl

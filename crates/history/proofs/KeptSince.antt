@@ -10,7 +10,7 @@ use Rattle.history.specs.declared.asks.SpaceConfig.{SpaceConfig}
 use Rattle.history.specs.declared.asks.Event.{Event}
 use Rattle.history.specs.declared.places.Place.{Place}
 use Rattle.history.specs.declared.places.Exported.{Exported}
-use Rattle.history.specs.Places.{has, added}
+use Rattle.history.specs.Places.{History, has, added}
 use Rattle.history.specs.Table.{is_kept, table, place_of, places_back, places}
 use Rattle.history.specs.Laws.{is_kept_since_export, TableIsKept}
 use Rattle.history.proofs.ListLemmas.{every-weaker, every-two, filter-same, filter-filter, and_true}
@@ -24,12 +24,12 @@ new-apart space k old [] before n le = tt
 new-apart space k old (x ∷ new) before n le = (rw n.0 (has-greater space k 0 old before (omega arith)), new-apart space (k + 1) old new before n.1 (omega arith))
 
 -- Among what was exported up to a place is an object where it was before or is exported there.
-has-added : (p : Place) (h : List Place) (x : Exported) → has (added (p ∷ h)) x.id ≡ (has (added h) x.id || has p.exported_here x.id)
+has-added : (p : Place) (h : History) (x : Exported) → has (added (p ∷ h)) x.id ≡ (has (added h) x.id || has p.exported_here x.id)
 unfolding added
 has-added p h x = list_any-append (λ (y : Exported). same_id y.id x.id) (added h) p.exported_here
 
 -- An object that no prefix has exported has no prefix at which it has to be kept.
-later : (kept : List Place → Exported → Bool) (h : List Place) (x : Exported) → has (added h) x.id ≡ false → is_kept_since_export kept h x ≡ true
+later : (kept : History → Exported → Bool) (h : History) (x : Exported) → has (added h) x.id ≡ false → is_kept_since_export kept h x ≡ true
 later kept [] x never = refl
 later kept (p ∷ h) x never = rw (never, later kept h x (left (has (added h) x.id) (has p.exported_here x.id) (sym (has-added p h x) ∙ never))) refl
   where
@@ -38,16 +38,16 @@ later kept (p ∷ h) x never = rw (never, later kept h x (left (has (added h) x.
     left true b e = e
 
 -- One that was exported has to be kept now, and as it had to before.
-earlier : (kept : List Place → Exported → Bool) (p : Place) (h : List Place) (x : Exported) → has (added h) x.id ≡ true →
+earlier : (kept : History → Exported → Bool) (p : Place) (h : History) (x : Exported) → has (added h) x.id ≡ true →
     is_kept_since_export kept (p ∷ h) x ≡ (kept (p ∷ h) x && is_kept_since_export kept h x)
 earlier kept p h x was = rw (has-added p h x, was) refl
 
-now_exported : (kept : List Place → Exported → Bool) (p : Place) (h : List Place) (x : Exported) → has p.exported_here x.id ≡ true → has (added h) x.id ≡ false →
+now_exported : (kept : History → Exported → Bool) (p : Place) (h : History) (x : Exported) → has p.exported_here x.id ≡ true → has (added h) x.id ≡ false →
     is_kept_since_export kept (p ∷ h) x ≡ kept (p ∷ h) x
 now_exported kept p h x here never = rw (has-added p h x, never, here, later kept h x never) (and_true (kept (p ∷ h) x))
 
 -- The objects that are kept ever since their export, after one more place, whatever keeps them.
-survivors-push : (kept : List Place → Exported → Bool) (p : Place) (h : List Place) → AllByRecursion (λ (x : Exported). has (added h) x.id ≡ false) p.exported_here →
+survivors-push : (kept : History → Exported → Bool) (p : Place) (h : History) → AllByRecursion (λ (x : Exported). has (added h) x.id ≡ false) p.exported_here →
     filter (is_kept_since_export kept (p ∷ h)) (added h ++ p.exported_here) ≡ filter (kept (p ∷ h)) (filter (is_kept_since_export kept h) (added h) ++ p.exported_here)
 survivors-push kept p h new =
     filter-append (is_kept_since_export kept (p ∷ h)) (added h) p.exported_here

@@ -19,12 +19,13 @@ use Rattle.history.specs.Names.{name_in, name_bound, object_bound, is_bind_of, i
 use Rattle.history.specs.Laws.{is_unbound_after, begins_name, StandsForLast, NamesInOrder}
 use Rattle.history.proofs.ListLemmas.{every-weaker, every-reverse, reverse-cons, filter-same, filter-filter, list_any-filter, IsEquality, AllOnce-filter, AllOnce-push, same_test, and_false}
 use Rattle.history.specs.Table.{place_of, places_back, places}
+use Rattle.history.specs.Places.{History}
 use Rattle.history.proofs.TableLaws.{IsNumbered, index-place_of, places_back-numbered, places-numbered}
 
 -- ---- one more place
 
 -- After a place that changes a name it stands for what that place says, and after any other for what it stood for before.
-pub stands_for-push : (p : Place) (h : List Place) (n : List ℕ) →
+pub stands_for-push : (p : Place) (h : History) (n : List ℕ) →
     stands_for (p ∷ h) n ≡ (if changes_name n p then object_bound p.event.ask else stands_for h n)
 unfolding stands_for
 stands_for-push p h n = refl
@@ -34,7 +35,7 @@ unfolding stands_for
 stands_for-none n = refl
 
 -- THE NAMES after one more event are those that it doesn't unbind, and the one that it begins.
-pub names-push : (p : Place) (h : List Place) → IsNumbered (p ∷ h) →
+pub names-push : (p : Place) (h : History) → IsNumbered (p ∷ h) →
     names (p ∷ h) ≡ filter (λ n. not (unbinds p n)) (names h) ++ name_begun p
 unfolding names
 names-push p h i = refl
@@ -44,7 +45,7 @@ unfolding names
 names-none = refl
 
 -- A NAME STANDS for the object of its last change.
-pub stands-for-last : (h : List Place) → StandsForLast h
+pub stands-for-last : (h : History) → StandsForLast h
 stands-for-last [] n = stands_for-none n
 stands-for-last (p ∷ h) n = stands_for-push p h n ∙ go (stands-for-last h n) (changes_name n p)
   where
@@ -55,17 +56,17 @@ stands-for-last (p ∷ h) n = stands_for-push p h n ∙ go (stands-for-last h n)
 -- ---- the order of names
 
 -- Every place of a history stands below its length.
-places-below : (h : List Place) → IsNumbered h → AllByRecursion (λ (q : Place). q.index < length h) h
+places-below : (h : History) → IsNumbered h → AllByRecursion (λ (q : Place). q.index < length h) h
 places-below [] n = tt
 places-below (p ∷ h) n =
     ((let b = n.0 in omega arith), every-weaker (λ (q : Place). q.index < length h) (λ (q : Place). q.index < length (p ∷ h)) (λ q a. omega arith) h (places-below h n.1))
 
 -- No place stands after the newest one.
-none_after : (n : List ℕ) (h : List Place) (p : Place) → IsNumbered h → length h ≤ p.index + 1 → is_unbound_after h n p ≡ false
+none_after : (n : List ℕ) (h : History) (p : Place) → IsNumbered h → length h ≤ p.index + 1 → is_unbound_after h n p ≡ false
 none_after n [] p i a = refl
 none_after n (q ∷ h) p i a = rw (le-ltb p.index q.index (let b = i.0 in omega arith)) (none_after n h p i.1 (omega arith))
 
-begins-before : (p : Place) (h : List Place) (q : Place) → q.index < p.index →
+begins-before : (p : Place) (h : History) (q : Place) → q.index < p.index →
     begins_name (p ∷ h) q ≡ (option_any (λ n. not (unbinds p n)) (name_bound q.event.ask) && begins_name h q)
 begins-before p h q l = rw (lt-ltb q.index p.index l) (go (q.effective && is_none q.name_stood_for) (name_bound q.event.ask))
   where
@@ -96,7 +97,7 @@ filter_map-filter {X} {Y} f test (x ∷ xs) = go (f x) refl (filter_map-filter f
         kept true = rw e (ap (λ l. y ∷ l) ih)
         kept false = ih
 
-begins-here : (p : Place) (h : List Place) → IsNumbered (p ∷ h) →
+begins-here : (p : Place) (h : History) → IsNumbered (p ∷ h) →
     filter_map (λ (q : Place). name_bound q.event.ask) (filter (begins_name (p ∷ h)) (p ∷ [])) ≡ name_begun p
 begins-here p h i = go (p.effective && is_none p.name_stood_for) (name_bound p.event.ask) refl
   where
@@ -108,10 +109,10 @@ begins-here p h i = go (p.effective && is_none p.name_stood_for) (name_bound p.e
     go false (Some n) e = refl
 
 -- The names in the order of the places that begin them.
-abbrev begun_in_order : List Place → List (List ℕ)
+abbrev begun_in_order : History → List (List ℕ)
 begun_in_order h = filter_map (λ (p : Place). name_bound p.event.ask) (filter (begins_name h) (reverse h))
 
-in_order-push : (p : Place) (h : List Place) → IsNumbered (p ∷ h) →
+in_order-push : (p : Place) (h : History) → IsNumbered (p ∷ h) →
     begun_in_order (p ∷ h) ≡ filter (λ n. not (unbinds p n)) (begun_in_order h) ++ name_begun p
 in_order-push p h i =
     ap (λ l. filter_map (λ (q : Place). name_bound q.event.ask) (filter (begins_name (p ∷ h)) l)) (reverse-cons p h)
@@ -126,7 +127,7 @@ in_order-push p h i =
     ∙ filter_map-filter (λ (q : Place). name_bound q.event.ask) (λ n. not (unbinds p n)) (filter (begins_name h) (reverse h)))
     ∙ ap (λ l. filter (λ n. not (unbinds p n)) (filter_map (λ (q : Place). name_bound q.event.ask) (filter (begins_name h) (reverse h))) ++ l) (begins-here p h i)
 
-names-begun : (h : List Place) → IsNumbered h → names h ≡ begun_in_order h
+names-begun : (h : History) → IsNumbered h → names h ≡ begun_in_order h
 names-begun [] i = names-none
 names-begun (p ∷ h) i = names-push p h i ∙ ap (λ l. filter (λ n. not (unbinds p n)) l ++ name_begun p) (names-begun h i.1) ∙ sym (in_order-push p h i)
 
@@ -250,12 +251,12 @@ member-after effective a ns n stands ih = go effective a
     go true _ = nothing true
     go false _ = same_stay (filter (λ k. not false) ns) (all_stay ns)
 
-pub names-after : (config : SpaceConfig) (e : Event) (h : List Place) → IsNumbered h →
+pub names-after : (config : SpaceConfig) (e : Event) (h : History) → IsNumbered h →
     names (place_of config h e ∷ h) ≡ after_ask (place_of config h e).effective (option_and_then (stands_for h) (name_in e.ask)) e.ask (names h)
 unfolding after_ask place_of
 names-after config e h i = names-push (place_of config h e) h (index-place_of config h e, i)
 
-pub stands-after : (config : SpaceConfig) (e : Event) (h : List Place) (n : List ℕ) →
+pub stands-after : (config : SpaceConfig) (e : Event) (h : History) (n : List ℕ) →
     stands_for (place_of config h e ∷ h) n ≡ stands_after (place_of config h e).effective e.ask n (stands_for h n)
 unfolding stands_after place_of
 stands-after config e h n = stands_for-push (place_of config h e) h n

@@ -11,9 +11,8 @@ use Rattle.history.specs.declared.asks.SpaceConfig.{SpaceConfig}
 use Rattle.history.specs.declared.asks.Event.{Event}
 use Rattle.history.specs.declared.asks.Ask.{Ask}
 use Rattle.history.specs.declared.asks.Ask.TheVariants.{Bind, Rebind}
-use Rattle.history.specs.declared.places.Place.{Place}
 use Rattle.history.specs.declared.places.Exported.{Exported}
-use Rattle.history.specs.Places.{has}
+use Rattle.history.specs.Places.{History, has}
 use Rattle.history.specs.Names.{object_bound, is_bind_of, is_unbind_of, changes_name, stands_for}
 use Rattle.history.specs.Table.{is_kept, is_effective, table, place_of, places}
 use Rattle.history.specs.Laws.{NamedIsExported}
@@ -59,7 +58,7 @@ in-front xs ys o h = list_any-append (λ (x : Exported). same_id x.id o) xs ys �
 -- ---- names
 
 -- An object to which a name is bound is in the table before.
-bound-there : (config : SpaceConfig) (h : List Place) (e : Event) (n : List ℕ) (o : ObjId) →
+bound-there : (config : SpaceConfig) (h : History) (e : Event) (n : List ℕ) (o : ObjId) →
     changes_name n (place_of config h e) ≡ true → object_bound e.ask ≡ Some o → has (table config h) o ≡ true
 unfolding place_of is_effective
 bound-there config h e n o changes bound = go e.ask changes bound

@@ -12,9 +12,8 @@ use Rattle.history.specs.declared.asks.SpaceConfig.{SpaceConfig}
 use Rattle.history.specs.declared.asks.Event.{Event}
 use Rattle.history.specs.declared.asks.Ask.{Ask}
 use Rattle.history.specs.declared.asks.Ask.TheVariants.{Open, Finish}
-use Rattle.history.specs.declared.places.Place.{Place}
 use Rattle.history.specs.declared.places.Exported.{Exported}
-use Rattle.history.specs.Places.{has, kind_of, added, next, id_at, exported_from}
+use Rattle.history.specs.Places.{History, has, kind_of, added, next, id_at, exported_from}
 use Rattle.history.specs.Table.{is_kept, table, exports, place_of, places_back, places}
 use Rattle.history.specs.Laws.{NextIsCounted}
 use Rattle.std.proofs.lemmas.List.Folds.{list_any-append}
@@ -41,19 +40,19 @@ length-exported_from space k pinned [] = refl
 length-exported_from space k pinned (kind ∷ kinds) = ap suc (length-exported_from space (k + 1) pinned kinds)
 
 -- THE NEXT OBJECT has the number of those that were exported before it.
-pub next-added : (h : List Place) → NextIsCounted h
+pub next-added : (h : History) → NextIsCounted h
 unfolding next added
 next-added [] = refl
 next-added (p ∷ h) = ap (λ n. n + length p.exported_here) (next-added h) ∙ sym (length-append (added h) p.exported_here)
 
-exports-numbered : (config : SpaceConfig) (h : List Place) (a : Ask) → NumberedFrom config.uid (next h) (exports config h a)
+exports-numbered : (config : SpaceConfig) (h : History) (a : Ask) → NumberedFrom config.uid (next h) (exports config h a)
 unfolding exports
 exports-numbered config h (Open kind pinned) = exported_from-numbered config.uid (next h) pinned (kind ∷ [])
 exports-numbered config h (Finish object made listed uid) = exported_from-numbered config.uid (next h) false made
 exports-numbered config h _ = tt
 
 -- What an event exports goes on where the history ended.
-pub adds-next : (config : SpaceConfig) (h : List Place) (e : Event) → NumberedFrom config.uid (next h) (place_of config h e).exported_here
+pub adds-next : (config : SpaceConfig) (h : History) (e : Event) → NumberedFrom config.uid (next h) (place_of config h e).exported_here
 unfolding place_of
 adds-next config h e = go (place_of config h e).effective (exports-numbered config h e.ask)
   where
@@ -61,7 +60,7 @@ adds-next config h e = go (place_of config h e).effective (exports-numbered conf
     go true n = n
     go false n = tt
 
-pub adds-numbered : (config : SpaceConfig) (h : List Place) (e : Event) → NumberedFrom config.uid (length (added h)) (place_of config h e).exported_here
+pub adds-numbered : (config : SpaceConfig) (h : History) (e : Event) → NumberedFrom config.uid (length (added h)) (place_of config h e).exported_here
 adds-numbered config h e = let P : ℕ → Type 0 = λ n. NumberedFrom config.uid n (place_of config h e).exported_here in subst P (next-added h) (adds-next config h e)
 
 -- ALL OBJECTS that a history exported have the numbers from 16 on, in order.
@@ -142,7 +141,7 @@ AllApart-filter test (x ∷ xs) a = go (test x) (AllApart-filter test xs a.1)
     go false r = r
 
 -- WHAT IS IN THE TABLE was exported.
-pub table-exported : (config : SpaceConfig) (h : List Place) (o : ObjId) → has (table config h) o ≡ true → has (added h) o ≡ true
+pub table-exported : (config : SpaceConfig) (h : History) (o : ObjId) → has (table config h) o ≡ true → has (added h) o ≡ true
 unfolding table added
 table-exported config [] o t = t
 table-exported config (p ∷ h) o t =

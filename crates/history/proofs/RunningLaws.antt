@@ -18,12 +18,13 @@ use Rattle.history.specs.Running.{is_begin_of, is_end_of, begins_call, ends_call
 use Rattle.history.specs.Laws.{RunningIsCounted, SomeConnectionRuns, RunningIsSome}
 use Rattle.history.specs.Limits.{is_begin, is_end, starts, ends, reserved}
 use Rattle.history.specs.Table.{is_effective, place_of, places_back, places}
+use Rattle.history.specs.Places.{History}
 use Rattle.history.proofs.ListLemmas.{every-always, IsEquality, filter-same, list_any-distinct}
 use Rattle.history.proofs.Partitions.{one_if, length-filter-cons, sum_by-plus, sum_by-minus, sum_by-same, sum_by-parts, list_any-sum_by}
 
 -- ---- a call ends only where it runs
 
-end_runs : (config : SpaceConfig) (h : List Place) (e : Event) (by : ℕ) (o : ObjId) → ends_call by o (place_of config h e) ≡ true → 0 < running h by o
+end_runs : (config : SpaceConfig) (h : History) (e : Event) (by : ℕ) (o : ObjId) → ends_call by o (place_of config h e) ≡ true → 0 < running h by o
 unfolding place_of is_effective
 end_runs config h e by o t = go e.ask t
   where
@@ -68,7 +69,7 @@ count-step n false false f g = omega arith
 -- ---- the calls of one connection
 
 -- ONE MORE EVENT: a call that begins adds one, a call that ends takes one away.
-running_place : (config : SpaceConfig) (h : List Place) (e : Event) (by : ℕ) (o : ObjId) →
+running_place : (config : SpaceConfig) (h : History) (e : Event) (by : ℕ) (o : ObjId) →
     running (place_of config h e ∷ h) by o + one_if (ends_call by o (place_of config h e)) ≡ running h by o + one_if (begins_call by o (place_of config h e))
 unfolding running
 running_place config h e by o =
@@ -113,7 +114,7 @@ eqb-equality : IsEquality (λ a b. a == b)
 eqb-equality = record { self = λ k. (Decides-eqb k k).1 refl; equal = λ j k h. (Decides-eqb j k).0 h }
 
 -- The connections that asked, each once.
-connections : List Place → List ℕ
+connections : History → List ℕ
 connections h = distinct (λ a b. a == b) (map (λ p. p.event.by) h)
 
 turned : (a b c : Bool) → (a && b && c) ≡ (b && (a && c))
@@ -122,14 +123,14 @@ turned true false c = refl
 turned false true c = refl
 turned false false c = refl
 
-begun_by : (h : List Place) (o : ObjId) → sum_by (λ by. length (filter (begins_call by o) h)) (connections h) ≡ length (filter (begins_any o) h)
+begun_by : (h : History) (o : ObjId) → sum_by (λ by. length (filter (begins_call by o) h)) (connections h) ≡ length (filter (begins_any o) h)
 unfolding connections
 begun_by h o =
     sum_by-same (λ by. length (filter (begins_call by o) h)) (λ by. length (filter (λ p. p.event.by == by && begins_any o p) h))
     (λ by. ap length (filter-same (begins_call by o) (λ p. p.event.by == by && begins_any o p) h (every-always (λ p. begins_call by o p ≡ (p.event.by == by && begins_any o p)) (λ p. turned p.effective (p.event.by == by) (is_begin_of o p.event.ask)) h))) (connections h)
     ∙ sum_by-parts (λ a b. a == b) eqb-equality (λ p. p.event.by) (begins_any o) h
 
-ended_by : (h : List Place) (o : ObjId) → sum_by (λ by. length (filter (ends_call by o) h)) (connections h) ≡ length (filter (ends_any o) h)
+ended_by : (h : History) (o : ObjId) → sum_by (λ by. length (filter (ends_call by o) h)) (connections h) ≡ length (filter (ends_any o) h)
 unfolding connections
 ended_by h o =
     sum_by-same (λ by. length (filter (ends_call by o) h)) (λ by. length (filter (λ p. p.event.by == by && ends_any o p) h))
@@ -208,12 +209,12 @@ unfolding places
 running_calls-push config h e o = running_calls_place config (reverse h) e o (running_calls_back config (reverse h) o)
 
 -- Some connection runs a call exactly where their number is not 0.
-pub is_running-calls : (h : List Place) (o : ObjId) → is_running h o ≡ nat_lt 0 (running_calls h o)
+pub is_running-calls : (h : History) (o : ObjId) → is_running h o ≡ nat_lt 0 (running_calls h o)
 unfolding is_running
 is_running-calls h o = refl
 
 -- A connection that never asked runs none.
-never_asked : (h : List Place) (by : ℕ) (o : ObjId) → list_any (λ c. by == c) (map (λ (p : Place). p.event.by) h) ≡ false → running h by o ≡ 0
+never_asked : (h : History) (by : ℕ) (o : ObjId) → list_any (λ c. by == c) (map (λ (p : Place). p.event.by) h) ≡ false → running h by o ≡ 0
 unfolding running
 never_asked [] by o a = refl
 never_asked (p ∷ h) by o a =
@@ -252,7 +253,7 @@ calls-sum : (config : SpaceConfig) (es : List Event) (o : ObjId) →
     running_calls (places_back config es) o ≡ sum_by (λ by. running (places_back config es) by o) (connections (places_back config es))
 calls-sum config es o = let one = running_calls_back config es o in let other = each_running config es o in omega arith
 
-connections-any : (h : List Place) (o : ObjId) → list_any (λ by. nat_lt 0 (running h by o)) (connections h) ≡ list_any (λ by. nat_lt 0 (running h by o)) (map (λ (p : Place). p.event.by) h)
+connections-any : (h : History) (o : ObjId) → list_any (λ by. nat_lt 0 (running h by o)) (connections h) ≡ list_any (λ by. nat_lt 0 (running h by o)) (map (λ (p : Place). p.event.by) h)
 unfolding connections
 connections-any h o =
     list_any-distinct (λ a b. a == b) (λ by. nat_lt 0 (running h by o)) (λ x y e. ap (λ n. nat_lt 0 (running h n o)) ((Decides-eqb x y).0 e)) (map (λ (p : Place). p.event.by) h)
@@ -261,7 +262,7 @@ connections-any h o =
 running_some : (config : SpaceConfig) (es : List Event) (o : ObjId) → (is_running (places_back config es) o ≡ true) ↔ SomeConnectionRuns (places_back config es) o
 running_some config es o = (λ r. some_runs (map (λ (p : Place). p.event.by) h) (λ c. running h c o) (sym any ∙ r), λ s. any ∙ runs_some (map (λ (p : Place). p.event.by) h) (λ c. running h c o) s.0 (asked s.0 s.1 (list_any (λ c. s.0 == c) (map (λ (p : Place). p.event.by) h)) refl) s.1)
   where
-    h : List Place
+    h : History
     h = places_back config es
 
     any : is_running h o ≡ list_any (λ by. nat_lt 0 (running h by o)) (map (λ (p : Place). p.event.by) h)

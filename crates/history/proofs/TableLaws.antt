@@ -6,22 +6,22 @@ use Rattle.std.proofs.lemmas.List.Sums.{sum_by-cons}
 use Rattle.history.specs.declared.asks.SpaceConfig.{SpaceConfig}
 use Rattle.history.specs.declared.asks.Event.{Event}
 use Rattle.history.specs.declared.places.Place.{Place}
-use Rattle.history.specs.Places.{now, added}
+use Rattle.history.specs.Places.{History, now, added}
 use Rattle.history.specs.Limits.{units_of, units}
 use Rattle.history.specs.Table.{is_kept, table, place_of, places_back, places, withdrawn}
 
 -- ---- places
 
 -- Each place has its number.
-abbrev pub IsNumbered : List Place → Type 0
+abbrev pub IsNumbered : History → Type 0
 IsNumbered [] = Unit {0}
 IsNumbered (p ∷ before) = (p.index ≡ length before) × IsNumbered before
 
-pub index-place_of : (config : SpaceConfig) (h : List Place) (e : Event) → (place_of config h e).index ≡ length h
+pub index-place_of : (config : SpaceConfig) (h : History) (e : Event) → (place_of config h e).index ≡ length h
 unfolding place_of
 index-place_of config h e = refl
 
-pub ask-place_of : (config : SpaceConfig) (h : List Place) (e : Event) → (place_of config h e).event.ask ≡ e.ask
+pub ask-place_of : (config : SpaceConfig) (h : History) (e : Event) → (place_of config h e).event.ask ≡ e.ask
 unfolding place_of
 ask-place_of config h e = refl
 
@@ -54,23 +54,23 @@ places-none config = refl
 
 -- ---- moments
 
-pub now-push : (config : SpaceConfig) (h : List Place) (e : Event) → now (place_of config h e ∷ h) ≡ max e.moment (now h)
+pub now-push : (config : SpaceConfig) (h : History) (e : Event) → now (place_of config h e ∷ h) ≡ max e.moment (now h)
 unfolding now place_of
 now-push config h e = refl
 
-pub moment-place_of : (config : SpaceConfig) (h : List Place) (e : Event) → (place_of config h e).moment ≡ max e.moment (now h)
+pub moment-place_of : (config : SpaceConfig) (h : History) (e : Event) → (place_of config h e).moment ≡ max e.moment (now h)
 unfolding place_of
 moment-place_of config h e = refl
 
 -- ---- the table
 
-pub added-push : (p : Place) (h : List Place) → added (p ∷ h) ≡ added h ++ p.exported_here
+pub added-push : (p : Place) (h : History) → added (p ∷ h) ≡ added h ++ p.exported_here
 unfolding added
 added-push p h = refl
 
 -- THE STEP: the table after one more event has those objects of the table before it, and of those that the event exports, that are
 -- kept now.
-pub table-place : (config : SpaceConfig) (h : List Place) (e : Event) →
+pub table-place : (config : SpaceConfig) (h : History) (e : Event) →
     table config (place_of config h e ∷ h) ≡ filter (is_kept config (place_of config h e ∷ h)) (table config h ++ (place_of config h e).exported_here)
 unfolding table
 table-place config h e = refl
@@ -86,14 +86,14 @@ unfolding table
 table-none config = refl
 
 -- What the event withdraws is the rest of them.
-pub withdrawn-place : (config : SpaceConfig) (h : List Place) (e : Event) →
+pub withdrawn-place : (config : SpaceConfig) (h : History) (e : Event) →
     withdrawn config (place_of config h e ∷ h) ≡ filter (λ x. not (is_kept config (place_of config h e ∷ h) x)) (table config h ++ (place_of config h e).exported_here)
 unfolding withdrawn place_of
 withdrawn-place config h e = refl
 
 -- ---- units
 
-pub units-push : (p : Place) (h : List Place) → units (p ∷ h) ≡ units_of p.event.ask + units h
+pub units-push : (p : Place) (h : History) → units (p ∷ h) ≡ units_of p.event.ask + units h
 unfolding units
 units-push p h = sum_by-cons (λ (q : Place). units_of q.event.ask) p h
 

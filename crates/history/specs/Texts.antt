@@ -1,4 +1,4 @@
--- How a journal and an outline spell what they name. Words are parted by one space, and lines end with LF. Numbers are decimal.
+-- How a journal and an outline spell what they name. Words are separated by one space, and lines end with LF. Numbers are decimal.
 use Rattle.std.specs.Prelude.{ℕ, ◌/◌, ◌%◌, Bool, false, List, [], ◌∷◌, ◌++◌, flat_map, ◌==◌, ◌&&◌, not, nat_le, if◌then◌else◌, codes}
 use Rattle.std.specs.List.{join_with_byte}
 use Rattle.std.specs.Fmt.{signed_decimal, digit_glyph}

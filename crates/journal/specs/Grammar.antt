@@ -1,5 +1,5 @@
 -- A journal: the text of a configuration and of the events of a history, as a relation between bytes and these. What it spells a
--- value by is history's `Texts`. A line is words that are parted by one space. Numbers are decimal, without needless zeros or signs.
+-- value by is history's `Texts`. A line is words that are separated by one space. Numbers are decimal, without needless zeros or signs.
 use Rattle.std.specs.Prelude.{◌≡◌, ◌≢◌, ℕ, ℤ, pos, ◌^◌, ◌<◌, ◌≤◌, ◌⊎◌, Bool, if◌then◌else◌, List, [], ◌∷◌, ◌++◌, length, codes, decimal, FitsSigned}
 use Rattle.std.specs.Int.{w16, w32, w64}
 use Rattle.std.specs.List.{AllByRecursion, AllZip, join_with_byte}

@@ -1,4 +1,4 @@
--- The lines of a journal as texts, each without its LF: words that are parted by one space. An object of the space's own is written by its
+-- The lines of a journal as texts, each without its LF: words that are separated by one space. An object of the space's own is written by its
 -- number. What each text spells is the grammar's.
 use Rattle.std.specs.Prelude.{◌≡◌, ℕ, pos, ◌^◌, ◌<◌, ◌≤◌, Bool, if◌then◌else◌, List, [], ◌∷◌, ◌++◌, map, flat_map, codes, decimal, FitsSigned}
 use Rattle.std.specs.Int.{w64}

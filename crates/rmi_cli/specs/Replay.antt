@@ -4,7 +4,7 @@ use Rattle.history.specs.declared.asks.SpaceConfig.{SpaceConfig}
 use Rattle.history.specs.declared.asks.Event.{Event}
 use Rattle.history.specs.declared.replies.Refused.{Refused}
 use Rattle.history.specs.Limits.{limits, refusal}
-use Rattle.history.specs.Table.{places}
+use Rattle.history.specs.Table.{with_event, places}
 use Rattle.history.specs.Outline.{outline}
 use Rattle.journal.specs.Grammar.{SpellsConfig, SpellsEvent, SpellsFront, JournalText}
 use Rattle.rmi_cli.specs.declared.outlines.ReplayFault.{ReplayFault}
@@ -21,7 +21,7 @@ abbrev pub TakesLines : SpaceConfig → List Event → List Event → List ℕ �
 TakesLines config h [] lines = lines ≡ []
 TakesLines config h (e ∷ events) lines =
     (line : List ℕ) × (rest : List ℕ) × SpellsEvent config.uid e line × EventIsTaken config h e
-    × TakesLines config (h ++ e ∷ []) events rest × (lines ≡ line ++ 10 ∷ rest)
+    × TakesLines config (with_event h e) events rest × (lines ≡ line ++ 10 ∷ rest)
 
 -- The first of these lines spells this event.
 abbrev pub BeginsWith : SpaceConfig → List ℕ → Event → Type 0
@@ -57,7 +57,7 @@ Opens input config lines = (line : List ℕ) × SpellsConfig config line × (inp
 -- After the history h these events are all taken, one after another.
 abbrev pub AllTaken : SpaceConfig → List Event → List Event → Type 0
 AllTaken config h [] = Unit {0}
-AllTaken config h (e ∷ events) = EventIsTaken config h e × AllTaken config (h ++ e ∷ []) events
+AllTaken config h (e ∷ events) = EventIsTaken config h e × AllTaken config (with_event h e) events
 
 -- The input is a journal up to this rest: of this configuration and of these events, which are all taken.
 pub record IsJournalUpTo (input : List ℕ) (config : SpaceConfig) (events : List Event) (rest : List ℕ) : Type 0 where

@@ -1,11 +1,11 @@
 -- A journal's lines, one after another, and the turns of the events that they spell.
-use Rattle.std.specs.Prelude.{◌≡◌, ℕ, ◌+◌, List, [], ◌∷◌, ◌++◌, length, Some}
+use Rattle.std.specs.Prelude.{◌≡◌, ℕ, ◌+◌, List, ◌∷◌, ◌++◌, length, Some}
 use Rattle.history.specs.declared.asks.SpaceConfig.{SpaceConfig}
 use Rattle.history.specs.declared.asks.Event.{Event}
 use Rattle.history.specs.declared.replies.Refused.{Refused}
 use Rattle.history.specs.declared.replies.Refused.TheVariants.{HistoryFull, Full, OutOfMemory as NoMemory}
 use Rattle.history.specs.Limits.{limits, refusal}
-use Rattle.history.specs.Table.{places}
+use Rattle.history.specs.Table.{with_event, places}
 use Rattle.journal.specs.Grammar.{SpellsEvent}
 use Rattle.rmi_cli.specs.declared.outlines.ReplayFault.{ReplayFault}
 use Rattle.rmi_cli.specs.declared.outlines.ReplayFault.TheVariants.{BadLine, Refused as RefusedTurn, OutOfMemory}
@@ -28,7 +28,7 @@ WasBad config lines NoRoom = Unit {0}
 
 -- After the history h the event is taken, and leaves the history h2.
 abbrev pub IsTakenTo : SpaceConfig → List Event → Event → List Event → Type 0
-IsTakenTo config h e h2 = EventIsTaken config h e × (h2 ≡ h ++ e ∷ [])
+IsTakenTo config h e h2 = EventIsTaken config h e × (h2 ≡ with_event h e)
 
 -- Why the event is not taken after the history h; want of memory says nothing of it.
 abbrev pub Halts : SpaceConfig → List Event → Event → ReplayFault → Type 0

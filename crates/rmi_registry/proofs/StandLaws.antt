@@ -10,7 +10,6 @@ use Rattle.history.specs.declared.asks.Ask.{Ask}
 use Rattle.history.specs.declared.asks.Ask.TheVariants.{Bind, Rebind, Unbind}
 use Rattle.history.specs.declared.asks.Event.{Event}
 use Rattle.history.specs.declared.asks.SpaceConfig.{SpaceConfig}
-use Rattle.history.specs.declared.places.Place.{Place}
 use Rattle.history.specs.Lists.{option_any}
 use Rattle.history.specs.Names.{stands_for, names, names_of, is_named, is_name_of, changes_name, unbinds, name_begun, name_in, name_bound, object_bound, is_bind_of, is_unbind_of}
 use Rattle.history.specs.Places.{History, has}
@@ -116,12 +115,12 @@ bound-next config events e bs cs a h =
     let hist = places config events in
     let p = place_of config hist e in
     let push : places config (events ++ e ∷ []) ≡ p ∷ hist = places-push config events e in
-    let numbered : IsNumbered (p ∷ hist) = subst (λ (l : List Place). IsNumbered l) push (places-numbered config (events ++ e ∷ [])) in
+    let numbered : IsNumbered (p ∷ hist) = subst (λ (l : History). IsNumbered l) push (places-numbered config (events ++ e ∷ [])) in
     let next : AreBindings (p ∷ hist) cs = record {
       names = h.0 ∙ ap (λ l. filter (λ n. not (unbinds p n)) l ++ name_begun p) a.names ∙ sym (names-push p hist numbered);
       objects = λ n. h.1 n ∙ ap (λ o. if changes_name n p then object_bound p.event.ask else o) (a.objects n) ∙ sym (stands_for-push p hist n);
     } in
-    subst (λ (l : List Place). AreBindings l cs) (sym push) next
+    subst (λ (l : History). AreBindings l cs) (sym push) next
 
 -- What an ask, effective or not, whose name stood for an object or for nothing, makes of the bindings.
 abbrev Changed : Bool → Option ObjId → Ask → List Binding → List Binding → Type 0

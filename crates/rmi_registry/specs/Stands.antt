@@ -7,7 +7,7 @@ use Rattle.history.specs.declared.asks.Event.{Event}
 use Rattle.history.specs.declared.asks.SpaceConfig.{SpaceConfig}
 use Rattle.history.specs.Names.{stands_for, names, names_of, is_named, changes_name}
 use Rattle.history.specs.Places.{History}
-use Rattle.history.specs.Table.{is_effective, place_of, places}
+use Rattle.history.specs.Table.{with_event, is_effective, place_of, places}
 use Rattle.rmi_registry.specs.declared.binding.Binding.{Binding}
 use Rattle.rmi_registry.specs.Named.{object_of, names_in, count_of, rebound, without, IsRegistry}
 
@@ -31,7 +31,7 @@ NamesCount = (h : History) (bs : List Binding) → AreBindings h bs → IsRegist
 -- What the bindings are after an ask of this kind that is effective.
 abbrev pub After : SpaceConfig → List Event → Event → Ask → (List Binding → List Binding) → Type 0
 After config events e ask change = (bs : List Binding) → e.ask ≡ ask → is_effective config (places config events) e.by e.ask ≡ true →
-    AreBindings (places config events) bs → AreBindings (places config (events ++ e ∷ [])) (change bs)
+    AreBindings (places config events) bs → AreBindings (places config (with_event events e)) (change bs)
 
 -- A Bind puts its name behind the others.
 abbrev pub BindAdds : Type 0
@@ -52,4 +52,4 @@ UnbindTakes = (config : SpaceConfig) (events : List Event) (e : Event) (n : List
 abbrev pub OthersLeaveNames : Type 0
 OthersLeaveNames = (config : SpaceConfig) (events : List Event) (e : Event) (bs : List Binding) →
     ((n : List ℕ) → changes_name n (place_of config (places config events) e) ≡ false) →
-    AreBindings (places config events) bs → AreBindings (places config (events ++ e ∷ [])) bs
+    AreBindings (places config events) bs → AreBindings (places config (with_event events e)) bs

@@ -10,13 +10,12 @@ use Rattle.history.specs.declared.asks.SpaceConfig.{SpaceConfig}
 use Rattle.history.specs.declared.asks.Event.{Event}
 use Rattle.history.specs.declared.asks.Ask.{Ask}
 use Rattle.history.specs.declared.asks.Ask.TheVariants.{Open, Begin, Finish, Abandon, Dirty, Clean, Ack, Bind, Rebind, Unbind, Lookup, List as ListNames, Tick}
-use Rattle.history.specs.declared.places.Place.{Place}
 use Rattle.history.specs.declared.places.Exported.{Exported}
 use Rattle.history.specs.declared.places.Returned.{Returned}
 use Rattle.history.specs.Awaiting.{returned, return_uid, is_ack_of}
 use Rattle.history.specs.Limits.{is_begin, is_end}
 use Rattle.history.specs.Names.{name_in, stands_for}
-use Rattle.history.specs.Places.{has, now, id_at, exported_from, next}
+use Rattle.history.specs.Places.{History, has, now, id_at, exported_from, next}
 use Rattle.history.specs.Replies.{ids}
 use Rattle.history.specs.Running.{is_begin_of, is_end_of, running, running_calls}
 use Rattle.history.specs.Table.{is_effective, exports, lists, table, place_of, places}
@@ -44,7 +43,7 @@ use Rattle.export_table.proofs.StandLaws.{begun-row, count-push, ended-row, expo
 -- ---- the rows
 
 -- What the name in an ask stands for.
-abbrev pub stood_for : List Place → Ask → Option ObjId
+abbrev pub stood_for : History → Ask → Option ObjId
 stood_for h a = option_and_then (stands_for h) (name_in a)
 
 -- THE ROWS after an ask.
@@ -147,7 +146,7 @@ pub new-ids : (space : Uid) (k : ℕ) (pinned : Bool) (kinds : List ℕ) → ids
 new-ids space k pinned [] = refl
 new-ids space k pinned (kind ∷ kinds) = ap (λ l. id_at space k ∷ l) (new-ids space (k + 1) pinned kinds)
 
-pub live-same : (h : List Place) (objects : List Exported) (rows : List Export) → rows ≡ rows_of h objects → (os : List ObjId) → filter (has objects) os ≡ filter (is_exported rows) os
+pub live-same : (h : History) (objects : List Exported) (rows : List Export) → rows ≡ rows_of h objects → (os : List ObjId) → filter (has objects) os ≡ filter (is_exported rows) os
 live-same h objects rows r [] = refl
 live-same h objects rows r (o ∷ os) = rw (sym (exported-has h objects o) ∙ ap (λ l. is_exported l o) (sym r), live-same h objects rows r os) refl
 
@@ -155,7 +154,7 @@ whole : {X : Type 0} (xs : List X) → xs ++ [] ≡ xs
 whole xs = rw append-nil refl
 
 -- What an event returns: nothing, or references to these objects.
-pub returned-is : (config : SpaceConfig) (h : List Place) (e : Event) (rows : List Export) → rows ≡ rows_of h (table config h) →
+pub returned-is : (config : SpaceConfig) (h : History) (e : Event) (rows : List Export) → rows ≡ rows_of h (table config h) →
     returned (place_of config h e) ≡ flat_map (λ u. references u (returned_by config.uid (next h) rows (stood_for h e.ask) (is_effective config h e.by e.ask) e.ask)) (option_to_list (return_uid e.ask))
 unfolding place_of is_effective lists exports
 returned-is config h e rows r = go e.ask
@@ -187,7 +186,7 @@ returned-is config h e rows r = go e.ask
     go ListNames = refl
 
 -- The references that a return has.
-pub returned-with : (config : SpaceConfig) (h : List Place) (e : Event) (rows : List Export) (u : Uid) → return_uid e.ask ≡ Some u → rows ≡ rows_of h (table config h) →
+pub returned-with : (config : SpaceConfig) (h : History) (e : Event) (rows : List Export) (u : Uid) → return_uid e.ask ≡ Some u → rows ≡ rows_of h (table config h) →
     returned (place_of config h e) ≡ references u (returned_by config.uid (next h) rows (stood_for h e.ask) (is_effective config h e.by e.ask) e.ask)
 returned-with config h e rows u s r =
     returned-is config h e rows r
@@ -282,15 +281,15 @@ unfolding place_of
 runs-still config events e runs n r =
     runs-other caller_of object_of config events e runs (λ b o. rw n refl) (λ b o. rw n refl) (λ o. rw n refl) (λ o. rw n refl) (rw n refl) (rw n refl) r
 
-begin-there : (config : SpaceConfig) (h : List Place) (by : ℕ) (o : ObjId) → is_effective config h by (Begin o) ≡ true → has (table config h) o ≡ true
+begin-there : (config : SpaceConfig) (h : History) (by : ℕ) (o : ObjId) → is_effective config h by (Begin o) ≡ true → has (table config h) o ≡ true
 unfolding is_effective
 begin-there config h by o e = e
 
-abandon-runs : (config : SpaceConfig) (h : List Place) (by : ℕ) (o : ObjId) → is_effective config h by (Abandon o) ≡ true → 0 < running h by o
+abandon-runs : (config : SpaceConfig) (h : History) (by : ℕ) (o : ObjId) → is_effective config h by (Abandon o) ≡ true → 0 < running h by o
 unfolding is_effective
 abandon-runs config h by o e = ltb-true 0 (running h by o) e
 
-finish-runs : (config : SpaceConfig) (h : List Place) (by : ℕ) (o : ObjId) (made : List ℕ) (listed : List ObjId) (u : Uid) → is_effective config h by (Finish o made listed u) ≡ true → 0 < running h by o
+finish-runs : (config : SpaceConfig) (h : History) (by : ℕ) (o : ObjId) (made : List ℕ) (listed : List ObjId) (u : Uid) → is_effective config h by (Finish o made listed u) ≡ true → 0 < running h by o
 unfolding is_effective
 finish-runs config h by o made listed u e = ltb-true 0 (running h by o) e
 

@@ -15,7 +15,6 @@ use Rattle.history.specs.declared.calls.Call.{Call}
 use Rattle.history.specs.declared.calls.CallKind.TheVariants.{Weak, Strong}
 use Rattle.history.specs.declared.limits.TheConstants.{MAX_EXPORTS, MAX_NAMES, MAX_NAME_UNITS}
 use Rattle.history.specs.declared.places.Exported.{Exported}
-use Rattle.history.specs.declared.places.Place.{Place}
 use Rattle.history.specs.declared.places.Withdrawal.{Withdrawal}
 use Rattle.history.specs.declared.replies.Refused.{Refused}
 use Rattle.history.specs.declared.replies.Refused.TheVariants.{HistoryFull, Full, OutOfMemory}
@@ -26,7 +25,7 @@ use Rattle.history.specs.Limits.{limits, refusal}
 use Rattle.history.specs.Steps.{Step}
 use Rattle.history.specs.declared.replies.Reply.{Reply}
 use Rattle.history.specs.declared.replies.Reply.TheVariants.{Started, NoObject, Finished, NotRunning, Done, Bound, AlreadyBound, Unbound, NotBound}
-use Rattle.history.specs.Places.{exported_from, has, kind_of, now, next}
+use Rattle.history.specs.Places.{History, exported_from, has, kind_of, now, next}
 use Rattle.history.specs.Names.{names, stands_for}
 use Rattle.history.specs.Replies.{ids, reply, reply_found}
 use Rattle.history.specs.Running.{running}
@@ -47,7 +46,7 @@ use Rattle.space.proofs.Quiet.{exported_from-length}
 use Rattle.space.specs.Ports.{IsReplyTo, MayFill, IsRefusalOf, IsAnswerTo}
 
 -- A reply is one of the ask's.
-pub reply-row : (config : SpaceConfig) (h : List Place) (e : Event) → HasDurations config → length (names h) ≤ MAX_NAMES → AllByRecursion (λ n. length n ≤ MAX_NAME_UNITS) (names h) → IsReplyTo (λ o. 0 < running h e.by o) e.ask (reply config h e)
+pub reply-row : (config : SpaceConfig) (h : History) (e : Event) → HasDurations config → length (names h) ≤ MAX_NAMES → AllByRecursion (λ n. length n ≤ MAX_NAME_UNITS) (names h) → IsReplyTo (λ o. 0 < running h e.by o) e.ask (reply config h e)
 unfolding reply place_of exports is_effective
 reply-row config h e d few short = go e.ask
   where

@@ -14,9 +14,8 @@ use Rattle.history.specs.declared.limits.TheConstants.{MAX_EXPORTS, MAX_AWAITING
 use Rattle.history.specs.declared.places.Withdrawal.{Withdrawal}
 use Rattle.history.specs.declared.replies.Refused.{Refused}
 use Rattle.history.specs.declared.replies.Refused.TheVariants.{HistoryFull, Full}
-use Rattle.history.specs.declared.places.Place.{Place}
 use Rattle.history.specs.Names.{name_in, object_bound, stands_for}
-use Rattle.history.specs.Places.{now, id_at, next}
+use Rattle.history.specs.Places.{History, now, id_at, next}
 use Rattle.history.specs.Limits.{units_of, is_begin, is_end}
 use Rattle.history.specs.Running.{running, running_calls}
 use Rattle.history.specs.Table.{is_effective, table, places}
@@ -164,7 +163,7 @@ lookup-fits config events e leases exports runs withdrawn told opened used momen
 -- ---- names
 
 -- What the bindings have for the name in an ask is what the name stands for.
-pub stood-is : (h : List Place) (bindings : List Binding) (a : Ask) → AreBindings h bindings → option_and_then (standing_object bindings) (name_in a) ≡ stood_for h a
+pub stood-is : (h : History) (bindings : List Binding) (a : Ask) → AreBindings h bindings → option_and_then (standing_object bindings) (name_in a) ≡ stood_for h a
 stood-is h bindings a s = go (name_in a)
   where
     go : (n : Option (List ℕ)) → option_and_then (standing_object bindings) n ≡ option_and_then (stands_for h) n

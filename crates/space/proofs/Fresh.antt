@@ -2,14 +2,13 @@
 use Rattle.std.proofs.Common.{◌≡◌, List, [], length, refl, ap, sym, subst, arith}
 use Rattle.history.specs.declared.asks.SpaceConfig.{SpaceConfig}
 use Rattle.history.specs.declared.asks.Event.{Event}
-use Rattle.history.specs.declared.places.Place.{Place}
 use Rattle.history.specs.declared.places.Withdrawal.{Withdrawal}
 use Rattle.history.specs.Awaiting.{awaiting, references}
 use Rattle.history.specs.LeaseCalls.{lease_calls}
 use Rattle.history.specs.Leases.{clients, clients_with_time_left, pairs_with}
 use Rattle.history.specs.Limits.{reserved}
 use Rattle.history.specs.Names.{names}
-use Rattle.history.specs.Places.{now, next}
+use Rattle.history.specs.Places.{History, now, next}
 use Rattle.history.specs.Table.{places}
 use Rattle.history.proofs.StepLaws.{IsLegal-none}
 use Rattle.history.proofs.GoneLaws.{withdrawals-none, pending-none}
@@ -60,7 +59,7 @@ keeps-nothing config leases exports events runs withdrawn d s x r v w =
     let X : ExportTable → Type 0 = λ t. Keeps config [] leases t runs withdrawn 0 0 0 0 in
     let R : List Run → Type 0 = λ rs. Keeps config [] leases (nothing_exported config) rs withdrawn 0 0 0 0 in
     let W : List Withdrawal → Type 0 = λ ws. Keeps config [] leases (nothing_exported config) [] ws 0 0 0 0 in
-    let S : List Place → Type 0 = λ g. Stands config g leases (nothing_exported config) [] [] 0 0 0 0 in
+    let S : History → Type 0 = λ g. Stands config g leases (nothing_exported config) [] [] 0 0 0 0 in
     subst P (sym v) (subst X (sym x) (subst R (sym r) (subst W (sym w) (record {
       durations = d;
       stands = subst S (sym (places-none config)) (stands-nothing config leases s);
@@ -73,6 +72,6 @@ keeps-nothing config leases exports events runs withdrawn d s x r v w =
 pub no-bindings : (config : SpaceConfig) (bindings : List Binding) (events : List Event) → bindings ≡ [] → events ≡ [] → AreBindings (places config events) bindings
 no-bindings config bindings events b e =
     let P : List Event → Type 0 = λ es. AreBindings (places config es) bindings in
-    let H : List Place → Type 0 = λ h. AreBindings h bindings in
+    let H : History → Type 0 = λ h. AreBindings h bindings in
     let B : List Binding → Type 0 = λ bs. AreBindings [] bs in
     subst P (sym e) (subst H (sym (places-none config)) (subst B (sym b) none-bound))

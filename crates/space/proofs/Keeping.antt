@@ -20,7 +20,7 @@ use Rattle.history.specs.declared.replies.Turn.{Turn}
 use Rattle.history.specs.LeaseCalls.{call_with, lease_calls}
 use Rattle.history.specs.Leases.{is_held}
 use Rattle.history.specs.Limits.{units_of, limits, refusal}
-use Rattle.history.specs.Places.{has, now, exported_from, next}
+use Rattle.history.specs.Places.{History, has, now, exported_from, next}
 use Rattle.history.specs.Names.{names, stands_for}
 use Rattle.history.specs.Replies.{reply, reply_found, gone, ids, is_abandon}
 use Rattle.history.specs.Steps.{turn_of, answer_with, history_with, Step}
@@ -57,7 +57,7 @@ use Rattle.export_table.proofs.WaitLaws.{numbered-place}
 
 -- ---- lists
 
-filter-rows : (h : List Place) (p : Export → Bool) (q : Exported → Bool) (xs : List Exported) → AllByRecursion (λ x. p (row_of h x) ≡ q x) xs → filter p (rows_of h xs) ≡ rows_of h (filter q xs)
+filter-rows : (h : History) (p : Export → Bool) (q : Exported → Bool) (xs : List Exported) → AllByRecursion (λ x. p (row_of h x) ≡ q x) xs → filter p (rows_of h xs) ≡ rows_of h (filter q xs)
 filter-rows h p q [] e = refl
 filter-rows h p q (x ∷ xs) e = go (p (row_of h x)) (q x) e.0 (filter-rows h p q xs e.1)
   where
@@ -67,7 +67,7 @@ filter-rows h p q (x ∷ xs) e = go (p (row_of h x)) (q x) e.0 (filter-rows h p 
     go true false e r = absurd (cc)
     go false true e r = absurd (cc)
 
-gone-rows : (h : List Place) (p : Export → Bool) (q : Exported → Bool) (xs : List Exported) → AllByRecursion (λ x. p (row_of h x) ≡ q x) xs →
+gone-rows : (h : History) (p : Export → Bool) (q : Exported → Bool) (xs : List Exported) → AllByRecursion (λ x. p (row_of h x) ≡ q x) xs →
     map (λ (r : Export). r.id) (filter (λ r. not (p r)) (rows_of h xs)) ≡ ids (filter (λ x. not (q x)) xs)
 gone-rows h p q [] e = refl
 gone-rows h p q (x ∷ xs) e = go (p (row_of h x)) (q x) e.0 (gone-rows h p q xs e.1)
@@ -195,7 +195,7 @@ left config events e t = record t {
 abbrev pub withdrawn_then : SpaceConfig → List Event → Event → ExportTable → List Withdrawal → List Withdrawal
 withdrawn_then config events e t withdrawn = withdrawn ++ map (withdrawal_at (length events)) (going_now config events e t)
 
-next-push : (p : Place) (h : List Place) → next (p ∷ h) ≡ next h + length p.exported_here
+next-push : (p : Place) (h : History) → next (p ∷ h) ≡ next h + length p.exported_here
 unfolding next
 next-push p h = refl
 
@@ -260,7 +260,7 @@ pub keeps-push : (config : SpaceConfig) (events : List Event) (e : Event) (lease
     Keeps config (events ++ e ∷ []) leases2 (left config events e t) runs1 (withdrawn_then config events e t withdrawn)
     (told_after told (length (withdrawn_then config events e t withdrawn)) e.ask) (opened + opens effective e.ask) (used + units_of e.ask) (max e.moment (now (places config events)))
 keeps-push config events e leases leases1 leases2 exports t runs runs1 withdrawn told opened used moment effective f k early r a sp ac ad dropped =
-    let S : List Place → Type 0 = λ g. Stands config g leases2 (left config events e t) runs1 (withdrawn_then config events e t withdrawn)
+    let S : History → Type 0 = λ g. Stands config g leases2 (left config events e t) runs1 (withdrawn_then config events e t withdrawn)
     (told_after told (length (withdrawn_then config events e t withdrawn)) e.ask) (opened + opens effective e.ask) (used + units_of e.ask) (max e.moment (now (places config events))) in
     let longer : length (events ++ e ∷ []) ≡ length events + 1 = length-append events (e ∷ []) in
     record {
@@ -289,7 +289,7 @@ pub rows-has : (config : SpaceConfig) (events : List Event) (leases : LeaseTable
     (o : ObjId) → is_exported exports.rows o ≡ has (table config (places config events)) o
 rows-has config events leases exports runs withdrawn told opened used moment k o = ap (λ l. is_exported l o) k.stands.rows_are ∙ exported-has (places config events) (table config (places config events)) o
 
-rows-length : (h : List Place) (xs : List Exported) → length (rows_of h xs) ≡ length xs
+rows-length : (h : History) (xs : List Exported) → length (rows_of h xs) ≡ length xs
 rows-length h [] = refl
 rows-length h (x ∷ xs) = ap suc (rows-length h xs)
 
@@ -336,7 +336,7 @@ found-some (x ∷ objects) o = go (same_id x.id o) (found-some objects o)
     go true e = refl
     go false e = e
 
-reply-is : (config : SpaceConfig) (h : List Place) (e : Event) (opened : ℕ) (rows : List Export) (effective : Bool) → opened ≡ next h → rows ≡ rows_of h (table config h) → effective ≡ is_effective config h e.by e.ask →
+reply-is : (config : SpaceConfig) (h : History) (e : Event) (opened : ℕ) (rows : List Export) (effective : Bool) → opened ≡ next h → rows ≡ rows_of h (table config h) → effective ≡ is_effective config h e.by e.ask →
     reply config h e ≡ reply_at config opened rows (names h) (stood_for h e.ask) effective e.ask
 unfolding reply place_of is_effective exports
 reply-is config h e opened rows effective k rs f = go e.ask ∙ ap (λ n. reply_at config n (rows_of h (table config h)) (names h) (stood_for h e.ask) (is_effective config h e.by e.ask) e.ask) (sym k)

@@ -14,7 +14,6 @@ use Rattle.history.specs.declared.asks.Ask.TheVariants.{Dirty, Clean}
 use Rattle.history.specs.declared.calls.Call.{Call}
 use Rattle.history.specs.declared.calls.Pair.{Pair}
 use Rattle.history.specs.declared.limits.TheConstants.{MAX_EXPORTS, MAX_AWAITING, MAX_CLIENTS, MAX_PAIRS, MAX_NAMES, MAX_UNITS}
-use Rattle.history.specs.declared.places.Place.{Place}
 use Rattle.history.specs.declared.places.Exported.{Exported}
 use Rattle.history.specs.declared.places.Returned.{Returned}
 use Rattle.history.specs.declared.replies.Refused.TheVariants.{HistoryFull, Full}
@@ -24,7 +23,7 @@ use Rattle.history.specs.Leases.{is_dirty, calls_of, clients_with_time_left, is_
 use Rattle.history.specs.Limits.{units_of, units, starts, ends, reserved, limits, exports_with_event, awaiting_with_event, lease_call, clients_with_event, pairs_with_event, names_with_event, is_full, refusal}
 use Rattle.history.specs.Lists.{distinct, AllOnce}
 use Rattle.history.specs.Names.{name_bound, names}
-use Rattle.history.specs.Places.{has, now, added}
+use Rattle.history.specs.Places.{History, has, now, added}
 use Rattle.history.specs.Replies.{ids}
 use Rattle.history.specs.Table.{is_kept, table, place_of, places}
 use Rattle.history.proofs.AlikeCalls.{AllAlike-append, AllAlike-self, is_remembered-alike, calls_of-alike}
@@ -48,7 +47,7 @@ use Rattle.dgc_server.proofs.Steps.{earlier}
 
 -- ---- an event that is not refused
 
-pub record IsTaken (config : SpaceConfig) (h : List Place) (e : Event) : Type 0 where
+pub record IsTaken (config : SpaceConfig) (h : History) (e : Event) : Type 0 where
   pub history : is_full MAX_UNITS config h e ≡ false
   pub exports : nat_lt MAX_EXPORTS (exports_with_event config h e) ≡ false
   pub awaits : nat_lt MAX_AWAITING (awaiting_with_event config h e) ≡ false
@@ -67,7 +66,7 @@ unchained false false false false true f h = absurd (cc)
 unchained false false false false false true h = absurd (cc)
 unchained false false false false false false h = (refl, refl, refl, refl, refl, refl)
 
-pub taken-all : (config : SpaceConfig) (h : List Place) (e : Event) → refusal limits config h e ≡ None → IsTaken config h e
+pub taken-all : (config : SpaceConfig) (h : History) (e : Event) → refusal limits config h e ≡ None → IsTaken config h e
 unfolding refusal
 taken-all config h e r =
     let all = unchained (is_full MAX_UNITS config h e) (nat_lt MAX_EXPORTS (exports_with_event config h e)) (nat_lt MAX_AWAITING (awaiting_with_event config h e)) (nat_lt MAX_CLIENTS (clients_with_event config h e)) (nat_lt MAX_PAIRS (pairs_with_event config h e)) (nat_lt MAX_NAMES (names_with_event config h e)) r in
@@ -148,14 +147,14 @@ awaiting-next config events e =
         ∙ sym (awaits-passed config.ack_ms (now (place_of config (places config events) e ∷ places config events)) (place_of config (places config events) e) (places config events) r s t) ∙ a)
 
 -- As time passes no more of them await.
-pub awaiting-later : (ack t u : ℕ) (h : List Place) → t ≤ u → length (awaiting ack u h) ≤ length (awaiting ack t h)
+pub awaiting-later : (ack t u : ℕ) (h : History) → t ≤ u → length (awaiting ack u h) ≤ length (awaiting ack t h)
 awaiting-later ack t u h le =
     length-fewer same_returned returned-equality (awaiting ack u h) (awaiting ack t h) (awaiting-once ack u h)
     (λ r a. awaiting-member ack t h r ∙ awaits-until ack t h r ∙ earlier t u (until_of ack h r) le (sym (awaits-until ack u h r) ∙ sym (awaiting-member ack u h r) ∙ a))
 
 -- ---- clients
 
-pub clients-next : (config : SpaceConfig) (h : List Place) (e : Event) →
+pub clients-next : (config : SpaceConfig) (h : History) (e : Event) →
     length (distinct same_client (clients_with_time_left config.lease_ms (now (place_of config h e ∷ h)) (lease_calls (place_of config h e ∷ h)))) ≤ clients_with_event config h e
 unfolding clients_with_event
 clients-next config h e =
@@ -250,7 +249,7 @@ pub pairs-next : (config : SpaceConfig) (events : List Event) (e : Event) →
     ≤ pairs_with_event config (places config events) e
 unfolding pairs_with_event
 pairs-next config events e =
-    let h' : List Place = place_of config (places config events) e ∷ places config events in
+    let h' : History = place_of config (places config events) e ∷ places config events in
     let fewer = distinct-fewer same_pair pair-equality
     (pairs_with config.lease_ms (max e.moment (now (places config events))) (call_with (has (added (places config events))) (max e.moment (now (places config events))) e.ask ++ lease_calls (places config events)) (ids (table config (place_of config (places config events) e ∷ places config events))))
     (pairs_with config.lease_ms (max e.moment (now (places config events))) (lease_calls (places config events)) (ids (table config (places config events))) ++ flat_map (new_pairs config.lease_ms (lease_calls (places config events))) (lease_call config (places config events) e))
@@ -296,7 +295,7 @@ names-next config events e =
     (sym (list_any-append (same_bytes n) (filter (λ k. not (unbinds (place_of config (places config events) e) k)) (names (places config events))) (name_begun (place_of config (places config events) e)))
     ∙ ap (list_any (same_bytes n)) (sym (names-push (place_of config (places config events) e) (places config events) (numbered-place config events e))) ∙ h)))
   where
-    Once : List Place → Type 0
+    Once : History → Type 0
     Once h = AllOnce same_bytes (names h)
 
     filtered : (test : List ℕ → Bool) (n : List ℕ) (ns : List (List ℕ)) → list_any (same_bytes n) (filter test ns) ≡ true → list_any (same_bytes n) ns ≡ true

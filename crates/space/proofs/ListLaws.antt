@@ -7,12 +7,12 @@ use Rattle.object_ids.specs.Same.{same_id}
 use Rattle.history.specs.declared.asks.SpaceConfig.{SpaceConfig}
 use Rattle.history.specs.declared.asks.Event.{Event}
 use Rattle.history.specs.declared.places.Exported.{Exported}
-use Rattle.history.specs.declared.places.Place.{Place}
 use Rattle.history.specs.declared.replies.Refused.{Refused}
 use Rattle.history.specs.declared.replies.Turn.{Turn}
 use Rattle.history.specs.Limits.{limits, refusal}
 use Rattle.history.specs.Steps.{answer_with, history_with, Step, Steps}
 use Rattle.history.specs.Table.{places, table}
+use Rattle.history.specs.Places.{History}
 use Rattle.history.proofs.StepLaws.{Steps-append}
 use Rattle.export_table.specs.declared.rows.Export.{Export}
 use Rattle.export_table.specs.declared.rows.ExportRow.{ExportRow}
@@ -67,7 +67,7 @@ takes-next config k h events turns turns2 e all left h2 h3 turn same first after
 -- ---- exported objects
 
 -- An object's kind, by the export table.
-kind-among : (h : List Place) (objects : List Exported) (o : ObjId) → kind_of (rows_of h objects) o ≡ kind_among objects o
+kind-among : (h : History) (objects : List Exported) (o : ObjId) → kind_of (rows_of h objects) o ≡ kind_among objects o
 kind-among h [] o = refl
 kind-among h (x ∷ objects) o = go (same_id x.id o) (kind-among h objects o)
   where
@@ -78,7 +78,7 @@ kind-among h (x ∷ objects) o = go (same_id x.id o) (kind-among h objects o)
     go false e = e
 
 -- The objects with their kinds, by the rows of the export table.
-kinds-are : (h : List Place) (now : ℕ) (waits : List Wait) (objects : List Exported) → map row_kind (map (row_at now waits) (rows_of h objects)) ≡ map with_kind objects
+kinds-are : (h : History) (now : ℕ) (waits : List Wait) (objects : List Exported) → map row_kind (map (row_at now waits) (rows_of h objects)) ≡ map with_kind objects
 kinds-are h now waits [] = refl
 kinds-are h now waits (x ∷ objects) = ap (λ l. with_kind x ∷ l) (kinds-are h now waits objects)
 

@@ -12,11 +12,10 @@ use Rattle.history.specs.declared.asks.Event.{Event}
 use Rattle.history.specs.declared.asks.Ask.{Ask}
 use Rattle.history.specs.declared.asks.Ask.TheVariants.{Dirty, Clean}
 use Rattle.history.specs.declared.calls.Call.{Call}
-use Rattle.history.specs.declared.places.Place.{Place}
 use Rattle.history.specs.declared.places.Exported.{Exported}
 use Rattle.history.specs.LeaseCalls.{call_with, lease_calls}
 use Rattle.history.specs.Leases.{is_naming}
-use Rattle.history.specs.Places.{has, now, added}
+use Rattle.history.specs.Places.{History, has, now, added}
 use Rattle.history.specs.Replies.{ids}
 use Rattle.history.specs.Table.{place_of}
 use Rattle.history.proofs.ListLemmas.{every-append, every-weaker, list_any-map, list_any-same}
@@ -47,7 +46,7 @@ names-more objects more calls e =
     (λ y h. list_any-append (λ (z : Exported). same_id z.id y) objects more ∙ or_left (has objects y) (has more y) h) x.objects n) calls e
 
 -- THE CALLS OF A HISTORY name only objects that it exported.
-pub calls-names : (h : List Place) → AllByRecursion (NamesOnly (added h)) (lease_calls h)
+pub calls-names : (h : History) → AllByRecursion (NamesOnly (added h)) (lease_calls h)
 unfolding added lease_calls
 calls-names [] = tt
 calls-names (p ∷ h) =
@@ -84,6 +83,6 @@ live-same objects (x ∷ calls) e = ap (λ l. live_call objects x ∷ l) (live-s
     all (y ∷ ys) e = rw (e.0, all ys e.1) refl
 
 -- One more event's call names the objects that were exported before it.
-pub lease_calls-push : (config : SpaceConfig) (h : List Place) (e : Event) → lease_calls (place_of config h e ∷ h) ≡ call_with (has (added h)) (max e.moment (now h)) e.ask ++ lease_calls h
+pub lease_calls-push : (config : SpaceConfig) (h : History) (e : Event) → lease_calls (place_of config h e ∷ h) ≡ call_with (has (added h)) (max e.moment (now h)) e.ask ++ lease_calls h
 unfolding lease_calls place_of
 lease_calls-push config h e = refl

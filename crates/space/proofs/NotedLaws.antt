@@ -7,14 +7,13 @@ use Rattle.history.specs.declared.asks.SpaceConfig.{SpaceConfig}
 use Rattle.history.specs.declared.asks.Event.{Event}
 use Rattle.history.specs.declared.asks.Ask.{Ask}
 use Rattle.history.specs.declared.asks.Ask.TheVariants.{Open, Begin, Finish, Abandon, Dirty, Clean, Ack, Bind, Rebind, Unbind, Lookup, List as ListNames, Tick}
-use Rattle.history.specs.declared.places.Place.{Place}
 use Rattle.history.specs.declared.places.Exported.{Exported}
 use Rattle.history.specs.declared.replies.Refused.{Refused}
 use Rattle.history.specs.declared.replies.Refused.TheVariants.{OutOfMemory}
 use Rattle.history.specs.declared.replies.Reply.TheVariants.{Started, NoObject, Finished, NotRunning, Done, Bound, AlreadyBound, Unbound, NotBound, Names}
 use Rattle.history.specs.declared.replies.Turn.{Turn}
 use Rattle.history.specs.Limits.{limits, refusal}
-use Rattle.history.specs.Places.{exported_from, has, kind_of, next}
+use Rattle.history.specs.Places.{History, exported_from, has, kind_of, next}
 use Rattle.history.specs.Names.{names, stands_for}
 use Rattle.history.specs.Replies.{ids, reply, reply_found}
 use Rattle.history.specs.Steps.{turn_of, answer_with, history_with, Step}
@@ -46,7 +45,7 @@ refused-turn config h h2 e refused (inr s) = (let same : refused ≡ OutOfMemory
 -- ---- what a turn tells
 
 -- A reply has no more identifiers than the return makes objects.
-reply-ids : (config : SpaceConfig) (h : List Place) (e : Event) (os : List ObjId) → reply config h e ≡ Finished os → length os ≤ made_by e.ask
+reply-ids : (config : SpaceConfig) (h : History) (e : Event) (os : List ObjId) → reply config h e ≡ Finished os → length os ≤ made_by e.ask
 unfolding reply place_of exports
 reply-ids config h e os s = go e.ask s
   where
@@ -102,7 +101,7 @@ reply-ids config h e os s = go e.ask s
     go ListNames s = absurd (cc)
 
 -- It has names only where they are asked for, and then those of the history.
-reply-names : (config : SpaceConfig) (h : List Place) (e : Event) (ns : List (List ℕ)) → reply config h e ≡ Names ns → (e.ask ≡ ListNames) × (names h ≡ ns)
+reply-names : (config : SpaceConfig) (h : History) (e : Event) (ns : List (List ℕ)) → reply config h e ≡ Names ns → (e.ask ≡ ListNames) × (names h ≡ ns)
 unfolding reply place_of exports
 reply-names config h e ns s = go e.ask refl s
   where

@@ -20,7 +20,7 @@ use Rattle.history.specs.LeaseCalls.{lease_calls}
 use Rattle.history.specs.Leases.{is_held}
 use Rattle.history.specs.Lists.{option_any}
 use Rattle.history.specs.Names.{stands_for, names, is_name_of, is_named}
-use Rattle.history.specs.Places.{has, now}
+use Rattle.history.specs.Places.{History, has, now}
 use Rattle.history.specs.Running.{running}
 use Rattle.history.specs.Table.{is_pinned, is_kept, table, is_effective, exports, lists, place_of, places}
 use Rattle.history.proofs.AwaitingLaws.{returned-equality, awaits-acknowledged, awaits-passed, awaits-none, awaiting-member}
@@ -56,7 +56,7 @@ named-there config events o h = go (names (places config events)) h
 
 -- ---- references await of objects of the table
 
-kept-awaited : (config : SpaceConfig) (h : List Place) (x : Exported) → is_awaited config.ack_ms (now h) h x.id ≡ true → is_kept config h x ≡ true
+kept-awaited : (config : SpaceConfig) (h : History) (x : Exported) → is_awaited config.ack_ms (now h) h x.id ≡ true → is_kept config h x ≡ true
 unfolding is_kept
 kept-awaited config h x a = rw a (go (is_pinned h x) (is_held config.lease_ms (now h) (lease_calls h) x.id))
   where
@@ -64,7 +64,7 @@ kept-awaited config h x a = rw a (go (is_pinned h x) (is_held config.lease_ms (n
     go true b = refl
     go false b = refl
 
-awaited-by : (ack t : ℕ) (h : List Place) (r : Returned) → awaits ack t h r ≡ true → is_awaited ack t h r.object ≡ true
+awaited-by : (ack t : ℕ) (h : History) (r : Returned) → awaits ack t h r ≡ true → is_awaited ack t h r.object ≡ true
 unfolding is_awaited
 awaited-by ack t h r a = any-at same_returned returned-equality.equal (λ s. same_id s.object r.object) r (awaiting ack t h) (awaiting-member ack t h r ∙ a) (same_id-self r.object)
 
@@ -138,7 +138,7 @@ returned-listed p r t = go (return_uid p.event.ask) t
             right true = refl
             right false = refl
 
-pub awaits-earlier : (ack t u : ℕ) (h : List Place) (r : Returned) → t ≤ u → awaits ack u h r ≡ true → awaits ack t h r ≡ true
+pub awaits-earlier : (ack t u : ℕ) (h : History) (r : Returned) → t ≤ u → awaits ack u h r ≡ true → awaits ack t h r ≡ true
 awaits-earlier ack t u h r le a = awaits-until ack t h r ∙ earlier t u (until_of ack h r) le (sym (awaits-until ack u h r) ∙ a)
 
 pub awaited-there : (config : SpaceConfig) (events : List Event) (r : Returned) → awaits config.ack_ms (now (places config events)) (places config events) r ≡ true → has (table config (places config events)) r.object ≡ true

@@ -6,9 +6,8 @@ use Rattle.history.specs.declared.asks.SpaceConfig.{SpaceConfig}
 use Rattle.history.specs.declared.asks.Event.{Event}
 use Rattle.history.specs.declared.asks.Ask.{Ask}
 use Rattle.history.specs.declared.asks.Ask.TheVariants.{Open, Begin, Finish, Abandon, Dirty, Clean, Ack, Bind, Rebind, Unbind, Lookup, List as ListNames, Tick}
-use Rattle.history.specs.declared.places.Place.{Place}
 use Rattle.history.specs.declared.places.Exported.{Exported}
-use Rattle.history.specs.Places.{exported_from, next}
+use Rattle.history.specs.Places.{History, exported_from, next}
 use Rattle.history.specs.Table.{is_effective, exports, place_of}
 use Rattle.space.specs.Acts.{opens}
 
@@ -32,7 +31,7 @@ none-either : {X : Type 0} (b : Bool) → ◌≡◌ {A = List X} (if b then [] e
 none-either true = refl
 none-either false = refl
 
-pub adds-are : (config : SpaceConfig) (h : List Place) (e : Event) → (place_of config h e).exported_here ≡ opened_by config (next h) (is_effective config h e.by e.ask) e.ask
+pub adds-are : (config : SpaceConfig) (h : History) (e : Event) → (place_of config h e).exported_here ≡ opened_by config (next h) (is_effective config h e.by e.ask) e.ask
 unfolding place_of is_effective exports
 adds-are config h e = go e.ask
   where
@@ -52,5 +51,5 @@ adds-are config h e = go e.ask
     go ListNames = refl
 
 -- How many they are.
-pub adds-length : (config : SpaceConfig) (h : List Place) (e : Event) → length (place_of config h e).exported_here ≡ opens (is_effective config h e.by e.ask) e.ask
+pub adds-length : (config : SpaceConfig) (h : History) (e : Event) → length (place_of config h e).exported_here ≡ opens (is_effective config h e.by e.ask) e.ask
 adds-length config h e = ap length (adds-are config h e) ∙ opened-length config (next h) (is_effective config h e.by e.ask) e.ask

@@ -13,7 +13,6 @@ use Rattle.history.specs.declared.asks.Event.{Event}
 use Rattle.history.specs.declared.asks.Ask.{Ask}
 use Rattle.history.specs.declared.asks.Ask.TheVariants.{Dirty, Clean, Bind, Rebind}
 use Rattle.history.specs.declared.limits.TheConstants.{MAX_EXPORTS, MAX_AWAITING, MAX_CLIENTS, MAX_PAIRS, MAX_NAMES, MAX_UNITS}
-use Rattle.history.specs.declared.places.Place.{Place}
 use Rattle.history.specs.declared.replies.Refused.{Refused}
 use Rattle.history.specs.declared.replies.Refused.TheVariants.{HistoryFull, Full}
 use Rattle.history.specs.Awaiting.{same_returned, returned, awaiting}
@@ -22,7 +21,7 @@ use Rattle.history.specs.Leases.{clients_with_time_left, same_pair, pairs_with}
 use Rattle.history.specs.Limits.{units_of, units, reserved, is_begin, is_end, limits, exports_with_event, awaiting_with_event, lease_call, clients_with_event, pairs_with_event, names_with_event, is_full, refusal}
 use Rattle.history.specs.Lists.{distinct, AllOnce}
 use Rattle.history.specs.Names.{name_bound, names, stands_for}
-use Rattle.history.specs.Places.{has, now}
+use Rattle.history.specs.Places.{History, has, now}
 use Rattle.history.specs.Replies.{ids}
 use Rattle.history.specs.Table.{is_effective, table, place_of, places}
 use Rattle.history.proofs.AwaitingLaws.{returned-equality, awaiting-member}
@@ -40,13 +39,13 @@ use Rattle.export_table.proofs.WaitLaws.{count-awaiting}
 
 -- ---- the history, and the exported objects
 
-pub full-is : (limit : ℕ) (config : SpaceConfig) (h : List Place) (e : Event) →
+pub full-is : (limit : ℕ) (config : SpaceConfig) (h : History) (e : Event) →
     is_full limit config h e
     ≡ nat_lt (limit + (if is_effective config h e.by e.ask && is_end e.ask then 1 else 0)) (units h + reserved h + units_of e.ask + (if is_effective config h e.by e.ask && is_begin e.ask then 1 else 0))
 unfolding is_full place_of
 full-is limit config h e = refl
 
-pub exports-is : (config : SpaceConfig) (h : List Place) (e : Event) → exports_with_event config h e ≡ length (table config h) + opens (is_effective config h e.by e.ask) e.ask
+pub exports-is : (config : SpaceConfig) (h : History) (e : Event) → exports_with_event config h e ≡ length (table config h) + opens (is_effective config h e.by e.ask) e.ask
 unfolding exports_with_event
 exports-is config h e = ap (λ n. length (table config h) + n) (adds-length config h e)
 
@@ -55,7 +54,7 @@ exports-is config h e = ap (λ n. length (table config h) + n) (adds-length conf
 none-more : {X : Type 0} (xs : List X) → xs ++ [] ≡ xs
 none-more xs = rw append-nil refl
 
-pub awaiting-few : (config : SpaceConfig) (h : List Place) (e : Event) → returned (place_of config h e) ≡ [] → IsWithin config h → awaiting_with_event config h e ≤ MAX_AWAITING
+pub awaiting-few : (config : SpaceConfig) (h : History) (e : Event) → returned (place_of config h e) ≡ [] → IsWithin config h → awaiting_with_event config h e ≤ MAX_AWAITING
 unfolding awaiting_with_event
 awaiting-few config h e b w =
     let moment = moment-place_of config h e in
@@ -142,14 +141,14 @@ names-refused config events e few = go (is_effective config (places config event
 -- ---- the lease call, whatever is asked
 
 -- Where no call comes, the clients with time left and the pairs are few enough.
-clients-few : (config : SpaceConfig) (h : List Place) (e : Event) → IsWithin config h →
+clients-few : (config : SpaceConfig) (h : History) (e : Event) → IsWithin config h →
     length (distinct same_client (clients_with_time_left config.lease_ms (max e.moment (now h)) (lease_calls h) ++ [])) ≤ MAX_CLIENTS
 clients-few config h e w =
     let fewer = fewer-left config.lease_ms (now h) (max e.moment (now h)) (lease_calls h) (omega arith) in
     let same = ap (λ l. length (distinct same_client l)) (none-more (clients_with_time_left config.lease_ms (max e.moment (now h)) (lease_calls h))) in
     let few = w.clients in omega (arith, fewer, same, few)
 
-pairs-few : (config : SpaceConfig) (h : List Place) (e : Event) → IsWithin config h →
+pairs-few : (config : SpaceConfig) (h : History) (e : Event) → IsWithin config h →
     length (distinct same_pair (pairs_with config.lease_ms (max e.moment (now h)) (lease_calls h) (ids (table config h)) ++ [])) ≤ MAX_PAIRS
 pairs-few config h e w =
     let fewer = pairs-later config.lease_ms (now h) (max e.moment (now h)) (lease_calls h) (ids (table config h)) (omega arith) in
@@ -166,7 +165,7 @@ only-pairs true b e = absurd (cc)
 only-pairs false b e = refl
 
 -- THE LEASE CALL is refused exactly as a table of the live calls refuses it.
-pub call-is : (config : SpaceConfig) (h : List Place) (e : Event) → IsWithin config h →
+pub call-is : (config : SpaceConfig) (h : History) (e : Event) → IsWithin config h →
     (if nat_lt MAX_CLIENTS (clients_with_event config h e) then Some (Full Clients) else if nat_lt MAX_PAIRS (pairs_with_event config h e) then Some (Full Pairs) else None)
     ≡ lease_refusal config.lease_ms (max e.moment (now h)) (live_calls (table config h) (lease_calls h)) (lease_call config h e)
 unfolding clients_with_event pairs_with_event
@@ -201,7 +200,7 @@ chain false false false false false f await more named g h m = h ∙ ap (λ o. f
 
 -- THE REFUSAL of an event is that for want of room, then that of the references that it returns, then that of its lease call, and then that
 -- of the name that it binds.
-pub refusal-is : (config : SpaceConfig) (h : List Place) (e : Event) (await named : Option Refused) → IsWithin config h →
+pub refusal-is : (config : SpaceConfig) (h : History) (e : Event) (await named : Option Refused) → IsWithin config h →
     (if nat_lt MAX_AWAITING (awaiting_with_event config h e) then Some (Full Awaiting) else None) ≡ await →
     (if nat_lt MAX_NAMES (names_with_event config h e) then Some (Full Names) else None) ≡ named →
     refusal limits config h e

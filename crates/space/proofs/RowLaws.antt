@@ -12,7 +12,6 @@ use Rattle.history.specs.declared.asks.SpaceConfig.{SpaceConfig}
 use Rattle.history.specs.declared.asks.Event.{Event}
 use Rattle.history.specs.declared.calls.Call.{Call}
 use Rattle.history.specs.declared.calls.Pair.{Pair}
-use Rattle.history.specs.declared.places.Place.{Place}
 use Rattle.history.specs.declared.places.Exported.{Exported}
 use Rattle.history.specs.declared.places.Returned.{Returned}
 use Rattle.history.specs.Awaiting.{awaiting_of}
@@ -21,7 +20,7 @@ use Rattle.history.specs.Leases.{calls_of, clients, holders, is_remembered, same
 use Rattle.history.specs.Lists.{distinct, AllOnce}
 use Rattle.history.specs.Names.{names_of}
 use Rattle.history.specs.Outline.{ObjectRow, object_row}
-use Rattle.history.specs.Places.{has, now}
+use Rattle.history.specs.Places.{History, has, now}
 use Rattle.history.specs.Replies.{ids}
 use Rattle.history.specs.Running.{running_calls}
 use Rattle.history.specs.Table.{table, places}
@@ -44,7 +43,7 @@ four : (x : Exported) (a b c d a' b' c' : ℕ) → a ≡ a' → b ≡ b' → c �
     ◌≡◌ {A = ObjectRow} (record { object = x.id; kind = x.kind; pinned = x.pinned; running = a; awaiting = b; held = c; names = d }) (record { object = x.id; kind = x.kind; pinned = x.pinned; running = a'; awaiting = b'; held = c'; names = d })
 four x a b c d a' b' c' p q r = cc
 
-pub row-kept : {R W : Type 0} (by : R → ℕ) (object : R → ObjId) (ref : W → Returned) (until : W → ℕ) (config : SpaceConfig) (h : List Place) (runs : List R) (ws : List W) →
+pub row-kept : {R W : Type 0} (by : R → ℕ) (object : R → ObjId) (ref : W → Returned) (until : W → ℕ) (config : SpaceConfig) (h : History) (runs : List R) (ws : List W) →
     RunsStand by object h runs → WaitsStand ref until config.ack_ms (now h) h ws →
     AllByRecursion (λ x. object_row config h x ≡ record {
       object = x.id;

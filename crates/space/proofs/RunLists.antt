@@ -17,7 +17,7 @@ use Rattle.object_ids.specs.Same.{same_id, same_key}
 use Rattle.object_ids.proofs.Exact.{same_id-equal, same_id-self, same_key-same}
 use Rattle.indexmap.specs.IndexMap.{insert_entry, set_value_at}
 use Rattle.indexmap.proofs.MapLemmas.{Found-position}
-use Rattle.history.specs.declared.places.Place.{Place}
+use Rattle.history.specs.Places.{History}
 use Rattle.history.proofs.ListLemmas.{list_any-length}
 use Rattle.history.proofs.Partitions.{one_if}
 use Rattle.space.specs.declared.runs.Run.{Run}
@@ -35,7 +35,7 @@ as-many xs ys same = sym (all xs) ∙ same (λ r. true) ∙ all ys
     all (r ∷ rs) = ap suc (all rs)
 
 -- They stand for the same history.
-pub stand-same : (h : List Place) (xs ys : List Run) → AreSame xs ys → RunsStand caller_of object_of h ys → RunsStand caller_of object_of h xs
+pub stand-same : (h : History) (xs ys : List Run) → AreSame xs ys → RunsStand caller_of object_of h ys → RunsStand caller_of object_of h xs
 stand-same h xs ys same r = record {
   lines = λ b o. same (is_run b o) ∙ r.lines b o;
   calls = λ o. same (is_run_on object_of o) ∙ r.calls o;

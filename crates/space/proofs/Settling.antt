@@ -8,12 +8,11 @@ use Rattle.history.specs.declared.asks.SpaceConfig.{SpaceConfig}
 use Rattle.history.specs.declared.asks.Event.{Event}
 use Rattle.history.specs.declared.asks.Ask.{Ask}
 use Rattle.history.specs.declared.calls.Call.{Call}
-use Rattle.history.specs.declared.places.Place.{Place}
 use Rattle.history.specs.declared.places.Exported.{Exported}
 use Rattle.history.specs.declared.places.Withdrawal.{Withdrawal}
 use Rattle.history.specs.LeaseCalls.{call_with, lease_calls}
 use Rattle.history.specs.Leases.{is_held}
-use Rattle.history.specs.Places.{has, now, id_at}
+use Rattle.history.specs.Places.{History, has, now, id_at}
 use Rattle.history.specs.Table.{is_kept, table, places}
 use Rattle.history.proofs.ListLemmas.{every-two}
 use Rattle.history.proofs.NumberLaws.{has-self}
@@ -39,12 +38,12 @@ use Rattle.space.proofs.TurnLaws.{HasActed, is-acted}
 
 -- ---- each is kept
 
-kept-at-end : (config : SpaceConfig) (h : List Place) → AllByRecursion (λ x. is_kept config h x ≡ true) (table config h)
+kept-at-end : (config : SpaceConfig) (h : History) → AllByRecursion (λ x. is_kept config h x ≡ true) (table config h)
 unfolding table
 kept-at-end config [] = tt
 kept-at-end config (p ∷ before) = passing (is_kept config (p ∷ before)) (table config before ++ p.exported_here)
 
-rows-all : (p : Export → Bool) (h : List Place) (xs : List Exported) → AllByRecursion (λ x. p (row_of h x) ≡ true) xs → list_all p (rows_of h xs) ≡ true
+rows-all : (p : Export → Bool) (h : History) (xs : List Exported) → AllByRecursion (λ x. p (row_of h x) ≡ true) xs → list_all p (rows_of h xs) ≡ true
 rows-all p h [] a = refl
 rows-all p h (x ∷ xs) a = and_from (p (row_of h x)) (list_all p (rows_of h xs)) a.0 (rows-all p h xs a.1)
 
@@ -61,7 +60,7 @@ all-kept config events waits s =
     ∙ rows-are-kept config events waits x s ∙ kept)
     (table config h) (has-self (table config h)) (kept-at-end config h))
   where
-    h : List Place
+    h : History
     h = places config events
 
 -- ---- at the next event

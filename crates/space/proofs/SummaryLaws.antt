@@ -6,7 +6,6 @@ use Rattle.history.specs.declared.asks.SpaceConfig.{SpaceConfig}
 use Rattle.history.specs.declared.asks.Event.{Event}
 use Rattle.history.specs.declared.calls.Call.{Call}
 use Rattle.history.specs.declared.calls.LeaseRow.{LeaseRow}
-use Rattle.history.specs.declared.places.Place.{Place}
 use Rattle.history.specs.declared.places.Withdrawal.{Withdrawal}
 use Rattle.history.specs.Awaiting.{awaiting}
 use Rattle.history.specs.LeaseCalls.{lease_calls}
@@ -14,7 +13,7 @@ use Rattle.history.specs.Leases.{clients_with_time_left, lease_rows, lease_end, 
 use Rattle.history.specs.Limits.{units}
 use Rattle.history.specs.Names.{names}
 use Rattle.history.specs.Outline.{events_line, summary}
-use Rattle.history.specs.Places.{now}
+use Rattle.history.specs.Places.{History, now}
 use Rattle.history.specs.Replies.{ids}
 use Rattle.history.specs.Table.{table, places, withdrawals}
 use Rattle.history.specs.declared.limits.TheConstants.{END_OF_TIME}
@@ -48,7 +47,7 @@ unfolding lease_rows
 rows-counted lease t calls = length-map (λ c. record { client = c; until = lease_end lease (calls_of c calls) }) (clients_with_time_left lease t calls)
 
 -- How many entries the tables of a history have.
-abbrev counted : SpaceConfig → List Place → Counts
+abbrev counted : SpaceConfig → History → Counts
 counted config h = record {
   objects = length (table config h);
   clients = length (clients_with_time_left config.lease_ms (now h) (lease_calls h));

@@ -9,7 +9,6 @@ use Rattle.history.specs.declared.asks.SpaceConfig.{SpaceConfig}
 use Rattle.history.specs.declared.asks.Event.{Event}
 use Rattle.history.specs.declared.calls.Call.{Call}
 use Rattle.history.specs.declared.places.Exported.{Exported}
-use Rattle.history.specs.declared.places.Place.{Place}
 use Rattle.history.specs.declared.places.Withdrawal.{Withdrawal}
 use Rattle.history.specs.Awaiting.{awaiting_of}
 use Rattle.history.specs.LeaseCalls.{lease_calls}
@@ -18,7 +17,7 @@ use Rattle.history.specs.Limits.{units}
 use Rattle.history.specs.Lists.{AllOnce}
 use Rattle.history.specs.Names.{names, names_of, stands_for}
 use Rattle.history.specs.Outline.{ObjectRow, object_row, object_line, lease_line, name_line, withdrawal_line, events_line, outline}
-use Rattle.history.specs.Places.{has, now}
+use Rattle.history.specs.Places.{History, has, now}
 use Rattle.history.specs.Running.{running_calls}
 use Rattle.history.specs.Table.{table, places, withdrawals}
 use Rattle.history.specs.Texts.{line, object_text, name_text}
@@ -69,7 +68,7 @@ five : (x : Exported) (a b c d b' c' d' : ℕ) → b ≡ b' → c ≡ c' → d �
 five x a b c d b' c' d' p q r = cc
 
 -- The row of an object of the table, by the export table and the live calls.
-row-is : (config : SpaceConfig) (h : List Place) (waits : List Wait) → WaitsStand reference_of end_of config.ack_ms (now h) h waits →
+row-is : (config : SpaceConfig) (h : History) (waits : List Wait) → WaitsStand reference_of end_of config.ack_ms (now h) h waits →
     AllByRecursion (λ x. object_row config h x ≡ held_row config.lease_ms (now h) (live_calls (table config h) (lease_calls h)) (row_at (now h) waits (row_of h x))) (table config h)
 row-is config h waits w =
     every-weaker (λ (x : Exported). has (table config h) x.id ≡ true) _
@@ -80,7 +79,7 @@ row-is config h waits w =
     (table config h) (has-self (table config h))
 
 -- The lines of the names are those of the bindings.
-names-lines : (config : SpaceConfig) (h : List Place) (bs : List Binding) → AllByRecursion (λ b. stands_for h b.name ≡ Some b.object) bs →
+names-lines : (config : SpaceConfig) (h : History) (bs : List Binding) → AllByRecursion (λ b. stands_for h b.name ≡ Some b.object) bs →
     flat_map (name_line config h) (names_in bs) ≡ flat_map (binding_text config) bs
 names-lines config h [] own = refl
 names-lines config h (b ∷ bs) own =
@@ -105,7 +104,7 @@ bindings-lines config events bs b =
     ap (flat_map (name_line config (places config events))) (sym b.names)
     ∙ names-lines config (places config events) bs (every-weaker _ _ (λ x own. sym (b.objects x.name) ∙ own) bs (own-objects bs (subst O (sym b.names) (names-once config events))))
 
-rows-lines : (config : SpaceConfig) (h : List Place) (calls : List Call) (waits : List Wait) (xs : List Exported) → AllByRecursion (λ x. object_row config h x ≡ held_row config.lease_ms (now h) calls (row_at (now h) waits (row_of h x))) xs →
+rows-lines : (config : SpaceConfig) (h : History) (calls : List Call) (waits : List Wait) (xs : List Exported) → AllByRecursion (λ x. object_row config h x ≡ held_row config.lease_ms (now h) calls (row_at (now h) waits (row_of h x))) xs →
     flat_map (object_line config) (map (object_row config h) xs) ≡ flat_map (λ r. object_line config (held_row config.lease_ms (now h) calls r)) (map (row_at (now h) waits) (rows_of h xs))
 rows-lines config h calls waits [] e = refl
 rows-lines config h calls waits (x ∷ xs) e =

@@ -5,7 +5,6 @@ use Rattle.history.specs.declared.asks.SpaceConfig.{SpaceConfig}
 use Rattle.history.specs.declared.asks.Event.{Event}
 use Rattle.history.specs.declared.calls.Call.{Call}
 use Rattle.history.specs.declared.limits.TheConstants.{MAX_EXPORTS, MAX_AWAITING, MAX_CLIENTS, MAX_PAIRS, MAX_NAMES, MAX_UNITS, END_OF_TIME, MAX_DURATION}
-use Rattle.history.specs.declared.places.Place.{Place}
 use Rattle.history.specs.declared.places.Exported.{Exported}
 use Rattle.history.specs.declared.places.Withdrawal.{Withdrawal}
 use Rattle.history.specs.Awaiting.{awaiting}
@@ -14,7 +13,7 @@ use Rattle.history.specs.Leases.{clients_with_time_left, same_pair, pairs_with}
 use Rattle.history.specs.Limits.{units, reserved}
 use Rattle.history.specs.Lists.{distinct}
 use Rattle.history.specs.Names.{names}
-use Rattle.history.specs.Places.{has, now, next}
+use Rattle.history.specs.Places.{History, has, now, next}
 use Rattle.history.specs.Replies.{ids, pending}
 use Rattle.history.specs.Steps.{IsLegal}
 use Rattle.history.specs.Table.{places, table, withdrawals}
@@ -39,7 +38,7 @@ pub record HasDurations (config : SpaceConfig) : Type 0 where
   pub short_ack : config.ack_ms ≤ MAX_DURATION
 
 -- The tables of a history have no more entries than their limits.
-pub record IsWithin (config : SpaceConfig) (h : List Place) : Type 0 where
+pub record IsWithin (config : SpaceConfig) (h : History) : Type 0 where
   pub history : units h + reserved h ≤ MAX_UNITS
   pub exports : length (table config h) ≤ MAX_EXPORTS
   pub awaits : length (awaiting config.ack_ms (now h) h) ≤ MAX_AWAITING
@@ -49,7 +48,7 @@ pub record IsWithin (config : SpaceConfig) (h : List Place) : Type 0 where
 
 -- What is kept is that of a history: the leases, the exported objects and the references that await, the running calls, the withdrawals and
 -- how many of them were told as gone, how many objects there ever were, the units and the greatest moment.
-pub record Stands (config : SpaceConfig) (h : List Place) (leases : LeaseTable) (exports : ExportTable) (runs : List Run) (withdrawn : List Withdrawal) (told opened used moment : ℕ) : Type 0 where
+pub record Stands (config : SpaceConfig) (h : History) (leases : LeaseTable) (exports : ExportTable) (runs : List Run) (withdrawn : List Withdrawal) (told opened used moment : ℕ) : Type 0 where
   pub leases_stand : StandsFor config.lease_ms leases moment (live_calls (table config h) (lease_calls h))
   pub space_is : exports.space ≡ config.uid
   pub ack_is : exports.ack ≡ config.ack_ms

@@ -1,10 +1,10 @@
 -- What a turn may rely on once nothing can refuse it any more.
-use Rattle.std.specs.Prelude.{◌≡◌, ◌+◌, ◌≤◌, ◌<◌, ◌++◌, ◌∷◌, [], true, Bool, None, length, map, max, drop, option_and_then, vec_len, vec_capacity}
+use Rattle.std.specs.Prelude.{◌≡◌, ◌+◌, ◌≤◌, ◌<◌, ◌++◌, true, Bool, None, length, map, max, drop, option_and_then, vec_len, vec_capacity}
 use Rattle.history.specs.declared.asks.Event.{Event}
 use Rattle.history.specs.LeaseCalls.{call_with}
 use Rattle.history.specs.Names.{name_in, names, stands_for}
 use Rattle.history.specs.Places.{id_at}
-use Rattle.history.specs.Table.{places}
+use Rattle.history.specs.Table.{with_event, places}
 use Rattle.history.specs.declared.limits.TheConstants.{END_OF_TIME}
 use Rattle.dgc_server.specs.Stands.{LeaseTable, StandsFor}
 use Rattle.export_table.specs.Rows.{is_exported}
@@ -24,7 +24,7 @@ pub record IsReady (t : Tables) (e : Event) (a : Admitted) (p : Prepared) (noted
   pub keeps : Keeps t.config t.events.items before t.exports t.runs.items t.withdrawn.items t.told t.added t.units t.moment
   pub leases_told : ForEachLogBy (max e.moment t.moment) before (λ lease calls.
       StandsFor lease t.leases (max e.moment t.moment) (call_with (is_exported t.exports.rows) (max e.moment t.moment) e.ask ++ calls))
-  pub names_told : AreBindings (places t.config (t.events.items ++ e ∷ [])) t.names
+  pub names_told : AreBindings (places t.config (with_event t.events.items e)) t.names
   -- what was admitted
   pub early : e.moment < END_OF_TIME
   pub stood_is : a.stood ≡ option_and_then (stands_for (places t.config t.events.items)) (name_in e.ask)

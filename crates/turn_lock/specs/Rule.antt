@@ -14,7 +14,7 @@ use Rattle.history.specs.declared.replies.Refused.TheVariants.{OutOfMemory}
 use Rattle.history.specs.declared.replies.Turn.{Turn}
 use Rattle.history.specs.Steps as history
 use Rattle.history.specs.Running.{running}
-use Rattle.history.specs.Table.{places}
+use Rattle.history.specs.Table.{with_event, places}
 use Rattle.space.specs.Acts.{event_of}
 use Rattle.space.specs.Balance.{AreOfOthers}
 use Rattle.space.specs.Built.{SpaceHistory}
@@ -167,7 +167,7 @@ looked st m n m' = (t : ℕ) → m.0.stage ≡ Drawn t
     → (n ≡ t → (h : Events) × (m' ≡ (in_stage m.0 (Called n h), holding (space_with m.0.config h))) × MayComeTo m.0 h) × (n ≢ t → m' ≡ m)
 
 abbrev pub published : Event → At → Sat → ℕ → Sat → Type 0
-published e st m n m' = (t : ℕ) (h : Events) → m.0.stage ≡ Called t h → m' ≡ (record m.0 { seen = h ++ e ∷ []; own = m.0.own ++ e ∷ []; stage = Called t (h ++ e ∷ []) }, m.1)
+published e st m n m' = (t : ℕ) (h : Events) → m.0.stage ≡ Called t h → m' ≡ (record m.0 { seen = with_event h e; own = m.0.own ++ e ∷ []; stage = Called t (with_event h e) }, m.1)
 
 abbrev pub passed_over : At → Sat → ℕ → Sat → Type 0
 passed_over st m n m' = (t : ℕ) (h : Events) → m.0.stage ≡ Called t h → m' ≡ (record m.0 { seen = h; stage = Called t h }, m.1)
@@ -203,12 +203,12 @@ joined_of v w = record v { parts = v.parts + w.parts; drawn = v.drawn + w.drawn;
 
 -- A pass's own events after this answer.
 abbrev pub own_after : Events → Event → Result Turn Refused → Events
-own_after own e (Ok turn) = own ++ e ∷ []
+own_after own e (Ok turn) = with_event own e
 own_after own e (Err refused) = own
 
 -- The history after this answer.
 abbrev pub events_after : Events → Event → Result Turn Refused → Events
-events_after h e (Ok turn) = h ++ e ∷ []
+events_after h e (Ok turn) = with_event h e
 events_after h e (Err refused) = h
 
 -- The seat once the answer to its event is published.
