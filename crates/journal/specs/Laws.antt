@@ -5,7 +5,7 @@ use Rattle.object_ids.specs.declared.ids.Uid.{Uid}
 use Rattle.history.specs.declared.asks.SpaceConfig.{SpaceConfig}
 use Rattle.history.specs.declared.asks.Event.{Event}
 use Rattle.journal.specs.Grammar.{IsUid, SpellsEvent, SpellsConfig, SpellsFront, BeginsBadly, JournalText}
-use Rattle.journal.specs.Written.{event_text, journal_text, EventFits, ConfigFits}
+use Rattle.journal.specs.Written.{config_text, event_text, journal_text, EventFits, ConfigFits}
 
 -- A line spells at most one event.
 abbrev pub LinesSpellOneEvent : Type 0
@@ -29,6 +29,10 @@ FirstBadLinesAreAlone = (space : Uid) (bytes rest : List ℕ) (events : List Eve
 -- The text of an event whose numbers are within their ranges spells it.
 abbrev pub EventTextsSpell : Type 0
 EventTextsSpell = (space : Uid) (event : Event) → EventFits event → SpellsEvent space event (event_text space event)
+
+-- The text of a configuration whose numbers are within their ranges spells it.
+abbrev pub ConfigTextsSpell : Type 0
+ConfigTextsSpell = (config : SpaceConfig) → IsUid config.uid → ConfigFits config → SpellsConfig config (config_text config)
 
 -- The text of a configuration and of events whose numbers are within their ranges is their journal.
 abbrev pub JournalTextsAreJournals : Type 0

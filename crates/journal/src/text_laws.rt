@@ -1,5 +1,5 @@
 //! Laws of the journal's text. Each function does nothing: its contract is the law.
-ghost use Rattle.journal.specs.Laws.{LinesSpellOneEvent, LinesSpellOneConfig, JournalsTellOneHistory, FirstBadLinesAreAlone, EventTextsSpell, JournalTextsAreJournals};
+ghost use Rattle.journal.specs.Laws.{LinesSpellOneEvent, LinesSpellOneConfig, JournalsTellOneHistory, FirstBadLinesAreAlone, ConfigTextsSpell, EventTextsSpell, JournalTextsAreJournals};
 
 /// A line spells at most one event.
 pub fn lines_spell_one_event()
@@ -19,6 +19,11 @@ pub fn journals_tell_one_history()
 /// Before the first line that spells no event stand the lines of one list of events, and the bytes are no journal.
 pub fn first_bad_lines_are_alone()
     ensures { FirstBadLinesAreAlone }
+{}
+
+/// The line that is written of a configuration spells it, where its numbers are within their ranges.
+pub fn config_texts_spell()
+    ensures { ConfigTextsSpell }
 {}
 
 /// The line that is written of an event spells it, where its numbers are within their ranges.

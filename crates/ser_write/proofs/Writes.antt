@@ -22,7 +22,7 @@ use Rattle.ser_values.specs.Shape.{is_short, count_of}
 use Rattle.ser_values.specs.Spelled.{put_block, Token, raw, truth, want, note, reference, short_text, long_text, field_tokens, value_token, element_tokens, part_tokens}
 use Rattle.ser_write.proofs.Begins.{begins_on}
 use Rattle.ser_write.specs.Canonical.{Written, Writing, pieces_in, pieces, blocks, before_more, write_items, write_token, write_all, value_bytes, primitive_bytes, short_bytes, long_bytes, text_bytes, code_of, tokens_before, note_tokens, tokens_after, write_new, write_one, write_at, front_bytes, after_front, ending_tokens, handle_bytes, Adds}
-use Rattle.ser_write.specs.Nodes.{own_title, class_of, slots_of, head_bytes, rest_tokens}
+use Rattle.ser_write.specs.Nodes.{own_title, class_of, slots_of, behind_handle, rest_tokens}
 
 -- ---- one after the other
 
@@ -183,7 +183,7 @@ text_alone one n true t = write_all-one one n (short_text t)
 text_alone one n false t = write_all-one one n (long_text t)
 
 -- behind a node's handle: first what is written in one piece
-after_head : (nodes : List Node) (one : Writing) (n : ℕ) (i : Node) → write_all one n (tokens_after nodes i) ≡ before_more (head_bytes i, n) (λ m. write_all one m (rest_tokens nodes i))
+after_head : (nodes : List Node) (one : Writing) (n : ℕ) (i : Node) → write_all one n (tokens_after nodes i) ≡ before_more (behind_handle i, n) (λ m. write_all one m (rest_tokens nodes i))
 unfolding write_all tokens_after
 after_head nodes one n (Text t) = alone (text_bytes t) n (text_alone one n (is_short t) t)
 after_head nodes one n (Desc d) = refl
@@ -200,11 +200,11 @@ after_head nodes one n (Array c vs) =
 after_head nodes one n (Class c) = refl
 after_head nodes one n (Enum c t) = refl
 
-pub head_adds : (nodes : List Node) (one : Writing) (n : ℕ) (i : Node) (old mid new : List ℕ) (r : Result ℕ AllocError) → mid ≡ old ++ head_bytes i → Adds mid new r (write_all one n (rest_tokens nodes i)) → Adds old new r (write_all one n (tokens_after nodes i))
-head_adds nodes one n i old mid new r e h = rw (after_head nodes one n i) (adds_bytes old mid new n r (head_bytes i) (λ m. write_all one m (rest_tokens nodes i)) e h)
+pub head_adds : (nodes : List Node) (one : Writing) (n : ℕ) (i : Node) (old mid new : List ℕ) (r : Result ℕ AllocError) → mid ≡ old ++ behind_handle i → Adds mid new r (write_all one n (rest_tokens nodes i)) → Adds old new r (write_all one n (tokens_after nodes i))
+head_adds nodes one n i old mid new r e h = rw (after_head nodes one n i) (adds_bytes old mid new n r (behind_handle i) (λ m. write_all one m (rest_tokens nodes i)) e h)
 
 -- nothing follows
-pub head_alone : (nodes : List Node) (one : Writing) (n : ℕ) (i : Node) (old new : List ℕ) → rest_tokens nodes i ≡ [] → new ≡ old ++ head_bytes i → Adds old new (Ok n) (write_all one n (tokens_after nodes i))
+pub head_alone : (nodes : List Node) (one : Writing) (n : ℕ) (i : Node) (old new : List ℕ) → rest_tokens nodes i ≡ [] → new ≡ old ++ behind_handle i → Adds old new (Ok n) (write_all one n (tokens_after nodes i))
 unfolding write_all
 head_alone nodes one n i old new none e = head_adds nodes one n i old new new (Ok n) e (rw none (sym (append-nil new), refl))
 

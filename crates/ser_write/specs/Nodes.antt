@@ -37,14 +37,14 @@ abbrev pub element_bytes : Values → List ℕ
 element_bytes vs = to_be_bytes w32 (count_of vs) ++ primitive_bytes vs
 
 -- what is written in one piece behind the handle
-abbrev pub head_bytes : Node → List ℕ
-head_bytes (Text t) = text_bytes t
-head_bytes (Desc d) = d.flags ∷ to_be_bytes w16 (length d.fields)
-head_bytes (Proxy p) = interface_bytes p.names
-head_bytes (Object c ps) = []
-head_bytes (Array c vs) = element_bytes vs
-head_bytes (Class c) = []
-head_bytes (Enum c t) = []
+abbrev pub behind_handle : Node → List ℕ
+behind_handle (Text t) = text_bytes t
+behind_handle (Desc d) = d.flags ∷ to_be_bytes w16 (length d.fields)
+behind_handle (Proxy p) = interface_bytes p.names
+behind_handle (Object c ps) = []
+behind_handle (Array c vs) = element_bytes vs
+behind_handle (Class c) = []
+behind_handle (Enum c t) = []
 
 -- what follows it
 abbrev pub rest_tokens : List Node → Node → List Token

@@ -1,7 +1,7 @@
 //! The canonical writer of serialization streams (Java Object Serialization Specification, 6.4).
 #![tactic(auto)]
 
-mod heads;
+mod node_pieces;
 mod numbers;
 mod pieces;
 mod writing;

@@ -4,7 +4,7 @@ ghost use Rattle.ser_values.specs.Spelled.{field_tokens, value_token, reference,
 ghost use Rattle.ser_values.specs.Spelled.{IsStream, put_block};
 ghost use Rattle.ser_write.specs.Canonical.{write_items, write_all, ending_tokens, object_tokens, note_tokens, tokens_after, write_new, write_at, contents, canonical, front_bytes, after_front, SpellContents, SpellFully, AreOfNoOther, Adds};
 
-use crate::heads::{class_of, put_front, put_head, slots_of};
+use crate::node_pieces::{class_of, put_before_handle, put_behind_handle, slots_of};
 use crate::numbers::put_byte;
 use crate::pieces::{
     is_external_class, node_at, put_blocks, put_field, put_handle, put_primitive, writers_of,
@@ -62,7 +62,7 @@ fn put_new(
     match node_at(nodes, number) {
         None => Ok(next),
         Some(node) => {
-            put_front(out, node)?;
+            put_before_handle(out, node)?;
             match class_of(node) {
                 None => put_after(alloc, out, nodes, u64::from(number) + 1, node, left),
                 Some(class) => {
@@ -86,17 +86,17 @@ fn put_after(
 ) -> Result<u64, AllocError>
     ensures { Adds out.old out.new result (write_all (write_at left nodes.now) next (tokens_after nodes.now node.now)) }
 {
-    put_head(out, node)?;
+    put_behind_handle(out, node)?;
     match node {
         Node::Text(_) => Ok(next),
         Node::Desc(desc) => {
             let fields = desc.fields.as_slice();
             let note = desc.note.as_slice();
-            put_class(alloc, out, nodes, next, fields, note, desc.parent, left)
+            put_class_parts(alloc, out, nodes, next, fields, note, desc.parent, left)
         }
         Node::Proxy(proxy) => {
             let note = proxy.note.as_slice();
-            put_class(alloc, out, nodes, next, &[], note, proxy.parent, left)
+            put_class_parts(alloc, out, nodes, next, &[], note, proxy.parent, left)
         }
         Node::Object { class, parts } => {
             put_object(alloc, out, nodes, next, *class, parts.as_slice(), left)
@@ -109,7 +109,7 @@ fn put_after(
 
 /// Writes fields, and what a description ends with: its annotation, and its superclass.
 #[cycle(writing)]
-fn put_class(
+fn put_class_parts(
     alloc: Global,
     out: &mut ByteList,
     nodes: &[Node],

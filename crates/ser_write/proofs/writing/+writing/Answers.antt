@@ -45,53 +45,53 @@ pub put_new-returns-in-None-class_of : goal.put_new-returns-in-None-class_of
 put_new-returns-in-None-class_of t c =
     let here : slice_get c.args.nodes.now c.args.number ≡ Some c.in-Some.node.now = search rules in
     let none : class_of c.in-Some.node.now ≡ None = search rules in
-    rw here (alone_adds c.args.nodes.now (write_at c.args.left c.args.nodes.now) c.args.next c.args.number c.in-Some.node.now c.args.out.now c.put_front.new.out c.put_after.new.out c.put_after.result none c.in_ok-put_front-in-Some.ensures.written
+    rw here (alone_adds c.args.nodes.now (write_at c.args.left c.args.nodes.now) c.args.next c.args.number c.in-Some.node.now c.args.out.now c.put_before_handle.new.out c.put_after.new.out c.put_after.result none c.in_ok-put_before_handle-in-Some.ensures.written
     (rw c.from.ensures at c.put_after.ensures))
 
 pub put_new-returns-in_ok-_before-in-Some-class_of : goal.put_new-returns-in_ok-_before-in-Some-class_of
 put_new-returns-in_ok-_before-in-Some-class_of t c =
     let here : slice_get c.args.nodes.now c.args.number ≡ Some c.in-Some.node.now = search rules in
     let some : class_of c.in-Some.node.now ≡ Some c.in-Some-class_of.class = search rules in
-    rw here (classed_adds c.args.nodes.now (write_at c.args.left c.args.nodes.now) c.args.next c.args.number c.in-Some-class_of.class c.in-Some.node.now c.args.out.now c.put_front.new.out c.put_slot.new.out c.put_after-in-Some-class_of.new.out _ c.put_after-in-Some-class_of.result some c.in_ok-put_front-in-Some.ensures.written c.in_ok-_before-in-Some-class_of.ensures
+    rw here (classed_adds c.args.nodes.now (write_at c.args.left c.args.nodes.now) c.args.next c.args.number c.in-Some-class_of.class c.in-Some.node.now c.args.out.now c.put_before_handle.new.out c.put_slot.new.out c.put_after-in-Some-class_of.new.out _ c.put_after-in-Some-class_of.result some c.in_ok-put_before_handle-in-Some.ensures.written c.in_ok-_before-in-Some-class_of.ensures
     (rw c.from-in-Some-class_of.ensures at c.put_after-in-Some-class_of.ensures))
 
 pub put_after-returns-in-Text : goal.put_after-returns-in-Text
 put_after-returns-in-Text t c =
     let none : rest_tokens c.args.nodes.now c.args.node.now ≡ [] = rw c.in-Text.is refl in
-    head_alone c.args.nodes.now (write_at c.args.left c.args.nodes.now) c.args.next c.args.node.now c.args.out.now c.put_head.new.out none c.in_ok-put_head.ensures.written
+    head_alone c.args.nodes.now (write_at c.args.left c.args.nodes.now) c.args.next c.args.node.now c.args.out.now c.put_behind_handle.new.out none c.in_ok-put_behind_handle.ensures.written
 
 pub put_after-returns-in-Class : goal.put_after-returns-in-Class
 put_after-returns-in-Class t c =
     let none : rest_tokens c.args.nodes.now c.args.node.now ≡ [] = rw c.in-Class.is refl in
-    head_alone c.args.nodes.now (write_at c.args.left c.args.nodes.now) c.args.next c.args.node.now c.args.out.now c.put_head.new.out none c.in_ok-put_head.ensures.written
+    head_alone c.args.nodes.now (write_at c.args.left c.args.nodes.now) c.args.next c.args.node.now c.args.out.now c.put_behind_handle.new.out none c.in_ok-put_behind_handle.ensures.written
 
 pub put_after-returns-in-Desc : goal.put_after-returns-in-Desc
 put_after-returns-in-Desc t c =
-    head_adds c.args.nodes.now (write_at c.args.left c.args.nodes.now) c.args.next c.args.node.now c.args.out.now c.put_head.new.out c.put_class.new.out c.put_class.result c.in_ok-put_head.ensures.written
-    (rw c.in-Desc.is (rw (c.as_slice-fields.ensures, c.as_slice-note.ensures) at c.put_class.ensures))
+    head_adds c.args.nodes.now (write_at c.args.left c.args.nodes.now) c.args.next c.args.node.now c.args.out.now c.put_behind_handle.new.out c.put_class_parts.new.out c.put_class_parts.result c.in_ok-put_behind_handle.ensures.written
+    (rw c.in-Desc.is (rw (c.as_slice-fields.ensures, c.as_slice-note.ensures) at c.put_class_parts.ensures))
 
 pub put_after-returns-in-Proxy : goal.put_after-returns-in-Proxy
 put_after-returns-in-Proxy t c =
-    head_adds c.args.nodes.now (write_at c.args.left c.args.nodes.now) c.args.next c.args.node.now c.args.out.now c.put_head.new.out c.put_class-in-Proxy.new.out c.put_class-in-Proxy.result c.in_ok-put_head.ensures.written
-    (rw c.in-Proxy.is (rw c.as_slice-note-in-Proxy.ensures at c.put_class-in-Proxy.ensures))
+    head_adds c.args.nodes.now (write_at c.args.left c.args.nodes.now) c.args.next c.args.node.now c.args.out.now c.put_behind_handle.new.out c.put_class_parts-in-Proxy.new.out c.put_class_parts-in-Proxy.result c.in_ok-put_behind_handle.ensures.written
+    (rw c.in-Proxy.is (rw c.as_slice-note-in-Proxy.ensures at c.put_class_parts-in-Proxy.ensures))
 
 pub put_after-returns-in-Object : goal.put_after-returns-in-Object
 put_after-returns-in-Object t c =
-    head_adds c.args.nodes.now (write_at c.args.left c.args.nodes.now) c.args.next c.args.node.now c.args.out.now c.put_head.new.out c.put_object.new.out c.put_object.result c.in_ok-put_head.ensures.written
+    head_adds c.args.nodes.now (write_at c.args.left c.args.nodes.now) c.args.next c.args.node.now c.args.out.now c.put_behind_handle.new.out c.put_object.new.out c.put_object.result c.in_ok-put_behind_handle.ensures.written
     (rw c.in-Object.is (rw c.as_slice.ensures at c.put_object.ensures))
 
 pub put_after-returns-in-Array : goal.put_after-returns-in-Array
 put_after-returns-in-Array t c =
-    head_adds c.args.nodes.now (write_at c.args.left c.args.nodes.now) c.args.next c.args.node.now c.args.out.now c.put_head.new.out c.put_slots.new.out c.put_slots.result c.in_ok-put_head.ensures.written
+    head_adds c.args.nodes.now (write_at c.args.left c.args.nodes.now) c.args.next c.args.node.now c.args.out.now c.put_behind_handle.new.out c.put_slots.new.out c.put_slots.result c.in_ok-put_behind_handle.ensures.written
     (rw c.in-Array.is (rw c.slots_of.ensures at c.put_slots.ensures))
 
 pub put_after-returns-in-Enum : goal.put_after-returns-in-Enum
 put_after-returns-in-Enum t c =
-    head_adds c.args.nodes.now (write_at c.args.left c.args.nodes.now) c.args.next c.args.node.now c.args.out.now c.put_head.new.out c.put_slot.new.out c.put_slot.result c.in_ok-put_head.ensures.written
+    head_adds c.args.nodes.now (write_at c.args.left c.args.nodes.now) c.args.next c.args.node.now c.args.out.now c.put_behind_handle.new.out c.put_slot.new.out c.put_slot.result c.in_ok-put_behind_handle.ensures.written
     (rw (c.in-Enum.is, write_all-one (write_at c.args.left c.args.nodes.now) c.args.next (want (places.Text, slots.Node c.in-Enum.name))) c.put_slot.ensures)
 
-pub put_class-returns : goal.put_class-returns
-put_class-returns t c =
+pub put_class_parts-returns : goal.put_class_parts-returns
+put_class_parts-returns t c =
     class_adds (write_at c.args.left c.args.nodes.now) c.args.next c.in_ok-next.next c.in_ok-next-2.next c.args.fields.now c.args.annotation.now c.args.parent c.args.out.now c.put_fields.new.out c.put_note.new.out c.put_slot.new.out c.put_slot.result c.in_ok-next.ensures c.in_ok-next-2.ensures c.put_slot.ensures
 
 pub put_note-returns-in_ok-put_byte : goal.put_note-returns-in_ok-put_byte

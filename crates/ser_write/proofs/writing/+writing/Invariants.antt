@@ -12,8 +12,8 @@ decreases-put_new l = 16 * l.left + 15
 abbrev pub decreases-put_after : goal.decreases-put_after
 decreases-put_after l = 16 * l.left + 13
 
-abbrev pub decreases-put_class : goal.decreases-put_class
-decreases-put_class l = 16 * l.left + 12
+abbrev pub decreases-put_class_parts : goal.decreases-put_class_parts
+decreases-put_class_parts l = 16 * l.left + 12
 
 abbrev pub decreases-put_object : goal.decreases-put_object
 decreases-put_object l = 16 * l.left + 12

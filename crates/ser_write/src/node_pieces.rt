@@ -1,7 +1,7 @@
 //! What is written of a node in one piece.
 ghost use Rattle.std.specs.Prelude.{◌≡◌, ◌∷◌, ◌++◌, OnErr, OnOk};
 ghost use Rattle.ser_write.specs.Canonical.{Begins, code_of};
-ghost use Rattle.ser_write.specs.Nodes.{class_of, element_bytes, head_bytes, own_title, slots_of};
+ghost use Rattle.ser_write.specs.Nodes.{class_of, element_bytes, behind_handle, own_title, slots_of};
 
 use crate::numbers::{put_32, put_byte};
 use crate::pieces::{code_of, put_counts, put_interfaces, put_primitives, put_text, put_title};
@@ -11,7 +11,7 @@ use ser_values::{Node, Values};
 use std::alloc::AllocError;
 
 /// Appends the code of a node, and a description's name and its number.
-pub(crate) fn put_front(out: &mut ByteList, node: &Node) -> Result<(), AllocError>
+pub(crate) fn put_before_handle(out: &mut ByteList, node: &Node) -> Result<(), AllocError>
     ensures written { OnOk result (out.new ≡ out.old ++ code_of node.now ∷ own_title node.now) }
     ensures kept { OnErr result (Begins out.old out.new) }
 {
@@ -39,8 +39,8 @@ pub(crate) fn class_of(node: &Node) -> Option<u32>
 
 /// Appends what stands in one piece behind a node's handle: a text, the counts of a description, the interfaces of a proxy, and of an
 /// array the length and the primitive elements.
-pub(crate) fn put_head(out: &mut ByteList, node: &Node) -> Result<(), AllocError>
-    ensures written { OnOk result (out.new ≡ out.old ++ head_bytes node.now) }
+pub(crate) fn put_behind_handle(out: &mut ByteList, node: &Node) -> Result<(), AllocError>
+    ensures written { OnOk result (out.new ≡ out.old ++ behind_handle node.now) }
     ensures kept { OnErr result (Begins out.old out.new) }
 {
     match node {
