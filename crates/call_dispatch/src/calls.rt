@@ -51,10 +51,8 @@ pub fn told(
     ensures prepared { IsPrepared (fault_return uid message.now) close result }
     ensures short { IfOk result (λ answer. length answer.bytes ≤ RETURN_BYTES) }
 {
-    match exceptional_ascii(alloc, uid, message) {
-        Ok(bytes) => Ok(Answer { bytes, close }),
-        Err(_) => Err(ConnEnd::OutOfMemory),
-    }
+    let bytes = exceptional_ascii(alloc, uid, message)?;
+    Ok(Answer { bytes, close })
 }
 
 /// What a call is answered whose Finish was refused.

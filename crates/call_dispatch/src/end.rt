@@ -5,6 +5,7 @@ ghost use Rattle.call_dispatch.specs.Progress.{end_from};
 use jrmp_frames::fault::FrameFault;
 use object_ids::ObjId;
 use ser_read::{Large, StreamFault, StreamKind};
+use std::alloc::AllocError;
 
 /// How a connection ended. Positions count bytes from 0 at the connection's first byte.
 #[derive(Clone, Copy, Debug, PartialEq, Eq)]
@@ -65,6 +66,16 @@ impl ConnEnd {
                 hash: _,
             } => 7,
         }
+    }
+}
+
+impl From<AllocError> for ConnEnd {
+    ghost use Rattle.call_dispatch.specs.declared.end.ConnEnd.TheVariants.{OutOfMemory};
+
+    ghost from_gives = { λ _ end. end ≡ OutOfMemory };
+
+    fn from(_error: AllocError) -> ConnEnd {
+        ConnEnd::OutOfMemory
     }
 }
 

@@ -72,9 +72,7 @@ fn open_stream<S: Source, K: Sink, C: Clock, P: Port, W: Worker>(
     ensures stays { Stays connection.old connection.new }
     ensures blames { BlamesIn (counts_of S.faults K.faults connection.old) (counts_of S.faults K.faults connection.new) result }
 {
-    let Ok(ack) = acknowledgement(alloc, connection.setup) else {
-        return Err(ConnEnd::OutOfMemory);
-    };
+    let ack = acknowledgement(alloc, connection.setup)?;
     let sent = write_answer(connection.sink, ack.as_slice(), 0)?;
     match skip_endpoint(&mut connection.pull) {
         Ok(()) => Ok(Opened {

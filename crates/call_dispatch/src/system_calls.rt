@@ -97,17 +97,15 @@ fn ask_turn<S: Source, K: Sink, C: Clock, P: Port, W: Worker>(
     if is_lost(&answer) {
         return Err(ConnEnd::OutOfMemory);
     }
-    match system_return(
+    let bytes = system_return(
         alloc,
         connection.setup,
         connection.book,
         uid,
         &kept,
         &answer,
-    ) {
-        Ok(bytes) => Ok(Answer { bytes, close: None }),
-        Err(_) => Err(ConnEnd::OutOfMemory),
-    }
+    )?;
+    Ok(Answer { bytes, close: None })
 }
 
 /// Serves a call whose arguments were read.
@@ -138,9 +136,7 @@ fn answer_method<S: Source, K: Sink, C: Clock, P: Port, W: Worker>(
     ensures leads { P.leads connection.old.port.now connection.new.port.now }
     ensures lent { IsLent connection.old connection.new }
 {
-    let Ok(without) = names_no_client(alloc, method, &arguments) else {
-        return Err(ConnEnd::OutOfMemory);
-    };
+    let without = names_no_client(alloc, method, &arguments)?;
     let (client, uid) = draw_uids(connection.setup, without);
     match demand_for(alloc, connection.setup, method, &arguments, client, uid) {
         Ok(Demand::Barred(bar)) => told(alloc, uid, bar_message(bar), None),
