@@ -217,7 +217,7 @@ fn client_in(ask: Ask) -> Option<Vmid>
 }
 
 /// A number of the client whose call it is, if one is found.
-fn number_of(clients: &Clients, ask: &Ask) -> Option<u32>
+fn number_of_client(clients: &Clients, ask: &Ask) -> Option<u32>
     ensures { IfSome result (λ number. slice_get clients.now.list.items number ≡ client_of ask.now) }
 {
     match client_of(ask) {
@@ -356,14 +356,14 @@ fn caller_row(
     ensures clients { (more : List Client) × (clients.new.list.items ≡ clients.old.list.items ++ more) }
     ensures room { is_some spare.new ≡ true → length clients.new.list.items < vec_capacity clients.new.list }
 {
-    match number_of(clients, &event.ask) {
+    match number_of_client(clients, &event.ask) {
         Some(client) => call_row(space, client, object, &event),
-        None => fresh_row(clients, spare, space, object, event),
+        None => fresh_call(clients, spare, space, object, event),
     }
 }
 
 /// The row of a call of the collector of the space's object of this number, or of none, whose client gets a number, where there is one.
-fn fresh_row(
+fn fresh_call(
     clients: &mut Clients,
     spare: &mut Option<Box<Event>>,
     space: &Uid,
