@@ -1,6 +1,6 @@
 -- The numbers of the objects that a space exports rise, and none is given twice.
 use Rattle.std.proofs.Common.{◌≡◌, ℕ, suc, ◌+◌, ◌<◌, ◌≤◌, List, [], ◌∷◌, ◌++◌, length, refl, ap, sym, subst, ◌∙◌, arith, cond, length-append}
-use Rattle.std.specs.Prelude.{pos, Bool, true, false, ◌||◌, filter, if◌then◌else◌, reverse}
+use Rattle.std.specs.Prelude.{zero, pos, Some, None, slice_get, Bool, true, false, ◌||◌, filter, if◌then◌else◌, reverse}
 use Rattle.std.specs.List.{AllByRecursion}
 use Rattle.std.specs.Ordering.{int_eq}
 use Rattle.std.proofs.lemmas.Bool.Decides.{Decides-int_eq}
@@ -15,7 +15,7 @@ use Rattle.history.specs.declared.asks.Ask.TheVariants.{Open, Finish}
 use Rattle.history.specs.declared.places.Exported.{Exported}
 use Rattle.history.specs.Places.{History, has, kind_of, added, next, id_at, exported_from}
 use Rattle.history.specs.Table.{is_kept, table, exports, place_of, places_back, places}
-use Rattle.history.specs.Laws.{NextIsCounted}
+use Rattle.history.specs.Laws.{NextIsCounted, IdsAreInOrder}
 use Rattle.std.proofs.lemmas.List.Folds.{list_any-append}
 use Rattle.history.proofs.ListLemmas.{every-weaker, or_true}
 
@@ -76,6 +76,17 @@ added_back-numbered config (e ∷ es) =
 pub added-numbered : (config : SpaceConfig) (h : List Event) → NumberedFrom config.uid 0 (added (places config h))
 unfolding places
 added-numbered config h = added_back-numbered config (reverse h)
+
+numbered-get : (space : Uid) (k : ℕ) (xs : List Exported) → NumberedFrom space k xs → (i : ℕ) (x : Exported) → slice_get xs i ≡ Some x → x.id ≡ id_at space (k + i)
+numbered-get space k [] n i x is = let never : None ≡ Some x = is in absurd cc
+numbered-get space k (y ∷ ys) n zero x is = let there : Some y ≡ Some x = is in let same : y ≡ x = cc in let none : k + 0 ≡ k = omega arith in ap (λ (z : Exported). z.id) (sym same) ∙ n.0 ∙ ap (id_at space) (sym none)
+numbered-get space k (y ∷ ys) n (suc i) x is = let moved : k + 1 + i ≡ k + suc i = omega arith in numbered-get space (k + 1) ys n.1 i x is ∙ ap (id_at space) moved
+
+-- THE K-TH OBJECT has the identifier of this number.
+pub ids-in-order : (config : SpaceConfig) (events : List Event) → IdsAreInOrder config events
+ids-in-order config events k x is =
+    let none : 0 + k ≡ k = omega arith in
+    numbered-get config.uid 0 (added (places config events)) (added-numbered config events) k x is ∙ ap (id_at config.uid) none
 
 -- ---- no number twice
 

@@ -15,7 +15,7 @@ use Rattle.history.specs.declared.asks.Ask.TheVariants.{Begin, Finish, Abandon}
 use Rattle.history.specs.declared.places.Place.{Place}
 pub use Rattle.history.specs.Running.{begins_any, ends_any}
 use Rattle.history.specs.Running.{is_begin_of, is_end_of, begins_call, ends_call, running, is_running, running_calls}
-use Rattle.history.specs.Laws.{RunningIsCounted, SomeConnectionRuns, RunningIsSome}
+use Rattle.history.specs.Laws.{connections, RunningIsCounted, RunningIsSummed, SomeConnectionRuns, RunningIsSome}
 use Rattle.history.specs.Limits.{is_begin, is_end, starts, ends, reserved}
 use Rattle.history.specs.Table.{is_effective, place_of, places_back, places}
 use Rattle.history.specs.Places.{History}
@@ -113,10 +113,6 @@ balanced config es by o = let all = running_back config es by o in omega arith
 eqb-equality : IsEquality (λ a b. a == b)
 eqb-equality = record { self = λ k. (Decides-eqb k k).1 refl; equal = λ j k h. (Decides-eqb j k).0 h }
 
--- The connections that asked, each once.
-connections : History → List ℕ
-connections h = distinct (λ a b. a == b) (map (λ p. p.event.by) h)
-
 turned : (a b c : Bool) → (a && b && c) ≡ (b && (a && c))
 turned true true c = refl
 turned true false c = refl
@@ -124,14 +120,12 @@ turned false true c = refl
 turned false false c = refl
 
 begun_by : (h : History) (o : ObjId) → sum_by (λ by. length (filter (begins_call by o) h)) (connections h) ≡ length (filter (begins_any o) h)
-unfolding connections
 begun_by h o =
     sum_by-same (λ by. length (filter (begins_call by o) h)) (λ by. length (filter (λ p. p.event.by == by && begins_any o p) h))
     (λ by. ap length (filter-same (begins_call by o) (λ p. p.event.by == by && begins_any o p) h (every-always (λ p. begins_call by o p ≡ (p.event.by == by && begins_any o p)) (λ p. turned p.effective (p.event.by == by) (is_begin_of o p.event.ask)) h))) (connections h)
     ∙ sum_by-parts (λ a b. a == b) eqb-equality (λ p. p.event.by) (begins_any o) h
 
 ended_by : (h : History) (o : ObjId) → sum_by (λ by. length (filter (ends_call by o) h)) (connections h) ≡ length (filter (ends_any o) h)
-unfolding connections
 ended_by h o =
     sum_by-same (λ by. length (filter (ends_call by o) h)) (λ by. length (filter (λ p. p.event.by == by && ends_any o p) h))
     (λ by. ap length (filter-same (ends_call by o) (λ p. p.event.by == by && ends_any o p) h (every-always (λ p. ends_call by o p ≡ (p.event.by == by && ends_any o p)) (λ p. turned p.effective (p.event.by == by) (is_end_of o p.event.ask)) h))) (connections h)
@@ -254,7 +248,6 @@ calls-sum : (config : SpaceConfig) (es : List Event) (o : ObjId) →
 calls-sum config es o = let one = running_calls_back config es o in let other = each_running config es o in omega arith
 
 connections-any : (h : History) (o : ObjId) → list_any (λ by. nat_lt 0 (running h by o)) (connections h) ≡ list_any (λ by. nat_lt 0 (running h by o)) (map (λ (p : Place). p.event.by) h)
-unfolding connections
 connections-any h o =
     list_any-distinct (λ a b. a == b) (λ by. nat_lt 0 (running h by o)) (λ x y e. ap (λ n. nat_lt 0 (running h n o)) ((Decides-eqb x y).0 e)) (map (λ (p : Place). p.event.by) h)
 
@@ -271,6 +264,10 @@ running_some config es o = (λ r. some_runs (map (λ (p : Place). p.event.by) h)
     asked : (by : ℕ) → 0 < running h by o → (b : Bool) → list_any (λ c. by == c) (map (λ (p : Place). p.event.by) h) ≡ b → b ≡ true
     asked by r true a = refl
     asked by r false a = absurd (let none = never_asked h by o a in omega arith)
+
+pub running-summed : (config : SpaceConfig) (events : List Event) → RunningIsSummed config events
+unfolding places
+running-summed config events o = calls-sum config (reverse events) o
 
 pub running-some : (config : SpaceConfig) (events : List Event) → RunningIsSome config events
 unfolding places

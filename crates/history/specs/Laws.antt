@@ -1,5 +1,5 @@
 -- What the definitions of a history, which go by its newest place, say of the whole history.
-use Rattle.std.specs.Prelude.{◌≡◌, ℕ, ◌+◌, ◌<◌, ◌↔◌, Bool, true, not, List, [], ◌∷◌, length, reverse, ◌&&◌, ◌||◌, nat_lt, nat_le, filter, find, filter_map, map, is_none, Option, Some, option_and_then, option_map, unwrap_or}
+use Rattle.std.specs.Prelude.{◌≡◌, ℕ, ◌+◌, ◌<◌, ◌↔◌, Bool, true, not, List, [], ◌∷◌, length, reverse, ◌&&◌, ◌||◌, nat_lt, nat_le, filter, find, filter_map, map, is_none, Option, Some, option_and_then, option_map, unwrap_or, slice_get, sum_by, ◌==◌}
 use Rattle.std.specs.List.{list_all, list_any}
 use Rattle.object_ids.specs.declared.ids.Uid.{Uid}
 use Rattle.object_ids.specs.declared.ids.ObjId.{ObjId}
@@ -8,8 +8,8 @@ use Rattle.history.specs.declared.asks.Event.{Event}
 use Rattle.history.specs.declared.places.Place.{Place}
 use Rattle.history.specs.declared.places.Exported.{Exported}
 use Rattle.history.specs.declared.places.Returned.{Returned}
-use Rattle.history.specs.Lists.{option_any}
-use Rattle.history.specs.Places.{History, has, added, next}
+use Rattle.history.specs.Lists.{distinct, option_any}
+use Rattle.history.specs.Places.{History, has, added, id_at, next}
 use Rattle.history.specs.Running.{begins_call, ends_call, begins_any, ends_any, running, running_calls, is_running}
 use Rattle.history.specs.Awaiting.{returns, is_ack_of, awaits}
 use Rattle.history.specs.Names.{name_bound, object_bound, is_unbind_of, changes_name, stands_for, names}
@@ -35,6 +35,10 @@ TableIsKept config events =
 -- The next object is the k-th, from 0, where k objects were exported before it.
 abbrev pub NextIsCounted : History → Type 0
 NextIsCounted h = next h ≡ length (added h)
+
+-- The k-th object, from 0, has the identifier of this number: none is given twice.
+abbrev pub IdsAreInOrder : SpaceConfig → List Event → Type 0
+IdsAreInOrder config events = (k : ℕ) (x : Exported) → slice_get (added (places config events)) k ≡ Some x → x.id ≡ id_at config.uid k
 
 -- ---- what awaits: since the last return
 
@@ -86,6 +90,15 @@ abbrev pub RunningIsCounted : SpaceConfig → List Event → Type 0
 RunningIsCounted config events =
     (by : ℕ) (o : ObjId) →
     running (places config events) by o + length (filter (ends_call by o) (places config events)) ≡ length (filter (begins_call by o) (places config events))
+
+-- The connections that asked, each once.
+abbrev pub connections : History → List ℕ
+connections h = distinct (λ a b. a == b) (map (λ p. p.event.by) h)
+
+-- What all connections run is the sum of what each runs.
+abbrev pub RunningIsSummed : SpaceConfig → List Event → Type 0
+RunningIsSummed config events =
+    (o : ObjId) → running_calls (places config events) o ≡ sum_by (λ by. running (places config events) by o) (connections (places config events))
 
 abbrev pub AllRunningIsCounted : SpaceConfig → List Event → Type 0
 AllRunningIsCounted config events =

@@ -3,7 +3,7 @@ ghost use Rattle.std.specs.Prelude.{List};
 ghost use Rattle.history.specs.declared.asks.Event.{Event};
 ghost use Rattle.history.specs.declared.asks.SpaceConfig.{SpaceConfig};
 ghost use Rattle.history.specs.Collector.{Collects};
-ghost use Rattle.history.specs.Laws.{TableIsKept, NextIsCounted, AwaitsSinceReturn, StandsForLast, NamesInOrder, NamedIsExported, RunningIsCounted, AllRunningIsCounted, RunningIsSome, GoneSinceLast};
+ghost use Rattle.history.specs.Laws.{TableIsKept, NextIsCounted, IdsAreInOrder, AwaitsSinceReturn, StandsForLast, NamesInOrder, NamedIsExported, RunningIsCounted, RunningIsSummed, AllRunningIsCounted, RunningIsSome, GoneSinceLast};
 ghost use Rattle.history.specs.Places.{History};
 ghost use Rattle.history.specs.Table.{with_event};
 
@@ -12,9 +12,11 @@ pub fn the_table_is_what_was_kept_since_its_export()
     ensures { (config : SpaceConfig) (events : List Event) → TableIsKept config events }
 {}
 
-/// Objects are numbered in the order of their export: the next one comes after all that were ever exported.
+/// Objects are numbered in the order of their export, so no identifier is given twice: the k-th has the identifier of this number, and the next one comes
+/// after all that were ever exported.
 pub fn objects_are_numbered_as_exported()
-    ensures { (h : History) → NextIsCounted h }
+    ensures next { (h : History) → NextIsCounted h }
+    ensures ids { (config : SpaceConfig) (events : List Event) → IdsAreInOrder config events }
 {}
 
 /// A reference awaits where, since the last place that returned it, its time to acknowledge has not ended and no
@@ -36,10 +38,11 @@ pub fn what_a_name_stands_for_is_exported()
 {}
 
 /// The running calls of a connection are its effective begins less its effective ends, and so are those of all
-/// connections; some call of an object runs where some connection runs one.
+/// connections, which are the sum of the calls of each; some call of an object runs where some connection runs one.
 pub fn running_calls_are_begins_less_ends()
     ensures one { (config : SpaceConfig) (events : List Event) → RunningIsCounted config events }
     ensures all { (config : SpaceConfig) (events : List Event) → AllRunningIsCounted config events }
+    ensures sum { (config : SpaceConfig) (events : List Event) → RunningIsSummed config events }
     ensures some { (config : SpaceConfig) (events : List Event) → RunningIsSome config events }
 {}
 
