@@ -11,6 +11,7 @@ ghost use Rattle.dgc_server.specs.Stands.{each_once, is_in_order, entry_after};
 ghost use Rattle.dgc_server.specs.Index.{Way, counted_at, has_count, is_counted, is_named, one_if, entry_names, with_only, objects_in, sums_at, bound_of, IsIndexed, IsNoted};
 ghost use Rattle.dgc_server.specs.Table.{entry_of, no_entry, with_entry, after_lapse};
 ghost use Rattle.dgc_server.specs.Chunks.{all_of, is_filled, IsChunkOf, IsBounded, IsChunked};
+ghost use Rattle.dgc_server.specs.declared.clients.TheConstants.{CHUNK_LEN};
 
 use crate::entry::{ClientEntry, LeaseCall};
 use crate::holders::{ClientHint, Counts, Passed};
@@ -275,7 +276,7 @@ fn find_in<'a>(chunks: &'a [Chunk], client: &Vmid) -> Option<&'a ClientEntry>
 
 /// Moves the back half of a full list into a list that has room for it.
 fn split_into(entries: &mut Vec<ClientEntry>, back: &mut Vec<ClientEntry>)
-    requires long { 256 ≤ vec_len entries.old }
+    requires long { CHUNK_LEN ≤ vec_len entries.old }
     requires none { back.old.items ≡ [] }
     requires empty { vec_len back.old ≡ 0 }
     requires room { vec_len entries.old ≤ vec_capacity back.old }
@@ -289,7 +290,7 @@ fn split_into(entries: &mut Vec<ClientEntry>, back: &mut Vec<ClientEntry>)
 
 /// Moves what stands behind the first half into a list that has room for it, the last first.
 fn move_back(entries: &mut Vec<ClientEntry>, back: &mut Vec<ClientEntry>)
-    requires long { 256 ≤ vec_len entries.old }
+    requires long { CHUNK_LEN ≤ vec_len entries.old }
     requires none { back.old.items ≡ [] }
     requires empty { vec_len back.old ≡ 0 }
     requires room { vec_len entries.old ≤ vec_capacity back.old }

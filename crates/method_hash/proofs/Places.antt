@@ -10,6 +10,7 @@ use Rattle.method_hash.specs.declared.place.Part.{Part}
 use Rattle.method_hash.specs.declared.place.Part.TheVariants.{Elements, Class, ClassName}
 use Rattle.method_hash.specs.declared.place.TextPlace.{TextPlace}
 use Rattle.method_hash.specs.declared.place.TextPlace.TheVariants.{Name, Parameters, Parameter, Returned, ReturnedType, End}
+use Rattle.method_hash.specs.declared.place.TheConstants.{MAX_METHOD_PARTS}
 
 -- ---- no fewer
 
@@ -69,7 +70,7 @@ needs End t name params coming h = omega arith
 abbrev pub Shortest : TextPlace → Type 0
 Shortest p = (t name : List ℕ) × (params : List TypeCode) × (coming : Option TypeCode) × (length t ≡ need p) × Completes p t name params coming
 
-nothing_more : (count : ℕ) → count ≤ 255 → CompletesTypes count (0x29 ∷ 0x56 ∷ []) [] None
+nothing_more : (count : ℕ) → count ≤ MAX_METHOD_PARTS → CompletesTypes count (0x29 ∷ 0x56 ∷ []) [] None
 nothing_more count few = ([], 0x56 ∷ [], refl, omega arith, refl, refl)
 
 abbrev part_text : Part → List ℕ

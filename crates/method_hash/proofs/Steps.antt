@@ -17,6 +17,7 @@ use Rattle.method_hash.specs.declared.place.Part.{Part}
 use Rattle.method_hash.specs.declared.place.TextPlace.{TextPlace}
 use Rattle.method_hash.specs.declared.place.TextPlace.TheVariants.{Name, Parameters, Parameter, Returned, ReturnedType, End}
 use Rattle.method_hash.proofs.Types.{CompletesBegun, begun_type, type_begun, part_sound, part_back}
+use Rattle.method_hash.specs.declared.place.TheConstants.{MAX_METHOD_PARTS}
 
 -- ---- parameters and results
 
@@ -74,17 +75,17 @@ no_parenthesis b h = go (eqb b 0x28) refl
 name_more : (read b : ℕ) → is_name_byte b ≡ true → name_noted (Name read) b ≡ b ∷ []
 name_more read b good = rw (no_parenthesis b good) refl
 
-leads_name : (read b : ℕ) → is_name_byte b ≡ true → ltb read 255 ≡ true → Leads (Name read) b (Name (read + 1))
+leads_name : (read b : ℕ) → is_name_byte b ≡ true → ltb read MAX_METHOD_PARTS ≡ true → Leads (Name read) b (Name (read + 1))
 leads_name read b good less t more others coming told (tail, are, some, few, types, is) =
     (coming, rw (name_more read b good) (tail, (good, are), omega arith, omega arith, types, ap (λ (l : List ℕ). b ∷ l) is), refl)
 
-leads_open : (read : ℕ) → read ≤ 255 → ltb 0 read ≡ true → Leads (Name read) 0x28 (Parameters 0)
+leads_open : (read : ℕ) → read ≤ MAX_METHOD_PARTS → ltb 0 read ≡ true → Leads (Name read) 0x28 (Parameters 0)
 leads_open read few some t [] others coming told (none, types) =
     let much : 0 < read = ltb-true 0 read some in
     (coming, (t, tt, omega arith, omega arith, types, refl), refl)
 leads_open read few some t (c ∷ more) others coming told (none, types) = absurd cc
 
-leads_close : (read : ℕ) → read ≤ 255 → Leads (Parameters read) 0x29 Returned
+leads_close : (read : ℕ) → read ≤ MAX_METHOD_PARTS → Leads (Parameters read) 0x29 Returned
 leads_close read few t [] [] coming told (none, no_others, returns) = (coming, (refl, ([], t, refl, omega arith, returns, refl)), refl)
 leads_close read few t (c ∷ more) others coming told (none, no_others, returns) = absurd cc
 leads_close read few t [] (c ∷ others) coming told (none, no_others, returns) = absurd cc
@@ -132,17 +133,17 @@ pub leads : (p : TextPlace) (b : ℕ) (q : TextPlace) → IsWithin p → next p 
 unfolding next
 leads (Name read) b q within h = go (eqb b 0x28) refl (ltb 0 read) refl h
   where
-    inner : (u : Bool) → is_name_byte b ≡ u → (v : Bool) → ltb read 255 ≡ v → cond (u && v) (Some (Name (read + 1))) None ≡ Some q → Leads (Name read) b q
+    inner : (u : Bool) → is_name_byte b ≡ u → (v : Bool) → ltb read MAX_METHOD_PARTS ≡ v → cond (u && v) (Some (Name (read + 1))) None ≡ Some q → Leads (Name read) b q
     inner true good true less h = subst (Leads (Name read) b) (some_is (Name (read + 1)) q h) (leads_name read b good less)
     inner true good false less h = absurd cc
     inner false good v less h = absurd cc
 
-    go : (u : Bool) → eqb b 0x28 ≡ u → (v : Bool) → ltb 0 read ≡ v → cond (u && v) (Some (Parameters 0)) (cond (is_name_byte b && ltb read 255) (Some (Name (read + 1))) None) ≡ Some q → Leads (Name read) b q
+    go : (u : Bool) → eqb b 0x28 ≡ u → (v : Bool) → ltb 0 read ≡ v → cond (u && v) (Some (Parameters 0)) (cond (is_name_byte b && ltb read MAX_METHOD_PARTS) (Some (Name (read + 1))) None) ≡ Some q → Leads (Name read) b q
     go true e true some h =
         subst (Leads (Name read) b) (some_is (Parameters 0) q h)
         (subst (λ (n : ℕ). Leads (Name read) n (Parameters 0)) (sym (eqb-true b 0x28 e)) (leads_open read within some))
-    go true e false some h = inner (is_name_byte b) refl (ltb read 255) refl h
-    go false e v some h = inner (is_name_byte b) refl (ltb read 255) refl h
+    go true e false some h = inner (is_name_byte b) refl (ltb read MAX_METHOD_PARTS) refl h
+    go false e v some h = inner (is_name_byte b) refl (ltb read MAX_METHOD_PARTS) refl h
 leads (Parameters read) b q within h = go (eqb b 0x29) refl h
   where
     inner : (v : Bool) → cond v (option_map (in_parameter (read + 1)) (begin b)) None ≡ Some q → Leads (Parameters read) b q
@@ -151,11 +152,11 @@ leads (Parameters read) b q within h = go (eqb b 0x29) refl h
         subst (Leads (Parameters read) b) m.2 (leads_parameter read b m.0 m.1)
     inner false h = absurd cc
 
-    go : (u : Bool) → eqb b 0x29 ≡ u → cond u (Some Returned) (cond (ltb read 255) (option_map (in_parameter (read + 1)) (begin b)) None) ≡ Some q → Leads (Parameters read) b q
+    go : (u : Bool) → eqb b 0x29 ≡ u → cond u (Some Returned) (cond (ltb read MAX_METHOD_PARTS) (option_map (in_parameter (read + 1)) (begin b)) None) ≡ Some q → Leads (Parameters read) b q
     go true e h =
         subst (Leads (Parameters read) b) (some_is Returned q h)
         (subst (λ (n : ℕ). Leads (Parameters read) n Returned) (sym (eqb-true b 0x29 e)) (leads_close read within))
-    go false e h = inner (ltb read 255) h
+    go false e h = inner (ltb read MAX_METHOD_PARTS) h
 leads (Parameter count part) b q within h =
     let m = mapped (in_parameter count) (part_next part b) q h in
     subst (Leads (Parameter count part) b) m.2 (leads_on count b part m.0 m.1)
@@ -204,7 +205,7 @@ back_name read b t [] params coming (tail, are, some, few, types, is) =
     let much : ltb 0 read ≡ true = lt-ltb 0 read (omega arith) in
     at_spelled (Name read) b 0x28 t tail is (Parameters 0, rw (much) refl, ([], params, coming, (refl, types)))
 back_name read b t (c ∷ name) params coming (tail, are, some, few, types, is) =
-    let less : ltb read 255 ≡ true = lt-ltb read 255 (omega arith) in
+    let less : ltb read MAX_METHOD_PARTS ≡ true = lt-ltb read MAX_METHOD_PARTS (omega arith) in
     at_spelled (Name read) b c t (name ++ 0x28 ∷ tail) is
     (Name (read + 1), rw (are.0, no_parenthesis c are.0, less) refl, (name, params, coming, (tail, are.1, omega arith, omega arith, types, refl)))
 
@@ -214,8 +215,8 @@ back_parameters read b t [] coming (types, last, none, few, returns, is) =
     at_spelled (Parameters read) b 0x29 t last (is ∙ ap (λ (l : List ℕ). l ++ 0x29 ∷ last) none) (Returned, refl, ([], [], coming, (refl, refl, returns)))
 back_parameters read b t (code ∷ params) coming (types, last, (first, rest, has, are, joined), few, returns, is) = go (type_begun code first has)
   where
-    less : ltb read 255 ≡ true
-    less = lt-ltb read 255 (omega arith)
+    less : ltb read MAX_METHOD_PARTS ≡ true
+    less = lt-ltb read MAX_METHOD_PARTS (omega arith)
 
     go : ((tail : List ℕ) × (x : Begun) × (first ≡ letter code ∷ tail) × (begin (letter code) ≡ Some x) × CompletesBegun x tail) → GoesOn (Parameters read) b t
     go (tail, x, first_is, begins, completes) =
@@ -272,7 +273,7 @@ goes_on End b t name params coming (none, no_params, is) = absurd cc
 
 -- ---- the counts stay within their limits
 
-within_parameter : (count : ℕ) (x : Begun) → count ≤ 255 → IsWithin (in_parameter count x)
+within_parameter : (count : ℕ) (x : Begun) → count ≤ MAX_METHOD_PARTS → IsWithin (in_parameter count x)
 within_parameter count Whole few = few
 within_parameter count (In part) few = few
 
@@ -284,27 +285,27 @@ pub within_next : (p : TextPlace) (b : ℕ) (q : TextPlace) → IsWithin p → n
 unfolding next
 within_next (Name read) b q within h = go (eqb b 0x28) (ltb 0 read) h
   where
-    inner : (u : Bool) → (v : Bool) → ltb read 255 ≡ v → cond (u && v) (Some (Name (read + 1))) None ≡ Some q → IsWithin q
-    inner true true less h = let below : read < 255 = ltb-true read 255 less in subst IsWithin (some_is (Name (read + 1)) q h) (omega arith)
+    inner : (u : Bool) → (v : Bool) → ltb read MAX_METHOD_PARTS ≡ v → cond (u && v) (Some (Name (read + 1))) None ≡ Some q → IsWithin q
+    inner true true less h = let below : read < MAX_METHOD_PARTS = ltb-true read MAX_METHOD_PARTS less in subst IsWithin (some_is (Name (read + 1)) q h) (omega arith)
     inner true false less h = absurd cc
     inner false v less h = absurd cc
 
-    go : (u : Bool) → (v : Bool) → cond (u && v) (Some (Parameters 0)) (cond (is_name_byte b && ltb read 255) (Some (Name (read + 1))) None) ≡ Some q → IsWithin q
+    go : (u : Bool) → (v : Bool) → cond (u && v) (Some (Parameters 0)) (cond (is_name_byte b && ltb read MAX_METHOD_PARTS) (Some (Name (read + 1))) None) ≡ Some q → IsWithin q
     go true true h = subst IsWithin (some_is (Parameters 0) q h) (omega arith)
-    go true false h = inner (is_name_byte b) (ltb read 255) refl h
-    go false v h = inner (is_name_byte b) (ltb read 255) refl h
+    go true false h = inner (is_name_byte b) (ltb read MAX_METHOD_PARTS) refl h
+    go false v h = inner (is_name_byte b) (ltb read MAX_METHOD_PARTS) refl h
 within_next (Parameters read) b q within h = go (eqb b 0x29) h
   where
-    inner : (v : Bool) → ltb read 255 ≡ v → cond v (option_map (in_parameter (read + 1)) (begin b)) None ≡ Some q → IsWithin q
+    inner : (v : Bool) → ltb read MAX_METHOD_PARTS ≡ v → cond v (option_map (in_parameter (read + 1)) (begin b)) None ≡ Some q → IsWithin q
     inner true less h =
-        let below : read < 255 = ltb-true read 255 less in
+        let below : read < MAX_METHOD_PARTS = ltb-true read MAX_METHOD_PARTS less in
         let m = mapped (in_parameter (read + 1)) (begin b) q h in
         subst IsWithin m.2 (within_parameter (read + 1) m.0 (omega arith))
     inner false less h = absurd cc
 
-    go : (u : Bool) → cond u (Some Returned) (cond (ltb read 255) (option_map (in_parameter (read + 1)) (begin b)) None) ≡ Some q → IsWithin q
+    go : (u : Bool) → cond u (Some Returned) (cond (ltb read MAX_METHOD_PARTS) (option_map (in_parameter (read + 1)) (begin b)) None) ≡ Some q → IsWithin q
     go true h = subst IsWithin (some_is Returned q h) tt
-    go false h = inner (ltb read 255) refl h
+    go false h = inner (ltb read MAX_METHOD_PARTS) refl h
 within_next (Parameter count part) b q within h =
     let m = mapped (in_parameter count) (part_next part b) q h in subst IsWithin m.2 (within_parameter count m.0 within)
 within_next Returned b q within h = go (eqb b 0x56) h

@@ -12,10 +12,11 @@ use Rattle.method_hash.specs.declared.place.TextPlace.{TextPlace}
 use Rattle.method_hash.specs.declared.place.TextPlace.TheVariants.{Name, Parameters, Parameter, Returned, ReturnedType, End}
 use Rattle.method_hash.proofs.Steps.{leads, goes_on, GoesOn, within_next}
 use Rattle.method_hash.proofs.Places.{needs, shortest}
+use Rattle.method_hash.specs.declared.method.TheConstants.{METHOD_BYTES}
 
 -- ---- a whole text
 
-pub method_of : (text name : List ℕ) (params : List TypeCode) (returned : Option TypeCode) → length text ≤ 65535 → Completes (Name 0) text name params returned → IsMethod text name params returned
+pub method_of : (text name : List ℕ) (params : List TypeCode) (returned : Option TypeCode) → length text ≤ METHOD_BYTES → Completes (Name 0) text name params returned → IsMethod text name params returned
 method_of text name params returned short (tail, are, some, few, (types, last, typed, count, returns, tail_is), is) = record {
   types = types;
   last = last;
@@ -47,7 +48,7 @@ one_more : (bytes rest : List ℕ) (b : ℕ) → (bytes ++ b ∷ []) ++ rest ≡
 one_more bytes rest b = append_assoc bytes (b ∷ []) rest
 
 pub read_on : (bytes : List ℕ) (b : ℕ) (p q : TextPlace) (name : List ℕ) (params : List TypeCode) (returned : Option TypeCode)
-    → HasRead bytes p name params returned → next p b ≡ Some q → length bytes + 1 + need q ≤ 65535
+    → HasRead bytes p name params returned → next p b ≡ Some q → length bytes + 1 + need q ≤ METHOD_BYTES
     → HasRead (bytes ++ b ∷ []) q (name ++ name_noted p b) (params ++ param_noted p b) (returned_noted p b returned)
 read_on bytes b p q name params returned h goes fits = record {
   within = within_next p b q h.within goes;
@@ -102,13 +103,13 @@ a_front bytes p name params returned h = go (shortest p h.within)
 
 -- no byte like this may come next
 abbrev pub IsStuck : TextPlace → ℕ → ℕ → Type 0
-IsStuck p b at = (next p b ≡ None) ⊎ ((q : TextPlace) × (next p b ≡ Some q) × (65535 < at + 1 + need q))
+IsStuck p b at = (next p b ≡ None) ⊎ ((q : TextPlace) × (next p b ≡ Some q) × (METHOD_BYTES < at + 1 + need q))
 
 no_front : (bytes : List ℕ) (b : ℕ) (p : TextPlace) (name : List ℕ) (params : List TypeCode) (returned : Option TypeCode) → HasRead bytes p name params returned → IsStuck p b (length bytes) → IsFront (bytes ++ b ∷ []) → ⊥
 no_front bytes b p name params returned h stuck (rest, whole, all, result, m) =
     go (h.back (b ∷ rest) whole all result (subst (λ (l : List ℕ). Completes (Name 0) l whole all result) (one_more bytes rest b) (completed ((bytes ++ b ∷ []) ++ rest) whole all result m)))
   where
-    long : 65535 < length bytes + 1 + length rest → ⊥
+    long : METHOD_BYTES < length bytes + 1 + length rest → ⊥
     long much = omega (arith, m.short, length-append (bytes ++ b ∷ []) rest, length-append bytes (b ∷ []))
 
     on : GoesOn p b rest → ⊥

@@ -7,6 +7,8 @@ use Rattle.class_desc.specs.declared.field.TypeCode.TheVariants as codes
 use Rattle.class_desc.specs.TypeCode.{is_primitive, letter}
 use Rattle.method_hash.specs.declared.method.MethodFault.{MethodFault}
 use Rattle.method_hash.specs.declared.method.MethodFault.TheVariants.{BadDescriptor, OutOfMemory}
+use Rattle.method_hash.specs.declared.place.TheConstants.{MAX_METHOD_PARTS}
+use Rattle.method_hash.specs.declared.method.TheConstants.{METHOD_BYTES}
 
 -- A byte that may stand in a class's name: visible, and none of ; ( ) [
 abbrev pub is_class_byte : ℕ → Bool
@@ -61,12 +63,12 @@ pub record IsMethod (text name : List ℕ) (params : List TypeCode) (returned : 
   pub last : List ℕ
   pub named : AreNameBytes name
   pub some_name : 0 < length name
-  pub short_name : length name ≤ 255
+  pub short_name : length name ≤ MAX_METHOD_PARTS
   pub typed : AreTypes params types
-  pub few : length params ≤ 255
+  pub few : length params ≤ MAX_METHOD_PARTS
   pub returns : Returns returned last
   pub parts : text ≡ name ++ 0x28 ∷ (types ++ 0x29 ∷ last)
-  pub short : length text ≤ 65535
+  pub short : length text ≤ METHOD_BYTES
 
 -- Some method's text begins with these bytes.
 abbrev pub IsFront : List ℕ → Type 0

@@ -10,6 +10,7 @@ use Rattle.method_hash.specs.declared.place.Part.{Part}
 use Rattle.method_hash.specs.declared.place.Part.TheVariants.{Elements, Class, ClassName}
 use Rattle.method_hash.specs.declared.place.TextPlace.{TextPlace}
 use Rattle.method_hash.specs.declared.place.TextPlace.TheVariants.{Name, Parameters, Parameter, Returned, ReturnedType, End}
+use Rattle.method_hash.specs.declared.place.TheConstants.{MAX_METHOD_PARTS}
 
 abbrev pub begun_by : Option TypeCode → Option Begun
 begun_by None = None
@@ -39,10 +40,10 @@ in_result (In part) = ReturnedType part
 unfoldable pub next : TextPlace → ℕ → Option TextPlace
 next (Name read) b =
     if nat_eq b 0x28 && nat_lt 0 read then Some (Parameters 0)
-    else (if is_name_byte b && nat_lt read 255 then Some (Name (read + 1)) else None)
+    else (if is_name_byte b && nat_lt read MAX_METHOD_PARTS then Some (Name (read + 1)) else None)
 next (Parameters read) b =
     if nat_eq b 0x29 then Some Returned
-    else (if nat_lt read 255 then option_map (in_parameter (read + 1)) (begin b) else None)
+    else (if nat_lt read MAX_METHOD_PARTS then option_map (in_parameter (read + 1)) (begin b) else None)
 next (Parameter count part) b = option_map (in_parameter count) (part_next part b)
 next Returned b = if nat_eq b 0x56 then Some End else option_map in_result (begin b)
 next (ReturnedType part) b = option_map in_result (part_next part b)
@@ -64,7 +65,7 @@ need End = 0
 
 -- The counts of a place are within their limits.
 abbrev pub IsWithin : TextPlace → Type 0
-IsWithin (Name read) = read ≤ 255
-IsWithin (Parameters read) = read ≤ 255
-IsWithin (Parameter count part) = count ≤ 255
+IsWithin (Name read) = read ≤ MAX_METHOD_PARTS
+IsWithin (Parameters read) = read ≤ MAX_METHOD_PARTS
+IsWithin (Parameter count part) = count ≤ MAX_METHOD_PARTS
 IsWithin _ = Unit {0}

@@ -8,6 +8,8 @@ use Rattle.method_hash.specs.declared.place.Part.{Part}
 use Rattle.method_hash.specs.declared.place.Part.TheVariants.{Elements, Class, ClassName}
 use Rattle.method_hash.specs.declared.place.TextPlace.{TextPlace}
 use Rattle.method_hash.specs.declared.place.TextPlace.TheVariants.{Name, Parameters, Parameter, Returned, ReturnedType, End}
+use Rattle.method_hash.specs.declared.place.TheConstants.{MAX_METHOD_PARTS}
+use Rattle.method_hash.specs.declared.method.TheConstants.{METHOD_BYTES}
 
 -- ---- what completes a text
 
@@ -20,12 +22,12 @@ CompletesPart ClassName t = (name : List ℕ) × AreClassBytes name × (t ≡ na
 -- Parameters of these kinds, of which so many came before, the closing parenthesis, and such a result.
 abbrev pub CompletesTypes : ℕ → List ℕ → List TypeCode → Option TypeCode → Type 0
 CompletesTypes count t params returned =
-    (types last : List ℕ) × AreTypes params types × (count + length params ≤ 255) × Returns returned last × (t ≡ types ++ 0x29 ∷ last)
+    (types last : List ℕ) × AreTypes params types × (count + length params ≤ MAX_METHOD_PARTS) × Returns returned last × (t ≡ types ++ 0x29 ∷ last)
 
 -- The rest of a method's text, with what of its name, its parameters and its result is still to come.
 abbrev pub Completes : TextPlace → List ℕ → List ℕ → List TypeCode → Option TypeCode → Type 0
 Completes (Name read) t name params returned =
-    (tail : List ℕ) × AreNameBytes name × (0 < read + length name) × (read + length name ≤ 255) × CompletesTypes 0 tail params returned × (t ≡ name ++ 0x28 ∷ tail)
+    (tail : List ℕ) × AreNameBytes name × (0 < read + length name) × (read + length name ≤ MAX_METHOD_PARTS) × CompletesTypes 0 tail params returned × (t ≡ name ++ 0x28 ∷ tail)
 Completes (Parameters read) t name params returned = (name ≡ []) × CompletesTypes read t params returned
 Completes (Parameter count part) t name params returned =
     (name ≡ []) × ((first tail : List ℕ) × CompletesPart part first × CompletesTypes count tail params returned × (t ≡ first ++ tail))
@@ -60,7 +62,7 @@ returned_at _ told coming = coming
 -- a method's text of the whole; and nothing else does.
 pub record HasRead (bytes : List ℕ) (place : TextPlace) (name : List ℕ) (params : List TypeCode) (returned : Option TypeCode) : Type 0 where
   pub within : IsWithin place
-  pub fits : length bytes + need place ≤ 65535
+  pub fits : length bytes + need place ≤ METHOD_BYTES
   pub leads : (rest more : List ℕ) (others : List TypeCode) (coming : Option TypeCode) → Completes place rest more others coming
       → Completes (Name 0) (bytes ++ rest) (name ++ more) (params ++ others) (returned_at place returned coming)
   pub back : (rest whole : List ℕ) (all : List TypeCode) (result : Option TypeCode) → Completes (Name 0) (bytes ++ rest) whole all result

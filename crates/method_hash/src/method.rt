@@ -6,6 +6,7 @@ ghost use Rattle.method_hash.specs.Reading.{name_noted, param_noted, returned_no
 ghost use Rattle.method_hash.specs.declared.method.MethodFault.TheVariants.{OutOfMemory};
 ghost use Rattle.method_hash.specs.declared.place.TextPlace.{TextPlace as Places};
 ghost use Rattle.method_hash.specs.declared.place.TextPlace.TheVariants.{Name};
+ghost use Rattle.method_hash.specs.declared.method.TheConstants.{METHOD_BYTES};
 
 use crate::place::TextPlace;
 use class_desc::TypeCode;
@@ -14,7 +15,7 @@ use std::alloc::{AllocError, Global};
 use thiserror::Error;
 
 /// The greatest number of bytes of a method's text.
-const TEXT_BYTES: usize = 65_535;
+pub const METHOD_BYTES: usize = 65_535;
 
 /// A list of types.
 pub type CodeList = Sequence<TypeCode>;
@@ -114,11 +115,11 @@ impl Draft {
 /// Where reading stands behind a byte, before which so many were read; None where no method's text that is short enough goes on so.
 fn step(place: TextPlace, byte: u8, at: usize) -> Option<TextPlace>
     requires { at < 2 ^ 62 }
-    ensures some { IfSome result (λ q. (next place byte ≡ Some q) × (at + 1 + need q ≤ 65535)) }
-    ensures none { IfNone result ((next place byte ≡ None) ⊎ ((q : Places) × (next place byte ≡ Some q) × (65535 < at + 1 + need q))) }
+    ensures some { IfSome result (λ q. (next place byte ≡ Some q) × (at + 1 + need q ≤ METHOD_BYTES)) }
+    ensures none { IfNone result ((next place byte ≡ None) ⊎ ((q : Places) × (next place byte ≡ Some q) × (METHOD_BYTES < at + 1 + need q))) }
 {
     let next = place.next(byte)?;
-    if at + 1 + next.need() <= TEXT_BYTES {
+    if at + 1 + next.need() <= METHOD_BYTES {
         Some(next)
     } else {
         None

@@ -7,7 +7,7 @@ ghost use Rattle.method_hash.specs.Next.{begin, part_next, next, in_parameter, i
 use class_desc::TypeCode;
 
 /// The greatest number of bytes of a method's name, and of its parameters.
-const MOST: u32 = 255;
+pub const MAX_METHOD_PARTS: u32 = 255;
 
 /// Where in a type's text reading stands.
 #[derive(Clone, Copy, Debug, PartialEq, Eq)]
@@ -118,12 +118,12 @@ impl TextPlace {
     {
         match self {
             TextPlace::Name(read) if byte == b'(' && read > 0 => Some(TextPlace::Parameters(0)),
-            TextPlace::Name(read) if is_name_byte(byte) && read < MOST => Some(TextPlace::Name(
-                read + 1,
-            )),
+            TextPlace::Name(read) if is_name_byte(byte) && read < MAX_METHOD_PARTS => Some(
+                TextPlace::Name(read + 1),
+            ),
             TextPlace::Name(_) => None,
             TextPlace::Parameters(_) if byte == b')' => Some(TextPlace::Returned),
-            TextPlace::Parameters(read) if read < MOST => {
+            TextPlace::Parameters(read) if read < MAX_METHOD_PARTS => {
                 Some(TextPlace::in_parameter(read + 1, begin(byte)?))
             }
             TextPlace::Parameters(_) => None,

@@ -1,6 +1,7 @@
 -- What `rmi replay` takes and writes.
 use Rattle.std.specs.Prelude.{◌≡◌, ◌≢◌, ℕ, ◌+◌, ◌<◌, ◌≤◌, ◌⊎◌, List, [], length, take, Some, Result, Ok, Err}
 use Rattle.wire_io.specs.Wire.{Wires, with_front, with_end, NothingLeft}
+use Rattle.wire_io.specs.declared.whole.TheConstants.{READ_BLOCK}
 use Rattle.rmi_cli.specs.Answer.{IsOutside}
 use Rattle.rmi_cli.specs.Replay.{Outlines, IsBadLine, IsRefused, Replays}
 use Rattle.rmi_cli.specs.Told.{Told, TellsExactly, Tells}
@@ -18,7 +19,7 @@ pub record TakesWhole (old new : Wires) (input : List ℕ) : Type 0 where
 
 -- Some front of the input was taken, at most 4,096 bytes more than the limit, and nothing was written.
 abbrev pub TakesFront : Wires → Wires → Type 0
-TakesFront old new = (front : List ℕ) × (length front ≤ JOURNAL_BYTES + 4096) × (old.left ≡ with_front front new.left) × (new.held ≡ old.held)
+TakesFront old new = (front : List ℕ) × (length front ≤ JOURNAL_BYTES + READ_BLOCK) × (old.left ≡ with_front front new.left) × (new.held ≡ old.held)
 
 -- What each end says of the input, and what was written.
 abbrev pub ReplayEnds : Wires → Wires → RunEnd → Type 0
@@ -29,7 +30,7 @@ ReplayEnds old new (Answered end) = ⊥
 ReplayEnds old new (BadLine line) = (input : List ℕ) × TakesWhole old new input × IsBadLine input line × (new.held ≡ old.held)
 ReplayEnds old new Refused = (input : List ℕ) × TakesWhole old new input × IsRefused input × (new.held ≡ old.held)
 ReplayEnds old new (TooLarge limit) =
-    (limit ≡ JOURNAL_BYTES) × ((front : List ℕ) × (JOURNAL_BYTES < length front) × (length front ≤ JOURNAL_BYTES + 4096) × (old.left ≡ with_front front new.left)) × (new.held ≡ old.held)
+    (limit ≡ JOURNAL_BYTES) × ((front : List ℕ) × (JOURNAL_BYTES < length front) × (length front ≤ JOURNAL_BYTES + READ_BLOCK) × (old.left ≡ with_front front new.left)) × (new.held ≡ old.held)
 ReplayEnds old new (NotShown fault) = ⊥
 ReplayEnds old new ListenFault = ⊥
 ReplayEnds old new AcceptFault = ⊥

@@ -7,7 +7,7 @@ use Rattle.ser_values.specs.declared.limits.TheConstants.{MESSAGE_BYTES, PARTS}
 use Rattle.ser_values.specs.declared.node.Node.{Node}
 use Rattle.ser_values.specs.Shape.{parts_in}
 use Rattle.ser_values.specs.Spelled.{IsStream}
-use Rattle.ser_values.specs.Reading.{stream_of, Fault, short, bad, too_many, too_deep, Kind, bad_magic, bad_code, bad_handle, wrong_handle_kind, bad_desc, bad_utf, negative_length, reset, inner_exception, old_external}
+use Rattle.ser_values.specs.Reading.{stream_of, Fault, short, bad, too_many, too_deep, FaultKind, bad_magic, bad_code, bad_handle, wrong_handle_kind, bad_desc, bad_utf, negative_length, reset, inner_exception, old_external}
 use Rattle.ser_read.specs.declared.fault.StreamFault.{StreamFault}
 use Rattle.ser_read.specs.declared.fault.StreamFault.TheVariants as faults
 use Rattle.ser_read.specs.declared.fault.Large.TheVariants.{Bytes, Nodes, Depth}
@@ -69,7 +69,7 @@ abbrev pub ShowsInput : Wires → Wires → Told → Type 0
 ShowsInput old new told = (end : RunEnd) × ShowEnds old new end × Tells told end
 
 -- How what is wrong in the bytes of a stream is named.
-abbrev pub told_kind : Kind → StreamKind
+abbrev pub told_kind : FaultKind → StreamKind
 told_kind bad_magic = kinds.BadMagic
 told_kind bad_code = kinds.BadCode
 told_kind bad_handle = kinds.BadHandle

@@ -8,7 +8,7 @@ use Rattle.class_desc.specs.declared.field.FieldDesc.{FieldDesc}
 use Rattle.ser_values.specs.declared.value.Value.{Value}
 use Rattle.ser_values.specs.declared.value.Part.{Part}
 use Rattle.ser_values.specs.declared.node.SlotPlace.TheVariants as places
-use Rattle.ser_values.specs.Reading.{◌>>=◌, Fault, Kind, bad, too_many, Progress, Step, Slots, Row, part, unless, value_at, values_at, note_at, parts_at, chain_of, rows_of, class_fault, object_after, object_at, with_class, on_class}
+use Rattle.ser_values.specs.Reading.{◌>>=◌, Fault, FaultKind, bad, too_many, Progress, Step, Slots, Row, part, unless, value_at, values_at, note_at, parts_at, chain_of, rows_of, class_fault, object_after, object_at, with_class, on_class}
 use Rattle.ser_read.specs.declared.row.ClassRow.{ClassRow}
 use Rattle.ser_read.specs.Codes.{codes_of}
 use Rattle.ser_read.specs.Lists.{all_at}
@@ -71,10 +71,10 @@ object_here end at inner class rows now bs h few good =
     let read : Read = object_by end inner class rows now bs in
     object_is end at inner class rows now bs h
     ∙ ap (λ (b : Bool). if b then Err (too_many at) else unless (class_fault (slice_get now.nodes class) (chain_of 1048576 now.nodes (slots.Node class)).1) at read) few
-    ∙ ap (λ (f : Option Kind). unless f at read) good
+    ∙ ap (λ (f : Option FaultKind). unless f at read) good
 
 -- where the class has no objects
-pub object_bad : (end at : ℕ) (inner : Step Slot) (class : ℕ) (rows : List ClassRow) (now : Progress) (bs : List ℕ) (kind : Kind)
+pub object_bad : (end at : ℕ) (inner : Step Slot) (class : ℕ) (rows : List ClassRow) (now : Progress) (bs : List ℕ) (kind : FaultKind)
     → rows ≡ class_rows (rows_of (slice_get now.nodes class) (chain_of 1048576 now.nodes (slots.Node class)).0)
     → nat_lt 1048576 (now.parts + length rows) ≡ false
     → class_fault (slice_get now.nodes class) (chain_of 1048576 now.nodes (slots.Node class)).1 ≡ Some kind
@@ -83,7 +83,7 @@ object_bad end at inner class rows now bs kind h few wrong =
     let read : Read = object_by end inner class rows now bs in
     object_is end at inner class rows now bs h
     ∙ ap (λ (b : Bool). if b then Err (too_many at) else unless (class_fault (slice_get now.nodes class) (chain_of 1048576 now.nodes (slots.Node class)).1) at read) few
-    ∙ ap (λ (f : Option Kind). unless f at read) wrong
+    ∙ ap (λ (f : Option FaultKind). unless f at read) wrong
 
 -- a construct that begins with its class
 pub with_class_is : (inner : Slots) (unread : List ℕ) (at : ℕ) (f : ℕ → Step Slot) (now : Progress) (bs : List ℕ) → with_class inner unread at f now bs ≡ (class_named inner unread at now bs >>= λ x. f x.0 x.1 x.2)

@@ -11,7 +11,7 @@ use Rattle.ser_values.specs.declared.graph.Graph.{Graph}
 use Rattle.ser_values.specs.declared.node.Node.{Node}
 use Rattle.ser_values.specs.declared.node.SlotPlace.TheVariants as places
 use Rattle.ser_values.specs.Numbered.{IsGraph}
-use Rattle.ser_values.specs.Reading.{◌>>=◌, Fault, Kind, short, bad, too_many, too_deep, Progress, Step, magic_at, blocks_at, items_at, slot_at}
+use Rattle.ser_values.specs.Reading.{◌>>=◌, Fault, FaultKind, short, bad, too_many, too_deep, Progress, Step, magic_at, blocks_at, items_at, slot_at}
 use Rattle.ser_read.specs.declared.fault.StreamFault.{StreamFault}
 use Rattle.ser_read.specs.declared.fault.StreamFault.TheVariants.{Bad, TooLarge, Truncated, ReadFault}
 use Rattle.ser_read.specs.declared.fault.StreamFault.TheVariants as faults
@@ -51,7 +51,7 @@ abbrev given : {Y : Type 0} → Y → Result Y Fault
 given y = Ok y
 
 -- a fault that is said of the bytes
-wrong : {Y : Type 0} (r : Result Y Fault) (kind : Kind) (at : ℕ) → going_on r ≡ Err (bad kind at) → r ≡ Err (bad kind at)
+wrong : {Y : Type 0} (r : Result Y Fault) (kind : FaultKind) (at : ℕ) → going_on r ≡ Err (bad kind at) → r ≡ Err (bad kind at)
 wrong (Ok x) kind at h = absurd cc
 wrong (Err f) kind at h = h
 

@@ -5,6 +5,7 @@ ghost use Rattle.ser_values.specs.Reading.{byte_at, take_at, number_at, size_at,
 ghost use Rattle.ser_read.specs.declared.fault.StreamFault.TheVariants.{Bad};
 ghost use Rattle.ser_read.specs.declared.fault.StreamKind.TheVariants.{NegativeLength};
 ghost use Rattle.ser_read.specs.Here.{AreBytes, ReadsTaken, StopsTaken};
+ghost use Rattle.ser_read.specs.declared.pulled.TheConstants.{FEW};
 
 use crate::fault::{StreamFault, StreamKind};
 use crate::spelled::spelled;
@@ -198,7 +199,7 @@ fn units<S: Source>(alloc: Global, pull: &mut Pull<'_, S>, n: u64) -> Result<Uni
 
 /// Whether so many bytes of a text are few.
 fn is_few(n: u16) -> bool
-    ensures { result ≡ true → n ≤ 64 }
+    ensures { result ≡ true → n ≤ FEW }
 {
     n <= FEW
 }
@@ -206,13 +207,13 @@ fn is_few(n: u16) -> bool
 /// A text of few bytes of modified UTF, as [`units`] reads it: its bytes need no memory of their own.
 #[tactic(auto, unfolding(ser_values::specs::Reading::units_at))]
 fn few_units<S: Source>(alloc: Global, pull: &mut Pull<'_, S>, n: u16) -> Result<Units, StreamFault>
-    requires { n ≤ 64 }
+    requires { n ≤ FEW }
     ensures lent { pull.new.source.ghost_name ≡ pull.old.source.ghost_name }
     ensures reads { ReadsTaken S.left S.faults pull.old pull.new result (λ end. units_at end n) (λ x rest. (x, rest)) }
     ensures stops { StopsTaken S.left S.faults pull.old pull.new result (λ end. units_at end n) }
 {
     let start = pull.at;
-    let mut buf = [0; 64];
+    let mut buf = [0; FEW as usize];
     let bytes = &mut buf[..usize::from(n)];
     fill(pull, bytes)?;
     match spelled(alloc, bytes) {

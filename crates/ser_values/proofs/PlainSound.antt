@@ -11,7 +11,7 @@ use Rattle.mod_utf.specs.Utf.{utf}
 use Rattle.mod_utf.specs.Decoding.{decoded}
 use Rattle.mod_utf.proofs.Decoded.{decoded_sound}
 use Rattle.mod_utf.proofs.Fronts.{AreUnits}
-use Rattle.ser_values.specs.Reading.{Fault, ◌>>=◌, byte_at, take_at, number_at, size_at, units_of, units_at, short_at, long_at, Kind, unless}
+use Rattle.ser_values.specs.Reading.{Fault, ◌>>=◌, byte_at, take_at, number_at, size_at, units_of, units_at, short_at, long_at, FaultKind, unless}
 
 -- ---- bytes are numbers of 8 bits
 
@@ -63,7 +63,7 @@ pub guarded : {A : Type 0} (b : Bool) (d : Fault) (r : Result A Fault) (y : A) �
 guarded true d r y e = absurd cc
 guarded false d r y e = (refl, e)
 
-pub unless_ok : {A : Type 0} (o : Option Kind) (at : ℕ) (r : Result A Fault) (y : A) → unless o at r ≡ Ok y → (o ≡ None) × (r ≡ Ok y)
+pub unless_ok : {A : Type 0} (o : Option FaultKind) (at : ℕ) (r : Result A Fault) (y : A) → unless o at r ≡ Ok y → (o ≡ None) × (r ≡ Ok y)
 unless_ok None at r y e = (refl, e)
 unless_ok (Some kind) at r y e = absurd cc
 

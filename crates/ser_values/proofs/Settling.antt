@@ -26,7 +26,7 @@ use Rattle.ser_values.specs.declared.limits.TheConstants.{LEVELS, NODES, PARTS}
 use Rattle.ser_values.specs.Node.{has}
 use Rattle.ser_values.specs.Shape.{fits_type, is_enum}
 use Rattle.ser_values.specs.Spelled.{joined}
-use Rattle.ser_values.specs.Reading.{Kind, negative_length, Fault, short, bad, too_many, too_deep, ◌>>=◌, byte_at, take_at, number_at, size_at, units_of, units_at, short_at, long_at, Progress, Step, Slots, plain, mapped, many_at, push, fill, blocks_at, items_at, field, field_of, field_at, is_true, value_at, values_at, elements_at, Row, chain_of, rows_of, class_fault, note_at, part, parts_at, unless, blank, text_at, desc_after, desc_at, proxy_at, on_class, with_class, object_after, object_at, type_in, array_of, array_at, class_at, named, enum_at, admits_code, fresh_at, null_at, handle_fault, handle_at, deep, coded, no_slots, slot_at, magic_at, stream_of}
+use Rattle.ser_values.specs.Reading.{FaultKind, negative_length, Fault, short, bad, too_many, too_deep, ◌>>=◌, byte_at, take_at, number_at, size_at, units_of, units_at, short_at, long_at, Progress, Step, Slots, plain, mapped, many_at, push, fill, blocks_at, items_at, field, field_of, field_at, is_true, value_at, values_at, elements_at, Row, chain_of, rows_of, class_fault, note_at, part, parts_at, unless, blank, text_at, desc_after, desc_at, proxy_at, on_class, with_class, object_after, object_at, type_in, array_of, array_at, class_at, named, enum_at, admits_code, fresh_at, null_at, handle_fault, handle_at, deep, coded, no_slots, slot_at, magic_at, stream_of}
 use Rattle.ser_values.specs.Faults.{EndsEarly}
 use Rattle.ser_values.proofs.FrontLaws.{eqb_same}
 
@@ -526,7 +526,7 @@ class_then inner h unread f each now bs = step_then Any IsNode (λ e b. inner e.
     by slots.Null after left q le = refused_settles three (λ x. IsNode x.0) _ left (λ e b. tt)
     by (slots.Node k) after left q le = cond_settles three (λ x. IsNode x.0) (ltb (length after.nodes) NODES) _ _ left (λ room. each k after left) (λ full. refused_settles three (λ x. IsNode x.0) _ left (λ e b. tt))
 
-unless_settles : {X Y : Type 0} (shape : X → List ℕ → Y) (Q : X → Type 0) (why : Option Kind) (r : Run Y) (bs : List ℕ) → Settles shape Q r bs → Settles shape Q (λ e b. unless why e.at (r e b)) bs
+unless_settles : {X Y : Type 0} (shape : X → List ℕ → Y) (Q : X → Type 0) (why : Option FaultKind) (r : Run Y) (bs : List ℕ) → Settles shape Q r bs → Settles shape Q (λ e b. unless why e.at (r e b)) bs
 unless_settles shape Q None r bs s = s
 unless_settles shape Q (Some kind) r bs s = refused_settles shape Q _ bs (λ e b. tt)
 

@@ -31,7 +31,7 @@ use Rattle.ser_values.specs.declared.node.SlotPlace.TheVariants as places
 use Rattle.ser_values.specs.Node.{has, is_desc, is_text, admits, admits_null}
 use Rattle.ser_values.specs.Shape.{fits_node, fits_type, is_enum}
 use Rattle.ser_values.specs.Spelled.{joined}
-use Rattle.ser_values.specs.Reading.{Kind, bad_code, bad_handle, wrong_handle_kind, bad_desc, bad_utf, reset, inner_exception, old_external, Fault, short, bad, too_many, too_deep, ◌>>=◌, Plain, byte_at, take_at, number_at, size_at, units_of, units_at, short_at, long_at, Progress, Step, Slots, plain, mapped, many_at, push, fill, blocks_at, items_at, field_of, field_at, is_true, value_at, values_at, elements_at, Row, chain_of, rows_of, class_fault, note_at, parts_at, unless, roomy, blank, text_at, desc_after, desc_at, proxy_at, on_class, with_class, object_after, object_at, type_in, array_of, array_at, class_at, named, enum_at, gives_handle, admits_code, code_fault, fresh_at, null_at, handle_fault, handle_at, deep, coded, no_slots, slot_at, magic_at, stream_of}
+use Rattle.ser_values.specs.Reading.{FaultKind, bad_code, bad_handle, wrong_handle_kind, bad_desc, bad_utf, reset, inner_exception, old_external, Fault, short, bad, too_many, too_deep, ◌>>=◌, Plain, byte_at, take_at, number_at, size_at, units_of, units_at, short_at, long_at, Progress, Step, Slots, plain, mapped, many_at, push, fill, blocks_at, items_at, field_of, field_at, is_true, value_at, values_at, elements_at, Row, chain_of, rows_of, class_fault, note_at, parts_at, unless, roomy, blank, text_at, desc_after, desc_at, proxy_at, on_class, with_class, object_after, object_at, type_in, array_of, array_at, class_at, named, enum_at, gives_handle, admits_code, code_fault, fresh_at, null_at, handle_fault, handle_at, deep, coded, no_slots, slot_at, magic_at, stream_of}
 use Rattle.ser_values.specs.Faults.{Asking, slot_but, stream_but, ComesTo, HasNumber, HasByte, IsNoCode, NamesHandle, IsNegative, ReadsClass, LacksObjects, LacksArrays, LacksConstants, HasTooMany, DescHead, desc_head_at, IsNoLetter, NamesType, HasNoType, IsBroken, BreaksDesc, IsBadDesc, IsPastNodes, IsPastParts, IsNotGiven, IsOfWrongKind, IsUnread, IsRefused, Shows, StandsAt, IsGiven, IsConstruct, IsOneTooMany, IsTooDeep, FaultStands}
 use Rattle.ser_values.proofs.Lists.{length_push, some_same}
 use Rattle.ser_values.proofs.Spelling.{both}
@@ -315,7 +315,7 @@ module _ (start : ℕ) (whole : List ℕ) where
   cond_goes bs Q true x y h g = h refl
   cond_goes bs Q false x y h g = g refl
 
-  unless_goes : {A : Type 0} (bs : List ℕ) (Q : A × Progress × List ℕ → Type 0) (kind : Option Kind) (at : ℕ) (r : Reads A) → ((k : Kind) → kind ≡ Some k → Stood start whole (bad k at)) → Goes start whole bs Q r → Goes start whole bs Q (λ o. unless kind at (r o))
+  unless_goes : {A : Type 0} (bs : List ℕ) (Q : A × Progress × List ℕ → Type 0) (kind : Option FaultKind) (at : ℕ) (r : Reads A) → ((k : FaultKind) → kind ≡ Some k → Stood start whole (bad k at)) → Goes start whole bs Q r → Goes start whole bs Q (λ o. unless kind at (r o))
   unless_goes bs Q None at r h g = g
   unless_goes bs Q (Some k) at r h g = fails bs Q (bad k at) (h k refl)
 
@@ -671,10 +671,10 @@ module _ (start : ℕ) (whole : List ℕ) where
           (λ e. fails rest (NodeGood now bs) (too_many at) (let full : 65536 ≤ length after.nodes = ltb-false (length after.nodes) 65536 e in many k after rest is (omega arith) full))
 
   -- what a kind is
-  kind_is : (k l : Kind) (at : ℕ) → Some k ≡ Some l → Stood start whole (bad k at) → Stood start whole (bad l at)
-  kind_is k l at e h = subst (λ (x : Kind). Stood start whole (bad x at)) (some_same k l e) h
+  kind_is : (k l : FaultKind) (at : ℕ) → Some k ≡ Some l → Stood start whole (bad k at) → Stood start whole (bad l at)
+  kind_is k l at e h = subst (λ (x : FaultKind). Stood start whole (bad x at)) (some_same k l e) h
 
-  class_kinds : (i : Option Node) (serial : Bool) (at : ℕ) → (class_fault i serial ≡ Some old_external → Stood start whole (bad old_external at)) → (class_fault i serial ≡ Some bad_desc → Stood start whole (bad bad_desc at)) → (k : Kind) → class_fault i serial ≡ Some k → Stood start whole (bad k at)
+  class_kinds : (i : Option Node) (serial : Bool) (at : ℕ) → (class_fault i serial ≡ Some old_external → Stood start whole (bad old_external at)) → (class_fault i serial ≡ Some bad_desc → Stood start whole (bad bad_desc at)) → (k : FaultKind) → class_fault i serial ≡ Some k → Stood start whole (bad k at)
   class_kinds (Some (Desc d)) serial at old own k e = elim (chosen (has_flag d.flags 4 && not (has_flag d.flags 8)) _ _ _ e) [
     | inl p ↦ kind_is old_external k at p.1 (old (e ∙ sym p.1))
     | inr p ↦ elim (chosen (lacks_flag d.flags 16 && (not (is_some (element_of d.name)) && (has_flag d.flags 4 || serial))) _ _ _ p.1) [
@@ -835,14 +835,14 @@ module _ (start : ℕ) (whole : List ℕ) where
   node_taken places.Text s h = tt
 
   -- why a description's place refuses a node
-  desc_kinds : (unread desc : Bool) (at : ℕ) → (unread ≡ true → Stood start whole (bad bad_desc at)) → (desc ≡ false → Stood start whole (bad wrong_handle_kind at)) → (k : Kind) → cond unread (Some bad_desc) (cond desc None (Some wrong_handle_kind)) ≡ Some k → Stood start whole (bad k at)
+  desc_kinds : (unread desc : Bool) (at : ℕ) → (unread ≡ true → Stood start whole (bad bad_desc at)) → (desc ≡ false → Stood start whole (bad wrong_handle_kind at)) → (k : FaultKind) → cond unread (Some bad_desc) (cond desc None (Some wrong_handle_kind)) ≡ Some k → Stood start whole (bad k at)
   desc_kinds true desc at own wrong k e = kind_is bad_desc k at e (own refl)
   desc_kinds false true at own wrong k e = absurd cc
   desc_kinds false false at own wrong k e = kind_is wrong_handle_kind k at e (wrong refl)
 
   handle_kinds : (p : SlotPlace) (unread : Bool) (o : Option Node) (at : ℕ) → (o ≡ None → Stood start whole (bad bad_handle at))
       → ((i : Node) → o ≡ Some i → unread ≡ true → (p ≡ places.Class) ⊎ (p ≡ places.Parent) → Stood start whole (bad bad_desc at)) → ((i : Node) → o ≡ Some i → admits p i ≡ false → Stood start whole (bad wrong_handle_kind at))
-      → (k : Kind) → handle_fault p unread o ≡ Some k → Stood start whole (bad k at)
+      → (k : FaultKind) → handle_fault p unread o ≡ Some k → Stood start whole (bad k at)
   unfolding admits
   handle_kinds p unread None at none own wrong k e = kind_is bad_handle k at e (none refl)
   handle_kinds places.Reference unread (Some i) at none own wrong k e = absurd cc

@@ -19,7 +19,7 @@ use Rattle.ser_values.specs.declared.node.SlotPlace.TheVariants as places
 use Rattle.ser_values.specs.declared.limits.TheConstants.{LEVELS, NODES, PARTS}
 use Rattle.ser_values.specs.Node.{has, admits, admits_null}
 use Rattle.ser_values.specs.Shape.{is_enum}
-use Rattle.ser_values.specs.Reading.{Kind, bad_magic, bad_code, bad_handle, wrong_handle_kind, bad_desc, bad_utf, negative_length, reset, inner_exception, old_external, Fault, short, bad, too_many, too_deep, ◌>>=◌, byte_at, number_at, size_at, short_at, Progress, Step, Slots, many_at, push, field_at, blank, items_at, chain_of, rows_of, class_fault, type_in, gives_handle, admits_code, coded, slot_at, no_slots, magic_at, stream_of}
+use Rattle.ser_values.specs.Reading.{FaultKind, bad_magic, bad_code, bad_handle, wrong_handle_kind, bad_desc, bad_utf, negative_length, reset, inner_exception, old_external, Fault, short, bad, too_many, too_deep, ◌>>=◌, byte_at, number_at, size_at, short_at, Progress, Step, Slots, many_at, push, field_at, blank, items_at, chain_of, rows_of, class_fault, type_in, gives_handle, admits_code, coded, slot_at, no_slots, magic_at, stream_of}
 
 -- ---- where reading comes to a reference
 
@@ -155,7 +155,7 @@ pub record OfClass (end : ℕ) (asking : Asking) (here : List ℕ) (holds : ℕ 
   pub that : holds class later
 
 -- The class has no objects, for this reason.
-abbrev pub LacksObjects : Kind → ℕ → List Node → Type 0
+abbrev pub LacksObjects : FaultKind → ℕ → List Node → Type 0
 LacksObjects why class nodes = class_fault (slice_get nodes class) (chain_of PARTS nodes (slots.Node class)).1 ≡ Some why
 
 -- The class is none of arrays.
@@ -254,7 +254,7 @@ pub record IsRefused (comes refuses : Asking → Type 0) : Type 0 where
   pub refused : refuses asking
 
 -- What stands at the position of a fault of this kind; `comes` says what is known of a reference that begins there, and the bytes end at `end`.
-abbrev pub Shows : ℕ → (Asking → Type 0) → Kind → List ℕ → List ℕ → Type 0
+abbrev pub Shows : ℕ → (Asking → Type 0) → FaultKind → List ℕ → List ℕ → Type 0
 Shows end comes bad_magic front here = DiffersHere front here
 Shows end comes bad_code front here = IsRefused comes (λ asking. HasByte (λ code. IsNoCode asking.place code) here)
 Shows end comes bad_handle front here = IsRefused comes (λ asking. NamesHandle (λ h. IsNotGiven asking h) here)

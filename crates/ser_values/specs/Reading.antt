@@ -30,22 +30,22 @@ use Rattle.ser_values.specs.Spelled.{joined}
 
 -- ---- faults
 
-pub data Kind : Type 0 where
-  bad_magic : Kind
-  bad_code : Kind
-  bad_handle : Kind
-  wrong_handle_kind : Kind
-  bad_desc : Kind
-  bad_utf : Kind
-  negative_length : Kind
-  reset : Kind
-  inner_exception : Kind
-  old_external : Kind
+pub data FaultKind : Type 0 where
+  bad_magic : FaultKind
+  bad_code : FaultKind
+  bad_handle : FaultKind
+  wrong_handle_kind : FaultKind
+  bad_desc : FaultKind
+  bad_utf : FaultKind
+  negative_length : FaultKind
+  reset : FaultKind
+  inner_exception : FaultKind
+  old_external : FaultKind
 
 -- The bytes end; something is wrong at a position; or there are too many nodes or parts, or too many levels, at one.
 pub data Fault : Type 0 where
   short : Fault
-  bad : Kind → ℕ → Fault
+  bad : FaultKind → ℕ → Fault
   too_many : ℕ → Fault
   too_deep : ℕ → Fault
 
@@ -207,7 +207,7 @@ rows_of (Some (Desc d)) rows = if has_flag d.flags 4 then ([], true) ∷ [] else
 rows_of i rows = rows
 
 -- why the class has no objects
-abbrev pub class_fault : Option Node → Bool → Option Kind
+abbrev pub class_fault : Option Node → Bool → Option FaultKind
 class_fault (Some (Desc d)) serial =
     if has_flag d.flags 4 && not (has_flag d.flags 8) then Some old_external else
     (if lacks_flag d.flags 16 && (not (is_some (element_of d.name)) && (has_flag d.flags 4 || serial)) then None else Some bad_desc)
@@ -227,7 +227,7 @@ parts_at end inner (r ∷ rs) now bs = values_at inner r.0 now bs >>= λ vs. not
 
 -- ---- each construct; `at` is the position of its code
 
-abbrev pub unless : {A : Type 0} → Option Kind → ℕ → Result A Fault → Result A Fault
+abbrev pub unless : {A : Type 0} → Option FaultKind → ℕ → Result A Fault → Result A Fault
 unless None at r = r
 unless (Some kind) at r = Err (bad kind at)
 
@@ -324,7 +324,7 @@ admits_code places.Class code = nat_eq code 0x72 || nat_eq code 0x7D
 admits_code places.Parent code = nat_eq code 0x72 || nat_eq code 0x7D
 admits_code places.Text code = nat_eq code 0x74 || nat_eq code 0x7C
 
-abbrev pub code_fault : ℕ → Kind
+abbrev pub code_fault : ℕ → FaultKind
 code_fault code = if nat_eq code 0x79 then reset else (if nat_eq code 0x7B then inner_exception else bad_code)
 
 unfoldable pub fresh_at : ℕ → ℕ → Slots → List ℕ → ℕ → Step Slot
@@ -344,7 +344,7 @@ null_at places.Parent at now bs = Ok (slots.Null, now, bs)
 null_at p at now bs = Err (bad bad_code at)
 
 -- why a node that has a handle is not taken
-abbrev pub handle_fault : SlotPlace → Bool → Option Node → Option Kind
+abbrev pub handle_fault : SlotPlace → Bool → Option Node → Option FaultKind
 handle_fault p unread None = Some bad_handle
 handle_fault places.Reference unread (Some i) = None
 handle_fault places.Text unread (Some i) = if is_text i then None else Some wrong_handle_kind

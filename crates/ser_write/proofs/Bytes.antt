@@ -38,6 +38,7 @@ use Rattle.ser_values.proofs.Reached.{in_range}
 use Rattle.ser_values.proofs.Shaped.{graph_shaped}
 use Rattle.ser_values.proofs.Spelling.{both}
 use Rattle.ser_write.specs.Canonical.{Writing, block_of, pieces_in, pieces, blocks, write_items, write_token, write_all, code_of, tokens_before, is_external_class, external_tokens, tokens_after, write_new, write_one, nothing, write_at, contents, canonical}
+use Rattle.ser_write.specs.declared.pieces.TheConstants.{BLOCK_BYTES}
 
 -- ---- lists of bytes
 
@@ -96,7 +97,7 @@ unfolding pieces_in
 pieces_bytes zero b h = tt
 pieces_bytes (suc k) [] h = tt
 pieces_bytes (suc k) (x ∷ b) h =
-    join (block_of (take 1024 (x ∷ b))) (flat_map block_of (pieces_in k (drop 1024 (x ∷ b)))) (block_bytes (take 1024 (x ∷ b)) (taken 1024 (x ∷ b) h)) (pieces_bytes k (drop 1024 (x ∷ b)) (left_of 1024 (x ∷ b) h))
+    join (block_of (take BLOCK_BYTES (x ∷ b))) (flat_map block_of (pieces_in k (drop BLOCK_BYTES (x ∷ b)))) (block_bytes (take BLOCK_BYTES (x ∷ b)) (taken BLOCK_BYTES (x ∷ b) h)) (pieces_bytes k (drop BLOCK_BYTES (x ∷ b)) (left_of BLOCK_BYTES (x ∷ b) h))
 
 blocks_bytes : (b : List ℕ) → AreBytes b → AreBytes (blocks b)
 unfolding pieces

@@ -5,6 +5,7 @@ use Rattle.class_desc.specs.declared.slot.Slot.{Slot}
 use Rattle.ser_values.specs.declared.node.Node.{Node}
 use Rattle.ser_values.specs.Spelled.{writers}
 use Rattle.ser_write.specs.Canonical.{pieces_in, pieces, block_of, blocks, writers_by}
+use Rattle.ser_write.specs.declared.pieces.TheConstants.{BLOCK_BYTES}
 
 -- more room changes nothing
 more_room : (k j : ℕ) (b : List ℕ) → length b ≤ k → length b ≤ j → pieces_in k b ≡ pieces_in j b
@@ -16,31 +17,31 @@ more_room (suc k) zero [] h g = refl
 more_room (suc k) zero (x ∷ b) h g = absurd (omega arith)
 more_room (suc k) (suc j) [] h g = refl
 more_room (suc k) (suc j) (x ∷ b) h g =
-    let d = length-drop 1024 (x ∷ b) in
-    ap (λ (l : List (List ℕ)). take 1024 (x ∷ b) ∷ l) (more_room k j (drop 1024 (x ∷ b)) (omega arith) (omega arith))
+    let d = length-drop BLOCK_BYTES (x ∷ b) in
+    ap (λ (l : List (List ℕ)). take BLOCK_BYTES (x ∷ b) ∷ l) (more_room k j (drop BLOCK_BYTES (x ∷ b)) (omega arith) (omega arith))
 
 pieces_none : (b : List ℕ) → length b ≡ 0 → pieces b ≡ []
 unfolding pieces pieces_in
 pieces_none [] h = refl
 pieces_none (x ∷ b) h = absurd (omega arith)
 
-pieces_next : (b : List ℕ) → 0 < length b → pieces b ≡ take 1024 b ∷ pieces (drop 1024 b)
+pieces_next : (b : List ℕ) → 0 < length b → pieces b ≡ take BLOCK_BYTES b ∷ pieces (drop BLOCK_BYTES b)
 unfolding pieces pieces_in
 pieces_next [] h = absurd (omega arith)
 pieces_next (x ∷ b) h =
-    let d = length-drop 1024 (x ∷ b) in
-    ap (λ (l : List (List ℕ)). take 1024 (x ∷ b) ∷ l) (more_room (length b) (length (drop 1024 (x ∷ b))) (drop 1024 (x ∷ b)) (omega arith) (omega arith))
+    let d = length-drop BLOCK_BYTES (x ∷ b) in
+    ap (λ (l : List (List ℕ)). take BLOCK_BYTES (x ∷ b) ∷ l) (more_room (length b) (length (drop BLOCK_BYTES (x ∷ b))) (drop BLOCK_BYTES (x ∷ b)) (omega arith) (omega arith))
 
 -- a loop over the pieces: one more, and at last none
-pub blocks_next : (out new rest piece more : List ℕ) → 0 < length rest → new ≡ out ++ block_of piece → piece ≡ take 1024 rest → more ≡ drop 1024 rest → new ++ blocks more ≡ out ++ blocks rest
+pub blocks_next : (out new rest piece more : List ℕ) → 0 < length rest → new ≡ out ++ block_of piece → piece ≡ take BLOCK_BYTES rest → more ≡ drop BLOCK_BYTES rest → new ++ blocks more ≡ out ++ blocks rest
 blocks_next out new rest piece more some e p m =
-    rw (e, p, m, pieces_next rest some) (append_assoc out (block_of (take 1024 rest)) (blocks (drop 1024 rest)))
+    rw (e, p, m, pieces_next rest some) (append_assoc out (block_of (take BLOCK_BYTES rest)) (blocks (drop BLOCK_BYTES rest)))
 
 pub blocks_none : (out rest : List ℕ) → length rest ≡ 0 → out ++ blocks rest ≡ out
 blocks_none out rest none = rw (pieces_none rest none) (append-nil out)
 
-pub blocks_less : (rest more : List ℕ) → 0 < length rest → more ≡ drop 1024 rest → length more < length rest
-blocks_less rest more some m = let d = length-drop 1024 rest in rw m (omega arith)
+pub blocks_less : (rest more : List ℕ) → 0 < length rest → more ≡ drop BLOCK_BYTES rest → length more < length rest
+blocks_less rest more some m = let d = length-drop BLOCK_BYTES rest in rw m (omega arith)
 
 -- ---- descriptions from below
 

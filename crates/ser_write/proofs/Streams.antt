@@ -37,6 +37,7 @@ use Rattle.std.proofs.Math.Logic.{∥∥₁_map, ∥∥₁_elim, ∥∥₁_prop}
 use Rattle.ser_values.proofs.Chains.{not_both, chained_flag}
 use Rattle.ser_write.proofs.Bytes.{canonical_bytes}
 use Rattle.ser_write.specs.Canonical.{Written, Writing, block_of, pieces_in, pieces, blocks, write_items, write_all, code_of, tokens_before, is_external_class, external_tokens, object_tokens, tokens_after, write_new, write_one, nothing, write_at, contents, canonical, IsFull, SpellFully}
+use Rattle.ser_write.specs.declared.pieces.TheConstants.{BLOCK_BYTES}
 
 -- ---- blocks
 
@@ -48,7 +49,7 @@ cut (items.Ref s ∷ is) = items.Ref s ∷ cut is
 
 abbrev AllShort : List (List ℕ) → Type 0
 AllShort [] = Unit {0}
-AllShort (c ∷ cs) = (length c ≤ 1024) × AllShort cs
+AllShort (c ∷ cs) = (length c ≤ BLOCK_BYTES) × AllShort cs
 
 take_short : {A : Type 0} (n : ℕ) (xs : List A) → length (take n xs) ≤ n
 take_short zero xs = omega arith
@@ -59,7 +60,7 @@ in_short : (k : ℕ) (b : List ℕ) → AllShort (pieces_in k b)
 unfolding pieces_in
 in_short zero b = tt
 in_short (suc k) [] = tt
-in_short (suc k) (x ∷ b) = (take_short 1024 (x ∷ b), in_short k (drop 1024 (x ∷ b)))
+in_short (suc k) (x ∷ b) = (take_short BLOCK_BYTES (x ∷ b), in_short k (drop BLOCK_BYTES (x ∷ b)))
 
 pieces_short : (b : List ℕ) → AllShort (pieces b)
 unfolding pieces
@@ -86,8 +87,8 @@ in_concat zero (x ∷ b) h = absurd (omega arith)
 in_concat (suc k) [] h = refl
 in_concat (suc k) (x ∷ b) h =
     let d : length (drop 1023 b) ≤ length b = drop_less 1023 b in
-    let more = in_concat k (drop 1024 (x ∷ b)) (omega arith) in
-    ap (λ (l : List ℕ). take 1024 (x ∷ b) ++ l) more ∙ take-drop 1024 (x ∷ b)
+    let more = in_concat k (drop BLOCK_BYTES (x ∷ b)) (omega arith) in
+    ap (λ (l : List ℕ). take BLOCK_BYTES (x ∷ b) ++ l) more ∙ take-drop BLOCK_BYTES (x ∷ b)
 
 concat-pieces : (b : List ℕ) → concat (pieces b) ≡ b
 unfolding pieces
@@ -129,7 +130,7 @@ joined_cut (items.Bytes b ∷ is) h =
     let p = both (not (false || is_nil b)) (joined_from true is) h in
     joined_pieces (pieces b) (cut is) ∙ ap (λ (l : List ℕ). put_block l (joined (cut is))) (concat-pieces b) ∙ ap (put_block b) (joined_cut is (joined_after is p.1)) ∙ put_joined b is (not_nil b p.0) p.1
 
-is_block : (c : List ℕ) → length c ≤ 1024 → IsBlock c (block_of c)
+is_block : (c : List ℕ) → length c ≤ BLOCK_BYTES → IsBlock c (block_of c)
 is_block c h = go (ltb (length c) 256) refl
   where
     go : (b : Bool) → ltb (length c) 256 ≡ b → IsBlock c (cond b (0x77 ∷ length c ∷ c) (0x7A ∷ (to_be_bytes w32 (length c) ++ c)))
@@ -453,7 +454,7 @@ pieces_full : (k : ℕ) (b : List ℕ) (is : List Item) → AllByRecursion IsFul
 unfolding pieces_in
 pieces_full zero b is h = h
 pieces_full (suc k) [] is h = h
-pieces_full (suc k) (x ∷ b) is h = (tt, pieces_full k (drop 1024 (x ∷ b)) is h)
+pieces_full (suc k) (x ∷ b) is h = (tt, pieces_full k (drop BLOCK_BYTES (x ∷ b)) is h)
 
 cut_full : (is : List Item) → AllByRecursion IsFull (cut is)
 unfolding pieces

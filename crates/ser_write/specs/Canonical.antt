@@ -4,6 +4,7 @@ use Rattle.std.specs.List.{flat_map, AllByRecursion}
 use Rattle.std.specs.Int.{w16, w32, w64, to_be_bytes, cast_unsigned, from_bool}
 use Rattle.std.specs.declared.alloc.AllocError.{AllocError}
 use Rattle.mod_utf.specs.Utf.{utf}
+use Rattle.ser_write.specs.declared.pieces.TheConstants.{BLOCK_BYTES}
 use Rattle.class_desc.specs.declared.slot.Slot.{Slot}
 use Rattle.class_desc.specs.declared.slot.Slot.TheVariants as slots
 use Rattle.class_desc.specs.declared.slot.Item.{Item}
@@ -35,7 +36,7 @@ block_of p = if nat_lt (length p) 256 then 0x77 ∷ length p ∷ p else 0x7A ∷
 unfoldable pub pieces_in : ℕ → List ℕ → List (List ℕ)
 pieces_in zero b = []
 pieces_in (suc k) [] = []
-pieces_in (suc k) (x ∷ b) = take 1024 (x ∷ b) ∷ pieces_in k (drop 1024 (x ∷ b))
+pieces_in (suc k) (x ∷ b) = take BLOCK_BYTES (x ∷ b) ∷ pieces_in k (drop BLOCK_BYTES (x ∷ b))
 
 -- Pieces of 1,024 bytes, and one shorter rest.
 unfoldable pub pieces : List ℕ → List (List ℕ)

@@ -13,7 +13,7 @@ use ser_values::{FIRST_HANDLE, Node, Value, Values};
 use std::alloc::{AllocError, Global};
 
 /// The greatest number of bytes in a block.
-const BLOCK: usize = 1024;
+pub const BLOCK_BYTES: usize = 1024;
 
 /// Appends a block.
 fn put_block(out: &mut ByteList, bytes: &[u8]) -> Result<(), AllocError>
@@ -45,7 +45,7 @@ pub(crate) fn put_blocks(out: &mut ByteList, bytes: &[u8]) -> Result<(), AllocEr
 {
     let mut rest = bytes;
     while !rest.is_empty() {
-        let (piece, more) = cut(rest, BLOCK);
+        let (piece, more) = cut(rest, BLOCK_BYTES);
         put_block(out, piece)?;
         rest = more;
     }

@@ -1,6 +1,7 @@
 //! Taking bytes one after the other, with their positions.
 ghost use Rattle.std.specs.Prelude.{◌≡◌, ◌+◌, ◌<◌, ◌≤◌, ◌++◌, length, max, min, replicate, OnOk, OnErr, vec_len, vec_capacity};
 ghost use Rattle.wire_io.specs.declared.limits.TheConstants.{LAST_POSITION};
+ghost use Rattle.wire_io.specs.declared.pull.TheConstants.{AHEAD};
 
 use crate::limits::LAST_POSITION;
 use crate::source::Source;
@@ -191,7 +192,7 @@ impl<'s, S: Source> Pull<'s, S> {
     fn append_some(&mut self, bytes: &mut Vec<u8>, wanted: usize) -> Result<(), PullEnd>
         requires { 0 < wanted }
         ensures gives { AppendsSome (pull_state S.left S.faults self.old) (pull_state S.left S.faults self.new) wanted bytes.old.items bytes.new.items result }
-        ensures room { vec_capacity bytes.new ≤ max (vec_capacity bytes.old) (vec_len bytes.old + 4096) }
+        ensures room { vec_capacity bytes.new ≤ max (vec_capacity bytes.old) (vec_len bytes.old + AHEAD) }
         ensures lent { self.new.source.ghost_name ≡ self.old.source.ghost_name }
     {
         if self.at == self.stop {

@@ -1,13 +1,14 @@
 //! Taking all that a source has left.
 ghost use Rattle.std.specs.Prelude.{◌≡◌, ◌≤◌, ◌<◌, ◌+◌, ◌^◌, ℕ, List, length, IfOk, Err};
 ghost use Rattle.wire_io.specs.Wire.{with_front, NothingLeft, Rose};
+ghost use Rattle.wire_io.specs.declared.whole.TheConstants.{READ_BLOCK};
 
 use crate::source::Source;
 use mod_utf::list::ByteList;
 use std::alloc::Global;
 
 /// How many bytes are asked for at once.
-const BLOCK: usize = 4096;
+pub const READ_BLOCK: usize = 4096;
 
 /// Why the whole input could not be taken.
 #[derive(Clone, Copy, Debug, PartialEq, Eq)]
@@ -32,14 +33,14 @@ pub fn take_whole<S: Source>(
     requires { limit < 2 ^ 32 }
     ensures ok { IfOk result (λ bytes. (length bytes ≤ limit)
         × (S.left source.old ≡ with_front bytes (S.left source.new)) × NothingLeft (S.left source.new)) }
-    ensures too_large { result ≡ Err WholeEnd.TooLarge → (bytes : List ℕ) × (limit < length bytes) × (length bytes ≤ limit + 4096)
+    ensures too_large { result ≡ Err WholeEnd.TooLarge → (bytes : List ℕ) × (limit < length bytes) × (length bytes ≤ limit + READ_BLOCK)
         × (S.left source.old ≡ with_front bytes (S.left source.new)) }
-    ensures err { (front : List ℕ) × (length front ≤ limit + 4096) × (S.left source.old ≡ with_front front (S.left source.new)) }
+    ensures err { (front : List ℕ) × (length front ≤ limit + READ_BLOCK) × (S.left source.old ≡ with_front front (S.left source.new)) }
     ensures read_fault { result ≡ Err WholeEnd.ReadFault → Rose (S.faults source.old) (S.faults source.new) }
     ensures faults { S.faults source.old ≤ S.faults source.new }
 {
     let mut bytes = ByteList::new(alloc);
-    let mut block = [0u8; BLOCK];
+    let mut block = [0u8; READ_BLOCK];
     while bytes.len() <= limit {
         match source.read(&mut block) {
             Ok(n) => {

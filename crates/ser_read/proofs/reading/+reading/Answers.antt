@@ -2,7 +2,7 @@ use Rattle.std.proofs.Common.{◌≡◌, Err, ◌-◌, ◌∙◌, FitsSigned, �
 use Rattle.std.proofs.lemmas.Bool.{ne_eqb}
 use Rattle.class_desc.specs.declared.slot.Slot.TheVariants as slots
 use Rattle.ser_values.specs.declared.node.SlotPlace.TheVariants.{Reference, Text}
-use Rattle.ser_values.specs.Reading.{Kind, short, bad, enum_at, fresh_at, note_at, slot_at, coded, field_at, field_of, value_at, Progress, push, fill, blank, proxy_at, array_of, array_at, type_in}
+use Rattle.ser_values.specs.Reading.{FaultKind, short, bad, enum_at, fresh_at, note_at, slot_at, coded, field_at, field_of, value_at, Progress, push, fill, blank, proxy_at, array_of, array_at, type_in}
 use Rattle.ser_read.specs.Rows.{part_by, values_by, parts_by}
 use Rattle.ser_read.specs.Tables.{now_of}
 use Rattle.ser_read.specs.Here.{kind_of}
@@ -590,7 +590,7 @@ not_null-returns-then-not-admits_code g t c =
       unread = tt;
       some = λ is. tt;
       reads = tt;
-      stops = rw c.bad.ensures (bad_here c.code_fault.result c.args.at c.code_fault.ensures.known (λ end bs here. coded_none end c.args.left (slot_at end (c.args.left - 1)) c.args.place c.args.table.now.unread.items c.args.at c.args.code (now_of c.args.table.now) bs (ne_eqb c.args.code 112 c.requires.code) (ne_eqb c.args.code 113 c.if-code-eq113.false) none ∙ ap (λ (k : Kind). Err (bad k c.args.at)) (sym c.code_fault.ensures.kind)));
+      stops = rw c.bad.ensures (bad_here c.code_fault.result c.args.at c.code_fault.ensures.known (λ end bs here. coded_none end c.args.left (slot_at end (c.args.left - 1)) c.args.place c.args.table.now.unread.items c.args.at c.args.code (now_of c.args.table.now) bs (ne_eqb c.args.code 112 c.requires.code) (ne_eqb c.args.code 113 c.if-code-eq113.false) none ∙ ap (λ (k : FaultKind). Err (bad k c.args.at)) (sym c.code_fault.ensures.kind)));
     }
 
 pub not_null-returns-then-left-eq0 : goal.not_null-returns-then-left-eq0

@@ -1,11 +1,12 @@
 use Rattle.std.proofs.Common.{◌≡◌, ◌≤◌, ◌+◌, ◌-◌, length}
 use Rattle.wire_io.specs.Wire.{with_front}
 use Rattle.wire_io.proofs.whole.take_whole.Given as goal
+use Rattle.wire_io.specs.declared.whole.TheConstants.{READ_BLOCK}
 
 abbrev pub invariant-loop-block : goal.invariant-loop-block
 invariant-loop-block g l = (g.S.Source.left l.initial.source ≡ with_front l.bytes (g.S.Source.left l.source))
-    × (g.S.Source.faults l.initial.source ≤ g.S.Source.faults l.source) × (length l.block ≡ 4096)
-    × (length l.bytes ≤ l.limit + 4096)
+    × (g.S.Source.faults l.initial.source ≤ g.S.Source.faults l.source) × (length l.block ≡ READ_BLOCK)
+    × (length l.bytes ≤ l.limit + READ_BLOCK)
 
 abbrev pub decreases-loop-block : goal.decreases-loop-block
 decreases-loop-block g l = l.limit + 1 - length l.bytes
