@@ -27,12 +27,13 @@ use Rattle.call_dispatch.specs.Spot.{Spot, Course}
 use Rattle.call_dispatch.specs.Rows.{Exchange, acknowledged, FitsUid}
 use Rattle.call_dispatch.specs.Faults.{Blames, BlamesIn}
 use Rattle.call_dispatch.specs.Dialogue.{Opening, Whole, opened, IsAtCode}
-use Rattle.call_dispatch.specs.Progress.{Stands, Talked, StepsTo, end_from}
+use Rattle.call_dispatch.specs.Progress.{StandsWhole, Talked, StepsTo, end_from}
 use Rattle.call_dispatch.specs.Serving.{Notes, Acknowledges}
 use Rattle.call_dispatch.proofs.Balancing.{balanced_quiet}
 use Rattle.call_dispatch.proofs.Blaming.{counts, blameless, rose_after}
 use Rattle.call_dispatch.proofs.MessageSteps.{limit_left}
 use Rattle.call_dispatch.proofs.Steps.{spot_at, talks_on, talks_in, stands_more}
+use Rattle.call_dispatch.specs.declared.messages.TheConstants.{MAX_MESSAGES}
 
 -- The input stopped behind some bytes.
 stops_behind : (P Q : List ℕ → Type 0) (old mid new : PullState) (fault : StreamFault) (front : List ℕ) → Takes old mid front → StopsIn P mid new fault → ((part : List ℕ) → P part → Q (front ++ part)) → StopsIn Q old new fault
@@ -46,7 +47,7 @@ stops_behind P Q old mid new faults.OutOfMemory front takes stops whole = absurd
 
 -- An acknowledgement was taken and noted, or passed over; or the connection ended in it.
 pub ack_steps : (may : Invocation → Outcome → Type 0) (moves : States → Call → States → Type 0) (terms : Terms) (start : Spot) (first mid now : PullState) (held : Option (List ℕ)) (side side2 : Side) (drawn sent : ℕ) (opening : Opening) (exchanges : List Exchange) (result : Result ℕ ConnEnd)
-    → Stands may moves terms start (spot_at first held side drawn) first.at sent (opened opening exchanges) → IsAtCode (opened opening exchanges) → length exchanges < 2 ^ 28 → first.at + 15 ≤ first.stop
+    → StandsWhole may moves terms start (spot_at first held side drawn) first.at sent (opened opening exchanges) → IsAtCode (opened opening exchanges) → length exchanges < MAX_MESSAGES → first.at + 15 ≤ first.stop
     → Takes first mid (code_byte DgcAck ∷ []) → Acknowledges may moves mid now side side2 sent result → StepsTo may moves terms start (spot_at now held side2 drawn) now.at opening exchanges result
 ack_steps may moves terms start first mid now held side side2 drawn sent opening exchanges (Ok sent2) stands code few room coded (same, (uid, moment, answer, fits, noted, takes, led)) =
     let e : Exchange = acknowledged uid moment answer in

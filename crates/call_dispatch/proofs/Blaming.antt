@@ -18,14 +18,14 @@ use Rattle.call_dispatch.specs.declared.outcome.Outcome.{Outcome}
 use Rattle.call_dispatch.specs.declared.returns.Answer.{Answer}
 use Rattle.call_dispatch.specs.Acts.{Call, States, Side}
 use Rattle.call_dispatch.specs.End.{IsWriteFault}
-use Rattle.call_dispatch.specs.Faults.{Counts, Blames, BlamesIn}
-use Rattle.call_dispatch.specs.Served.{Served, absent, refused, begun, unknown, ran, served_closes}
+use Rattle.call_dispatch.specs.Faults.{FaultCounts, Blames, BlamesIn}
+use Rattle.call_dispatch.specs.Served.{AtHead, absent, refused, begun, unknown, ran, served_closes}
 use Rattle.call_dispatch.specs.Progress.{Writes, end_from}
 use Rattle.call_dispatch.specs.Terms.{Terms}
 use Rattle.call_dispatch.specs.Serving.{Answers, closing, Sends}
 
 -- the counts of a source and a sink
-abbrev pub counts : ℕ → ℕ → Counts
+abbrev pub counts : ℕ → ℕ → FaultCounts
 counts source sink = record { source = source; sink = sink }
 
 -- The end tells no failure of the outside.
@@ -81,7 +81,7 @@ AreBlameless (Some end) = IsBlameless end
 AreBlameless None = Unit {0}
 
 -- No exchange closes the connection for a failure of the outside.
-closes_blameless : (head : CallHead) (s : Served) → AreBlameless (served_closes head s)
+closes_blameless : (head : CallHead) (s : AtHead) → AreBlameless (served_closes head s)
 closes_blameless head (absent moment turn) = ((λ same. cc), (λ w. w))
 closes_blameless head (refused moment) = ((λ same. cc), (λ w. w))
 closes_blameless head (begun moment turn kind (unknown moment2 place)) = ((λ same. cc), (λ w. w))
@@ -99,7 +99,7 @@ sent_blames f g k l sent held held2 bytes (Err end) close le none (part, less, h
     record { read_fault = (λ same. absurd (write_is (sent + part) end how same)); write_fault = (λ w. rose); source = le; sink = kept }
 
 -- A Call's answer was sent.
-pub sends_blame : (f g k l sent : ℕ) (held held2 : Option (List ℕ)) (head : CallHead) (s : Served) (answer : Answer) (result : Result ℕ ConnEnd) → f ≤ g → answer.close ≡ served_closes head s
+pub sends_blame : (f g k l sent : ℕ) (held held2 : Option (List ℕ)) (head : CallHead) (s : AtHead) (answer : Answer) (result : Result ℕ ConnEnd) → f ≤ g → answer.close ≡ served_closes head s
     → Sends held held2 k l sent answer result → BlamesIn (counts f k) (counts g l) result
 sends_blame f g k l sent held held2 head s answer result le closes sends =
     let P : Result ℕ ConnEnd → Type 0 = λ r. BlamesIn (counts f k) (counts g l) r in
@@ -112,7 +112,7 @@ call_blames may moves terms uid head first now a b drawn drew k l sent held held
     sends_blame first.faults now.faults k l sent held held2 head s answer result takes.faults closes sends
 
 -- The same from before, where the source's count didn't fall.
-pub blames_from : {T : Type 0} (f g k : ℕ) (after : Counts) (result : Result T ConnEnd) → f ≤ g → BlamesIn (counts g k) after result → BlamesIn (counts f k) after result
+pub blames_from : {T : Type 0} (f g k : ℕ) (after : FaultCounts) (result : Result T ConnEnd) → f ≤ g → BlamesIn (counts g k) after result → BlamesIn (counts f k) after result
 blames_from f g k after (Ok x) le h = record { source = omega (arith, le, h.source); sink = h.sink }
 blames_from f g k after (Err end) le h = record {
   read_fault = (λ same. rose_after f g after.source le (h.read_fault same));

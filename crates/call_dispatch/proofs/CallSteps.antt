@@ -23,13 +23,13 @@ use Rattle.call_dispatch.specs.declared.returns.Answer.{Answer}
 use Rattle.call_dispatch.specs.Terms.{Terms}
 use Rattle.call_dispatch.specs.Acts.{Act, Call, States, Side, Led, acts_of, abandoned}
 use Rattle.call_dispatch.specs.Spot.{Spot, Course, took, Goes}
-use Rattle.call_dispatch.specs.Served.{Served, absent, refused, begun, unknown, ran, FitsHead, served_acts, served_written, served_closes, IsServed}
+use Rattle.call_dispatch.specs.Served.{AtHead, absent, refused, begun, unknown, ran, FitsHead, served_acts, served_written, served_closes, IsServed}
 use Rattle.ser_values.specs.declared.limits.TheConstants.{MESSAGE_BYTES}
 use Rattle.call_dispatch.specs.Rows.{Exchange, served, row_of, closed_by, draws_in, course_by, IsExchange, IsCut}
 use Rattle.call_dispatch.specs.Inside.{BreaksAt}
 use Rattle.call_dispatch.specs.Systems.{is_system}
 use Rattle.call_dispatch.specs.Dialogue.{Opening, Whole, opened, IsClosed, EndsInHead, EndsInArguments, EndsInSystem, EndsInCall, Ends}
-use Rattle.call_dispatch.specs.Progress.{Stands, Talked, IsCoded, StepsTo, Writes, end_from}
+use Rattle.call_dispatch.specs.Progress.{StandsWhole, Talked, IsCoded, StepsTo, Writes, end_from}
 use Rattle.call_dispatch.specs.Serving.{BreaksOff, Answers, closing, Sends}
 use Rattle.call_dispatch.proofs.Going.{led_nothing}
 use Rattle.call_dispatch.proofs.HeadEnds.{head_stands}
@@ -149,7 +149,7 @@ pub some_is : (a b : ConnEnd) → Some a ≡ Some b → a ≡ b
 some_is a b same = cc
 
 -- Where the last exchange closes the connection, this is its end.
-closed_ends : (terms : Terms) (drawn : ℕ) (w : Whole) (rest : Option (List ℕ)) (head : CallHead) (s : Served) (end : ConnEnd) → served_closes head s ≡ Some end → IsClosed w end → Ends terms drawn w (took []) rest end
+closed_ends : (terms : Terms) (drawn : ℕ) (w : Whole) (rest : Option (List ℕ)) (head : CallHead) (s : AtHead) (end : ConnEnd) → served_closes head s ≡ Some end → IsClosed w end → Ends terms drawn w (took []) rest end
 closed_ends terms drawn w rest head (absent moment turn) end same closed =
     let P : ConnEnd → Type 0 = λ e. IsClosed w e → Ends terms drawn w (took []) rest e in
     subst P (some_is (ends.NoSuchObject head.id) end same) (λ c. (c, refl)) closed
@@ -162,7 +162,7 @@ closed_ends terms drawn w rest head (begun moment turn kind (unknown moment2 pla
 closed_ends terms drawn w rest head (begun moment turn kind (ran place arguments outcome conclusion)) end same closed = absurd (cc)
 
 -- The exchange may come where so many were drawn since the beginning.
-may_come : (may : Invocation → Outcome → Type 0) (moves : States → Call → States → Type 0) (terms : Terms) (start first : Spot) (p q : PullState) (held : Option (List ℕ)) (side : Side) (drawn sent : ℕ) (opening : Opening) (exchanges : List Exchange) (bytes : List ℕ) (head : CallHead) (uid : Uid) (s : Served)
+may_come : (may : Invocation → Outcome → Type 0) (moves : States → Call → States → Type 0) (terms : Terms) (start first : Spot) (p q : PullState) (held : Option (List ℕ)) (side : Side) (drawn sent : ℕ) (opening : Opening) (exchanges : List Exchange) (bytes : List ℕ) (head : CallHead) (uid : Uid) (s : AtHead)
     → IsCoded may moves terms start first (spot_at p held side drawn) p.at p.stop sent opening exchanges → is_system head.id ≡ false → FitsHead head → q.at ≤ q.stop → uid ≡ uid_drawn terms.unique terms.time drawn → Takes p q bytes → IsServed terms head bytes uid s
     → IsExchange terms (start.drawn + draws_in exchanges) (served bytes head uid s)
 may_come may moves terms start first p q held side drawn sent opening exchanges bytes head uid s h other fits within is takes legal =
@@ -176,7 +176,7 @@ few_more (suc a) (suc b) low high =
 
 -- There was no memory for all of the Call's row.
 pub call_cut : (may : Invocation → Outcome → Type 0) (moves : States → Call → States → Type 0) (terms : Terms) (start first : Spot) (p q : PullState) (held : Option (List ℕ)) (side side2 : Side) (drawn drew sent : ℕ) (opening : Opening) (exchanges : List Exchange)
-    (bytes : List ℕ) (head : CallHead) (uid : Uid) (s : Served) (acts : List Act) (end : ConnEnd)
+    (bytes : List ℕ) (head : CallHead) (uid : Uid) (s : AtHead) (acts : List Act) (end : ConnEnd)
     → IsCoded may moves terms start first (spot_at p held side drawn) p.at p.stop sent opening exchanges → is_system head.id ≡ false → FitsHead head → q.at ≤ q.stop → uid ≡ uid_drawn terms.unique terms.time drawn → Takes p q bytes → IsServed terms head bytes uid s
     → Led may moves side side2 acts → IsCut [] (served_acts head uid s) acts → drawn ≤ drew → drew ≤ drawn + 1 → end ≡ ends.OutOfMemory → Talked may moves terms start (spot_at q held side2 drew) end
 call_cut may moves terms start first p q held side side2 drawn drew sent opening exchanges bytes head uid s acts end h other fits within is takes legal led cut low high memory =
@@ -200,7 +200,7 @@ call_cut may moves terms start first p q held side side2 drawn drew sent opening
 
 -- A Call was answered, and its answer written or cut.
 call_sent : (may : Invocation → Outcome → Type 0) (moves : States → Call → States → Type 0) (terms : Terms) (start first : Spot) (p q : PullState) (held held2 : Option (List ℕ)) (side side2 : Side) (drawn drew sent : ℕ) (opening : Opening) (exchanges : List Exchange)
-    (bytes : List ℕ) (head : CallHead) (uid : Uid) (s : Served) (close : Option ConnEnd) (written : Result ℕ ConnEnd)
+    (bytes : List ℕ) (head : CallHead) (uid : Uid) (s : AtHead) (close : Option ConnEnd) (written : Result ℕ ConnEnd)
     → IsCoded may moves terms start first (spot_at p held side drawn) p.at p.stop sent opening exchanges → is_system head.id ≡ false → FitsHead head → q.at ≤ q.stop → uid ≡ uid_drawn terms.unique terms.time drawn → Takes p q bytes → IsServed terms head bytes uid s
     → Led may moves side side2 (served_acts head uid s) → drew ≡ drawn + 1 → close ≡ served_closes head s → Writes held held2 sent (served_written uid s) written
     → StepsTo may moves terms start (spot_at q held2 side2 drew) q.at opening exchanges (closing written close)
@@ -218,7 +218,7 @@ call_sent may moves terms start first p q held held2 side side2 drawn drew sent 
     let e : Exchange = served bytes head uid s in
     let now : Spot = spot_at q held2 side2 drew in
     let ats : q.at ≡ h.place + length (code_byte CallCode ∷ bytes) = omega (arith, takes.at, h.position) in
-    let stood : Stands may moves terms start now q.at sent2 (opened opening (exchanges ++ e ∷ [])) =
+    let stood : StandsWhole may moves terms start now q.at sent2 (opened opening (exchanges ++ e ∷ [])) =
     stands_more may moves terms start first now h.place sent q.at sent2 opening exchanges e h.stands h.code (limit_left opening exchanges h.code h.few)
     (may_come may moves terms start first p q held side drawn sent opening exchanges bytes head uid s h other fits within is takes legal)
     (call_goes may moves terms start first (spot_at p held side drawn) now p.at p.stop sent opening exchanges bytes (served_acts head uid s) 1 (served_written uid s) h takes.left writes.0 led drew_is)
@@ -234,7 +234,7 @@ call_sent may moves terms start first p q held held2 side side2 drawn drew sent 
 
 -- A Call was answered, and its answer sent.
 pub call_answered : (may : Invocation → Outcome → Type 0) (moves : States → Call → States → Type 0) (terms : Terms) (start first : Spot) (p q : PullState) (held held2 : Option (List ℕ)) (side side2 : Side) (drawn drew sent faults faults2 : ℕ) (opening : Opening) (exchanges : List Exchange)
-    (bytes : List ℕ) (head : CallHead) (uid : Uid) (s : Served) (answer : Answer) (result : Result ℕ ConnEnd)
+    (bytes : List ℕ) (head : CallHead) (uid : Uid) (s : AtHead) (answer : Answer) (result : Result ℕ ConnEnd)
     → IsCoded may moves terms start first (spot_at p held side drawn) p.at p.stop sent opening exchanges → is_system head.id ≡ false → FitsHead head → q.at ≤ q.stop → uid ≡ uid_drawn terms.unique terms.time drawn → Takes p q bytes → IsServed terms head bytes uid s
     → Led may moves side side2 (served_acts head uid s) → drew ≡ drawn + 1 → answer.bytes ≡ served_written uid s → answer.close ≡ served_closes head s → Sends held held2 faults faults2 sent answer result
     → StepsTo may moves terms start (spot_at q held2 side2 drew) q.at opening exchanges result

@@ -24,7 +24,7 @@ use Rattle.call_dispatch.specs.declared.returns.Answer.{Answer}
 use Rattle.call_dispatch.specs.Acts.{Act, Call, States, Side, Led, called, invokes, lost, entries, acts_of, abandoned}
 use Rattle.call_dispatch.specs.Book.{methods_of}
 use Rattle.call_dispatch.specs.Returns.{fault_return, fits, no_method}
-use Rattle.call_dispatch.specs.Served.{IsHeadOf, faulted, conclusion_acts, unknown, ran, invocation_of, running_acts, IsMethodOf, HasNoMethod, Served, refused, begun, served_acts, served_written, served_closes, IsServed}
+use Rattle.call_dispatch.specs.Served.{IsHeadOf, faulted, conclusion_acts, unknown, ran, invocation_of, running_acts, IsMethodOf, HasNoMethod, AtHead, refused, begun, served_acts, served_written, served_closes, IsServed}
 use Rattle.call_dispatch.specs.Terms.{Terms}
 use Rattle.call_dispatch.specs.Serving.{RunsOne, Concludes, IsPrepared, RunsOn, Answers}
 use Rattle.call_dispatch.proofs.Going.{led_more}
@@ -146,7 +146,7 @@ begun_answers may moves terms uid head kind moment turn first now a b c drawn dr
 ]
 
 -- The call was answered at once.
-pub closing_answers : (may : Invocation → Outcome → Type 0) (moves : States → Call → States → Type 0) (terms : Terms) (uid : Uid) (head : CallHead) (s : Served) (bytes : List ℕ) (first now : PullState) (a b : Side) (drawn drew : ℕ) (result : Result Answer ConnEnd)
+pub closing_answers : (may : Invocation → Outcome → Type 0) (moves : States → Call → States → Type 0) (terms : Terms) (uid : Uid) (head : CallHead) (s : AtHead) (bytes : List ℕ) (first now : PullState) (a b : Side) (drawn drew : ℕ) (result : Result Answer ConnEnd)
     → Takes first now bytes → IsServed terms head bytes uid s → Led may moves a b (served_acts head uid s) → Balanced (flat_map entries (served_acts head uid s))
     → IsPrepared (served_written uid s) (served_closes head s) result → Answers may moves terms uid head first now a b drawn drew result
 closing_answers may moves terms uid head s bytes first now a b drawn drew (Ok answer) takes is led even prepared = (s, bytes, takes, is, led, prepared.0, prepared.1)

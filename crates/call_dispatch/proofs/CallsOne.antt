@@ -30,7 +30,7 @@ use Rattle.call_dispatch.specs.Acts.{acts_of, abandoned}
 use Rattle.call_dispatch.specs.Book.{methods_of}
 use Rattle.call_dispatch.specs.Inside.{BreaksAt}
 use Rattle.call_dispatch.specs.Results.{listed_by, normal_return}
-use Rattle.call_dispatch.specs.Served.{EndsWithHead, FitsHead, Conclusion, finished, denied, faulted, IsConclusion, Running, unknown, ran, IsMethodOf, HasNoMethod, IsRunning, Served, absent, refused, begun, served_acts, IsServed}
+use Rattle.call_dispatch.specs.Served.{EndsWithHead, FitsHead, Conclusion, finished, denied, faulted, IsConclusion, Running, unknown, ran, IsMethodOf, HasNoMethod, IsRunning, AtHead, absent, refused, begun, served_acts, IsServed}
 use Rattle.call_dispatch.specs.Spot.{Course, took}
 use Rattle.ser_values.specs.declared.limits.TheConstants.{MESSAGE_BYTES}
 use Rattle.call_dispatch.specs.Dialogue.{EndsInHead, EndsInArguments}
@@ -42,7 +42,7 @@ use Rattle.call_dispatch.proofs.Tapes.{turn_tape, conclusion_ticks, running_tick
 
 -- ---- what a Call begins with
 
-pub served_begins : (terms : Terms) (head : CallHead) (bytes : List ℕ) (uid : Uid) (s : Served) → IsServed terms head bytes uid s → Begins head bytes
+pub served_begins : (terms : Terms) (head : CallHead) (bytes : List ℕ) (uid : Uid) (s : AtHead) → IsServed terms head bytes uid s → Begins head bytes
 served_begins terms head bytes uid (absent moment turn) ((left, heading), none) = record { front = bytes; left = left; more = []; is = sym (append-nil bytes); heading = heading }
 served_begins terms head bytes uid (refused moment) (left, heading) = record { front = bytes; left = left; more = []; is = sym (append-nil bytes); heading = heading }
 served_begins terms head bytes uid (begun moment turn kind (unknown moment2 place)) (started, ((left, heading), none)) =
@@ -171,11 +171,11 @@ not_started turn turn2 kind same is is2 =
     let replies : NoObject ≡ Started kind = sym is ∙ ap (λ (x : Turn). x.reply) same ∙ is2 in
     cc
 
-abbrev OneServed : Served → Served → List ℕ → List ℕ → List Tick → List Tick → Type 0
+abbrev OneServed : AtHead → AtHead → List ℕ → List ℕ → List Tick → List Tick → Type 0
 OneServed s s2 bytes bytes2 t t2 = (s ≡ s2) × (bytes ≡ bytes2) × (t ≡ t2)
 
 -- A Call of one head is served in one way.
-pub served_one : (terms : Terms) (head : CallHead) (bytes bytes2 : List ℕ) (uid : Uid) (s s2 : Served) (rest rest2 : List ℕ) (t t2 : List Tick) → IsServed terms head bytes uid s → IsServed terms head bytes2 uid s2
+pub served_one : (terms : Terms) (head : CallHead) (bytes bytes2 : List ℕ) (uid : Uid) (s s2 : AtHead) (rest rest2 : List ℕ) (t t2 : List Tick) → IsServed terms head bytes uid s → IsServed terms head bytes2 uid s2
     → bytes ++ rest ≡ bytes2 ++ rest2 → served_ticks s ++ t ≡ served_ticks s2 ++ t2 → OneServed s s2 bytes bytes2 t t2
 served_one terms head bytes bytes2 uid (absent moment turn) (absent moment2 turn2) rest rest2 t t2 ((left, a), none) ((left2, b), none2) input e =
     ((cc), front_same head bytes bytes2 rest rest2 left left2 a b input, (cc))
@@ -284,7 +284,7 @@ arguments_one kinds at tail tail2 rest rest2 end end2 t t2 a settled b settled2 
     )
 
 -- A call that is given up isn't served.
-not_given_up : (terms : Terms) (head : CallHead) (bytes : List ℕ) (uid : Uid) (moment : ℕ) (turn : Turn) (kind place moment2 place2 : ℕ) (s : Served) (t u : List Tick) → turn.reply ≡ Started kind → IsMethodOf terms.kinds kind head place
+not_given_up : (terms : Terms) (head : CallHead) (bytes : List ℕ) (uid : Uid) (moment : ℕ) (turn : Turn) (kind place moment2 place2 : ℕ) (s : AtHead) (t u : List Tick) → turn.reply ≡ Started kind → IsMethodOf terms.kinds kind head place
     → IsServed terms head bytes uid s → ends_ticks moment turn moment2 place2 ++ t ≡ served_ticks s ++ u → ⊥
 not_given_up terms head bytes uid moment turn kind place moment2 place2 (absent moment3 turn2) t u started known (h, none) e =
     let turns : turn2 ≡ turn = cc in not_started turn2 turn kind turns none started
@@ -296,7 +296,7 @@ not_given_up terms head bytes uid moment turn kind place moment2 place2 (begun m
 not_given_up terms head bytes uid moment turn kind place moment2 place2 (begun moment3 turn2 kind2 (ran place3 arguments outcome conclusion)) t u started known is e = cc
 
 -- Reading doesn't end in the arguments of a Call that is served.
-arguments_not_served : (terms : Terms) (at : ℕ) (tail : Course) (rest : List ℕ) (end : ConnEnd) (head : CallHead) (bytes : List ℕ) (uid : Uid) (s : Served) (xs : List ℕ) (t u : List Tick)
+arguments_not_served : (terms : Terms) (at : ℕ) (tail : Course) (rest : List ℕ) (end : ConnEnd) (head : CallHead) (bytes : List ℕ) (uid : Uid) (s : AtHead) (xs : List ℕ) (t u : List Tick)
     → EndsInArguments terms.kinds at tail (Some rest) end → FitsHead head → IsServed terms head bytes uid s → tail.taken ++ rest ≡ code_byte Call ∷ (bytes ++ xs) → tape tail.acts ++ t ≡ tape (served_acts head uid s) ++ u → ⊥
 arguments_not_served terms at tail rest end head bytes uid s xs t u a fits is input ticking =
     let b = served_begins terms head bytes uid s is in
@@ -339,7 +339,7 @@ in_call_one kinds at tail tail2 rest rest2 end end2 t t2 (inr a) settled (inr b)
     with_rests end end2 tail tail2 rest rest2 input one.0 one.1
 
 -- Reading doesn't end in a Call that is served.
-pub in_call_not_served : (terms : Terms) (at : ℕ) (tail : Course) (rest : List ℕ) (end : ConnEnd) (head : CallHead) (bytes : List ℕ) (uid : Uid) (s : Served) (xs : List ℕ) (t u : List Tick)
+pub in_call_not_served : (terms : Terms) (at : ℕ) (tail : Course) (rest : List ℕ) (end : ConnEnd) (head : CallHead) (bytes : List ℕ) (uid : Uid) (s : AtHead) (xs : List ℕ) (t u : List Tick)
     → InCall terms.kinds at tail rest end → IsSettled end → FitsHead head → 1 + length bytes ≤ MESSAGE_BYTES → IsServed terms head bytes uid s
     → tail.taken ++ rest ≡ code_byte Call ∷ (bytes ++ xs) → tape tail.acts ++ t ≡ tape (served_acts head uid s) ++ u → ⊥
 in_call_not_served terms at tail rest end head bytes uid s xs t u (inl (more, is, breaks)) settled fits few legal input ticking =
@@ -349,7 +349,7 @@ in_call_not_served terms at tail rest end head bytes uid s xs t u (inr a) settle
 -- ---- one exchange
 
 -- A Call of some bytes is served in one way, by one head.
-pub exchange_one : (terms : Terms) (head head2 : CallHead) (bytes bytes2 : List ℕ) (uid : Uid) (s s2 : Served) (rest rest2 : List ℕ) (t t2 : List Tick) → FitsHead head → FitsHead head2
+pub exchange_one : (terms : Terms) (head head2 : CallHead) (bytes bytes2 : List ℕ) (uid : Uid) (s s2 : AtHead) (rest rest2 : List ℕ) (t t2 : List Tick) → FitsHead head → FitsHead head2
     → IsServed terms head bytes uid s → IsServed terms head2 bytes2 uid s2 → bytes ++ rest ≡ bytes2 ++ rest2 → tape (served_acts head uid s) ++ t ≡ tape (served_acts head2 uid s2) ++ t2
     → (head ≡ head2) × (s ≡ s2) × (bytes ≡ bytes2) × (t ≡ t2)
 exchange_one terms head head2 bytes bytes2 uid s s2 rest rest2 t t2 fits fits2 is is2 input ticking =

@@ -5,16 +5,16 @@ use Rattle.std.proofs.lemmas.Grind.{flat_map-append}
 use Rattle.wire_io.specs.Wire.{with_front, with_end, with_front-with_front, with_front-nothing, with_end-with_end, with_end-nothing, Gave-nothing, Gave-append}
 use Rattle.call_dispatch.specs.declared.outcome.Invocation.{Invocation}
 use Rattle.call_dispatch.specs.declared.outcome.Outcome.{Outcome}
-use Rattle.call_dispatch.specs.Acts.{Call, invokes, unreferenced, States, Act, entries, moments, calls, invocations, Tells, Moves, Leads, MayAll, Side, Led}
+use Rattle.call_dispatch.specs.Acts.{Call, invokes, unreferenced, States, Act, entries, moments, calls, invocations, TellsMore, Moves, LeadsStates, MayAll, Side, Led}
 use Rattle.call_dispatch.specs.Spot.{Spot, Course, exchanged, took, followed_by, Goes}
 
-tells_more : (a b c : Option (List Call)) (xs ys : List Call) → Tells a xs b → Tells b ys c → Tells a (xs ++ ys) c
+tells_more : (a b c : Option (List Call)) (xs ys : List Call) → TellsMore a xs b → TellsMore b ys c → TellsMore a (xs ++ ys) c
 tells_more a b None xs ys first then = tt
 tells_more a None (Some c) xs ys first then = absurd then
 tells_more None (Some b) (Some c) xs ys first then = absurd first
 tells_more (Some a) (Some b) (Some c) xs ys first then = then ∙ ap (λ l. l ++ ys) first ∙ append_assoc a xs ys
 
-pub tells_nothing : (a : Option (List Call)) → Tells a [] a
+pub tells_nothing : (a : Option (List Call)) → TellsMore a [] a
 tells_nothing None = tt
 tells_nothing (Some a) = sym (append-nil a)
 
@@ -22,13 +22,13 @@ moves_more : (moves : States → Call → States → Type 0) (a b c : States) (x
 moves_more moves a b c [] ys first then = let P : States → Type 0 = λ s. Moves moves s ys c in subst P first then
 moves_more moves a b c (x ∷ xs) ys (mid, one, more) then = (mid, one, moves_more moves mid b c xs ys more then)
 
-leads_more : (moves : States → Call → States → Type 0) (a b c : Option States) (xs ys : List Call) → Leads moves a xs b → Leads moves b ys c → Leads moves a (xs ++ ys) c
+leads_more : (moves : States → Call → States → Type 0) (a b c : Option States) (xs ys : List Call) → LeadsStates moves a xs b → LeadsStates moves b ys c → LeadsStates moves a (xs ++ ys) c
 leads_more moves a b None xs ys first then = tt
 leads_more moves a None (Some c) xs ys first then = absurd then
 leads_more moves None (Some b) (Some c) xs ys first then = absurd first
 leads_more moves (Some a) (Some b) (Some c) xs ys first then = moves_more moves a b c xs ys first then
 
-pub leads_nothing : (moves : States → Call → States → Type 0) (a : Option States) → Leads moves a [] a
+pub leads_nothing : (moves : States → Call → States → Type 0) (a : Option States) → LeadsStates moves a [] a
 leads_nothing moves None = tt
 leads_nothing moves (Some a) = refl
 

@@ -15,7 +15,7 @@ use Rattle.space.specs.Ports.{entries_of}
 use Rattle.call_dispatch.specs.declared.outcome.Invocation.{Invocation}
 use Rattle.call_dispatch.specs.declared.outcome.Outcome.{Outcome}
 use Rattle.call_dispatch.specs.Results.{made_by, finish_with}
-use Rattle.call_dispatch.specs.Acts.{Call, invokes, unreferenced, States, Act, asks, lost, called, Tells, Leads, Side, Led, tells_of, acts_of}
+use Rattle.call_dispatch.specs.Acts.{Call, invokes, unreferenced, States, Act, asks, lost, called, TellsMore, LeadsStates, Side, Led, tells_of, acts_of}
 use Rattle.call_dispatch.proofs.Going.{led_more, tells_nothing, leads_nothing}
 
 -- a turn with its entry
@@ -44,7 +44,7 @@ led_lost may moves a asked given moment is gave = record {
 
 -- The worker was told of an object.
 pub led_told : (may : Invocation → Outcome → Type 0) (moves : States → Call → States → Type 0) (asked : List Asked) (given : Option (List ℕ)) (object : ObjId) (invoked invoked2 : ℕ) (seen seen2 : Option (List Call)) (state state2 : Option States)
-    → invoked2 ≡ invoked → Tells seen (unreferenced object ∷ []) seen2 → Leads moves state (unreferenced object ∷ []) state2
+    → invoked2 ≡ invoked → TellsMore seen (unreferenced object ∷ []) seen2 → LeadsStates moves state (unreferenced object ∷ []) state2
     → Led may moves (record { asked = asked; given = given; invoked = invoked; seen = seen; state = state }) (record { asked = asked; given = given; invoked = invoked2; seen = seen2; state = state2 })
     (called (unreferenced object) ∷ [])
 led_told may moves asked given object invoked invoked2 seen seen2 state state2 same tells leads = record {
@@ -58,7 +58,7 @@ led_told may moves asked given object invoked invoked2 seen seen2 state state2 s
 
 -- The worker was invoked.
 pub led_invoked : (may : Invocation → Outcome → Type 0) (moves : States → Call → States → Type 0) (asked : List Asked) (given : Option (List ℕ)) (call : Invocation) (outcome : Outcome) (invoked invoked2 : ℕ) (seen seen2 : Option (List Call)) (state state2 : Option States)
-    → invoked2 ≡ invoked + 1 → may call outcome → Tells seen (invokes call outcome ∷ []) seen2 → Leads moves state (invokes call outcome ∷ []) state2
+    → invoked2 ≡ invoked + 1 → may call outcome → TellsMore seen (invokes call outcome ∷ []) seen2 → LeadsStates moves state (invokes call outcome ∷ []) state2
     → Led may moves (record { asked = asked; given = given; invoked = invoked; seen = seen; state = state }) (record { asked = asked; given = given; invoked = invoked2; seen = seen2; state = state2 })
     (called (invokes call outcome) ∷ [])
 led_invoked may moves asked given call outcome invoked invoked2 seen seen2 state state2 same allowed tells leads = record {

@@ -1,5 +1,5 @@
 -- The messages of a dialogue, over plain lists.
-use Rattle.std.proofs.Common.{◌≡◌, ℕ, ◌+◌, ◌^◌, ◌<◌, ◌≤◌, List, [], ◌∷◌, length, take, Option, Result, Ok, Err, IfOk, refl, sym, ap, ◌∙◌, inr, arith}
+use Rattle.std.proofs.Common.{◌≡◌, ℕ, ◌+◌, ◌<◌, ◌≤◌, List, [], ◌∷◌, length, take, Option, Result, Ok, Err, IfOk, refl, sym, ap, ◌∙◌, inr, arith}
 use Rattle.wire_io.specs.Wire.{with_front-nothing, with_front}
 use Rattle.wire_io.specs.Pulled.{PullState}
 use Rattle.jrmp_frames.specs.declared.header.Protocol.TheVariants.{Stream, SingleOp}
@@ -16,13 +16,14 @@ use Rattle.call_dispatch.specs.Acts.{Call, States, Side}
 use Rattle.call_dispatch.specs.Spot.{Spot}
 use Rattle.call_dispatch.specs.Rows.{Exchange, ping, taken_by, written_by, course_by, IsOpen, GoOn}
 use Rattle.call_dispatch.specs.Dialogue.{Opening, stream, single_op, protocol_of, most_messages, Whole, opened, IsAtCode}
-use Rattle.call_dispatch.specs.Progress.{Stands, Talked, StepsTo, Writes, end_from}
+use Rattle.call_dispatch.specs.Progress.{StandsWhole, Talked, StepsTo, Writes, end_from}
 use Rattle.call_dispatch.proofs.Going.{goes_exchanged}
 use Rattle.call_dispatch.proofs.Steps.{spot_at, talks_took, talks_in, talks_cut, stands_more}
+use Rattle.call_dispatch.specs.declared.messages.TheConstants.{MAX_MESSAGES}
 
 -- The connection ends in a code's place.
 pub code_ends : (may : Invocation → Outcome → Type 0) (moves : States → Call → States → Type 0) (terms : Terms) (start : Spot) (old new : PullState) (held : Option (List ℕ)) (side : Side) (drawn sent : ℕ) (w : Whole) (fault : FrameFault)
-    → Stands may moves terms start (spot_at old held side drawn) old.at sent w → IsAtCode w → old.at < old.stop → GivesCode old new (Err fault)
+    → StandsWhole may moves terms start (spot_at old held side drawn) old.at sent w → IsAtCode w → old.at < old.stop → GivesCode old new (Err fault)
     → Talked may moves terms start (spot_at new held side drawn) (end_from fault)
 code_ends may moves terms start old new held side drawn sent w (BadHeader at) stands code room h = absurd h
 code_ends may moves terms start old new held side drawn sent w (UnknownProtocol byte) stands code room h = absurd h
@@ -34,14 +35,14 @@ code_ends may moves terms start old new held side drawn sent w (frames.Stream fa
     (λ part inside. omega (arith, ap length inside, room)) (λ part inside. (λ at is. absurd (more at is), inr (code, inside)))
 
 -- Below the limit a further message may follow.
-pub limit_left : (opening : Opening) (exchanges : List Exchange) → IsAtCode (opened opening exchanges) → length exchanges < 2 ^ 28 → length exchanges < most_messages opening
+pub limit_left : (opening : Opening) (exchanges : List Exchange) → IsAtCode (opened opening exchanges) → length exchanges < MAX_MESSAGES → length exchanges < most_messages opening
 limit_left (stream endpoint) exchanges code few = few
 limit_left single_op [] code few = omega arith
 limit_left single_op (e ∷ exchanges) code few = absurd code
 
 -- A Ping was read and its answer written, or cut.
 pub ping_steps : (may : Invocation → Outcome → Type 0) (moves : States → Call → States → Type 0) (terms : Terms) (start before now : Spot) (at sent at2 : ℕ) (opening : Opening) (exchanges : List Exchange) (result : Result ℕ ConnEnd)
-    → Stands may moves terms start before at sent (opened opening exchanges) → IsAtCode (opened opening exchanges) → length exchanges < 2 ^ 28
+    → StandsWhole may moves terms start before at sent (opened opening exchanges) → IsAtCode (opened opening exchanges) → length exchanges < MAX_MESSAGES
     → before.wires.left ≡ with_front (taken_by ping) now.wires.left → now.side ≡ before.side → now.drawn ≡ before.drawn
     → at2 ≡ at + length (taken_by ping) → Writes before.wires.held now.wires.held sent (written_by ping) result
     → StepsTo may moves terms start now at2 opening exchanges result
@@ -57,7 +58,7 @@ ping_steps may moves terms start before now at sent at2 opening exchanges (Err e
 
 -- Single-op's one message was served.
 pub one_served : (may : Invocation → Outcome → Type 0) (moves : States → Call → States → Type 0) (terms : Terms) (start now : Spot) (at sent : ℕ) (opening : Opening) (e : Exchange) → protocol_of opening ≡ SingleOp → IsOpen e
-    → Stands may moves terms start now at sent (opened opening (e ∷ [])) → Talked may moves terms start now ends.Ended
+    → StandsWhole may moves terms start now at sent (opened opening (e ∷ [])) → Talked may moves terms start now ends.Ended
 one_served may moves terms start now at sent (stream endpoint) e is goes stands = absurd (cc)
 one_served may moves terms start now at sent single_op e is goes stands =
     talks_took may moves terms start now now at sent (opened single_op (e ∷ [])) [] ends.Ended stands (sym (with_front-nothing now.wires.left)) refl refl refl (inr goes, refl)

@@ -1,5 +1,5 @@
 -- An input and the answers of the outside have one settled dialogue: the next whole exchange is decided by them, and so is where it ends.
-use Rattle.std.proofs.Common.{◌≡◌, ℕ, suc, ◌+◌, ◌^◌, ◌<◌, ◌≤◌, ◌⊎◌, inl, inr, List, [], ◌∷◌, ◌++◌, length, drop, Option, Some, None, Result, Ok, Err, cond, eqb, nat_lt, true, false, true≢false, ◌||◌, refl, ap, sym, subst, ◌∙◌, arith, append_assoc, append-nil, length-append, eq-eqb}
+use Rattle.std.proofs.Common.{◌≡◌, ℕ, suc, ◌+◌, ◌<◌, ◌≤◌, ◌⊎◌, inl, inr, List, [], ◌∷◌, ◌++◌, length, drop, Option, Some, None, Result, Ok, Err, cond, eqb, nat_lt, true, false, true≢false, ◌||◌, refl, ap, sym, subst, ◌∙◌, arith, append_assoc, append-nil, length-append, eq-eqb}
 use Rattle.std.proofs.lemmas.List.{append_cancel_right}
 use Rattle.std.proofs.lemmas.Grind.{flat_map-append}
 use Rattle.std.specs.List.{flat_map}
@@ -23,18 +23,19 @@ use Rattle.call_dispatch.specs.declared.end.ConnEnd.TheVariants.{Ended, BadHeade
 use Rattle.call_dispatch.specs.End.{IsSettled}
 use Rattle.call_dispatch.specs.Terms.{Terms}
 use Rattle.call_dispatch.specs.Acts.{Act, Call as WorkerCall, States, acts_of}
-use Rattle.call_dispatch.specs.Served.{Served as Way, served_acts, IsServed}
+use Rattle.call_dispatch.specs.Served.{AtHead as Way, served_acts, IsServed}
 use Rattle.call_dispatch.specs.Spot.{Spot, Course, took, followed_by}
 use Rattle.call_dispatch.specs.Systems.{System}
 use Rattle.call_dispatch.specs.Rows.{Exchange, ping, acknowledged, served, system, FitsUid, IsNoted, taken_by, acts_by, draws_by, IsExchange, IsOpen, closed_by, GoOn, IsChain}
 use Rattle.call_dispatch.specs.Dialogue.{Opening, stream, single_op, most_messages, opening_taken, Whole, nothing, greeted, opened, taken_in, course_in, IsAtCode, IsDone, IsClosed, EndsInCall, Ends, Dialogue}
 use Rattle.call_dispatch.specs.Tape.{Tick, answered, ticks, tape}
-use Rattle.call_dispatch.specs.Progress.{Talks, Settles, Talked, Served}
+use Rattle.call_dispatch.specs.Progress.{IsConversation, Settles, Talked, IsServedFrom}
 use Rattle.call_dispatch.proofs.Breaks.{same_behind}
 use Rattle.call_dispatch.proofs.Tapes.{turn_alone}
 use Rattle.call_dispatch.proofs.CallsOne.{exchange_one}
 use Rattle.call_dispatch.proofs.SystemOne.{InAnyCall, in_any_one, in_any_not_served, in_any_not_answered, system_exchange_one, system_not_served}
 use Rattle.call_dispatch.proofs.OpeningReading.{opens, over, reading, neq-eqb, opening_passed, Reads, nothing_reads, greeted_reads}
+use Rattle.call_dispatch.specs.declared.messages.TheConstants.{MAX_MESSAGES}
 
 -- ---- one exchange
 
@@ -138,7 +139,7 @@ abbrev code_next : ℕ → ℕ → List ℕ → Next
 code_next n at [] = stopped Ended []
 code_next n at (b ∷ xs) =
     cond (eqb b 0x50 || (eqb b 0x52 || eqb b 0x54))
-    (cond (eqb n (2 ^ 28)) (stopped MessageLimit xs)
+    (cond (eqb n MAX_MESSAGES) (stopped MessageLimit xs)
     (cond (eqb b 0x50) (calling xs) (cond (eqb b 0x52) (pinged xs) (ack_next at xs))))
     (stopped (BadMessage b at) xs)
 
@@ -162,15 +163,15 @@ went (acknowledged uid moment answer) xs = acking (bytes_of_uid uid ++ xs)
 went (served bytes head uid s) xs = calling (bytes ++ xs)
 went (system bytes head uid s) xs = calling (bytes ++ xs)
 
-code_reads : (n at : ℕ) (e : Exchange) (rest : List ℕ) → n < 2 ^ 28 → code_next n at (taken_by e ++ rest) ≡ went e rest
-code_reads n at ping rest few = let no = neq-eqb n (2 ^ 28) (λ same. omega arith) in rw no refl
+code_reads : (n at : ℕ) (e : Exchange) (rest : List ℕ) → n < MAX_MESSAGES → code_next n at (taken_by e ++ rest) ≡ went e rest
+code_reads n at ping rest few = let no = neq-eqb n MAX_MESSAGES (λ same. omega arith) in rw no refl
 code_reads n at (acknowledged uid moment answer) rest few =
-    let no = neq-eqb n (2 ^ 28) (λ same. omega arith) in
+    let no = neq-eqb n MAX_MESSAGES (λ same. omega arith) in
     let long : length (bytes_of_uid uid ++ rest) ≡ 14 + length rest = length-append (bytes_of_uid uid) rest in
     let enough : nat_lt (length (bytes_of_uid uid ++ rest)) 14 ≡ false = grind (arith, nat_tests, long) in
     rw (no, enough) refl
-code_reads n at (served bytes head uid s) rest few = let no = neq-eqb n (2 ^ 28) (λ same. omega arith) in rw no refl
-code_reads n at (system bytes head uid s) rest few = let no = neq-eqb n (2 ^ 28) (λ same. omega arith) in rw no refl
+code_reads n at (served bytes head uid s) rest few = let no = neq-eqb n MAX_MESSAGES (λ same. omega arith) in rw no refl
+code_reads n at (system bytes head uid s) rest few = let no = neq-eqb n MAX_MESSAGES (λ same. omega arith) in rw no refl
 
 open_reads : (opening : Opening) (es : List Exchange) (at : ℕ) (e : Exchange) (rest : List ℕ) → length es < most_messages opening → open_next opening es at (taken_by e ++ rest) ≡ went e rest
 open_reads (stream endpoint) es at e rest few = code_reads (length es) at e rest few
@@ -199,19 +200,19 @@ no_code_next : (n at byte : ℕ) (xs : List ℕ) → ¬ IsCode byte → code_nex
 no_code_next n at byte xs none = let told = code_untold byte none in rw told refl
 
 -- The input ends in an acknowledgement.
-ack_cut : (n at : ℕ) (part : List ℕ) → n < 2 ^ 28 → length part < 14 → code_next n at (code_byte DgcAck ∷ part) ≡ stopped (Truncated (at + 1 + length part)) []
+ack_cut : (n at : ℕ) (part : List ℕ) → n < MAX_MESSAGES → length part < 14 → code_next n at (code_byte DgcAck ∷ part) ≡ stopped (Truncated (at + 1 + length part)) []
 ack_cut n at part few short =
-    let no = neq-eqb n (2 ^ 28) (λ same. omega arith) in
+    let no = neq-eqb n MAX_MESSAGES (λ same. omega arith) in
     let less : nat_lt (length part) 14 ≡ true = grind (arith, nat_tests) in
     rw (no, less) refl
 
-call_next : (n at : ℕ) (xs : List ℕ) → n < 2 ^ 28 → code_next n at (code_byte Call ∷ xs) ≡ calling xs
-call_next n at xs few = let no = neq-eqb n (2 ^ 28) (λ same. omega arith) in rw no refl
+call_next : (n at : ℕ) (xs : List ℕ) → n < MAX_MESSAGES → code_next n at (code_byte Call ∷ xs) ≡ calling xs
+call_next n at xs few = let no = neq-eqb n MAX_MESSAGES (λ same. omega arith) in rw no refl
 
-limit_next : (n at byte : ℕ) (xs : List ℕ) → n ≡ 2 ^ 28 → IsCode byte → code_next n at (byte ∷ xs) ≡ stopped MessageLimit xs
+limit_next : (n at byte : ℕ) (xs : List ℕ) → n ≡ MAX_MESSAGES → IsCode byte → code_next n at (byte ∷ xs) ≡ stopped MessageLimit xs
 limit_next n at byte xs full known =
     let told = code_told byte known in
-    let last = eq-eqb n (2 ^ 28) full in
+    let last = eq-eqb n MAX_MESSAGES full in
     rw (told, last) refl
 
 -- What comes next where a code is to come, where nothing more is, and where the connection was closed.
@@ -579,7 +580,7 @@ front_told input taken (Some rest) same = (rest, refl, (cc))
 
 -- A connection that ended in a dialogue went as each settled dialogue of its input says.
 talks_settle : (may : Invocation → Outcome → Type 0) (moves : States → WorkerCall → States → Type 0) (terms : Terms) (start now : Spot) (c : Course) (result : ConnEnd)
-    → Talks may moves terms start now c result → Settles terms start now c result
+    → IsConversation may moves terms start now c result → Settles terms start now c result
 unfolding Settles
 talks_settle may moves terms start now c result talks other rest end t t2 told first settled settled2 ticking =
     let (rest2, is, whole) = front_told (other.taken ++ rest) c.taken now.wires.left (sym told ∙ talks.goes.left) in
@@ -590,5 +591,5 @@ talks_settle may moves terms start now c result talks other rest end t t2 told f
 
 -- A connection that ended in a dialogue was served.
 pub talked_served : (may : Invocation → Outcome → Type 0) (moves : States → WorkerCall → States → Type 0) (terms : Terms) (start now : Spot) (result : ConnEnd)
-    → Talked may moves terms start now result → Served may moves terms start now result
+    → Talked may moves terms start now result → IsServedFrom may moves terms start now result
 talked_served may moves terms start now result (c, talks) = record { course = c; talks = talks; settles = talks_settle may moves terms start now c result talks }

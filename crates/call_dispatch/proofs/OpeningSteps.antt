@@ -18,7 +18,7 @@ use Rattle.call_dispatch.specs.Terms.{Terms}
 use Rattle.call_dispatch.specs.Acts.{Call, States, Side}
 use Rattle.call_dispatch.specs.Spot.{Spot, exchanged, took, Goes}
 use Rattle.call_dispatch.specs.Dialogue.{nothing, greeted, opened, stream, single_op}
-use Rattle.call_dispatch.specs.Progress.{Stands, Talked, Writes, Refuses, end_from}
+use Rattle.call_dispatch.specs.Progress.{StandsWhole, Talked, Writes, Refuses, end_from}
 use Rattle.call_dispatch.proofs.Going.{goes_exchanged, goes_took, goes_on}
 use Rattle.call_dispatch.proofs.Steps.{spot_at, course_is, talks_on, talks_took, talks_cut, stands_nothing, stands_on, talks_in}
 
@@ -57,7 +57,7 @@ header_ends may moves terms old new held side drawn (frames.Stream fault) first 
 -- The header of the stream protocol and its acknowledgement stand.
 pub stands_greeted : (may : Invocation → Outcome → Type 0) (moves : States → Call → States → Type 0) (terms : Terms) (start before now : Spot) (at sent : ℕ)
     → Goes may moves start before (took (header Stream)) → at ≡ 7 → now.wires.left ≡ before.wires.left → now.side ≡ before.side → now.drawn ≡ before.drawn
-    → Writes before.wires.held now.wires.held 0 (protocol_ack terms.peer_host terms.peer_port) (Ok sent) → Stands may moves terms start now at sent greeted
+    → Writes before.wires.held now.wires.held 0 (protocol_ack terms.peer_host terms.peer_port) (Ok sent) → StandsWhole may moves terms start now at sent greeted
 stands_greeted may moves terms start before now at sent goes place left side drawn (written, sents) =
     let answer : List ℕ = protocol_ack terms.peer_host terms.peer_port in
     let more = goes_exchanged may moves before now [] answer (sym left ∙ sym (with_front-nothing now.wires.left)) written side drawn in
@@ -80,15 +80,15 @@ greeting_cut may moves terms start before now end goes left side drawn (part, le
 
 -- The whole opening of the stream protocol stands.
 pub stands_opened : (may : Invocation → Outcome → Type 0) (moves : States → Call → States → Type 0) (terms : Terms) (start : Spot) (old new : PullState) (held : Option (List ℕ)) (side : Side) (drawn sent : ℕ) (endpoint : List ℕ)
-    → Stands may moves terms start (spot_at old held side drawn) old.at sent greeted → Takes old new endpoint → IsEndpoint endpoint
-    → Stands may moves terms start (spot_at new held side drawn) new.at sent (opened (stream endpoint) [])
+    → StandsWhole may moves terms start (spot_at old held side drawn) old.at sent greeted → Takes old new endpoint → IsEndpoint endpoint
+    → StandsWhole may moves terms start (spot_at new held side drawn) new.at sent (opened (stream endpoint) [])
 stands_opened may moves terms start old new held side drawn sent endpoint stands takes is =
     stands_on may moves terms start _ _ old.at sent new.at sent greeted (opened (stream endpoint) []) (took endpoint) stands (is, tt, omega arith)
     (course_is _ _ _ _ _ _ _ _ (append-nil (header Stream ++ endpoint)) refl refl refl) (goes_took may moves _ _ endpoint takes.left refl refl refl) takes.at (omega arith)
 
 -- The connection ends in the client's endpoint.
 pub endpoint_ends : (may : Invocation → Outcome → Type 0) (moves : States → Call → States → Type 0) (terms : Terms) (start : Spot) (old new : PullState) (held : Option (List ℕ)) (side : Side) (drawn sent : ℕ) (fault : FrameFault)
-    → Stands may moves terms start (spot_at old held side drawn) old.at sent greeted → old.at + 65541 < old.stop
+    → StandsWhole may moves terms start (spot_at old held side drawn) old.at sent greeted → old.at + 65541 < old.stop
     → GivesEndpoint {A = Unit {0}} old new (Err fault) → Talked may moves terms start (spot_at new held side drawn) (end_from fault)
 endpoint_ends may moves terms start old new held side drawn sent (BadHeader at) stands room h = absurd h
 endpoint_ends may moves terms start old new held side drawn sent (UnknownProtocol byte) stands room h = absurd h
@@ -105,7 +105,7 @@ memory_ends may moves terms start now goes =
 
 -- The header of the single-op protocol stands.
 pub stands_single : (may : Invocation → Outcome → Type 0) (moves : States → Call → States → Type 0) (terms : Terms) (old new : PullState) (held : Option (List ℕ)) (side : Side) (drawn : ℕ) → old.at ≡ 0 → Takes old new (header SingleOp)
-    → Stands may moves terms (spot_at old held side drawn) (spot_at new held side drawn) new.at 0 (opened single_op [])
+    → StandsWhole may moves terms (spot_at old held side drawn) (spot_at new held side drawn) new.at 0 (opened single_op [])
 stands_single may moves terms old new held side drawn first takes =
     stands_on may moves terms _ _ _ old.at 0 new.at 0 nothing (opened single_op []) (took (header SingleOp)) (stands_nothing may moves terms _ old.at first)
     (tt, tt, omega arith) refl (goes_took may moves _ _ (header SingleOp) takes.left refl refl refl) takes.at refl

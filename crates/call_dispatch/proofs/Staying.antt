@@ -7,7 +7,7 @@ use Rattle.call_dispatch.specs.declared.end.ConnEnd.{ConnEnd}
 use Rattle.call_dispatch.specs.Terms.{Terms, terms_of}
 use Rattle.call_dispatch.specs.Acts.{Call, States}
 use Rattle.call_dispatch.specs.Spot.{Spot, Stays, IsLent}
-use Rattle.call_dispatch.specs.Faults.{Counts, Grew}
+use Rattle.call_dispatch.specs.Faults.{FaultCounts, Grew}
 use Rattle.jrmp_frames.specs.declared.header.Protocol.{Protocol}
 use Rattle.call_dispatch.specs.Progress.{GoesOn, Steps}
 
@@ -36,7 +36,7 @@ lent_on a b c first then = record {
   terms = then.terms ∙ first.terms;
 }
 
-pub grew_on : (a b c : Counts) → Grew a b → Grew b c → Grew a c
+pub grew_on : (a b c : FaultCounts) → Grew a b → Grew b c → Grew a c
 grew_on a b c first then = record { source = omega (arith, first.source, then.source); sink = omega (arith, first.sink, then.sink) }
 
 -- The terms of a step are those of its connection's beginning.

@@ -21,7 +21,7 @@ use Rattle.call_dispatch.specs.Acts.{Act, Call, States, Side}
 use Rattle.call_dispatch.specs.Spot.{Spot, Course, took, followed_by, Goes}
 use Rattle.call_dispatch.specs.Rows.{Exchange, taken_by, acts_by, draws_by, written_by, draws_in, course_by, IsExchange, IsOpen, GoOn, IsChain}
 use Rattle.call_dispatch.specs.Dialogue.{Opening, stream, single_op, opening_taken, opening_written, most_messages, Whole, nothing, opened, IsWhole, taken_in, written_in, course_in, IsAtCode, IsInside, IsAnswered, Ends}
-use Rattle.call_dispatch.specs.Progress.{Stands, Talked, end_from}
+use Rattle.call_dispatch.specs.Progress.{StandsWhole, Talked, end_from}
 use Rattle.call_dispatch.proofs.Going.{goes_nothing, goes_took, goes_on}
 
 -- a course, by its parts
@@ -34,14 +34,14 @@ course_is t t2 a a2 d d2 w w2 taken acts draws written =
     ap (λ x. course x a d w) taken ∙ ap (λ x. course t2 x d w) acts ∙ ap (λ x. course t2 a2 x w) draws ∙ ap (course t2 a2 d2) written
 
 -- Nothing stands yet.
-pub stands_nothing : (may : Invocation → Outcome → Type 0) (moves : States → Call → States → Type 0) (terms : Terms) (start : Spot) (at : ℕ) → at ≡ 0 → Stands may moves terms start start at 0 nothing
+pub stands_nothing : (may : Invocation → Outcome → Type 0) (moves : States → Call → States → Type 0) (terms : Terms) (start : Spot) (at : ℕ) → at ≡ 0 → StandsWhole may moves terms start start at 0 nothing
 stands_nothing may moves terms start at first = record { whole = tt; goes = goes_nothing may moves start; position = first; count = refl }
 
 -- More was done, so that more stands whole.
 pub stands_on : (may : Invocation → Outcome → Type 0) (moves : States → Call → States → Type 0) (terms : Terms) (start before now : Spot) (at sent at2 sent2 : ℕ) (w w2 : Whole) (c : Course)
-    → Stands may moves terms start before at sent w → IsWhole terms start.drawn w2 → course_in terms w2 ≡ followed_by (course_in terms w) c
+    → StandsWhole may moves terms start before at sent w → IsWhole terms start.drawn w2 → course_in terms w2 ≡ followed_by (course_in terms w) c
     → Goes may moves before now c → at2 ≡ at + length c.taken → sent2 ≡ sent + length c.written
-    → Stands may moves terms start now at2 sent2 w2
+    → StandsWhole may moves terms start now at2 sent2 w2
 stands_on may moves terms start before now at sent at2 sent2 w w2 c stands whole is goes ats sents = record {
   whole = whole;
   goes = (let P : Course → Type 0 = λ x. Goes may moves start now x in subst P (sym is) (goes_on may moves start before now (course_in terms w) c stands.goes goes));
@@ -51,7 +51,7 @@ stands_on may moves terms start before now at sent at2 sent2 w w2 c stands whole
 
 -- More was done, and the connection ended.
 pub talks_on : (may : Invocation → Outcome → Type 0) (moves : States → Call → States → Type 0) (terms : Terms) (start before now : Spot) (at sent : ℕ) (w : Whole) (tail : Course) (end : ConnEnd)
-    → Stands may moves terms start before at sent w → Goes may moves before now tail → Ends terms start.drawn w tail now.wires.left end
+    → StandsWhole may moves terms start before at sent w → Goes may moves before now tail → Ends terms start.drawn w tail now.wires.left end
     → Talked may moves terms start now end
 talks_on may moves terms start before now at sent w tail end stands goes ends = (
   followed_by (course_in terms w) tail,
@@ -60,7 +60,7 @@ talks_on may moves terms start before now at sent w tail end stands goes ends = 
 
 -- More was taken, and the connection ended with nothing else done.
 pub talks_took : (may : Invocation → Outcome → Type 0) (moves : States → Call → States → Type 0) (terms : Terms) (start before now : Spot) (at sent : ℕ) (w : Whole) (more : List ℕ) (end : ConnEnd)
-    → Stands may moves terms start before at sent w → before.wires.left ≡ with_front more now.wires.left → now.wires.held ≡ before.wires.held
+    → StandsWhole may moves terms start before at sent w → before.wires.left ≡ with_front more now.wires.left → now.wires.held ≡ before.wires.held
     → now.side ≡ before.side → now.drawn ≡ before.drawn
     → Ends terms start.drawn w (took more) now.wires.left end → Talked may moves terms start now end
 talks_took may moves terms start before now at sent w more end stands taken held side drawn ends =
@@ -68,7 +68,7 @@ talks_took may moves terms start before now at sent w more end stands taken held
 
 -- An answer was cut.
 pub talks_cut : (may : Invocation → Outcome → Type 0) (moves : States → Call → States → Type 0) (terms : Terms) (start before now : Spot) (at sent part : ℕ) (w : Whole) (c : Course)
-    → Stands may moves terms start before at sent w → IsAnswered terms start.drawn w c → part < length c.written
+    → StandsWhole may moves terms start before at sent w → IsAnswered terms start.drawn w c → part < length c.written
     → Goes may moves before now (record c { written = take part c.written })
     → Talked may moves terms start now (ends.WriteFault (sent + part))
 talks_cut may moves terms start before now at sent part w c stands answered less goes =
@@ -82,7 +82,7 @@ spot_at p held side drawn = record { wires = record { left = p.left; held = held
 -- The input stopped inside what was to come next.
 pub talks_stop : (may : Invocation → Outcome → Type 0) (moves : States → Call → States → Type 0) (terms : Terms) (start : Spot) (old new : PullState) (held : Option (List ℕ)) (side : Side) (drawn sent : ℕ) (w : Whole)
     (P : List ℕ → Type 0) (e : PullEnd)
-    → Stands may moves terms start (spot_at old held side drawn) old.at sent w → (stops : StopsInside P old new e)
+    → StandsWhole may moves terms start (spot_at old held side drawn) old.at sent w → (stops : StopsInside P old new e)
     → old.at + length stops.part < old.stop → ((at : ℕ) → e ≡ End at → IsInside w stops.part) → IsInside w stops.part ⊎ (IsAtCode w × (stops.part ≡ []))
     → Talked may moves terms start (spot_at new held side drawn) (end_from (frames.Stream (fault_of e)))
 talks_stop may moves terms start old new held side drawn sent w P (End at) stands stops room ended inside =
@@ -98,7 +98,7 @@ talks_stop may moves terms start old new held side drawn sent w P OutOfMemory st
 
 -- the same, where a stream's fault says how it stopped
 pub talks_in : (may : Invocation → Outcome → Type 0) (moves : States → Call → States → Type 0) (terms : Terms) (start : Spot) (old new : PullState) (held : Option (List ℕ)) (side : Side) (drawn sent : ℕ) (w : Whole)
-    (P : List ℕ → Type 0) (fault : StreamFault) → Stands may moves terms start (spot_at old held side drawn) old.at sent w → StopsIn P old new fault → ((part : List ℕ) → P part → old.at + length part < old.stop)
+    (P : List ℕ → Type 0) (fault : StreamFault) → StandsWhole may moves terms start (spot_at old held side drawn) old.at sent w → StopsIn P old new fault → ((part : List ℕ) → P part → old.at + length part < old.stop)
     → ((part : List ℕ) → P part → ((at : ℕ) → fault ≡ faults.Truncated at → IsInside w part) × (IsInside w part ⊎ (IsAtCode w × (part ≡ [])))) → Talked may moves terms start (spot_at new held side drawn) (end_from (frames.Stream fault))
 talks_in may moves terms start old new held side drawn sent w P (faults.Truncated at) stands stops room how =
     let x = how stops.part stops.inside in
@@ -145,10 +145,10 @@ at_code_goes single_op (e ∷ exchanges) code = absurd code
 
 -- A further exchange.
 pub stands_more : (may : Invocation → Outcome → Type 0) (moves : States → Call → States → Type 0) (terms : Terms) (start before now : Spot) (at sent at2 sent2 : ℕ) (opening : Opening) (exchanges : List Exchange) (e : Exchange)
-    → Stands may moves terms start before at sent (opened opening exchanges) → IsAtCode (opened opening exchanges) → length exchanges < most_messages opening
+    → StandsWhole may moves terms start before at sent (opened opening exchanges) → IsAtCode (opened opening exchanges) → length exchanges < most_messages opening
     → IsExchange terms (start.drawn + draws_in exchanges) e → Goes may moves before now (course_by e)
     → at2 ≡ at + length (taken_by e) → sent2 ≡ sent + length (written_by e)
-    → Stands may moves terms start now at2 sent2 (opened opening (exchanges ++ e ∷ []))
+    → StandsWhole may moves terms start now at2 sent2 (opened opening (exchanges ++ e ∷ []))
 stands_more may moves terms start before now at sent at2 sent2 opening exchanges e stands code room is goes ats sents =
     stands_on may moves terms start before now at sent at2 sent2 (opened opening exchanges) (opened opening (exchanges ++ e ∷ [])) (course_by e)
     stands (stands.whole.0, chain_more terms start.drawn exchanges e stands.whole.1 (at_code_goes opening exchanges code) is, omega (arith, length-append exchanges (e ∷ []), room))

@@ -14,7 +14,7 @@ use Rattle.java_shapes.specs.declared.ref_views.LiveRef.{LiveRef}
 use Rattle.jrmp_frames.specs.declared.arguments.Arguments.{Arguments}
 use Rattle.call_dispatch.specs.declared.book.Kind.{Kind}
 use Rattle.call_dispatch.specs.declared.demand.Bar.{Bar}
-use Rattle.call_dispatch.specs.declared.demand.Kept.{Kept}
+use Rattle.call_dispatch.specs.declared.demand.ForReturn.{ForReturn}
 use Rattle.call_dispatch.specs.declared.demand.Demand.TheVariants.{Barred, Asks}
 use Rattle.call_dispatch.specs.declared.setup.Setup.{Setup}
 use Rattle.call_dispatch.specs.declared.system.SystemMethod.{SystemMethod}
@@ -114,7 +114,7 @@ pub is_barred : (r : Result Ask Bar) (bar : Bar) → IsDemand r (Barred bar) →
 is_barred (Err b) bar is = ap (λ (x : Bar). refused x) (sym is)
 is_barred (Ok ask) bar is = absurd is
 
-pub is_asked : (r : Result Ask Bar) (ask : Ask) (kept : Kept) → IsDemand r (Asks ask kept) → (r ≡ Ok ask) × (kept ≡ kept_of ask)
+pub is_asked : (r : Result Ask Bar) (ask : Ask) (kept : ForReturn) → IsDemand r (Asks ask kept) → (r ≡ Ok ask) × (kept ≡ kept_of ask)
 is_asked (Ok a) ask kept (same, is) = let P : Ask → Type 0 = λ x. kept ≡ kept_of x in (ap asked (sym same), subst P (sym same) is)
 is_asked (Err bar) ask kept is = absurd is
 

@@ -32,7 +32,7 @@ use Rattle.call_dispatch.specs.End.{IsSettled}
 use Rattle.call_dispatch.specs.Acts.{acts_of}
 use Rattle.call_dispatch.specs.Demands.{demand_of, client_draws}
 use Rattle.call_dispatch.specs.Inside.{BreaksAt}
-use Rattle.call_dispatch.specs.Served.{FitsHead, Served, served_acts, IsServed}
+use Rattle.call_dispatch.specs.Served.{FitsHead, AtHead, served_acts, IsServed}
 use Rattle.call_dispatch.specs.Spot.{Course, took}
 use Rattle.call_dispatch.specs.SystemReturns.{answer_written}
 use Rattle.call_dispatch.specs.Systems.{is_system, system_method, params_of, System, unknown, barred, turned, system_acts, drawn_at, IsSystem}
@@ -167,7 +167,7 @@ heads_differ : (head head2 : CallHead) → head ≡ head2 → is_system head.id 
 heads_differ head head2 same own other = true≢false (sym own ∙ ap (λ (h : CallHead). is_system h.id) same ∙ other)
 
 -- A Call that is served is none of the two objects.
-pub system_not_served : (terms : Terms) (drawn : ℕ) (head head2 : CallHead) (bytes bytes2 : List ℕ) (uid uid2 : Uid) (s : System) (s2 : Served) (rest rest2 : List ℕ) → FitsHead head → FitsHead head2
+pub system_not_served : (terms : Terms) (drawn : ℕ) (head head2 : CallHead) (bytes bytes2 : List ℕ) (uid uid2 : Uid) (s : System) (s2 : AtHead) (rest rest2 : List ℕ) → FitsHead head → FitsHead head2
     → is_system head.id ≡ true → is_system head2.id ≡ false → IsSystem terms drawn head bytes uid s → IsServed terms head2 bytes2 uid2 s2 → bytes ++ rest ≡ bytes2 ++ rest2 → ⊥
 system_not_served terms drawn head head2 bytes bytes2 uid uid2 s s2 rest rest2 fits fits2 own other is is2 input =
     heads_differ head head2 (begin_same head head2 bytes bytes2 rest rest2 fits fits2 (system_begins terms drawn head bytes uid s is) (served_begins terms head2 bytes2 uid2 s2 is2) input) own other
@@ -297,7 +297,7 @@ in_any_one kinds at tail tail2 rest rest2 end end2 t t2 (inr (inr a)) settled (i
     (one.0, one.1, same_behind tail.taken tail2.taken rest rest2 (ap (λ (c : Course). c.taken) one.1) input)
 
 -- Reading doesn't end in a Call that is served.
-pub in_any_not_served : (terms : Terms) (at : ℕ) (tail : Course) (rest : List ℕ) (end : ConnEnd) (head : CallHead) (bytes : List ℕ) (uid : Uid) (s : Served) (xs : List ℕ) (t u : List Tick)
+pub in_any_not_served : (terms : Terms) (at : ℕ) (tail : Course) (rest : List ℕ) (end : ConnEnd) (head : CallHead) (bytes : List ℕ) (uid : Uid) (s : AtHead) (xs : List ℕ) (t u : List Tick)
     → InAnyCall terms.kinds at tail rest end → IsSettled end → is_system head.id ≡ false → FitsHead head → 1 + length bytes ≤ MESSAGE_BYTES → IsServed terms head bytes uid s
     → tail.taken ++ rest ≡ code_byte Call ∷ (bytes ++ xs) → tape tail.acts ++ t ≡ tape (served_acts head uid s) ++ u → ⊥
 in_any_not_served terms at tail rest end head bytes uid s xs t u (inl a) settled other fits few legal input ticking = in_call_not_served terms at tail rest end head bytes uid s xs t u (inl a) settled fits few legal input ticking

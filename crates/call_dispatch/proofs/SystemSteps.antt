@@ -23,7 +23,7 @@ use Rattle.ser_values.specs.declared.limits.TheConstants.{MESSAGE_BYTES}
 use Rattle.call_dispatch.specs.Rows.{Exchange, system, draws_in, course_by, IsExchange, IsCut}
 use Rattle.call_dispatch.specs.Dialogue.{Opening, Whole, opened, IsClosed, Ends}
 use Rattle.call_dispatch.specs.Faults.{Blames, BlamesIn}
-use Rattle.call_dispatch.specs.Progress.{Stands, Talked, IsCoded, StepsTo, Writes, end_from}
+use Rattle.call_dispatch.specs.Progress.{StandsWhole, Talked, IsCoded, StepsTo, Writes, end_from}
 use Rattle.call_dispatch.specs.Serving.{closing, Sends}
 use Rattle.call_dispatch.specs.ServingSystem.{BreaksSystem, AnswersSystem, AnswersAny}
 use Rattle.call_dispatch.specs.Systems.{is_system, params_of, System, unknown, barred, turned, system_acts, system_draws, system_written, system_closes, IsSystem}
@@ -132,7 +132,7 @@ system_sent may moves terms start first p q held held2 side side2 drawn drew sen
     let e : Exchange = system bytes head uid s in
     let now : Spot = spot_at q held2 side2 drew in
     let ats : q.at ≡ h.place + length (code_byte CallCode ∷ bytes) = omega (arith, takes.at, h.position) in
-    let stood : Stands may moves terms start now q.at sent2 (opened opening (exchanges ++ e ∷ [])) =
+    let stood : StandsWhole may moves terms start now q.at sent2 (opened opening (exchanges ++ e ∷ [])) =
     stands_more may moves terms start first now h.place sent q.at sent2 opening exchanges e h.stands h.code (limit_left opening exchanges h.code h.few)
     (may_come may moves terms start first p q held side drawn sent opening exchanges bytes head uid s h own fits within takes legal)
     (call_goes may moves terms start first (spot_at p held side drawn) now p.at p.stop sent opening exchanges bytes (system_acts s) (system_draws s) (system_written uid s) h takes.left writes.0 led drew_is)

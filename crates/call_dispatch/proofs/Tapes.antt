@@ -13,7 +13,7 @@ use Rattle.jrmp_frames.specs.declared.head.CallHead.{CallHead}
 use Rattle.call_dispatch.specs.declared.outcome.Outcome.{Outcome}
 use Rattle.call_dispatch.specs.Acts.{Act, tells_of, acts_of}
 use Rattle.call_dispatch.specs.Results.{finish_with}
-use Rattle.call_dispatch.specs.Served.{Conclusion, finished, denied, faulted, conclusion_acts, IsConclusion, Running, unknown, ran, running_acts, IsRunning, Served, absent, refused, begun, served_acts, IsServed}
+use Rattle.call_dispatch.specs.Served.{Conclusion, finished, denied, faulted, conclusion_acts, IsConclusion, Running, unknown, ran, running_acts, IsRunning, AtHead, absent, refused, begun, served_acts, IsServed}
 use Rattle.call_dispatch.specs.Terms.{Terms}
 use Rattle.call_dispatch.specs.Tape.{Tick, answered, gave, ticks, tape}
 
@@ -39,7 +39,7 @@ abbrev pub running_ticks : Running → List Tick
 running_ticks (unknown moment place) = answered moment (Abandoned place) ∷ []
 running_ticks (ran place arguments outcome conclusion) = gave outcome ∷ conclusion_ticks conclusion
 
-abbrev pub served_ticks : Served → List Tick
+abbrev pub served_ticks : AtHead → List Tick
 served_ticks (absent moment turn) = answered moment (Turned turn) ∷ []
 served_ticks (refused moment) = answered moment (Denied refusals.HistoryFull) ∷ []
 served_ticks (begun moment turn kind running) = answered moment (Turned turn) ∷ running_ticks running
@@ -57,7 +57,7 @@ running_tape terms head kind bytes uid (ran place arguments outcome conclusion) 
     ap (λ (l : List Tick). gave outcome ∷ l) (conclusion_tape terms head.id uid method.result outcome conclusion concluded)
 
 -- What a Call's acts hand in.
-pub served_tape : (terms : Terms) (head : CallHead) (bytes : List ℕ) (uid : Uid) (s : Served) → IsServed terms head bytes uid s → tape (served_acts head uid s) ≡ served_ticks s
+pub served_tape : (terms : Terms) (head : CallHead) (bytes : List ℕ) (uid : Uid) (s : AtHead) → IsServed terms head bytes uid s → tape (served_acts head uid s) ≡ served_ticks s
 served_tape terms head bytes uid (absent moment turn) is = turn_alone moment (Begin head.id) turn
 served_tape terms head bytes uid (refused moment) is = refl
 served_tape terms head bytes uid (begun moment turn kind running) (started, is) =

@@ -65,10 +65,10 @@ abandoned moment object place = asks (abandoned_at moment object place)
 -- ---- what is told
 
 -- What a worker tells grows by these calls, or it tells nothing more.
-abbrev pub Tells : Option (List Call) → List Call → Option (List Call) → Type 0
-Tells before more None = Unit {0}
-Tells None more (Some after) = ⊥
-Tells (Some before) more (Some after) = after ≡ before ++ more
+abbrev pub TellsMore : Option (List Call) → List Call → Option (List Call) → Type 0
+TellsMore before more None = Unit {0}
+TellsMore None more (Some after) = ⊥
+TellsMore (Some before) more (Some after) = after ≡ before ++ more
 
 -- These calls lead from a state to a state, one after the other.
 abbrev pub Moves : (States → Call → States → Type 0) → States → List Call → States → Type 0
@@ -76,10 +76,10 @@ Moves moves before [] after = after ≡ before
 Moves moves before (call ∷ more) after = (mid : States) × moves before call mid × Moves moves mid more after
 
 -- The same where the states are told.
-abbrev pub Leads : (States → Call → States → Type 0) → Option States → List Call → Option States → Type 0
-Leads moves before more None = Unit {0}
-Leads moves None more (Some after) = ⊥
-Leads moves (Some before) more (Some after) = Moves moves before more after
+abbrev pub LeadsStates : (States → Call → States → Type 0) → Option States → List Call → Option States → Type 0
+LeadsStates moves before more None = Unit {0}
+LeadsStates moves None more (Some after) = ⊥
+LeadsStates moves (Some before) more (Some after) = Moves moves before more after
 
 -- Each invocation has an outcome that it may have.
 abbrev pub MayAll : (Invocation → Outcome → Type 0) → List Call → Type 0
@@ -101,8 +101,8 @@ pub record Led (may : Invocation → Outcome → Type 0) (moves : States → Cal
   pub given : Gave before.given after.given (flat_map moments acts)
   pub invoked : after.invoked ≡ before.invoked + length (flat_map invocations (flat_map calls acts))
   pub may_all : MayAll may (flat_map calls acts)
-  pub seen : Tells before.seen (flat_map calls acts) after.seen
-  pub state : Leads moves before.state (flat_map calls acts) after.state
+  pub seen : TellsMore before.seen (flat_map calls acts) after.seen
+  pub state : LeadsStates moves before.state (flat_map calls acts) after.state
 
 -- A turn was made at some moment, and the worker told what is gone.
 abbrev pub TakesTurn : (Invocation → Outcome → Type 0) → (States → Call → States → Type 0) → Side → Side → Ask → Result Turn Refused → Type 0

@@ -25,12 +25,12 @@ use Rattle.jrmp_frames.specs.declared.arguments.Arg.TheVariants as args
 use Rattle.jrmp_frames.specs.declared.arguments.Arguments.{Arguments}
 use Rattle.call_dispatch.specs.declared.demand.Bar.{Bar}
 use Rattle.call_dispatch.specs.declared.demand.Bar.TheVariants.{WrongArgument, BindingClosed, NameTooLong, ForeignReference}
-use Rattle.call_dispatch.specs.declared.demand.Kept.{Kept}
-use Rattle.call_dispatch.specs.declared.demand.Kept.TheVariants as kept
+use Rattle.call_dispatch.specs.declared.demand.ForReturn.{ForReturn}
+use Rattle.call_dispatch.specs.declared.demand.ForReturn.TheVariants as kept
 use Rattle.call_dispatch.specs.declared.demand.Demand.{Demand}
 use Rattle.call_dispatch.specs.declared.demand.Demand.TheVariants.{Barred, Asks}
-use Rattle.call_dispatch.specs.declared.demand.Stop.{Stop}
-use Rattle.call_dispatch.specs.declared.demand.Stop.TheVariants as stops
+use Rattle.call_dispatch.specs.declared.demand.Unasked.{Unasked}
+use Rattle.call_dispatch.specs.declared.demand.Unasked.TheVariants as stops
 use Rattle.call_dispatch.specs.declared.system.SystemMethod.{SystemMethod}
 use Rattle.call_dispatch.specs.declared.system.SystemMethod.TheVariants.{Registry, Collector}
 use Rattle.call_dispatch.specs.Terms.{Terms}
@@ -188,7 +188,7 @@ bar_message ForeignReference = codes "java.rmi.ServerException: foreign referenc
 
 -- ---- what is kept of an ask for its Return
 
-abbrev pub kept_of : Ask → Kept
+abbrev pub kept_of : Ask → ForReturn
 kept_of (asks.Dirty client number asked objects) = kept.Client client
 kept_of (asks.Bind name object) = kept.Name name
 kept_of (asks.Unbind name) = kept.Name name
@@ -203,36 +203,36 @@ IsDemand _ _ = ⊥
 
 -- ---- how far a function that finds it has come
 
-abbrev pub stop_from : ShapeFault → Stop
+abbrev pub stop_from : ShapeFault → Unasked
 stop_from WrongShape = stops.Barred WrongArgument
 stop_from OutOfMemory = stops.OutOfMemory
 
 -- What was found, or why nothing is. Want of memory may stand in place of any answer.
-abbrev pub Finds : {A : Type 0} → Result A Stop → Result A Bar → Type 0
+abbrev pub Finds : {A : Type 0} → Result A Unasked → Result A Bar → Type 0
 Finds (Ok found) shown = shown ≡ Ok found
 Finds (Err (stops.Barred bar)) shown = shown ≡ Err bar
 Finds (Err stops.OutOfMemory) shown = Unit {0}
 
 -- an argument that was found, or there is none such
-abbrev pub FindsArgument : {A : Type 0} → Result A Stop → Option A → Type 0
+abbrev pub FindsArgument : {A : Type 0} → Result A Unasked → Option A → Type 0
 FindsArgument (Ok found) shown = shown ≡ Some found
 FindsArgument (Err (stops.Barred bar)) shown = (shown ≡ None) × (bar ≡ WrongArgument)
 FindsArgument (Err stops.OutOfMemory) shown = Unit {0}
 
 -- the demand that was found
-abbrev pub FindsDemand : Result Demand Stop → Result Ask Bar → Type 0
+abbrev pub FindsDemand : Result Demand Unasked → Result Ask Bar → Type 0
 FindsDemand (Ok demand) shown = IsDemand shown demand
 FindsDemand (Err (stops.Barred bar)) shown = shown ≡ Err bar
 FindsDemand (Err stops.OutOfMemory) shown = Unit {0}
 
 -- whether a lease names no client; an argument that is no reference is no lease
-abbrev pub TellsNameless : Result Bool Stop → Option LeaseView → Type 0
+abbrev pub TellsNameless : Result Bool Unasked → Option LeaseView → Type 0
 TellsNameless (Ok nameless) shown = nameless ≡ is_nameless shown
 TellsNameless (Err (stops.Barred bar)) shown = (shown ≡ None) × (bar ≡ WrongArgument)
 TellsNameless (Err stops.OutOfMemory) shown = Unit {0}
 
 -- that a lease names no client
-abbrev pub FindsNone : Result Bool Stop → ℕ → Type 0
+abbrev pub FindsNone : Result Bool Unasked → ℕ → Type 0
 FindsNone (Ok lacks) shown = shown ≡ (if lacks then 1 else 0)
 FindsNone (Err (stops.Barred bar)) shown = shown ≡ 0
 FindsNone (Err stops.OutOfMemory) shown = Unit {0}

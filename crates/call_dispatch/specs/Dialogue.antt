@@ -1,6 +1,6 @@
 -- The dialogue of one connection (Java RMI Specification, 10.2), as a relation between whole lists: the bytes taken, what was
 -- done, the bytes that the source has left then, the bytes written and the end. It is an opening, whole exchanges and an end.
-use Rattle.std.specs.Prelude.{◌≡◌, true, false, ℕ, ◌+◌, ◌^◌, ◌<◌, ◌≤◌, ◌⊎◌, List, [], ◌∷◌, ◌++◌, length, take, slice_get, Option, Some, Ok}
+use Rattle.std.specs.Prelude.{◌≡◌, true, false, ℕ, ◌+◌, ◌<◌, ◌≤◌, ◌⊎◌, List, [], ◌∷◌, ◌++◌, length, take, slice_get, Option, Some, Ok}
 use Rattle.std.specs.List.{flat_map}
 use Rattle.wire_io.specs.Wire.{NothingLeft}
 use Rattle.jrmp_frames.specs.declared.header.Protocol.{Protocol}
@@ -29,6 +29,7 @@ use Rattle.call_dispatch.specs.Terms.{Terms}
 use Rattle.call_dispatch.specs.Spot.{Course, exchanged, took, followed_by}
 use Rattle.ser_values.specs.declared.limits.TheConstants.{MESSAGE_BYTES}
 use Rattle.call_dispatch.specs.Rows.{Exchange, taken_by, acts_by, draws_by, written_by, draws_in, course_by, IsExchange, closed_by, GoOn, IsChain, IsCut}
+use Rattle.call_dispatch.specs.declared.messages.TheConstants.{MAX_MESSAGES}
 
 -- an opening: what stands before the first message. The stream protocol's has the client's endpoint.
 pub data Opening : Type 0 where
@@ -55,7 +56,7 @@ opening_written terms single_op = []
 
 -- how many messages may follow it
 abbrev pub most_messages : Opening → ℕ
-most_messages (stream endpoint) = 2 ^ 28
+most_messages (stream endpoint) = MAX_MESSAGES
 most_messages single_op = 1
 
 -- what of a dialogue stands whole: nothing yet; the stream protocol's header and its acknowledgement; or an opening and
@@ -122,11 +123,11 @@ IsClosed _ end = ⊥
 abbrev pub IsInside : Whole → List ℕ → Type 0
 IsInside nothing more = IsInHeader more
 IsInside greeted more = IsInEndpoint more
-IsInside (opened opening exchanges) more = IsAtCode (opened opening exchanges) × (length exchanges < 2 ^ 28) × IsInAck more
+IsInside (opened opening exchanges) more = IsAtCode (opened opening exchanges) × (length exchanges < MAX_MESSAGES) × IsInAck more
 
 -- This exchange may come next.
 abbrev pub IsNext : Terms → ℕ → Whole → Exchange → Type 0
-IsNext terms drawn w e = IsAtCode w × (count_of w < 2 ^ 28) × IsExchange terms (drawn + draws_in (exchanges_in w)) e
+IsNext terms drawn w e = IsAtCode w × (count_of w < MAX_MESSAGES) × IsExchange terms (drawn + draws_in (exchanges_in w)) e
 
 -- What came after what stands whole is an exchange that was cut: its message was taken, its acts were cut, and nothing was written.
 pub record IsCutIn (terms : Terms) (drawn : ℕ) (w : Whole) (tail : Course) (e : Exchange) : Type 0 where
@@ -145,8 +146,8 @@ abbrev pub IsGreeting : Terms → Whole → Course → Type 0
 IsGreeting terms w c = (w ≡ nothing) × (c ≡ exchanged (header Stream) (protocol_ack terms.peer_host terms.peer_port))
 
 -- What comes next is a header with the byte of no protocol, and its refusal.
-abbrev pub IsRefused : Whole → ℕ → Course → Type 0
-IsRefused w byte c = (w ≡ nothing) × IsNoProtocol byte × (c ≡ exchanged (header_start ++ byte ∷ []) protocol_not_supported)
+abbrev pub IsHeaderRefused : Whole → ℕ → Course → Type 0
+IsHeaderRefused w byte c = (w ≡ nothing) × IsNoProtocol byte × (c ≡ exchanged (header_start ++ byte ∷ []) protocol_not_supported)
 
 -- What comes next is a whole exchange.
 abbrev pub IsExchanged : Terms → ℕ → Whole → Course → Type 0
@@ -154,7 +155,7 @@ IsExchanged terms drawn w c = (e : Exchange) × IsNext terms drawn w e × (c ≡
 
 -- This comes next, with its answer.
 abbrev pub IsAnswered : Terms → ℕ → Whole → Course → Type 0
-IsAnswered terms drawn w c = IsGreeting terms w c ⊎ (((byte : ℕ) × IsRefused w byte c) ⊎ IsExchanged terms drawn w c)
+IsAnswered terms drawn w c = IsGreeting terms w c ⊎ (((byte : ℕ) × IsHeaderRefused w byte c) ⊎ IsExchanged terms drawn w c)
 
 -- ---- inside a Call
 
@@ -206,14 +207,14 @@ pub record EndsInSystem (at : ℕ) (tail : Course) (rest : Option (List ℕ)) (e
 
 -- Reading ends in a Call.
 abbrev pub EndsInCall : Terms → Whole → Course → Option (List ℕ) → ConnEnd → Type 0
-EndsInCall terms w tail rest end = IsAtCode w × (count_of w < 2 ^ 28)
+EndsInCall terms w tail rest end = IsAtCode w × (count_of w < MAX_MESSAGES)
     × (EndsInHead (length (taken_in w)) tail rest end ⊎ (EndsInArguments terms.kinds (length (taken_in w)) tail rest end ⊎ EndsInSystem (length (taken_in w)) tail rest end))
 
 -- Where each end stands: what stands whole, what came after it, and what is left.
 abbrev pub Ends : Terms → ℕ → Whole → Course → Option (List ℕ) → ConnEnd → Type 0
 Ends terms drawn w tail rest Ended = ((IsAtCode w × NothingLeft rest) ⊎ IsDone w) × (tail ≡ took [])
 Ends terms drawn w tail rest (BadHeader at) = (w ≡ nothing) × ((more : List ℕ) × BreaksHeader at more × (tail ≡ took more))
-Ends terms drawn w tail rest (UnknownProtocol byte) = IsRefused w byte tail
+Ends terms drawn w tail rest (UnknownProtocol byte) = IsHeaderRefused w byte tail
 Ends terms drawn w tail rest (BadMessage byte at) =
     IsAtCode w × ¬ IsCode byte × (at ≡ length (taken_in w)) × (tail ≡ took (byte ∷ []))
 Ends terms drawn w tail rest (Truncated at) =
@@ -224,7 +225,7 @@ Ends terms drawn w tail rest SpaceFull = IsClosed w SpaceFull × (tail ≡ took 
 Ends terms drawn w tail rest (BadStream kind at) = EndsInCall terms w tail rest (BadStream kind at)
 Ends terms drawn w tail rest (TooLarge what at) = EndsInCall terms w tail rest (TooLarge what at)
 Ends terms drawn w tail rest MessageLimit =
-    IsAtCode w × (count_of w ≡ 2 ^ 28) × ((byte : ℕ) × IsCode byte × (tail ≡ took (byte ∷ [])))
+    IsAtCode w × (count_of w ≡ MAX_MESSAGES) × ((byte : ℕ) × IsCode byte × (tail ≡ took (byte ∷ [])))
 Ends terms drawn w tail rest ReadFault =
     ((more : List ℕ) × (IsInside w more ⊎ (IsAtCode w × (more ≡ []))) × (tail ≡ took more)) ⊎ EndsInCall terms w tail rest ReadFault
 Ends terms drawn w tail rest (WriteFault sent) =

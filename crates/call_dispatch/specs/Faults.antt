@@ -7,27 +7,27 @@ use Rattle.call_dispatch.specs.declared.end.ConnEnd.TheVariants.{ReadFault}
 use Rattle.call_dispatch.specs.End.{IsWriteFault}
 
 -- how often the source and the sink failed
-pub record Counts : Type 0 where
+pub record FaultCounts : Type 0 where
   pub source : ℕ
   pub sink : ℕ
 
 -- the counts of a connection
-abbrev pub counts_of : {S K C P W : Type 0} → (S → ℕ) → (K → ℕ) → Connection S K C P W → Counts
+abbrev pub counts_of : {S K C P W : Type 0} → (S → ℕ) → (K → ℕ) → Connection S K C P W → FaultCounts
 counts_of source sink c = record { source = source c.pull.source.now; sink = sink c.sink.now }
 
 -- No count fell.
-pub record Grew (before after : Counts) : Type 0 where
+pub record Grew (before after : FaultCounts) : Type 0 where
   pub source : before.source ≤ after.source
   pub sink : before.sink ≤ after.sink
 
 -- The end tells a fault of the source, or of the sink, only where its count rose; no count fell.
-pub record Blames (before after : Counts) (end : ConnEnd) : Type 0 where
+pub record Blames (before after : FaultCounts) (end : ConnEnd) : Type 0 where
   pub read_fault : end ≡ ReadFault → Rose before.source after.source
   pub write_fault : IsWriteFault end → Rose before.sink after.sink
   pub source : before.source ≤ after.source
   pub sink : before.sink ≤ after.sink
 
 -- The same of a step, after which the connection goes on or ended.
-abbrev pub BlamesIn : {T : Type 0} → Counts → Counts → Result T ConnEnd → Type 0
+abbrev pub BlamesIn : {T : Type 0} → FaultCounts → FaultCounts → Result T ConnEnd → Type 0
 BlamesIn before after (Ok x) = Grew before after
 BlamesIn before after (Err end) = Blames before after end

@@ -8,9 +8,9 @@ use Rattle.jrmp_frames.specs.declared.head.CallHead.{CallHead}
 use Rattle.jrmp_frames.specs.Messages.{CallBytes}
 use Rattle.call_dispatch.specs.declared.book.Kind.{Kind}
 use Rattle.call_dispatch.specs.declared.outcome.Invocation.{Invocation}
-use Rattle.call_dispatch.specs.Acts.{Act, Call, calls, invocations, Tells}
+use Rattle.call_dispatch.specs.Acts.{Act, Call, calls, invocations, TellsMore}
 use Rattle.call_dispatch.specs.Book.{methods_of}
-use Rattle.call_dispatch.specs.Served.{Served, IsMethodOf, served_acts, IsServed}
+use Rattle.call_dispatch.specs.Served.{AtHead, IsMethodOf, served_acts, IsServed}
 use Rattle.call_dispatch.specs.Terms.{Terms}
 use Rattle.call_dispatch.specs.Spot.{Spot, Course}
 use Rattle.call_dispatch.specs.declared.end.ConnEnd.{ConnEnd}
@@ -38,7 +38,7 @@ IsInvokedOnce kinds head bytes (call ∷ more ∷ others) = ⊥
 
 -- Each Call is invoked at most once, with the graph that it spells.
 abbrev pub CallIsInvokedOnce : Type 0
-CallIsInvokedOnce = (terms : Terms) (head : CallHead) (bytes : List ℕ) (uid : Uid) (s : Served) → IsServed terms head bytes uid s → IsInvokedOnce terms.kinds head bytes (invocations_in (served_acts head uid s))
+CallIsInvokedOnce = (terms : Terms) (head : CallHead) (bytes : List ℕ) (uid : Uid) (s : AtHead) → IsServed terms head bytes uid s → IsInvokedOnce terms.kinds head bytes (invocations_in (served_acts head uid s))
 
 -- ---- in a connection
 
@@ -63,7 +63,7 @@ pub record InvokesEachOnce (terms : Terms) (before now : Spot) : Type 0 where
   pub taken : before.wires.left ≡ with_front (taken_in whole ++ behind) now.wires.left
   pub told : List Call
   pub count : now.side.invoked ≡ before.side.invoked + length (flat_map invocations told)
-  pub seen : Tells before.side.seen told now.side.seen
+  pub seen : TellsMore before.side.seen told now.side.seen
   pub once : LeadTo terms.kinds (map taken_by (exchanges_in whole) ++ behind ∷ []) (flat_map invocations told)
 
 -- What a course took is what stands whole and what came behind it, and these messages lead to its invocations.

@@ -21,9 +21,10 @@ use Rattle.ser_values.specs.declared.limits.TheConstants.{MESSAGE_BYTES}
 use Rattle.call_dispatch.specs.Rows.{Exchange, IsOpen}
 use Rattle.call_dispatch.specs.Dialogue.{Opening, protocol_of, Whole, opened, IsWhole, taken_in, written_in, course_in, IsAtCode, Dialogue}
 use Rattle.call_dispatch.specs.Tape.{Tick, tape}
+use Rattle.call_dispatch.specs.declared.messages.TheConstants.{MAX_MESSAGES}
 
 -- The connection began at `start` and ended, and this course since is a dialogue.
-pub record Talks (may : Invocation → Outcome → Type 0) (moves : States → Call → States → Type 0) (terms : Terms) (start now : Spot) (c : Course) (end : ConnEnd) : Type 0 where
+pub record IsConversation (may : Invocation → Outcome → Type 0) (moves : States → Call → States → Type 0) (terms : Terms) (start now : Spot) (c : Course) (end : ConnEnd) : Type 0 where
   pub goes : Goes may moves start now c
   pub dialogue : Dialogue terms start.drawn c now.wires.left end
 
@@ -37,31 +38,31 @@ Settles terms start now c result = (other : Course) (rest : List ℕ) (end : Con
 
 -- The connection began at `start` and ended: what it took, did, drew and wrote since is a dialogue, and the one of its input and of
 -- what the outside answered.
-pub record Served (may : Invocation → Outcome → Type 0) (moves : States → Call → States → Type 0) (terms : Terms) (start now : Spot) (end : ConnEnd) : Type 0 where
+pub record IsServedFrom (may : Invocation → Outcome → Type 0) (moves : States → Call → States → Type 0) (terms : Terms) (start now : Spot) (end : ConnEnd) : Type 0 where
   pub course : Course
-  pub talks : Talks may moves terms start now course end
+  pub talks : IsConversation may moves terms start now course end
   pub settles : Settles terms start now course end
 
 -- The connection began at `start` and ended in a dialogue.
 abbrev pub Talked : (Invocation → Outcome → Type 0) → (States → Call → States → Type 0) → Terms → Spot → Spot → ConnEnd → Type 0
-Talked may moves terms start now end = (c : Course) × Talks may moves terms start now c end
+Talked may moves terms start now end = (c : Course) × IsConversation may moves terms start now c end
 
 -- The connection began at `start`, and now w stands whole: `at` bytes were taken and `sent` bytes written.
-pub record Stands (may : Invocation → Outcome → Type 0) (moves : States → Call → States → Type 0) (terms : Terms) (start now : Spot) (at sent : ℕ) (w : Whole) : Type 0 where
+pub record StandsWhole (may : Invocation → Outcome → Type 0) (moves : States → Call → States → Type 0) (terms : Terms) (start now : Spot) (at sent : ℕ) (w : Whole) : Type 0 where
   pub whole : IsWhole terms start.drawn w
   pub goes : Goes may moves start now (course_in terms w)
   pub position : at ≡ length (taken_in w)
   pub count : sent ≡ length (written_in terms w)
 
 -- An opening stands whole, as it is told; or the connection ended in it.
-abbrev pub Opens : (Invocation → Outcome → Type 0) → (States → Call → States → Type 0) → Terms → Spot → Spot → ℕ → Result Opened ConnEnd → Type 0
-Opens may moves terms start now at (Ok told) = (opening : Opening) × (protocol_of opening ≡ told.protocol) × (at < 2 ^ 17) × (told.sent < 2 ^ 17)
-    × Stands may moves terms start now at told.sent (opened opening [])
-Opens may moves terms start now at (Err end) = Talked may moves terms start now end
+abbrev pub StandsOpened : (Invocation → Outcome → Type 0) → (States → Call → States → Type 0) → Terms → Spot → Spot → ℕ → Result Opened ConnEnd → Type 0
+StandsOpened may moves terms start now at (Ok told) = (opening : Opening) × (protocol_of opening ≡ told.protocol) × (at < 2 ^ 17) × (told.sent < 2 ^ 17)
+    × StandsWhole may moves terms start now at told.sent (opened opening [])
+StandsOpened may moves terms start now at (Err end) = Talked may moves terms start now end
 
 -- Wherever the header of the stream protocol was just taken, an opening comes to stand whole, or the connection ends in it.
 abbrev pub OpensStream : (Invocation → Outcome → Type 0) → (States → Call → States → Type 0) → Terms → Spot → Spot → ℕ → Result Opened ConnEnd → Type 0
-OpensStream may moves terms before now at result = (start : Spot) → Goes may moves start before (took (header protocols.Stream)) → Opens may moves terms start now at result
+OpensStream may moves terms before now at result = (start : Spot) → Goes may moves start before (took (header protocols.Stream)) → StandsOpened may moves terms start now at result
 
 -- What refusing the protocol with this byte does: the client is told, or that one byte can't be written.
 abbrev pub Refuses : ℕ → Option (List ℕ) → Option (List ℕ) → ConnEnd → Type 0
@@ -72,27 +73,27 @@ Refuses byte before after _ = ⊥
 -- Wherever the connection began, its dialogue goes on from an opening of this protocol to the end.
 abbrev pub GoesOn : (Invocation → Outcome → Type 0) → (States → Call → States → Type 0) → Terms → Protocol → Spot → Spot → ℕ → ℕ → ConnEnd → Type 0
 GoesOn may moves terms protocol before now at sent end = (start : Spot) (opening : Opening) → protocol_of opening ≡ protocol
-    → Stands may moves terms start before at sent (opened opening []) → Talked may moves terms start now end
+    → StandsWhole may moves terms start before at sent (opened opening []) → Talked may moves terms start now end
 
 -- A further exchange stands, after which the connection goes on; or the connection ended.
 abbrev pub StepsTo : (Invocation → Outcome → Type 0) → (States → Call → States → Type 0) → Terms → Spot → Spot → ℕ → Opening → List Exchange → Result ℕ ConnEnd → Type 0
 StepsTo may moves terms start now at opening exchanges (Ok sent) =
-    (e : Exchange) × IsOpen e × Stands may moves terms start now at sent (opened opening (exchanges ++ e ∷ []))
+    (e : Exchange) × IsOpen e × StandsWhole may moves terms start now at sent (opened opening (exchanges ++ e ∷ []))
 StepsTo may moves terms start now at opening exchanges (Err end) = Talked may moves terms start now end
 
 -- Wherever the connection began and so many exchanges stand, one more exchange comes to stand, or the dialogue ends.
 abbrev pub Steps : (Invocation → Outcome → Type 0) → (States → Call → States → Type 0) → Terms → Spot → Spot → ℕ → ℕ → ℕ → ℕ → Result ℕ ConnEnd → Type 0
 Steps may moves terms before now at sent served at2 result = (start : Spot) (opening : Opening) (exchanges : List Exchange)
-    → length exchanges ≡ served → IsAtCode (opened opening exchanges) → Stands may moves terms start before at sent (opened opening exchanges)
+    → length exchanges ≡ served → IsAtCode (opened opening exchanges) → StandsWhole may moves terms start before at sent (opened opening exchanges)
     → StepsTo may moves terms start now at2 opening exchanges result
 
 -- A Call's code was taken, and nothing of the Call else: the connection stands behind `first`, where its exchanges before stand, at this
 -- position and with this limit of the message.
 pub record IsCoded (may : Invocation → Outcome → Type 0) (moves : States → Call → States → Type 0) (terms : Terms) (start first before : Spot) (at stop sent : ℕ) (opening : Opening) (exchanges : List Exchange) : Type 0 where
-  pub few : length exchanges < 2 ^ 28
+  pub few : length exchanges < MAX_MESSAGES
   pub code : IsAtCode (opened opening exchanges)
   pub place : ℕ
-  pub stands : Stands may moves terms start first place sent (opened opening exchanges)
+  pub stands : StandsWhole may moves terms start first place sent (opened opening exchanges)
   pub left : first.wires.left ≡ with_front (code_byte codes.Call ∷ []) before.wires.left
   pub held : before.wires.held ≡ first.wires.held
   pub side : before.side ≡ first.side

@@ -22,7 +22,7 @@ use Rattle.call_dispatch.specs.declared.outcome.Outcome.TheVariants.{OutOfMemory
 use Rattle.call_dispatch.specs.declared.end.ConnEnd.{ConnEnd}
 use Rattle.call_dispatch.specs.Terms.{Terms}
 use Rattle.call_dispatch.specs.Acts.{Act, asks, lost, called, invokes, unreferenced, entries, acts_of}
-use Rattle.call_dispatch.specs.Served.{FitsHead, Served, served_acts, served_written, served_closes, IsServed}
+use Rattle.call_dispatch.specs.Served.{FitsHead, AtHead, served_acts, served_written, served_closes, IsServed}
 use Rattle.call_dispatch.specs.Spot.{Course}
 use Rattle.call_dispatch.specs.Systems.{is_system, System, system_acts, system_draws, system_written, system_closes, IsSystem}
 
@@ -40,7 +40,7 @@ pub record Row : Type 0 where
 pub data Exchange : Type 0 where
   ping : Exchange
   acknowledged : Uid → ℕ → Result Turn Refused → Exchange
-  served : List ℕ → CallHead → Uid → Served → Exchange
+  served : List ℕ → CallHead → Uid → AtHead → Exchange
   system : List ℕ → CallHead → Uid → System → Exchange
 
 abbrev pub row_of : Exchange → Row

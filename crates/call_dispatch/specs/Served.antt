@@ -126,28 +126,28 @@ IsRunning terms head kind bytes uid (ran place arguments outcome conclusion) = I
     × IsConclusion terms uid method.result outcome conclusion)
 
 -- What is done at a Call's head: Begin is answered that there is no such object; or it is refused; or the call of an object of this kind runs.
-pub data Served : Type 0 where
-  absent : ℕ → Turn → Served
-  refused : ℕ → Served
-  begun : ℕ → Turn → ℕ → Running → Served
+pub data AtHead : Type 0 where
+  absent : ℕ → Turn → AtHead
+  refused : ℕ → AtHead
+  begun : ℕ → Turn → ℕ → Running → AtHead
 
-abbrev pub served_acts : CallHead → Uid → Served → List Act
+abbrev pub served_acts : CallHead → Uid → AtHead → List Act
 served_acts head uid (absent moment turn) = acts_of moment (Begin head.id) (Ok turn)
 served_acts head uid (refused moment) = acts_of moment (Begin head.id) (Err refusals.HistoryFull)
 served_acts head uid (begun moment turn kind running) = acts_of moment (Begin head.id) (Ok turn) ++ running_acts head uid kind running
 
-abbrev pub served_written : Uid → Served → List ℕ
+abbrev pub served_written : Uid → AtHead → List ℕ
 served_written uid (absent moment turn) = fault_return uid no_object
 served_written uid (refused moment) = fault_return uid (full refusals.HistoryFull)
 served_written uid (begun moment turn kind running) = running_written uid running
 
-abbrev pub served_closes : CallHead → Served → Option ConnEnd
+abbrev pub served_closes : CallHead → AtHead → Option ConnEnd
 served_closes head (absent moment turn) = Some (ends.NoSuchObject head.id)
 served_closes head (refused moment) = Some ends.SpaceFull
 served_closes head (begun moment turn kind running) = running_closes head running
 
 -- It may come so at the Call of which these bytes were taken behind its code. What is taken of a Call that closes the connection ends with its head.
-abbrev pub IsServed : Terms → CallHead → List ℕ → Uid → Served → Type 0
+abbrev pub IsServed : Terms → CallHead → List ℕ → Uid → AtHead → Type 0
 IsServed terms head bytes uid (absent moment turn) = IsHeadOf head bytes × (turn.reply ≡ NoObject)
 IsServed terms head bytes uid (refused moment) = IsHeadOf head bytes
 IsServed terms head bytes uid (begun moment turn kind running) = (turn.reply ≡ Started kind) × IsRunning terms head kind bytes uid running

@@ -43,7 +43,7 @@ use Rattle.call_dispatch.specs.Acts.{Act, Call, States, Side, Led, acts_of, aban
 use Rattle.call_dispatch.specs.Book.{methods_of}
 use Rattle.call_dispatch.specs.Results.{made_by, listed_by, interface_of, plain_return, normal_return}
 use Rattle.call_dispatch.specs.Returns.{fault_return, is_short, fits, full, fault_message, wrong_outcome}
-use Rattle.call_dispatch.specs.Served.{Conclusion, conclusion_acts, conclusion_written, IsFinished, IsGranted, IsConclusion, Running, running_acts, running_written, running_closes, IsRunning, Served, served_acts, served_written, served_closes, IsServed, IsMethodOf}
+use Rattle.call_dispatch.specs.Served.{Conclusion, conclusion_acts, conclusion_written, IsFinished, IsGranted, IsConclusion, Running, running_acts, running_written, running_closes, IsRunning, AtHead, served_acts, served_written, served_closes, IsServed, IsMethodOf}
 use Rattle.call_dispatch.specs.Rows.{FitsUid, IsNoted, IsCut}
 use Rattle.call_dispatch.specs.Progress.{Writes, end_from}
 use Rattle.call_dispatch.specs.declared.results.TheConstants.{RETURN_BYTES}
@@ -162,10 +162,10 @@ IsPrepared bytes close (Err end) = end ≡ ends.OutOfMemory
 
 -- A Call whose head was read behind `first` is answered, or the connection ends in it. So many identifiers were drawn before and after.
 abbrev pub Answers : (Invocation → Outcome → Type 0) → (States → Call → States → Type 0) → Terms → Uid → CallHead → PullState → PullState → Side → Side → ℕ → ℕ → Result Answer ConnEnd → Type 0
-Answers may moves terms uid head first now before after drawn drew (Ok answer) = (s : Served) × (bytes : List ℕ) × Takes first now bytes × IsServed terms head bytes uid s
+Answers may moves terms uid head first now before after drawn drew (Ok answer) = (s : AtHead) × (bytes : List ℕ) × Takes first now bytes × IsServed terms head bytes uid s
     × Led may moves before after (served_acts head uid s) × (answer.bytes ≡ served_written uid s) × (answer.close ≡ served_closes head s)
 Answers may moves terms uid head first now before after drawn drew (Err end) =
-    ((end ≡ ends.OutOfMemory) × ((s : Served) × (bytes : List ℕ) × Takes first now bytes × IsServed terms head bytes uid s
+    ((end ≡ ends.OutOfMemory) × ((s : AtHead) × (bytes : List ℕ) × Takes first now bytes × IsServed terms head bytes uid s
     × ((acts : List Act) × Led may moves before after acts × IsCut [] (served_acts head uid s) acts)))
     ⊎ ((moment : ℕ) × (turn : Turn) × (kind moment2 place : ℕ) × (turn.reply ≡ Started kind) × (drew ≡ drawn) × BreaksOff terms.kinds head kind first now end
     × Led may moves before after (acts_of moment (Begin head.id) (Ok turn) ++ abandoned moment2 head.id place ∷ []))

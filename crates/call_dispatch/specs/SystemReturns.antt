@@ -12,8 +12,8 @@ use Rattle.java_shapes.specs.TextsGraph.{texts_nodes, texts_items}
 use Rattle.jrmp_frames.specs.declared.message.Body.TheVariants as bodies
 use Rattle.jrmp_frames.specs.Messages.{return_message}
 use Rattle.call_dispatch.specs.declared.book.Kind.{Kind}
-use Rattle.call_dispatch.specs.declared.demand.Kept.{Kept}
-use Rattle.call_dispatch.specs.declared.demand.Kept.TheVariants as kept
+use Rattle.call_dispatch.specs.declared.demand.ForReturn.{ForReturn}
+use Rattle.call_dispatch.specs.declared.demand.ForReturn.TheVariants as kept
 use Rattle.call_dispatch.specs.Demands.{kept_of}
 use Rattle.call_dispatch.specs.Results.{graph_return, own_return}
 use Rattle.call_dispatch.specs.Returns.{fault_return, full, no_object, wrong_outcome}
@@ -43,20 +43,20 @@ found_return terms uid object None = fault_return uid wrong_outcome
 found_return terms uid object (Some kind) = own_return terms uid kind.interface object
 
 -- what is kept of the ask, in the Return of a lease, and in those that tell of a name
-abbrev pub lease_return : Uid → ℕ → Kept → List ℕ
+abbrev pub lease_return : Uid → ℕ → ForReturn → List ℕ
 lease_return uid duration (kept.Client client) = graph_return uid (lease_nodes (pos duration) client) lease_items
 lease_return uid duration _ = []
 
-abbrev pub bound_return : Uid → Kept → List ℕ
+abbrev pub bound_return : Uid → ForReturn → List ℕ
 bound_return uid (kept.Name name) = named_fault uid already_bound name
 bound_return uid _ = []
 
-abbrev pub unbound_return : Uid → Kept → List ℕ
+abbrev pub unbound_return : Uid → ForReturn → List ℕ
 unbound_return uid (kept.Name name) = named_fault uid not_bound name
 unbound_return uid _ = []
 
 -- The Return of a reply, where this is kept of the ask. Other replies answer no call of the registry or the collector.
-abbrev pub reply_return : Terms → Uid → Kept → Reply → List ℕ
+abbrev pub reply_return : Terms → Uid → ForReturn → Reply → List ℕ
 reply_return terms uid k (Granted duration) = lease_return uid duration k
 reply_return terms uid k Done = void_return uid
 reply_return terms uid k Bound = void_return uid
@@ -69,7 +69,7 @@ reply_return terms uid k NoObject = fault_return uid no_object
 reply_return terms uid k _ = []
 
 -- The Return of what an ask was answered, where this is kept of it.
-abbrev pub kept_return : Terms → Uid → Kept → Result Turn Refused → List ℕ
+abbrev pub kept_return : Terms → Uid → ForReturn → Result Turn Refused → List ℕ
 kept_return terms uid k (Ok turn) = reply_return terms uid k turn.reply
 kept_return terms uid k (Err refused) = fault_return uid (full refused)
 

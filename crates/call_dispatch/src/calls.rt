@@ -13,6 +13,7 @@ ghost use Rattle.call_dispatch.specs.Served.{IsMethodOf, HasNoMethod};
 ghost use Rattle.call_dispatch.specs.Serving.{next_of, RunsOne, IsReady, IsReadyFor, MakesOne, IsSent, IsPending, Finishes, Concludes, IsDenied, IsPrepared, RunsOn, Answers};
 ghost use Rattle.call_dispatch.specs.Terms.{terms_of};
 ghost use Rattle.call_dispatch.specs.declared.results.TheConstants.{RETURN_BYTES};
+ghost use Rattle.call_dispatch.specs.declared.setup.TheConstants.{DRAWS_BEGIN_BELOW};
 
 use crate::book::Book;
 use crate::connection::Connection;
@@ -42,7 +43,7 @@ pub const NO_METHOD: &[u8] = b"java.rmi.UnmarshalException: no such method";
 const FULL_HISTORY: &[u8] = b"java.rmi.ServerException: full: history";
 
 /// An exceptional Return with a message in ASCII, after which the connection ends so, or goes on.
-pub fn told(
+pub fn fault_answer(
     alloc: Global,
     uid: Uid,
     message: &[u8],
@@ -61,8 +62,8 @@ fn denied(alloc: Global, uid: Uid, refused: Refused) -> Result<Answer, ConnEnd>
     ensures short { IfOk result (λ answer. length answer.bytes ≤ RETURN_BYTES) }
 {
     match refused {
-        Refused::HistoryFull => told(alloc, uid, FULL_HISTORY, None),
-        Refused::Full(kind) => told(alloc, uid, full_message(kind), None),
+        Refused::HistoryFull => fault_answer(alloc, uid, FULL_HISTORY, None),
+        Refused::Full(kind) => fault_answer(alloc, uid, full_message(kind), None),
         Refused::OutOfMemory => Err(ConnEnd::OutOfMemory),
     }
 }
@@ -74,14 +75,14 @@ pub fn refuse(
     message: &[u8],
     end: ConnEnd,
 ) -> Result<Answer, ConnEnd>
-    requires time { setup.old.draw.time <ℤ pos (2 ^ 61) }
+    requires time { setup.old.draw.time <ℤ pos DRAWS_BEGIN_BELOW }
     requires drawn { setup.old.draw.drawn < 2 ^ 65 }
     ensures prepared { IsPrepared (fault_return (next_of (terms_of [] setup.old) setup.old.draw.drawn) message.now) (Some end) result }
     ensures short { IfOk result (λ answer. length answer.bytes ≤ RETURN_BYTES) }
     ensures drawn { setup.new ≡ record setup.old { draw = record setup.old.draw { drawn = setup.old.draw.drawn + 1 } } }
 {
     let uid = next_uid(setup);
-    told(alloc, uid, message, Some(end))
+    fault_answer(alloc, uid, message, Some(end))
 }
 
 /// The answer to a call that was finished with this reply. There is no memory for the Return of a new object that is too long.
@@ -174,7 +175,7 @@ fn conclude<S: Source, K: Sink, C: Clock, P: Port, W: Worker>(
     returned: Option<TypeCode>,
     outcome: Outcome,
 ) -> Result<Answer, ConnEnd>
-    requires time { connection.old.setup.now.draw.time <ℤ pos (2 ^ 61) }
+    requires time { connection.old.setup.now.draw.time <ℤ pos DRAWS_BEGIN_BELOW }
     requires drawn { connection.old.setup.now.draw.drawn < 2 ^ 65 }
     requires ready { P.ready connection.old.port.now }
     requires room { 1 < P.room_of connection.old.port.now }
@@ -244,7 +245,7 @@ fn run_call<S: Source, K: Sink, C: Clock, P: Port, W: Worker>(
     kind: u32,
 ) -> Result<Answer, ConnEnd>
     requires head { HasHead reader }
-    requires time { connection.old.setup.now.draw.time <ℤ pos (2 ^ 61) }
+    requires time { connection.old.setup.now.draw.time <ℤ pos DRAWS_BEGIN_BELOW }
     requires drawn { connection.old.setup.now.draw.drawn < 2 ^ 65 }
     requires ready { P.ready connection.old.port.now }
     requires room { 1 < P.room_of connection.old.port.now }
@@ -300,7 +301,7 @@ pub fn answer_call<S: Source, K: Sink, C: Clock, P: Port, W: Worker>(
     reader: Reader,
 ) -> Result<Answer, ConnEnd>
     requires head { HasHead reader }
-    requires time { connection.old.setup.now.draw.time <ℤ pos (2 ^ 61) }
+    requires time { connection.old.setup.now.draw.time <ℤ pos DRAWS_BEGIN_BELOW }
     requires drawn { connection.old.setup.now.draw.drawn < 2 ^ 65 }
     requires ready { P.ready connection.old.port.now }
     requires room { 2 < P.room_of connection.old.port.now }

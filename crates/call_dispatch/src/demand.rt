@@ -33,7 +33,7 @@ pub enum Bar {
 }
 
 /// What is kept of what is asked, for the Return.
-pub enum Kept {
+pub enum ForReturn {
     /// Nothing.
     Nothing,
     /// The client of a dirty call.
@@ -43,12 +43,12 @@ pub enum Kept {
 }
 
 // Written out, so that whoever owns one has one call at each exit, and not the drop of each variant.
-impl Drop for Kept {
+impl Drop for ForReturn {
     fn drop(self) {
         match self {
-            Kept::Nothing => {}
-            Kept::Client(client) => drop(client),
-            Kept::Name(name) => drop(name),
+            ForReturn::Nothing => {}
+            ForReturn::Client(client) => drop(client),
+            ForReturn::Name(name) => drop(name),
         }
     }
 }
@@ -59,38 +59,38 @@ pub enum Demand {
     /// Nothing: it is barred.
     Barred(Bar),
     /// This, of which so much is kept.
-    Asks(Ask, Kept),
+    Asks(Ask, ForReturn),
 }
 
 /// Why a call asks for nothing.
 #[derive(Clone, Copy)]
-enum Stop {
+enum Unasked {
     /// It is barred.
     Barred(Bar),
     /// There was no memory.
     OutOfMemory,
 }
 
-impl From<AllocError> for Stop {
-    ghost use Rattle.call_dispatch.specs.declared.demand.Stop.TheVariants.{OutOfMemory};
+impl From<AllocError> for Unasked {
+    ghost use Rattle.call_dispatch.specs.declared.demand.Unasked.TheVariants.{OutOfMemory};
 
     ghost from_gives = { λ _ stop. stop ≡ OutOfMemory };
 
-    fn from(_error: AllocError) -> Stop {
-        Stop::OutOfMemory
+    fn from(_error: AllocError) -> Unasked {
+        Unasked::OutOfMemory
     }
 }
 
-impl From<ShapeFault> for Stop {
+impl From<ShapeFault> for Unasked {
     ghost use Rattle.java_shapes.specs.declared.fault.ShapeFault.{ShapeFault};
     ghost use Rattle.call_dispatch.specs.Demands.{stop_from};
 
     ghost from_gives = { λ fault stop. stop ≡ stop_from fault };
 
-    fn from(fault: ShapeFault) -> Stop {
+    fn from(fault: ShapeFault) -> Unasked {
         match fault {
-            ShapeFault::WrongShape => Stop::Barred(Bar::WrongArgument),
-            ShapeFault::OutOfMemory => Stop::OutOfMemory,
+            ShapeFault::WrongShape => Unasked::Barred(Bar::WrongArgument),
+            ShapeFault::OutOfMemory => Unasked::OutOfMemory,
         }
     }
 }
@@ -98,37 +98,37 @@ impl From<ShapeFault> for Stop {
 // ---- arguments
 
 /// The argument at a place, as a reference.
-fn reference_in(arguments: &Arguments, place: usize) -> Result<Slot, Stop>
+fn reference_in(arguments: &Arguments, place: usize) -> Result<Slot, Unasked>
     ensures { FindsArgument result (reference_in arguments.now place) }
 {
     match arguments.values.as_slice().get(place) {
         Some(Arg::Ref(slot)) => Ok(*slot),
-        _ => Err(Stop::Barred(Bar::WrongArgument)),
+        _ => Err(Unasked::Barred(Bar::WrongArgument)),
     }
 }
 
 /// The argument at a place, as a number of 64 bits.
-fn number_in(arguments: &Arguments, place: usize) -> Result<i64, Stop>
+fn number_in(arguments: &Arguments, place: usize) -> Result<i64, Unasked>
     ensures { FindsArgument result (number_in arguments.now place) }
 {
     match arguments.values.as_slice().get(place) {
         Some(Arg::Prim(Value::J(number))) => Ok(*number),
-        _ => Err(Stop::Barred(Bar::WrongArgument)),
+        _ => Err(Unasked::Barred(Bar::WrongArgument)),
     }
 }
 
 /// The argument at a place, as a truth value.
-fn truth_in(arguments: &Arguments, place: usize) -> Result<bool, Stop>
+fn truth_in(arguments: &Arguments, place: usize) -> Result<bool, Unasked>
     ensures { FindsArgument result (truth_in arguments.now place) }
 {
     match arguments.values.as_slice().get(place) {
         Some(Arg::Prim(Value::Z(truth))) => Ok(*truth),
-        _ => Err(Stop::Barred(Bar::WrongArgument)),
+        _ => Err(Unasked::Barred(Bar::WrongArgument)),
     }
 }
 
 /// The argument at a place, as a text.
-fn text_in(alloc: Global, arguments: &Arguments, place: usize) -> Result<Units, Stop>
+fn text_in(alloc: Global, arguments: &Arguments, place: usize) -> Result<Units, Unasked>
     ensures { FindsArgument result (text_in arguments.now place) }
 {
     let slot = reference_in(arguments, place)?;
@@ -136,7 +136,7 @@ fn text_in(alloc: Global, arguments: &Arguments, place: usize) -> Result<Units, 
 }
 
 /// The argument at a place, as a reference to a remote object.
-fn live_ref_in(alloc: Global, arguments: &Arguments, place: usize) -> Result<LiveRef, Stop>
+fn live_ref_in(alloc: Global, arguments: &Arguments, place: usize) -> Result<LiveRef, Unasked>
     ensures { FindsArgument result (live_ref_in arguments.now place) }
 {
     let slot = reference_in(arguments, place)?;
@@ -144,7 +144,7 @@ fn live_ref_in(alloc: Global, arguments: &Arguments, place: usize) -> Result<Liv
 }
 
 /// The argument at a place, as a list of objects.
-fn objids_in(alloc: Global, arguments: &Arguments, place: usize) -> Result<ObjIds, Stop>
+fn objids_in(alloc: Global, arguments: &Arguments, place: usize) -> Result<ObjIds, Unasked>
     ensures { FindsArgument result (objids_in arguments.now place) }
 {
     let slot = reference_in(arguments, place)?;
@@ -152,7 +152,7 @@ fn objids_in(alloc: Global, arguments: &Arguments, place: usize) -> Result<ObjId
 }
 
 /// The argument at a place, as a client.
-fn vmid_in(alloc: Global, arguments: &Arguments, place: usize) -> Result<Vmid, Stop>
+fn vmid_in(alloc: Global, arguments: &Arguments, place: usize) -> Result<Vmid, Unasked>
     ensures { FindsArgument result (vmid_in arguments.now place) }
 {
     let slot = reference_in(arguments, place)?;
@@ -160,7 +160,7 @@ fn vmid_in(alloc: Global, arguments: &Arguments, place: usize) -> Result<Vmid, S
 }
 
 /// The argument at a place, as a lease.
-fn lease_in(alloc: Global, arguments: &Arguments, place: usize) -> Result<LeaseView, Stop>
+fn lease_in(alloc: Global, arguments: &Arguments, place: usize) -> Result<LeaseView, Unasked>
     ensures { FindsArgument result (lease_in arguments.now place) }
 {
     let slot = reference_in(arguments, place)?;
@@ -168,7 +168,7 @@ fn lease_in(alloc: Global, arguments: &Arguments, place: usize) -> Result<LeaseV
 }
 
 /// Whether the argument at a place is a lease that names no client. An argument that is no reference is none of its method's.
-fn is_nameless(arguments: &Arguments, place: usize) -> Result<bool, Stop>
+fn is_nameless(arguments: &Arguments, place: usize) -> Result<bool, Unasked>
     ensures { TellsNameless result (lease_in arguments.now place) }
 {
     let slot = reference_in(arguments, place)?;
@@ -178,51 +178,51 @@ fn is_nameless(arguments: &Arguments, place: usize) -> Result<bool, Stop>
 // ---- names
 
 /// The name of these units.
-fn short_name(units: Units) -> Result<Name, Stop>
+fn short_name(units: Units) -> Result<Name, Unasked>
     ensures { Finds result (short_name units) }
 {
     match Name::new(units) {
         Ok(name) => Ok(name),
-        Err(_long) => Err(Stop::Barred(Bar::NameTooLong)),
+        Err(_long) => Err(Unasked::Barred(Bar::NameTooLong)),
     }
 }
 
 /// The name to bind or unbind.
-fn changed(binding: bool, units: Units) -> Result<Name, Stop>
+fn changed(binding: bool, units: Units) -> Result<Name, Unasked>
     ensures { Finds result (changed binding units) }
 {
     if !binding {
-        return Err(Stop::Barred(Bar::BindingClosed));
+        return Err(Unasked::Barred(Bar::BindingClosed));
     }
     short_name(units)
 }
 
 /// The name to look up.
-fn sought(alloc: Global, arguments: &Arguments) -> Result<Name, Stop>
+fn sought(alloc: Global, arguments: &Arguments) -> Result<Name, Unasked>
     ensures { Finds result (sought (text_in arguments.now 0)) }
 {
     short_name(text_in(alloc, arguments, 0)?)
 }
 
 /// The name to unbind.
-fn unbound(alloc: Global, setup: &Setup, arguments: &Arguments) -> Result<Name, Stop>
+fn unbound(alloc: Global, setup: &Setup, arguments: &Arguments) -> Result<Name, Unasked>
     ensures { Finds result (unbound (terms_of [] setup.now) (text_in arguments.now 0)) }
 {
     changed(setup.binding, text_in(alloc, arguments, 0)?)
 }
 
 /// The object of a reference to the server's own host and port.
-fn own_object(setup: &Setup, reference: &LiveRef) -> Result<ObjId, Stop>
+fn own_object(setup: &Setup, reference: &LiveRef) -> Result<ObjId, Unasked>
     ensures { Finds result (own_object (terms_of [] setup.now) reference.now) }
 {
     if !is_local(reference, &setup.host, setup.port) {
-        return Err(Stop::Barred(Bar::ForeignReference));
+        return Err(Unasked::Barred(Bar::ForeignReference));
     }
     Ok(reference.id)
 }
 
 /// The name to bind, and the object.
-fn bound(alloc: Global, setup: &Setup, arguments: &Arguments) -> Result<(Name, ObjId), Stop>
+fn bound(alloc: Global, setup: &Setup, arguments: &Arguments) -> Result<(Name, ObjId), Unasked>
     ensures { Finds result (bound (terms_of [] setup.now) (text_in arguments.now 0) (live_ref_in arguments.now 1)) }
 {
     let units = text_in(alloc, arguments, 0)?;
@@ -233,16 +233,16 @@ fn bound(alloc: Global, setup: &Setup, arguments: &Arguments) -> Result<(Name, O
 }
 
 /// A copy of a name, to be kept.
-fn kept_name(alloc: Global, name: &Name) -> Result<Kept, AllocError>
-    ensures { IfOk result (λ kept. kept ≡ Kept.Name name.now) }
+fn kept_name(alloc: Global, name: &Name) -> Result<ForReturn, AllocError>
+    ensures { IfOk result (λ kept. kept ≡ ForReturn.Name name.now) }
 {
-    Ok(Kept::Name(name.copy(alloc)?))
+    Ok(ForReturn::Name(name.copy(alloc)?))
 }
 
 // ---- calls of the registry
 
 /// What a bind asks for.
-fn bind(alloc: Global, setup: &Setup, arguments: &Arguments) -> Result<Demand, Stop>
+fn bind(alloc: Global, setup: &Setup, arguments: &Arguments) -> Result<Demand, Unasked>
     ensures { FindsDemand result (bind_of (bound (terms_of [] setup.now) (text_in arguments.now 0) (live_ref_in arguments.now 1))) }
 {
     let (name, object) = bound(alloc, setup, arguments)?;
@@ -251,15 +251,15 @@ fn bind(alloc: Global, setup: &Setup, arguments: &Arguments) -> Result<Demand, S
 }
 
 /// What a rebind asks for.
-fn rebind(alloc: Global, setup: &Setup, arguments: &Arguments) -> Result<Demand, Stop>
+fn rebind(alloc: Global, setup: &Setup, arguments: &Arguments) -> Result<Demand, Unasked>
     ensures { FindsDemand result (rebind_of (bound (terms_of [] setup.now) (text_in arguments.now 0) (live_ref_in arguments.now 1))) }
 {
     let (name, object) = bound(alloc, setup, arguments)?;
-    Ok(Demand::Asks(Ask::Rebind { name, object }, Kept::Nothing))
+    Ok(Demand::Asks(Ask::Rebind { name, object }, ForReturn::Nothing))
 }
 
 /// What an unbind asks for.
-fn unbind(alloc: Global, setup: &Setup, arguments: &Arguments) -> Result<Demand, Stop>
+fn unbind(alloc: Global, setup: &Setup, arguments: &Arguments) -> Result<Demand, Unasked>
     ensures { FindsDemand result (unbind_of (unbound (terms_of [] setup.now) (text_in arguments.now 0))) }
 {
     let name = unbound(alloc, setup, arguments)?;
@@ -268,7 +268,7 @@ fn unbind(alloc: Global, setup: &Setup, arguments: &Arguments) -> Result<Demand,
 }
 
 /// What a lookup asks for.
-fn lookup(alloc: Global, arguments: &Arguments, uid: Uid) -> Result<Demand, Stop>
+fn lookup(alloc: Global, arguments: &Arguments, uid: Uid) -> Result<Demand, Unasked>
     ensures { FindsDemand result (lookup_of uid (sought (text_in arguments.now 0))) }
 {
     let name = sought(alloc, arguments)?;
@@ -283,12 +283,12 @@ fn registry_demand(
     method: RegistryMethod,
     arguments: &Arguments,
     uid: Uid,
-) -> Result<Demand, Stop>
+) -> Result<Demand, Unasked>
     ensures { FindsDemand result (registry_demand (terms_of [] setup.now) method arguments.now uid) }
 {
     match method {
         RegistryMethod::Bind => bind(alloc, setup, arguments),
-        RegistryMethod::List => Ok(Demand::Asks(Ask::List, Kept::Nothing)),
+        RegistryMethod::List => Ok(Demand::Asks(Ask::List, ForReturn::Nothing)),
         RegistryMethod::Lookup => lookup(alloc, arguments, uid),
         RegistryMethod::Rebind => rebind(alloc, setup, arguments),
         RegistryMethod::Unbind => unbind(alloc, setup, arguments),
@@ -298,7 +298,7 @@ fn registry_demand(
 // ---- calls of the collector
 
 /// What a clean asks for.
-fn clean(alloc: Global, arguments: &Arguments) -> Result<Demand, Stop>
+fn clean(alloc: Global, arguments: &Arguments) -> Result<Demand, Unasked>
     ensures { FindsDemand result (clean_of (number_in arguments.now 1) (truth_in arguments.now 3) (vmid_in arguments.now 2) (objids_in arguments.now 0)) }
 {
     let number = number_in(arguments, 1)?;
@@ -311,7 +311,7 @@ fn clean(alloc: Global, arguments: &Arguments) -> Result<Demand, Stop>
         objects,
         strong,
     };
-    Ok(Demand::Asks(ask, Kept::Nothing))
+    Ok(Demand::Asks(ask, ForReturn::Nothing))
 }
 
 /// The client of a lease, or the one of this identifier at the connection's mark.
@@ -329,10 +329,10 @@ fn client_or(alloc: Global, setup: &Setup, uid: Uid, vmid: Option<Vmid>) -> Resu
 }
 
 /// A copy of a client, to be kept.
-fn kept_client(alloc: Global, client: &Vmid) -> Result<Kept, AllocError>
-    ensures { IfOk result (λ kept. kept ≡ Kept.Client client.now) }
+fn kept_client(alloc: Global, client: &Vmid) -> Result<ForReturn, AllocError>
+    ensures { IfOk result (λ kept. kept ≡ ForReturn.Client client.now) }
 {
-    Ok(Kept::Client(client.copy(alloc)?))
+    Ok(ForReturn::Client(client.copy(alloc)?))
 }
 
 /// What a dirty of this number, this client, this duration and these objects asks for.
@@ -343,7 +343,7 @@ fn dirty_with(
     asked: i64,
     objects: ObjIds,
 ) -> Result<Demand, AllocError>
-    ensures { IfOk result (λ demand. demand ≡ Demand.Asks (Asked.Dirty client number asked objects) (Kept.Client client)) }
+    ensures { IfOk result (λ demand. demand ≡ Demand.Asks (Asked.Dirty client number asked objects) (ForReturn.Client client)) }
 {
     let kept = kept_client(alloc, &client)?;
     let ask = Ask::Dirty {
@@ -356,7 +356,7 @@ fn dirty_with(
 }
 
 /// What a dirty asks for.
-fn dirty(alloc: Global, setup: &Setup, arguments: &Arguments, uid: Uid) -> Result<Demand, Stop>
+fn dirty(alloc: Global, setup: &Setup, arguments: &Arguments, uid: Uid) -> Result<Demand, Unasked>
     ensures { FindsDemand result (dirty_of (terms_of [] setup.now) uid (number_in arguments.now 1) (lease_in arguments.now 2) (objids_in arguments.now 0)) }
 {
     let number = number_in(arguments, 1)?;
@@ -374,7 +374,7 @@ fn collector_demand(
     method: CollectorMethod,
     arguments: &Arguments,
     client: Uid,
-) -> Result<Demand, Stop>
+) -> Result<Demand, Unasked>
     ensures { FindsDemand result (collector_demand (terms_of [] setup.now) method arguments.now client) }
 {
     match method {
@@ -385,7 +385,7 @@ fn collector_demand(
 
 /// Whether the arguments are those of a dirty, and its lease names no client.
 #[tactic(auto, using(crate::proofs::SystemAsks::named_draws, crate::proofs::SystemAsks::nameless_draws, crate::proofs::SystemAsks::no_objects))]
-fn lacks_client(alloc: Global, arguments: &Arguments) -> Result<bool, Stop>
+fn lacks_client(alloc: Global, arguments: &Arguments) -> Result<bool, Unasked>
     ensures { FindsNone result (unnamed (number_in arguments.now 1) (lease_in arguments.now 2) (objids_in arguments.now 0)) }
 {
     let _number = number_in(arguments, 1)?;
@@ -413,8 +413,8 @@ pub fn names_no_client(
     };
     match lacks_client(alloc, arguments) {
         Ok(yes) => Ok(yes),
-        Err(Stop::Barred(_bar)) => Ok(false),
-        Err(Stop::OutOfMemory) => Err(AllocError),
+        Err(Unasked::Barred(_bar)) => Ok(false),
+        Err(Unasked::OutOfMemory) => Err(AllocError),
     }
 }
 
@@ -440,8 +440,8 @@ pub fn demand_for(
     };
     match demand {
         Ok(demand) => Ok(demand),
-        Err(Stop::Barred(bar)) => Ok(Demand::Barred(bar)),
-        Err(Stop::OutOfMemory) => Err(AllocError),
+        Err(Unasked::Barred(bar)) => Ok(Demand::Barred(bar)),
+        Err(Unasked::OutOfMemory) => Err(AllocError),
     }
 }
 

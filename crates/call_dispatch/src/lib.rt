@@ -29,6 +29,6 @@ pub use end::ConnEnd;
 pub use outcome::{Invocation, Outcome, OutcomeList};
 pub use recording::{Recorded, RecordingWorker};
 pub use serve::serve_connection;
-pub use setup::Setup;
+pub use setup::{DRAWS_BEGIN_BELOW, Setup};
 pub use system::SystemMethod;
 pub use worker::Worker;

@@ -11,6 +11,8 @@ ghost use Rattle.call_dispatch.specs.Terms.{terms_of};
 ghost use Rattle.call_dispatch.specs.Progress.{GoesOn, Steps, ServesCall};
 ghost use Rattle.call_dispatch.specs.Serving.{Sends, Notes, Acknowledges};
 ghost use Rattle.call_dispatch.specs.declared.results.TheConstants.{RETURN_BYTES};
+ghost use Rattle.call_dispatch.specs.declared.messages.TheConstants.{MAX_MESSAGES};
+ghost use Rattle.call_dispatch.specs.declared.setup.TheConstants.{DRAWS_BEGIN_BELOW};
 
 use crate::answer::write_answer;
 use crate::connection::Connection;
@@ -32,7 +34,7 @@ use wire_io::{Clock, Sink, Source};
 const _: () = prove!(MESSAGE_BYTES == 16_777_216);
 
 /// How many messages a connection has at most.
-const MESSAGES: u32 = 1 << 28;
+pub const MAX_MESSAGES: u32 = 1 << 28;
 
 /// Serves the messages after an opening, until the connection ends.
 pub fn serve_messages<S: Source, K: Sink, C: Clock, P: Port, W: Worker>(
@@ -43,7 +45,7 @@ pub fn serve_messages<S: Source, K: Sink, C: Clock, P: Port, W: Worker>(
     requires at { connection.old.pull.at < 2 ^ 17 }
     requires sent { opened.sent < 2 ^ 17 }
     requires host { length (utf connection.old.setup.now.host) ≤ MAX_HOST_BYTES }
-    requires time { connection.old.setup.now.draw.time <ℤ pos (2 ^ 61) }
+    requires time { connection.old.setup.now.draw.time <ℤ pos DRAWS_BEGIN_BELOW }
     requires drawn { connection.old.setup.now.draw.drawn < 2 ^ 64 }
     requires ready { P.ready connection.old.port.now }
     requires room { 2 ^ 30 ≤ P.room_of connection.old.port.now }
@@ -73,7 +75,7 @@ fn serve_one<S: Source, K: Sink, C: Clock, P: Port, W: Worker>(
     requires at { connection.old.pull.at < 2 ^ 17 }
     requires sent { before < 2 ^ 17 }
     requires host { length (utf connection.old.setup.now.host) ≤ MAX_HOST_BYTES }
-    requires time { connection.old.setup.now.draw.time <ℤ pos (2 ^ 61) }
+    requires time { connection.old.setup.now.draw.time <ℤ pos DRAWS_BEGIN_BELOW }
     requires drawn { connection.old.setup.now.draw.drawn < 2 ^ 64 }
     requires ready { P.ready connection.old.port.now }
     requires room { 2 ^ 30 ≤ P.room_of connection.old.port.now }
@@ -103,7 +105,7 @@ fn serve_many<S: Source, K: Sink, C: Clock, P: Port, W: Worker>(
     requires at { connection.old.pull.at < 2 ^ 17 }
     requires sent { before < 2 ^ 17 }
     requires host { length (utf connection.old.setup.now.host) ≤ MAX_HOST_BYTES }
-    requires time { connection.old.setup.now.draw.time <ℤ pos (2 ^ 61) }
+    requires time { connection.old.setup.now.draw.time <ℤ pos DRAWS_BEGIN_BELOW }
     requires drawn { connection.old.setup.now.draw.drawn < 2 ^ 64 }
     requires ready { P.ready connection.old.port.now }
     requires room { 2 ^ 30 ≤ P.room_of connection.old.port.now }
@@ -139,9 +141,9 @@ fn serve_message<S: Source, K: Sink, C: Clock, P: Port, W: Worker>(
 ) -> Result<u64, ConnEnd>
     requires at { connection.old.pull.at < 2 ^ 61 }
     requires sent { sent < 2 ^ 61 }
-    requires served { served ≤ 2 ^ 28 }
+    requires served { served ≤ MAX_MESSAGES }
     requires host { length (utf connection.old.setup.now.host) ≤ MAX_HOST_BYTES }
-    requires time { connection.old.setup.now.draw.time <ℤ pos (2 ^ 61) }
+    requires time { connection.old.setup.now.draw.time <ℤ pos DRAWS_BEGIN_BELOW }
     requires drawn { connection.old.setup.now.draw.drawn + 1 < 2 ^ 65 }
     requires ready { P.ready connection.old.port.now }
     requires room { 2 < P.room_of connection.old.port.now }
@@ -150,7 +152,7 @@ fn serve_message<S: Source, K: Sink, C: Clock, P: Port, W: Worker>(
     ensures steps { Steps W.may W.moves (terms_of connection.old.book.now connection.old.setup.now)
         (spot_of S.left K.held C.given P.asked W.calls W.seen W.state connection.old)
         (spot_of S.left K.held C.given P.asked W.calls W.seen W.state connection.new) connection.old.pull.at sent served connection.new.pull.at result }
-    ensures going { OnOk result (served < 2 ^ 28) }
+    ensures going { OnOk result (served < MAX_MESSAGES) }
     ensures most { IfOk result (λ after. (after ≤ sent + RETURN_BYTES) × (connection.new.pull.at ≤ connection.old.pull.at + 2 ^ 24)) }
     ensures lent { IsLent connection.old connection.new }
     ensures balanced { Balanced (P.asked connection.new.port.now) }
@@ -167,7 +169,7 @@ fn serve_message<S: Source, K: Sink, C: Clock, P: Port, W: Worker>(
         Ok(None) => return Err(ConnEnd::Ended),
         Err(fault) => return Err(end_of(fault)),
     };
-    if served == MESSAGES {
+    if served == MAX_MESSAGES {
         return Err(ConnEnd::MessageLimit);
     }
     match code {
@@ -243,7 +245,7 @@ fn serve_call<S: Source, K: Sink, C: Clock, P: Port, W: Worker>(
 ) -> Result<u64, ConnEnd>
     requires sent { sent < 2 ^ 61 }
     requires host { length (utf connection.old.setup.now.host) ≤ MAX_HOST_BYTES }
-    requires time { connection.old.setup.now.draw.time <ℤ pos (2 ^ 61) }
+    requires time { connection.old.setup.now.draw.time <ℤ pos DRAWS_BEGIN_BELOW }
     requires drawn { connection.old.setup.now.draw.drawn + 1 < 2 ^ 65 }
     requires ready { P.ready connection.old.port.now }
     requires room { 2 < P.room_of connection.old.port.now }

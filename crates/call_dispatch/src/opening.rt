@@ -8,7 +8,7 @@ ghost use Rattle.call_dispatch.specs.End.{IsWriteFault};
 ghost use Rattle.call_dispatch.specs.Faults.{counts_of, BlamesIn};
 ghost use Rattle.call_dispatch.specs.Spot.{spot_of, Stays};
 ghost use Rattle.call_dispatch.specs.Terms.{terms_of};
-ghost use Rattle.call_dispatch.specs.Progress.{Opens, OpensStream, Refuses};
+ghost use Rattle.call_dispatch.specs.Progress.{StandsOpened, OpensStream, Refuses};
 
 use crate::answer::write_answer;
 use crate::connection::Connection;
@@ -39,7 +39,7 @@ pub fn open_connection<S: Source, K: Sink, C: Clock, P: Port, W: Worker>(
     requires host { length (utf connection.old.setup.now.peer_host) ≤ MAX_HOST_BYTES }
     requires at { connection.old.pull.at ≡ 0 }
     requires stop { connection.old.pull.stop ≡ LAST_POSITION }
-    ensures opens { Opens W.may W.moves (terms_of connection.old.book.now connection.old.setup.now)
+    ensures opens { StandsOpened W.may W.moves (terms_of connection.old.book.now connection.old.setup.now)
         (spot_of S.left K.held C.given P.asked W.calls W.seen W.state connection.old)
         (spot_of S.left K.held C.given P.asked W.calls W.seen W.state connection.new) connection.new.pull.at result }
     ensures stays { Stays connection.old connection.new }

@@ -1,6 +1,6 @@
 //! A worker that keeps its calls.
 ghost use Rattle.std.specs.Prelude.{◌≡◌, ◌⊎◌, ◌+◌, ◌<◌, ◌^◌, [], ◌∷◌, drop, map, true, false, None, Some, if◌then◌else◌};
-ghost use Rattle.call_dispatch.specs.Acts.{invokes, Tells};
+ghost use Rattle.call_dispatch.specs.Acts.{invokes, TellsMore};
 ghost use Rattle.call_dispatch.specs.Recording.{call_of, head_or};
 
 use crate::outcome::{Invocation, Outcome, OutcomeList};
@@ -85,7 +85,7 @@ impl RecordingWorker {
         ensures next { (result ≡ head_or Outcome.Void self.old.outcomes.items) ⊎ ((result ≡ Outcome.OutOfMemory) × (self.new.whole ≡ false)) }
         ensures rest { self.new.outcomes.items ≡ drop 1 self.old.outcomes.items }
         ensures calls { self.new.calls ≡ self.old.calls + 1 }
-        ensures kept { Tells (if self.old.whole then Some (map call_of self.old.recorded.items) else None) (invokes call result ∷ [])
+        ensures kept { TellsMore (if self.old.whole then Some (map call_of self.old.recorded.items) else None) (invokes call result ∷ [])
             (if self.new.whole then Some (map call_of self.new.recorded.items) else None) }
     {
         self.calls += 1;

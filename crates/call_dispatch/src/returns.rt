@@ -9,6 +9,7 @@ ghost use Rattle.call_dispatch.specs.Returns.{fault_return, is_of, is_one_refere
 ghost use Rattle.call_dispatch.specs.Serving.{IsPlain, Prepares, PreparesGraph, PreparesPlain, IsReadyReturn};
 ghost use Rattle.call_dispatch.specs.Terms.{Terms, terms_of};
 ghost use Rattle.call_dispatch.specs.declared.results.TheConstants.{RETURN_BYTES};
+ghost use Rattle.call_dispatch.specs.declared.setup.TheConstants.{DRAWS_BEGIN_BELOW};
 
 use crate::book::Book;
 use crate::end::ConnEnd;
@@ -50,7 +51,7 @@ pub enum Prepared {
 
 /// The next identifier of the draw.
 pub fn next_uid(setup: &mut Setup) -> Uid
-    requires time { setup.old.draw.time <ℤ pos (2 ^ 61) }
+    requires time { setup.old.draw.time <ℤ pos DRAWS_BEGIN_BELOW }
     requires drawn { setup.old.draw.drawn < 2 ^ 65 }
     ensures uid { result ≡ uid_drawn setup.old.draw.unique setup.old.draw.time setup.old.draw.drawn }
     ensures drawn { setup.new ≡ record setup.old { draw = record setup.old.draw { drawn = setup.old.draw.drawn + 1 } } }

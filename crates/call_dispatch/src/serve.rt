@@ -9,8 +9,9 @@ ghost use Rattle.call_dispatch.specs.End.{IsWriteFault};
 ghost use Rattle.call_dispatch.specs.Faults.{counts_of, Blames};
 ghost use Rattle.call_dispatch.specs.Spot.{spot, spot_of, IsLent};
 ghost use Rattle.call_dispatch.specs.Terms.{terms_of};
-ghost use Rattle.call_dispatch.specs.Progress.{Talked, Served};
+ghost use Rattle.call_dispatch.specs.Progress.{Talked, IsServedFrom};
 ghost use Rattle.call_dispatch.specs.Invoked.{InvokesEachOnce};
+ghost use Rattle.call_dispatch.specs.declared.setup.TheConstants.{DRAWS_BEGIN_BELOW};
 
 use crate::book::Book;
 use crate::connection::Connection;
@@ -45,7 +46,7 @@ pub fn serve_connection<S: Source, K: Sink, C: Clock, P: Port, W: Worker>(
 ) -> ConnEnd
     requires peer_host { length (utf setup.old.peer_host) ≤ MAX_HOST_BYTES }
     requires host { length (utf setup.old.host) ≤ MAX_HOST_BYTES }
-    requires time { setup.old.draw.time <ℤ pos (2 ^ 61) }
+    requires time { setup.old.draw.time <ℤ pos DRAWS_BEGIN_BELOW }
     requires drawn { setup.old.draw.drawn < 2 ^ 64 }
     requires ready { P.ready port.old }
     requires room { 2 ^ 30 ≤ P.room_of port.old }
@@ -54,7 +55,7 @@ pub fn serve_connection<S: Source, K: Sink, C: Clock, P: Port, W: Worker>(
 
     // What was taken, done, drawn and written is a dialogue with the end, and the only one of the input and of what the outside
     // answered, unless something outside failed.
-    ensures dialogue { Served W.may W.moves (terms_of book.now setup.old)
+    ensures dialogue { IsServedFrom W.may W.moves (terms_of book.now setup.old)
         (spot S.left K.held C.given P.asked W.calls W.seen W.state source.old sink.old clock.old port.old worker.old setup.old)
         (spot S.left K.held C.given P.asked W.calls W.seen W.state source.new sink.new clock.new port.new worker.new setup.new) result }
 
@@ -98,7 +99,7 @@ fn talk<S: Source, K: Sink, C: Clock, P: Port, W: Worker>(
     requires host { length (utf connection.old.setup.now.host) ≤ MAX_HOST_BYTES }
     requires at { connection.old.pull.at ≡ 0 }
     requires stop { connection.old.pull.stop ≡ LAST_POSITION }
-    requires time { connection.old.setup.now.draw.time <ℤ pos (2 ^ 61) }
+    requires time { connection.old.setup.now.draw.time <ℤ pos DRAWS_BEGIN_BELOW }
     requires drawn { connection.old.setup.now.draw.drawn < 2 ^ 64 }
     requires ready { P.ready connection.old.port.now }
     requires room { 2 ^ 30 ≤ P.room_of connection.old.port.now }

@@ -2,6 +2,9 @@
 use mod_utf::list::Units;
 use object_ids::UidDraw;
 
+/// The identifiers that a connection draws begin at a moment below this one, in milliseconds: so the drawing doesn't end.
+pub const DRAWS_BEGIN_BELOW: u64 = 1 << 61;
+
 /// What a connection is told beforehand. Serving it draws identifiers, and changes nothing else of it.
 pub struct Setup {
     /// The number of the connection.

@@ -13,10 +13,11 @@ ghost use Rattle.call_dispatch.specs.Spot.{side_of, IsLent};
 ghost use Rattle.call_dispatch.specs.Systems.{is_system, params_of};
 ghost use Rattle.call_dispatch.specs.Terms.{terms_of};
 ghost use Rattle.call_dispatch.specs.declared.results.TheConstants.{RETURN_BYTES};
+ghost use Rattle.call_dispatch.specs.declared.setup.TheConstants.{DRAWS_BEGIN_BELOW};
 
-use crate::calls::{NO_METHOD, answer_call, no_such_method, refuse, told};
+use crate::calls::{NO_METHOD, answer_call, fault_answer, no_such_method, refuse};
 use crate::connection::Connection;
-use crate::demand::{Demand, Kept, bar_message, demand_for, names_no_client};
+use crate::demand::{Demand, ForReturn, bar_message, demand_for, names_no_client};
 use crate::end::{ConnEnd, end_of};
 use crate::returns::{Answer, next_uid};
 use crate::setup::Setup;
@@ -35,7 +36,7 @@ use wire_io::{Clock, Sink, Source};
 /// The identifiers of a client that has none of its own and of a Return, in this order. Where the client has one, one is drawn, the Return's, and
 /// it stands at both places.
 fn draw_uids(setup: &mut Setup, without: bool) -> (Uid, Uid)
-    requires time { setup.old.draw.time <ℤ pos (2 ^ 61) }
+    requires time { setup.old.draw.time <ℤ pos DRAWS_BEGIN_BELOW }
     requires drawn { setup.old.draw.drawn + 1 < 2 ^ 65 }
     ensures client { result.0 ≡ next_of (terms_of [] setup.old) setup.old.draw.drawn }
     ensures uid { result.1 ≡ next_of (terms_of [] setup.old) (setup.old.draw.drawn + (if without then 1 else 0)) }
@@ -71,7 +72,7 @@ fn ask_turn<S: Source, K: Sink, C: Clock, P: Port, W: Worker>(
     connection: &mut Connection<S, K, C, P, W>,
     uid: Uid,
     ask: Ask,
-    kept: Kept,
+    kept: ForReturn,
 ) -> Result<Answer, ConnEnd>
     requires host { length (utf connection.old.setup.now.host) ≤ MAX_HOST_BYTES }
     requires ready { P.ready connection.old.port.now }
@@ -116,7 +117,7 @@ fn answer_method<S: Source, K: Sink, C: Clock, P: Port, W: Worker>(
     arguments: Arguments,
 ) -> Result<Answer, ConnEnd>
     requires host { length (utf connection.old.setup.now.host) ≤ MAX_HOST_BYTES }
-    requires time { connection.old.setup.now.draw.time <ℤ pos (2 ^ 61) }
+    requires time { connection.old.setup.now.draw.time <ℤ pos DRAWS_BEGIN_BELOW }
     requires drawn { connection.old.setup.now.draw.drawn + 1 < 2 ^ 65 }
     requires ready { P.ready connection.old.port.now }
     requires room { 0 < P.room_of connection.old.port.now }
@@ -139,7 +140,7 @@ fn answer_method<S: Source, K: Sink, C: Clock, P: Port, W: Worker>(
     let without = names_no_client(alloc, method, &arguments)?;
     let (client, uid) = draw_uids(connection.setup, without);
     match demand_for(alloc, connection.setup, method, &arguments, client, uid) {
-        Ok(Demand::Barred(bar)) => told(alloc, uid, bar_message(bar), None),
+        Ok(Demand::Barred(bar)) => fault_answer(alloc, uid, bar_message(bar), None),
         Ok(Demand::Asks(ask, kept)) => ask_turn(alloc, connection, uid, ask, kept),
         Err(_) => Err(ConnEnd::OutOfMemory),
     }
@@ -155,7 +156,7 @@ fn answer_system<S: Source, K: Sink, C: Clock, P: Port, W: Worker>(
     requires head { HasHead reader }
     requires own { is_system head.id ≡ true }
     requires host { length (utf connection.old.setup.now.host) ≤ MAX_HOST_BYTES }
-    requires time { connection.old.setup.now.draw.time <ℤ pos (2 ^ 61) }
+    requires time { connection.old.setup.now.draw.time <ℤ pos DRAWS_BEGIN_BELOW }
     requires drawn { connection.old.setup.now.draw.drawn + 1 < 2 ^ 65 }
     requires ready { P.ready connection.old.port.now }
     requires room { 0 < P.room_of connection.old.port.now }
@@ -194,7 +195,7 @@ pub fn answer_any<S: Source, K: Sink, C: Clock, P: Port, W: Worker>(
 ) -> Result<Answer, ConnEnd>
     requires head { HasHead reader }
     requires host { length (utf connection.old.setup.now.host) ≤ MAX_HOST_BYTES }
-    requires time { connection.old.setup.now.draw.time <ℤ pos (2 ^ 61) }
+    requires time { connection.old.setup.now.draw.time <ℤ pos DRAWS_BEGIN_BELOW }
     requires drawn { connection.old.setup.now.draw.drawn + 1 < 2 ^ 65 }
     requires ready { P.ready connection.old.port.now }
     requires room { 2 < P.room_of connection.old.port.now }

@@ -12,7 +12,7 @@ ghost use Rattle.call_dispatch.specs.Terms.{terms_of};
 ghost use Rattle.call_dispatch.specs.declared.results.TheConstants.{RETURN_BYTES};
 
 use crate::book::{Book, Kind};
-use crate::demand::Kept;
+use crate::demand::ForReturn;
 use crate::fixed_returns::{lease_bytes, reference_bytes};
 use crate::results::{RETURN_BYTES, graph_return};
 use crate::returns::{exceptional, exceptional_ascii, full_message};
@@ -36,21 +36,21 @@ fn named_fault(alloc: Global, uid: Uid, front: &[u8], name: &Name) -> Result<Byt
 }
 
 /// The Return that a name is bound already.
-fn bound_return(alloc: Global, uid: Uid, kept: &Kept) -> Result<ByteList, AllocError>
+fn bound_return(alloc: Global, uid: Uid, kept: &ForReturn) -> Result<ByteList, AllocError>
     ensures { IfOk result (λ bytes. bytes ≡ bound_return uid kept.now) }
 {
     match kept {
-        Kept::Name(name) => named_fault(alloc, uid, b"java.rmi.AlreadyBoundException: ", name),
+        ForReturn::Name(name) => named_fault(alloc, uid, b"java.rmi.AlreadyBoundException: ", name),
         _ => Err(AllocError),
     }
 }
 
 /// The Return that a name is not bound.
-fn unbound_return(alloc: Global, uid: Uid, kept: &Kept) -> Result<ByteList, AllocError>
+fn unbound_return(alloc: Global, uid: Uid, kept: &ForReturn) -> Result<ByteList, AllocError>
     ensures { IfOk result (λ bytes. bytes ≡ unbound_return uid kept.now) }
 {
     match kept {
-        Kept::Name(name) => named_fault(alloc, uid, b"java.rmi.NotBoundException: ", name),
+        ForReturn::Name(name) => named_fault(alloc, uid, b"java.rmi.NotBoundException: ", name),
         _ => Err(AllocError),
     }
 }
@@ -79,14 +79,19 @@ fn void_return(alloc: Global, uid: Uid) -> Result<ByteList, AllocError>
 }
 
 /// The Return of a lease of this many milliseconds to the client that is kept.
-fn lease_return(alloc: Global, uid: Uid, duration: u64, kept: &Kept) -> Result<ByteList, AllocError>
+fn lease_return(
+    alloc: Global,
+    uid: Uid,
+    duration: u64,
+    kept: &ForReturn,
+) -> Result<ByteList, AllocError>
     ensures { IfOk result (λ bytes. bytes ≡ lease_return uid duration kept.now) }
 {
     let Ok(duration) = i64::try_from(duration) else {
         return Err(AllocError);
     };
     match kept {
-        Kept::Client(client) => lease_bytes(alloc, uid, &duration, client),
+        ForReturn::Client(client) => lease_bytes(alloc, uid, &duration, client),
         _ => Err(AllocError),
     }
 }
@@ -138,7 +143,7 @@ fn reply_return(
     setup: &Setup,
     book: &Book,
     uid: Uid,
-    kept: &Kept,
+    kept: &ForReturn,
     reply: &Reply,
 ) -> Result<ByteList, AllocError>
     requires { length (utf setup.now.host) ≤ MAX_HOST_BYTES }
@@ -170,7 +175,7 @@ fn kept_return(
     setup: &Setup,
     book: &Book,
     uid: Uid,
-    kept: &Kept,
+    kept: &ForReturn,
     answer: &Result<Turn, Refused>,
 ) -> Result<ByteList, AllocError>
     requires { length (utf setup.now.host) ≤ MAX_HOST_BYTES }
@@ -190,7 +195,7 @@ pub fn system_return(
     setup: &Setup,
     book: &Book,
     uid: Uid,
-    kept: &Kept,
+    kept: &ForReturn,
     answer: &Result<Turn, Refused>,
 ) -> Result<ByteList, AllocError>
     requires host { length (utf setup.now.host) ≤ MAX_HOST_BYTES }

@@ -1,6 +1,6 @@
 //! Who does what calls ask for.
 ghost use Rattle.std.specs.Prelude.{◌≡◌, ◌+◌, ◌<◌, ◌^◌, ℕ, List, [], ◌∷◌, Option};
-ghost use Rattle.call_dispatch.specs.Acts.{Call, invokes, unreferenced, States, Tells, Leads};
+ghost use Rattle.call_dispatch.specs.Acts.{Call, invokes, unreferenced, States, TellsMore, LeadsStates};
 ghost use Rattle.call_dispatch.specs.declared.outcome.Invocation.{Invocation};
 ghost use Rattle.call_dispatch.specs.declared.outcome.Outcome.{Outcome};
 
@@ -29,12 +29,12 @@ pub trait Worker {
         requires { calls self.old < 2 ^ 62 }
         ensures calls { calls self.new ≡ calls self.old + 1 }
         ensures may { may call result }
-        ensures seen { Tells (seen self.old) (invokes call result ∷ []) (seen self.new) }
-        ensures state { Leads moves (state self.old) (invokes call result ∷ []) (state self.new) };
+        ensures seen { TellsMore (seen self.old) (invokes call result ∷ []) (seen self.new) }
+        ensures state { LeadsStates moves (state self.old) (invokes call result ∷ []) (state self.new) };
 
     /// Is told that an object is no longer exported.
     fn unreferenced(&mut self, object: ObjId)
         ensures calls { calls self.new ≡ calls self.old }
-        ensures seen { Tells (seen self.old) (unreferenced object ∷ []) (seen self.new) }
-        ensures state { Leads moves (state self.old) (unreferenced object ∷ []) (state self.new) };
+        ensures seen { TellsMore (seen self.old) (unreferenced object ∷ []) (seen self.new) }
+        ensures state { LeadsStates moves (state self.old) (unreferenced object ∷ []) (state self.new) };
 }

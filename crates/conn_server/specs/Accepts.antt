@@ -16,6 +16,7 @@ use Rattle.conn_server.specs.declared.jobs.Guest.{Guest}
 use Rattle.conn_server.specs.declared.jobs.Job.{Job}
 use Rattle.conn_server.specs.declared.jobs.LinkReport.{LinkReport}
 use Rattle.conn_server.specs.declared.started.Started.{Started}
+use Rattle.conn_server.specs.declared.plan.TheConstants.{MAX_LINKS}
 
 -- What was told, and then these, where it is told.
 abbrev pub with_all : {A : Type 0} → Option (List A) → List A → Option (List A)
@@ -79,7 +80,7 @@ pub record HasRoom {I O T H : Type 0} (a : Accepting I O T H) : Type 0 where
 -- The guest is the next link's, and there is room for the link.
 pub record IsNext {I O T H : Type 0} (Talked : Guest I O T H → LinkReport I O T H → Type 0) (Made : ℕ → Guest I O T H → Type 0) (calls : H → ℕ) (lock : TurnLock) (kinds : List Kind) (a : Accepting I O T H) (guest : Guest I O T H) : Type 0 where
   pub accepting : IsAccepting Talked Made calls lock kinds a
-  pub few : vec_len a.started < 65535
+  pub few : vec_len a.started < MAX_LINKS
   pub can : IsGuest calls guest
   pub made : Made (vec_len a.started + 1) guest
   pub started : vec_len a.started < vec_capacity a.started

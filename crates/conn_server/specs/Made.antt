@@ -1,5 +1,5 @@
 -- How the job of a link comes from the link that was accepted, and from the server's turn before it.
-use Rattle.std.specs.Prelude.{◌≡◌, ℕ, List, [], ◌∷◌, ◌≤◌, ◌^◌, ℤ, pos, ◌<ℤ◌, length, map, Option}
+use Rattle.std.specs.Prelude.{◌≡◌, ℕ, List, [], ◌∷◌, ◌≤◌, ℤ, pos, ◌<ℤ◌, length, map, Option}
 use Rattle.mod_utf.specs.Utf.{utf}
 use Rattle.wire_io.specs.Links.{Accepted, accepted_as}
 use Rattle.wire_io.specs.Wire.{Gave}
@@ -9,9 +9,10 @@ use Rattle.history.specs.declared.asks.Ask.TheVariants.{Tick}
 use Rattle.space.specs.declared.asked.Asked.{Asked}
 use Rattle.space.specs.declared.asked.AskedEnd.{AskedEnd}
 use Rattle.space.specs.declared.asked.AskedEnd.TheVariants.{Turned}
-use Rattle.call_dispatch.specs.Acts.{Call, unreferenced, States, Tells, Leads}
+use Rattle.call_dispatch.specs.Acts.{Call, unreferenced, States, TellsMore, LeadsStates}
 use Rattle.call_dispatch.specs.Terms.{terms_of}
 use Rattle.call_dispatch.specs.declared.book.Kind.{Kind}
+use Rattle.call_dispatch.specs.declared.setup.TheConstants.{DRAWS_BEGIN_BELOW}
 use Rattle.conn_server.specs.Hands.{IsUntold}
 use Rattle.conn_server.specs.Plans.{link_terms}
 use Rattle.conn_server.specs.declared.accepting.Ready.{Ready}
@@ -29,7 +30,7 @@ told_of entry = map unreferenced (gone_with entry.end)
 
 -- A hand that was told nothing before tells this, after it was told what an entry tells as withdrawn, and that once.
 abbrev pub WasTold : (States → Call → States → Type 0) → Option (List Call) → Option States → Asked → Type 0
-WasTold moves seen state entry = (seen0 : Option (List Call)) × (state0 : Option States) × IsUntold seen0 × Tells seen0 (told_of entry) seen × Leads moves state0 (told_of entry) state
+WasTold moves seen state entry = (seen0 : Option (List Call)) × (state0 : Option States) × IsUntold seen0 × TellsMore seen0 (told_of entry) seen × LeadsStates moves state0 (told_of entry) state
 
 -- What a listener tells of a link that was taken in, and the entry of the server's turn before it.
 abbrev pub shown_guest : {I O T H : Type 0} → (I → Option (List ℕ)) → (O → Option (List ℕ)) → (T → Option (List ℕ)) → Guest I O T H → Accepted × Asked
@@ -53,5 +54,5 @@ pub record IsReady {H : Type 0} (calls : H → ℕ) (seen : H → Option (List C
   pub terms : (kinds : List Kind) → terms_of kinds ready.setup ≡ link_terms kinds plan k peer port
   pub peer_host : length (utf ready.setup.peer_host) ≤ MAX_HOST_BYTES
   pub host : length (utf ready.setup.host) ≤ MAX_HOST_BYTES
-  pub time : ready.setup.draw.time <ℤ pos (2 ^ 61)
+  pub time : ready.setup.draw.time <ℤ pos DRAWS_BEGIN_BELOW
   pub drawn : ready.setup.draw.drawn ≡ 0

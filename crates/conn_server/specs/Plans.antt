@@ -3,6 +3,7 @@ use Rattle.std.specs.Prelude.{ℕ, ◌+◌, ◌%◌, ◌^◌, ℤ, pos, List, sl
 use Rattle.std.specs.Int.{w32, w64, cast_signed, to_be_bytes}
 use Rattle.call_dispatch.specs.Terms.{Terms}
 use Rattle.call_dispatch.specs.declared.book.Kind.{Kind}
+use Rattle.call_dispatch.specs.declared.setup.TheConstants.{DRAWS_BEGIN_BELOW}
 use Rattle.conn_server.specs.declared.plan.ServePlan.{ServePlan}
 
 -- The low 32 bits of a word, as a signed number.
@@ -22,6 +23,6 @@ link_terms kinds plan by host port = record {
   binding = plan.binding;
   mark = to_be_bytes w64 (slice_index plan.seed 2);
   unique = low_signed ((slice_index plan.seed 0 + by) % 2 ^ 64);
-  time = pos (slice_index plan.seed 1 % 2 ^ 61);
+  time = pos (slice_index plan.seed 1 % DRAWS_BEGIN_BELOW);
   kinds = kinds;
 }

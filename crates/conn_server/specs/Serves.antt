@@ -1,6 +1,7 @@
 -- What serving a link keeps.
-use Rattle.std.specs.Prelude.{◌≡◌, ℕ, pos, ◌^◌, ◌≤◌, ◌<ℤ◌, length}
+use Rattle.std.specs.Prelude.{◌≡◌, ℕ, pos, ◌≤◌, ◌<ℤ◌, length}
 use Rattle.mod_utf.specs.Utf.{utf}
+use Rattle.call_dispatch.specs.declared.setup.TheConstants.{DRAWS_BEGIN_BELOW}
 use Rattle.wire_io.specs.declared.limits.TheConstants.{MAX_HOST_BYTES}
 use Rattle.turn_lock.specs.declared.handles.TurnLock.{TurnLock}
 use Rattle.turn_lock.specs.Handles.{IsBranchOf}
@@ -16,7 +17,7 @@ pub record IsGuest {I O T H : Type 0} (calls : H → ℕ) (guest : Guest I O T H
   pub told : calls guest.hand ≡ 0
   pub peer_host : length (utf guest.setup.peer_host) ≤ MAX_HOST_BYTES
   pub host : length (utf guest.setup.host) ≤ MAX_HOST_BYTES
-  pub time : guest.setup.draw.time <ℤ pos (2 ^ 61)
+  pub time : guest.setup.draw.time <ℤ pos DRAWS_BEGIN_BELOW
   pub drawn : guest.setup.draw.drawn ≡ 0
 
 -- The job can be done at the lock.

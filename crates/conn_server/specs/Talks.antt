@@ -3,7 +3,7 @@ use Rattle.std.specs.Prelude.{ℕ, List, [], Option}
 use Rattle.space.specs.Balance.{Balanced}
 use Rattle.call_dispatch.specs.Acts.{Call, States}
 use Rattle.call_dispatch.specs.Invoked.{InvokesEachOnce}
-use Rattle.call_dispatch.specs.Progress.{Served}
+use Rattle.call_dispatch.specs.Progress.{IsServedFrom}
 use Rattle.call_dispatch.specs.Spot.{Spot}
 use Rattle.call_dispatch.specs.Terms.{Terms, terms_of}
 use Rattle.call_dispatch.specs.declared.book.Kind.{Kind}
@@ -36,7 +36,7 @@ last_spot left held given calls seen state report drawn = record {
 pub record Talks {I O T H : Type 0} (left : I → Option (List ℕ)) (held : O → Option (List ℕ)) (given : T → Option (List ℕ)) (calls : H → ℕ) (seen : H → Option (List Call)) (state : H → Option States)
     (may : Invocation → Outcome → Type 0) (moves : States → Call → States → Type 0) (terms : Terms) (start : Spot) (report : LinkReport I O T H) : Type 0 where
   pub drawn : ℕ
-  pub served : Served may moves terms start (last_spot left held given calls seen state report drawn) report.end
+  pub served : IsServedFrom may moves terms start (last_spot left held given calls seen state report drawn) report.end
   pub invoked : InvokesEachOnce terms start (last_spot left held given calls seen state report drawn)
   pub balanced : Balanced report.asked
 

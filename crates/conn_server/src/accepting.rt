@@ -1,5 +1,5 @@
 //! Taking a link in.
-ghost use Rattle.std.specs.Prelude.{◌≡◌, ◌<◌, ◌≤◌, ◌+◌, ◌^◌, pos, ◌<ℤ◌, List, [], ◌∷◌, ◌++◌, map, length, vec_len, vec_capacity, MatchBool, MatchOption, IfSome, Some, None, IfOk, option_to_list, Option};
+ghost use Rattle.std.specs.Prelude.{◌≡◌, ◌<◌, ◌≤◌, ◌+◌, pos, ◌<ℤ◌, List, [], ◌∷◌, ◌++◌, map, length, vec_len, vec_capacity, MatchBool, MatchOption, IfSome, Some, None, IfOk, option_to_list, Option};
 ghost use Rattle.mod_utf.specs.Utf.{utf};
 ghost use Rattle.wire_io.specs.Links.{accepted_as};
 ghost use Rattle.wire_io.specs.Wire.{Gave};
@@ -7,9 +7,10 @@ ghost use Rattle.wire_io.specs.declared.limits.TheConstants.{MAX_HOST_BYTES};
 ghost use Rattle.history.specs.declared.asks.Ask.TheVariants.{Tick};
 ghost use Rattle.space.specs.Entries.{end_of};
 ghost use Rattle.space.specs.Ports.{entries_of};
-ghost use Rattle.call_dispatch.specs.Acts.{unreferenced, Tells, Leads};
+ghost use Rattle.call_dispatch.specs.Acts.{unreferenced, TellsMore, LeadsStates};
 ghost use Rattle.call_dispatch.specs.Terms.{terms_of};
 ghost use Rattle.call_dispatch.specs.declared.book.Kind.{Kind};
+ghost use Rattle.call_dispatch.specs.declared.setup.TheConstants.{DRAWS_BEGIN_BELOW};
 ghost use Rattle.turn_lock.specs.Handles.{IsRootOf};
 ghost use Rattle.turn_lock.specs.Ports.{PassWent};
 ghost use Rattle.conn_server.specs.Accepts.{HasRoom, IsAccepting, IsNext, IsSame, shown_all, links_of, ticks_of};
@@ -17,6 +18,7 @@ ghost use Rattle.conn_server.specs.Hands.{IsUntold};
 ghost use Rattle.conn_server.specs.Made.{gone_with, told_of, shown_guest, IsMadeFor, IsReady};
 ghost use Rattle.conn_server.specs.Plans.{link_terms};
 ghost use Rattle.conn_server.specs.Talks.{TalksOver};
+ghost use Rattle.conn_server.specs.declared.plan.TheConstants.{MAX_LINKS};
 
 use crate::crew::{Crew, tell_gone};
 use crate::ended::EndedLinks;
@@ -75,10 +77,10 @@ fn with_room<I: Source, O: Sink, T: Clock, H: Worker>(
     (accepting, true)
 }
 
-/// Tells a hand what an answer tells as withdrawn.
+/// TellsMore a hand what an answer tells as withdrawn.
 fn tell_answer<H: Worker>(hand: &mut H, answer: &Result<Turn, Refused>)
-    ensures seen { Tells (H.seen hand.old) (map unreferenced (gone_with (end_of answer.now))) (H.seen hand.new) }
-    ensures state { Leads H.moves (H.state hand.old) (map unreferenced (gone_with (end_of answer.now))) (H.state hand.new) }
+    ensures seen { TellsMore (H.seen hand.old) (map unreferenced (gone_with (end_of answer.now))) (H.seen hand.new) }
+    ensures state { LeadsStates H.moves (H.state hand.old) (map unreferenced (gone_with (end_of answer.now))) (H.state hand.new) }
     ensures calls { H.calls hand.new ≡ H.calls hand.old }
 {
     match answer {
@@ -124,8 +126,8 @@ fn tick<R: Wait, T: Clock, H: Worker>(
     ensures room { root.old.pass.room ≤ root.new.pass.room + 1 }
     ensures asked { IfSome result (λ entry. entry.ask ≡ Tick) }
     ensures given { IfSome result (λ entry. Gave (T.given clock.old) (T.given clock.new) (entry.moment ∷ [])) }
-    ensures seen { IfSome result (λ entry. Tells (H.seen hand.old) (told_of entry) (H.seen hand.new)) }
-    ensures state { IfSome result (λ entry. Leads H.moves (H.state hand.old) (told_of entry) (H.state hand.new)) }
+    ensures seen { IfSome result (λ entry. TellsMore (H.seen hand.old) (told_of entry) (H.seen hand.new)) }
+    ensures state { IfSome result (λ entry. LeadsStates H.moves (H.state hand.old) (told_of entry) (H.state hand.new)) }
     ensures calls { H.calls hand.new ≡ H.calls hand.old }
 {
     let moment = clock.now();
@@ -155,7 +157,7 @@ fn prepare<G: Crew, I, O, T>(
     ensures terms { IfOk result (λ r. (kinds : List Kind) → terms_of kinds r.setup ≡ link_terms kinds plan.now by link.now.host link.now.port) }
     ensures peer_host { IfOk result (λ r. length (utf r.setup.peer_host) ≤ MAX_HOST_BYTES) }
     ensures host { IfOk result (λ r. length (utf r.setup.host) ≤ MAX_HOST_BYTES) }
-    ensures time { IfOk result (λ r. r.setup.draw.time <ℤ pos (2 ^ 61)) }
+    ensures time { IfOk result (λ r. r.setup.draw.time <ℤ pos DRAWS_BEGIN_BELOW) }
     ensures drawn { IfOk result (λ r. r.setup.draw.drawn ≡ 0) }
 {
     let setup = setup_for(alloc, plan, by, link)?;
@@ -172,7 +174,7 @@ fn make_ready<G: Crew, I: Source, O: Sink, T: Clock>(
     accepting: Accepting<I, O, T, G::Hand>,
 ) -> (Accepting<I, O, T, G::Hand>, Option<Ready<G::Hand>>)
     requires host { length (utf plan.now.host) ≤ MAX_HOST_BYTES }
-    requires few { vec_len accepting.started < 65535 }
+    requires few { vec_len accepting.started < MAX_LINKS }
     ensures same { IsSame accepting result.0 }
     ensures room { IfSome result.1 (λ r. HasRoom result.0) }
     ensures ready { IfSome result.1 (λ r. IsReady G.Hand.calls G.Hand.seen plan.now (vec_len accepting.started + 1) link.now.host link.now.port r) }
@@ -257,8 +259,8 @@ fn with_tick<R: Wait, I: Source, O: Sink, T: Clock, H: Worker>(
     ensures ticks { MatchOption result.1 (result.0.ticks.items ≡ accepting.ticks.items) (λ entry. result.0.ticks.items ≡ accepting.ticks.items ++ entry.value ∷ []) }
     ensures asked { IfSome result.1 (λ entry. entry.value.ask ≡ Tick) }
     ensures given { IfSome result.1 (λ entry. Gave (T.given clock.old) (T.given clock.new) (entry.value.moment ∷ [])) }
-    ensures seen { IfSome result.1 (λ entry. Tells (H.seen hand.old) (told_of entry.value) (H.seen hand.new)) }
-    ensures state { IfSome result.1 (λ entry. Leads H.moves (H.state hand.old) (told_of entry.value) (H.state hand.new)) }
+    ensures seen { IfSome result.1 (λ entry. TellsMore (H.seen hand.old) (told_of entry.value) (H.seen hand.new)) }
+    ensures state { IfSome result.1 (λ entry. LeadsStates H.moves (H.state hand.old) (told_of entry.value) (H.state hand.new)) }
     ensures calls { H.calls hand.new ≡ H.calls hand.old }
 {
     let _ = book;
@@ -320,7 +322,7 @@ fn welcome<R: Wait, I: Source + Drop, O: Sink + Drop, T: Clock + Drop, H: Worker
 ) -> (Accepting<I, O, T, H>, Option<Guest<I, O, T, H>>)
     requires accepting { IsAccepting (TalksOver I.left O.held T.given H.calls H.seen H.state H.may H.moves book.now) (IsMadeFor I.left O.held T.given H.seen H.state H.moves plan.now) H.calls lock.now book.now accepting }
     requires turns { 0 < accepting.root.pass.room }
-    requires few { vec_len accepting.started < 65535 }
+    requires few { vec_len accepting.started < MAX_LINKS }
     requires room { HasRoom accepting }
     requires ready { IsReady H.calls H.seen plan.now (vec_len accepting.started + 1) link.host link.port ready }
     ensures accepting { IsAccepting (TalksOver I.left O.held T.given H.calls H.seen H.state H.may H.moves book.now) (IsMadeFor I.left O.held T.given H.seen H.state H.moves plan.now) H.calls lock.now book.now result.0 }
@@ -383,7 +385,7 @@ where
     G::Hand: 's,
     requires host { length (utf plan.now.host) ≤ MAX_HOST_BYTES }
     requires accepting { IsAccepting (TalksOver I.left O.held T.given G.Hand.calls G.Hand.seen G.Hand.state G.Hand.may G.Hand.moves book.now) (IsMadeFor I.left O.held T.given G.Hand.seen G.Hand.state G.Hand.moves plan.now) G.Hand.calls lock.now book.now accepting }
-    requires turns { (0 < accepting.root.pass.room) × (vec_len accepting.started < 65535) }
+    requires turns { (0 < accepting.root.pass.room) × (vec_len accepting.started < MAX_LINKS) }
     requires tied { accepting.ticks.items ≡ ticks_of (shown_all I.left O.held T.given accepting.started.items) }
     ensures accepting { IsAccepting (TalksOver I.left O.held T.given G.Hand.calls G.Hand.seen G.Hand.state G.Hand.may G.Hand.moves book.now) (IsMadeFor I.left O.held T.given G.Hand.seen G.Hand.state G.Hand.moves plan.now) G.Hand.calls lock.now book.now result.0 }
     ensures turns { accepting.root.pass.room ≤ result.0.root.pass.room + 1 }

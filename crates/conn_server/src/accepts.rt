@@ -12,6 +12,7 @@ ghost use Rattle.conn_server.specs.Rows.{Paired};
 ghost use Rattle.conn_server.specs.Stops.{Stopped};
 ghost use Rattle.conn_server.specs.Talks.{TalksOver};
 ghost use Rattle.conn_server.specs.Views.{IsTicked};
+ghost use Rattle.conn_server.specs.declared.plan.TheConstants.{MAX_LINKS};
 
 use crate::accepting::{Accepting, take_in};
 use crate::crew::Crew;
@@ -94,7 +95,7 @@ where
     requires host { length (utf plan.now.host) ≤ MAX_HOST_BYTES }
     requires accepting { IsAccepting (TalksOver L.In.left L.Out.held L.Ticks.given G.Hand.calls G.Hand.seen G.Hand.state G.Hand.may G.Hand.moves book.now) (IsMadeFor L.In.left L.Out.held L.Ticks.given G.Hand.seen G.Hand.state G.Hand.moves plan.now) G.Hand.calls lock.now book.now accepting }
     requires fresh { (accepting.started.items ≡ []) × (accepting.ticks.items ≡ []) }
-    requires turns { (plan.now.count ≤ 65535) × (65535 ≤ accepting.root.pass.room) }
+    requires turns { (plan.now.count ≤ MAX_LINKS) × (MAX_LINKS ≤ accepting.root.pass.room) }
     ensures accepting { IsAccepting (TalksOver L.In.left L.Out.held L.Ticks.given G.Hand.calls G.Hand.seen G.Hand.state G.Hand.may G.Hand.moves book.now) (IsMadeFor L.In.left L.Out.held L.Ticks.given G.Hand.seen G.Hand.state G.Hand.moves plan.now) G.Hand.calls lock.now book.now result.0 }
     ensures tied { result.0.ticks.items ≡ ticks_of (shown_all L.In.left L.Out.held L.Ticks.given result.0.started.items) }
     ensures links { (lost : List Accepted) × (L.accepted listener.new ≡ with_all (L.accepted listener.old) (links_of (shown_all L.In.left L.Out.held L.Ticks.given result.0.started.items) ++ lost)) × Stopped result.1 plan.now.count (vec_len result.0.started) lost }

@@ -1,24 +1,25 @@
 //! What a server is told beforehand, and what it tells each connection.
-ghost use Rattle.std.specs.Prelude.{◌≡◌, ◌≤◌, ◌<◌, ◌^◌, pos, ◌<ℤ◌, length, List, IfOk};
+ghost use Rattle.std.specs.Prelude.{◌≡◌, ◌≤◌, ◌<◌, pos, ◌<ℤ◌, length, List, IfOk};
 ghost use Rattle.mod_utf.specs.Utf.{utf};
 ghost use Rattle.wire_io.specs.declared.limits.TheConstants.{MAX_HOST_BYTES};
 ghost use Rattle.call_dispatch.specs.Terms.{terms_of};
 ghost use Rattle.call_dispatch.specs.declared.book.Kind.{Kind};
+ghost use Rattle.call_dispatch.specs.declared.setup.TheConstants.{DRAWS_BEGIN_BELOW};
 ghost use Rattle.conn_server.specs.Plans.{low_signed, link_terms};
 
-use call_dispatch::Setup;
+use call_dispatch::{DRAWS_BEGIN_BELOW, Setup};
 use mod_utf::list::Units;
 use object_ids::UidDraw;
 use std::alloc::{AllocError, Global};
 use wire_io::Link;
 
-/// Below this a moment is drawn from the seed, in milliseconds.
-pub const MOMENTS: u64 = 1 << 61;
+/// How many connections a server accepts at most.
+pub const MAX_LINKS: u32 = 65_535;
 
 /// What a server is told beforehand.
 #[derive(Drop)]
 pub struct ServePlan {
-    /// How many connections are accepted.
+    /// How many connections are accepted, at most [`MAX_LINKS`].
     pub count: u32,
     /// The server's own host, as references name it.
     pub host: Units,
@@ -41,7 +42,7 @@ pub fn setup_for<I, O, T>(
     ensures terms { IfOk result (λ setup. (kinds : List Kind) → terms_of kinds setup ≡ link_terms kinds plan.now by link.now.host link.now.port) }
     ensures peer_host { IfOk result (λ setup. length (utf setup.peer_host) ≤ MAX_HOST_BYTES) }
     ensures host { IfOk result (λ setup. length (utf setup.host) ≤ MAX_HOST_BYTES) }
-    ensures time { IfOk result (λ setup. setup.draw.time <ℤ pos (2 ^ 61)) }
+    ensures time { IfOk result (λ setup. setup.draw.time <ℤ pos DRAWS_BEGIN_BELOW) }
     ensures drawn { IfOk result (λ setup. setup.draw.drawn ≡ 0) }
 {
     let peer_host = link.host.copy(alloc)?;
@@ -55,14 +56,21 @@ pub fn setup_for<I, O, T>(
         binding: plan.binding,
         draw: UidDraw::new(
             low_half(plan.seed[0].wrapping_add(u64::from(by))),
-            (plan.seed[1] % MOMENTS) as i64,
+            moment_of(plan.seed[1]) as i64,
         ),
         mark: plan.seed[2].to_be_bytes(),
     })
 }
 
+/// The moment that a word of a seed gives, in milliseconds.
+pub fn moment_of(word: u64) -> u64
+    ensures { result ≡ word % DRAWS_BEGIN_BELOW }
+{
+    word % DRAWS_BEGIN_BELOW
+}
+
 /// The low 32 bits of a word, as a signed number.
-fn low_half(word: u64) -> i32
+pub fn low_half(word: u64) -> i32
     ensures { result ≡ low_signed word }
 {
     ((word % (1 << 32)) as u32).cast_signed()

@@ -13,6 +13,7 @@ ghost use Rattle.conn_server.specs.Accepts.{links_of, ticks_of, with_all};
 ghost use Rattle.conn_server.specs.Reports.{AreTurnsOf, IsLinkOf, IsAllJoined, IsReportOf, events_after};
 ghost use Rattle.conn_server.specs.Rows.{Paired};
 ghost use Rattle.conn_server.specs.Stops.{Stopped};
+ghost use Rattle.conn_server.specs.declared.plan.TheConstants.{MAX_LINKS};
 
 use crate::accepting::Accepting;
 use crate::accepts::{Stop, accept_links, join_links};
@@ -74,7 +75,7 @@ where
     L::Ticks: 's,
     G::Hand: 's,
     requires fresh { IsFresh lock.now root }
-    requires few { plan.now.count ≤ 65535 }
+    requires few { plan.now.count ≤ MAX_LINKS }
     requires host { length (utf plan.now.host) ≤ MAX_HOST_BYTES }
     ensures served { (served : List (Accepted × Asked)) × IsAllJoined (IsLinkOf L.In.left L.Out.held L.Ticks.given G.Hand.calls G.Hand.seen G.Hand.state G.Hand.may G.Hand.moves book.now plan.now) lock.now served result
         × ((lost : List Accepted) × (L.accepted listener.new ≡ with_all (L.accepted listener.old) (links_of served ++ lost)) × Stopped result.stop plan.now.count (length result.links.items) lost) }
@@ -122,7 +123,7 @@ pub fn serve<R: Threads + Wait + Sync, L: Listener, G: Crew>(
     plan: &ServePlan,
 ) -> Report<L::In, L::Out, L::Ticks, G::Hand>
     requires fresh { IsFresh lock root }
-    requires few { plan.now.count ≤ 65535 }
+    requires few { plan.now.count ≤ MAX_LINKS }
     requires host { length (utf plan.now.host) ≤ MAX_HOST_BYTES }
 
     // The history that is left is legal and goes on from the lock's, and at each of its events the collector kept what there was a reason to
@@ -156,7 +157,7 @@ pub fn serve<R: Threads + Wait + Sync, L: Listener, G: Crew>(
         thread::scope_env(),
         rt,
         move |scope| -> (&mut L, AllJoined<L::In, L::Out, L::Ticks, G::Hand>)
-            requires { IsFresh shared.now root × (plan.now.count ≤ 65535) × (length (utf plan.now.host) ≤ MAX_HOST_BYTES) }
+            requires { IsFresh shared.now root × (plan.now.count ≤ MAX_LINKS) × (length (utf plan.now.host) ≤ MAX_HOST_BYTES) }
             ensures left { (result.0.ghost_name ≡ listener.entry.ghost_name) }
             ensures served { (served : List (Accepted × Asked)) × IsAllJoined (IsLinkOf L.In.left L.Out.held L.Ticks.given G.Hand.calls G.Hand.seen G.Hand.state G.Hand.may G.Hand.moves book.entry.now plan.entry.now) shared.entry.now served result.1
                 × ((lost : List Accepted) × (L.accepted result.0.now ≡ with_all (L.accepted listener.entry.now) (links_of served ++ lost)) × Stopped result.1.stop plan.entry.now.count (length result.1.links.items) lost) }

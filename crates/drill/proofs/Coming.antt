@@ -7,11 +7,11 @@ use Rattle.history.specs.declared.replies.Refused.{Refused}
 use Rattle.history.specs.Limits.{limits, refusal}
 use Rattle.history.specs.Steps.{IsLegal}
 use Rattle.history.specs.Table.{places}
-use Rattle.drill.specs.Rounds.{Stand, events_in, events_from, after_round}
+use Rattle.drill.specs.Rounds.{DrillState, events_in, events_from, after_round}
 use Rattle.drill.specs.Runs.{EndsIn, CameTo}
 
 -- One round of those that are left.
-pub one_round : (i : ℕ) (s : Stand) (n : ℕ) → 0 < n → events_from i s n ≡ events_in i s ++ events_from (i + 1) (after_round s) (n - 1)
+pub one_round : (i : ℕ) (s : DrillState) (n : ℕ) → 0 < n → events_from i s n ≡ events_in i s ++ events_from (i + 1) (after_round s) (n - 1)
 unfolding events_from
 one_round i s zero some = absurd (omega (arith, some))
 one_round i s (suc n) some =
@@ -20,7 +20,7 @@ one_round i s (suc n) some =
     ap (λ k. events_in i s ++ events_from k (after_round s) n) next ∙ ap (λ m. events_in i s ++ events_from (i + 1) (after_round s) m) left
 
 -- The events of the next round, and those after them.
-pub next_round : (h events h2 batch : List Event) (i : ℕ) (s : Stand) (n : ℕ) → CameTo h events h2 (events_from i s n) → 0 < n → batch ≡ events_in i s
+pub next_round : (h events h2 batch : List Event) (i : ℕ) (s : DrillState) (n : ℕ) → CameTo h events h2 (events_from i s n) → 0 < n → batch ≡ events_in i s
     → CameTo h events h2 (batch ++ events_from (i + 1) (after_round s) (n - 1))
 next_round h events h2 batch i s n came some is =
     subst (CameTo h events h2) (one_round i s n some ∙ ap (λ b. b ++ events_from (i + 1) (after_round s) (n - 1)) (sym is)) came
@@ -44,7 +44,7 @@ ends_in config h events h2 batch rest r c (inr s) =
     })
 
 -- Where no round is left, all were taken.
-pub all_came : (h events h2 : List Event) (i : ℕ) (s : Stand) → CameTo h events h2 (events_from i s 0) → h2 ≡ h ++ events
+pub all_came : (h events h2 : List Event) (i : ℕ) (s : DrillState) → CameTo h events h2 (events_from i s 0) → h2 ≡ h ++ events
 unfolding events_from
 all_came h events h2 i s c = c.after ∙ ap (λ xs. h ++ xs) (sym (c.events_are ∙ append-nil c.done))
 

@@ -32,7 +32,7 @@ opening = record { by = 0; moment = 0; ask = Open 2 true }
 -- ---- a round
 
 -- how far a drill has come: the generator's state, the moment, and how many objects were made
-pub record Stand : Type 0 where
+pub record DrillState : Type 0 where
   pub state : ℕ
   pub moment : ℕ
   pub made : ℕ
@@ -62,7 +62,7 @@ made_by made Make = made + 1
 made_by made _ = made
 
 -- where the drill stands after a round
-abbrev pub after_round : Stand → Stand
+abbrev pub after_round : DrillState → DrillState
 after_round s =
     let d = draws_after s.state in
     record { state = d.state; moment = s.moment + (1 + d.steps % 5999); made = made_by s.made d.choice }
@@ -71,22 +71,22 @@ abbrev pub asked_at : ℕ → Ask → Event
 asked_at moment ask = record { by = 1; moment = moment; ask = ask }
 
 -- the events of round i
-unfoldable pub events_in : ℕ → Stand → List Event
+unfoldable pub events_in : ℕ → DrillState → List Event
 events_in i s = map (asked_at (after_round s).moment) (asks_by i s.made (draws_after s.state) (draws_after s.state).choice)
 
 -- ---- a drill
 
 -- a round that is yet to come, and where the drill stands before it
-pub record Course : Type 0 where
+pub record RoundToCome : Type 0 where
   pub round : ℕ
-  pub stand : Stand
+  pub stand : DrillState
 
 -- the events of so many rounds, the first of which is round i
-unfoldable pub events_from : ℕ → Stand → ℕ → List Event
+unfoldable pub events_from : ℕ → DrillState → ℕ → List Event
 events_from i s zero = []
 events_from i s (suc n) = events_in i s ++ events_from (suc i) (after_round s) n
 
-abbrev pub start : ℕ → Stand
+abbrev pub start : ℕ → DrillState
 start seed = record { state = seed; moment = 0; made = 0 }
 
 -- the events of a drill of a seed and a number of rounds

@@ -236,9 +236,9 @@ pub struct Drill {
 
 impl Model for Drill {
     ghost use Rattle.std.specs.Prelude.{◌≤◌, ◌*◌};
-    ghost use Rattle.drill.specs.Rounds.{Course};
+    ghost use Rattle.drill.specs.Rounds.{RoundToCome};
 
-    ghost Value = { Course };
+    ghost Value = { RoundToCome };
 
     ghost view = { λ d. record { round = d.round; stand = record { state = d.state; moment = d.moment; made = d.made } } };
 

@@ -7,6 +7,7 @@ mod ledger;
 
 ghost use Rattle.std.specs.Prelude.{◌≡◌, ◌≤◌, [], length, IfSome};
 ghost use Rattle.mod_utf.specs.Utf.{utf};
+ghost use Rattle.conn_server.specs.declared.plan.TheConstants.{MAX_LINKS};
 ghost use Rattle.wire_io.specs.declared.limits.TheConstants.{MAX_HOST_BYTES};
 ghost use Rattle.history.specs.Steps.{IsLegal};
 ghost use Rattle.space.specs.Lists.{CollectsEach};
@@ -103,7 +104,7 @@ fn serve_space<'t, R: Threads + Wait + Sync>(
     space: Space,
     plan: &ServePlan,
 ) -> Option<LedgerReport<'t, R>>
-    requires few { plan.now.count ≤ 65535 }
+    requires few { plan.now.count ≤ MAX_LINKS }
     requires host { length (utf plan.now.host) ≤ MAX_HOST_BYTES }
     ensures legal { IfSome result (λ report. IsLegal report.space.configuration report.space.events) }
     ensures collects { IfSome result (λ report. CollectsEach report.space.configuration [] report.space.events report.space.events) }

@@ -5,7 +5,7 @@ use Rattle.std.proofs.lemmas.Fmt.{decimal_injective}
 use Rattle.wire_io.specs.Wire.{Wires}
 use Rattle.rmi_cli.specs.Command.{IsWord, AreInRange, IsWordOfDrill, word_of_text}
 use Rattle.rmi_cli.specs.Drilled.{Drills}
-use Rattle.rmi_cli.specs.Told.{Told}
+use Rattle.rmi_cli.specs.Told.{Reported}
 use Rattle.rmi_cli.specs.declared.words.DrillText.{DrillText}
 use Rattle.rmi_cli.specs.declared.words.DrillText.TheVariants.{Summary, Journal}
 
@@ -73,7 +73,7 @@ one_drill words text text2 seed rounds seed2 rounds2 d d2 =
     )
 
 -- So what is said of the one is said of the other.
-pub drills_asked : (words : List (List ℕ)) (text text2 : DrillText) (seed rounds seed2 rounds2 : ℕ) (old new : Wires) (told : Told)
+pub drills_asked : (words : List (List ℕ)) (text text2 : DrillText) (seed rounds seed2 rounds2 : ℕ) (old new : Wires) (told : Reported)
     → IsWordOfDrill words (word_of_text text) seed rounds → IsWordOfDrill words (word_of_text text2) seed2 rounds2
     → Drills text seed rounds old new told → Drills text2 seed2 rounds2 old new told
 drills_asked words text text2 seed rounds seed2 rounds2 old new told d d2 drills =

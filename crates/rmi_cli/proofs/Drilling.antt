@@ -13,7 +13,7 @@ use Rattle.drill.specs.Rounds.{drill_config, drilled}
 use Rattle.drill.specs.Runs.{StopsIn, EndsIn}
 use Rattle.rmi_cli.specs.Drilled.{TakesAll, IsStopped, DrillStops, Drills, DrillsExactly}
 use Rattle.rmi_cli.specs.Replay.{EventIsTaken, AllTaken}
-use Rattle.rmi_cli.specs.Told.{Told}
+use Rattle.rmi_cli.specs.Told.{Reported}
 use Rattle.rmi_cli.specs.declared.words.DrillText.{DrillText}
 use Rattle.rmi_cli.specs.declared.end.RunEnd.TheVariants as ends
 
@@ -90,7 +90,7 @@ not_both seed rounds all s =
     let none : None ≡ Some s.cause = sym (taken_there drill_config [] s.front s.event s.rest (subst P s.events_are all)) ∙ s.refused in cc
 
 -- A drill that ended so, and was told, is exact.
-pub drills_exactly : (text : DrillText) (seed rounds : ℕ) (old new : Wires) (told : Told) → Drills text seed rounds old new told → DrillsExactly text seed rounds old new told
+pub drills_exactly : (text : DrillText) (seed rounds : ℕ) (old new : Wires) (told : Reported) → Drills text seed rounds old new told → DrillsExactly text seed rounds old new told
 drills_exactly text seed rounds old new told (end, e, inr memory, left) = record {
   all = λ all. inr (inr memory.1.0);
   stopped = λ stopped. inr (inr memory.1.0);

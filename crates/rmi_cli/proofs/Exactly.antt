@@ -4,12 +4,12 @@ use Rattle.wire_io.specs.Wire.{Wires}
 use Rattle.call_dispatch.specs.declared.end.ConnEnd.{ConnEnd}
 use Rattle.call_dispatch.specs.declared.end.ConnEnd.TheVariants.{Ended, BadHeader, UnknownProtocol, BadMessage, BadStream, TooLarge, Truncated, NoSuchObject, NoSuchMethod, SpaceFull, MessageLimit, ReadFault, WriteFault, OutOfMemory}
 use Rattle.call_dispatch.specs.End.{status_of, IsSettled}
-use Rattle.rmi_cli.specs.Answer.{ServesExactly, AnswersExactly, IsOutside}
-use Rattle.rmi_cli.specs.Told.{Told, TellsExactly, Tells}
+use Rattle.rmi_cli.specs.Answer.{ServesExactly, AnswersExactly, IsOutsideEnd}
+use Rattle.rmi_cli.specs.Told.{Reported, TellsExactly, TellsEnd}
 use Rattle.rmi_cli.specs.declared.end.RunEnd.TheVariants.{Answered}
 use Rattle.rmi_cli.specs.declared.terms.Terms.{Terms}
 
-settled_or_outside : (end : ConnEnd) → IsSettled end ⊎ IsOutside (status_of end)
+settled_or_outside : (end : ConnEnd) → IsSettled end ⊎ IsOutsideEnd (status_of end)
 settled_or_outside Ended = inl tt
 settled_or_outside (BadHeader at) = inl tt
 settled_or_outside (UnknownProtocol byte) = inl tt
@@ -26,12 +26,12 @@ settled_or_outside (WriteFault sent) = inr (inr (inl refl))
 settled_or_outside OutOfMemory = inr (inr (inr refl))
 
 -- A connection that went as its settled dialogue says is told so.
-pub told_settles : (seed : List ℕ) (terms : Terms) (old new : Wires) (told : Told) (result : ConnEnd) → ServesExactly seed terms old new result → Tells told (Answered result) → AnswersExactly seed terms old new told
+pub told_settles : (seed : List ℕ) (terms : Terms) (old new : Wires) (told : Reported) (result : ConnEnd) → ServesExactly seed terms old new result → TellsEnd told (Answered result) → AnswersExactly seed terms old new told
 unfolding ServesExactly AnswersExactly
 told_settles seed terms old new told result settles (inr memory) other rest end is dialogue quiet settled = inr (inr (inr memory.1.0))
 told_settles seed terms old new told result settles (inl tells) other rest end is dialogue quiet settled =
     elim (settled_or_outside result) [
       | inl ok ↦ let went = settles other rest end is dialogue quiet settled ok in
           let P : ConnEnd → Type 0 = λ x. TellsExactly told (Answered x) in inl (subst P went.0 tells, went.1, went.2)
-      | inr not ↦ inr (subst IsOutside (sym tells.0) not)
+      | inr not ↦ inr (subst IsOutsideEnd (sym tells.0) not)
     ]

@@ -11,7 +11,7 @@ use Rattle.rmi_cli.specs.Drilled.{Drills}
 use Rattle.rmi_cli.specs.Limits.{IsInLimits}
 use Rattle.rmi_cli.specs.Opening.{served_opening}
 use Rattle.rmi_cli.specs.ServedLinks.{Heard, IsSampleLink, ListensAlone, ServeEnds, ServesLinks, Serving, serve_plan}
-use Rattle.rmi_cli.specs.Told.{Told, Tells}
+use Rattle.rmi_cli.specs.Told.{Reported, TellsEnd}
 use Rattle.rmi_cli.specs.declared.end.RunEnd.{RunEnd}
 use Rattle.rmi_cli.specs.declared.terms.ServeWords.{ServeWords}
 use Rattle.rmi_cli.specs.declared.terms.Terms.{Terms}
@@ -38,12 +38,12 @@ same_serve s s2 same = cc
 same_drill : (text text2 : DrillText) (m n m2 n2 : ℕ) → Drill text m n ≡ Drill text2 m2 n2 → (text ≡ text2) × (m ≡ m2) × (n ≡ n2)
 same_drill text text2 m n m2 n2 same = (cc, cc, cc)
 
-pub exactly_asked : (seed : List ℕ) (command : Command) (t t2 : Terms) (old new : Wires) (told : Told) → command ≡ Answer t → command ≡ Answer t2
+pub exactly_asked : (seed : List ℕ) (command : Command) (t t2 : Terms) (old new : Wires) (told : Reported) → command ≡ Answer t → command ≡ Answer t2
     → AnswersExactly seed t old new told → AnswersExactly seed t2 old new told
 exactly_asked seed command t t2 old new told is is2 exact =
     let P : Terms → Type 0 = λ x. AnswersExactly seed x old new told in subst P (same_terms t t2 (sym is ∙ is2)) exact
 
-pub drills_named : (command : Command) (text text2 : DrillText) (m n m2 n2 : ℕ) (old new : Wires) (told : Told) → command ≡ Drill text m n → command ≡ Drill text2 m2 n2
+pub drills_named : (command : Command) (text text2 : DrillText) (m n m2 n2 : ℕ) (old new : Wires) (told : Reported) → command ≡ Drill text m n → command ≡ Drill text2 m2 n2
     → Drills text m n old new told → Drills text2 m2 n2 old new told
 drills_named command text text2 m n m2 n2 old new told is is2 drills =
     let same = same_drill text text2 m n m2 n2 (sym is ∙ is2) in
@@ -53,9 +53,9 @@ drills_named command text text2 m n m2 n2 old new told is is2 drills =
     subst R same.2 (subst Q same.1 (subst P same.0 drills))
 
 pub serving_asked : {I O T R : Type 0} (left : I → Option (List ℕ)) (held : O → Option (List ℕ)) (given : T → Option (List ℕ)) (seed : List ℕ) (command : Command) (s s2 : ServeWords)
-    (heard heard2 : Heard) (old new : Wires) (faults faults2 : ℕ) (told : Told) (served : Option (Report I O T (SampleHand R))) (end : RunEnd) → command ≡ Serve s → command ≡ Serve s2
+    (heard heard2 : Heard) (old new : Wires) (faults faults2 : ℕ) (told : Reported) (served : Option (Report I O T (SampleHand R))) (end : RunEnd) → command ≡ Serve s → command ≡ Serve s2
     → IfSome served (ServesLinks (IsSampleLink {R = R} left held given (serve_plan seed s)) (served_opening seed s.terms) s.count heard.accepted heard2.accepted)
-    → ListensAlone s.port heard heard2 served → ServeEnds old.held new.held faults faults2 served end → Tells told end → new.left ≡ old.left
+    → ListensAlone s.port heard heard2 served → ServeEnds old.held new.held faults faults2 served end → TellsEnd told end → new.left ≡ old.left
     → Serving (IsSampleLink {R = R} left held given (serve_plan seed s2)) seed s2 served heard heard2 old new faults faults2 told
 serving_asked {I} {O} {T} {R} left held given seed command s s2 heard heard2 old new faults faults2 told served end is is2 links alone ends tells unread =
     let P : ServeWords → Type 0 = λ x. Serving (IsSampleLink {R = R} left held given (serve_plan seed x)) seed x served heard heard2 old new faults faults2 told in

@@ -13,11 +13,11 @@ use Rattle.rmi_cli.specs.declared.outlines.ReplayFault.{ReplayFault}
 use Rattle.rmi_cli.specs.declared.outlines.ReplayFault.TheVariants.{BadLine, Refused as RefusedTurn, OutOfMemory}
 use Rattle.rmi_cli.specs.declared.end.RunEnd.{RunEnd}
 use Rattle.rmi_cli.specs.declared.end.RunEnd.TheVariants as ends
-use Rattle.rmi_cli.specs.Answer.{IsOutside}
-use Rattle.rmi_cli.specs.Replay.{EventIsTaken, BeginsWith, Opens, ReplayStops, AllTaken, IsJournalUpTo, Replays}
+use Rattle.rmi_cli.specs.Answer.{IsOutsideEnd}
+use Rattle.rmi_cli.specs.Replay.{EventIsTaken, BeginsWith, OpensJournal, ReplayStops, AllTaken, IsJournalUpTo, Replays}
 use Rattle.rmi_cli.specs.declared.journal_input.TheConstants.{JOURNAL_BYTES}
 use Rattle.rmi_cli.specs.Replayed.{TakesWhole, ReplayEnds, end_of, output_of, ReplaysExactly}
-use Rattle.rmi_cli.specs.Told.{Told, TellsExactly, Tells}
+use Rattle.rmi_cli.specs.Told.{Reported, TellsExactly, TellsEnd}
 
 -- ---- stops
 
@@ -112,7 +112,7 @@ record Went (input : List ℕ) (answer : Result (List ℕ) ReplayFault) : Type 0
 
 -- Its first line spells no configuration, and this is the answer.
 abbrev IsUnopened : List ℕ → Result (List ℕ) ReplayFault → Type 0
-IsUnopened input answer = (answer ≡ Err (BadLine 1)) × ((config : SpaceConfig) (lines : List ℕ) → Opens input config lines → ⊥)
+IsUnopened input answer = (answer ≡ Err (BadLine 1)) × ((config : SpaceConfig) (lines : List ℕ) → OpensJournal input config lines → ⊥)
 
 went_or_not : (input : List ℕ) (answer : Result (List ℕ) ReplayFault) → IsKnown answer → Replays input answer → IsUnopened input answer ⊎ Went input answer
 went_or_not input (Ok output) known (config, events, (line, lines, opens, spelled, is), taken, says) =
@@ -146,7 +146,7 @@ same_answer config config2 events events2 (Err f) (Err g) c e of_a of_b same = a
 went_once : (input : List ℕ) (a b : Result (List ℕ) ReplayFault) → IsKnown a → IsKnown b → Went input a → Went input b → a ≡ b
 went_once input a b known_a known_b w v = by_opens w.up.opens v.up.opens
   where
-    by_opens : Opens input w.config w.up.lines → Opens input v.config v.up.lines → a ≡ b
+    by_opens : OpensJournal input w.config w.up.lines → OpensJournal input v.config v.up.lines → a ≡ b
     by_opens (line, opens, is) (line2, opens2, is2) =
         let same = line_injective 10 line2 line v.up.lines w.up.lines (config_lacks v.config line2 opens2) (config_lacks w.config line opens) (sym is2 ∙ is) in
         let config : v.config ≡ w.config = config_once v.config w.config line2 opens2 (subst (SpellsConfig w.config) (sym same.0) opens) in
@@ -195,10 +195,10 @@ front_short input front None is = absurd (cc)
 front_short input front (Some rest) is = let same : input ≡ front ++ rest = cc in omega (arith, ap length same, length-append front rest)
 
 -- The end is told as the answer's.
-abbrev Ends : Wires → Wires → Told → Result (List ℕ) ReplayFault → Type 0
+abbrev Ends : Wires → Wires → Reported → Result (List ℕ) ReplayFault → Type 0
 Ends old new told answer = TellsExactly told (end_of answer) × (new.left ≡ Some []) × (new.held ≡ with_end old.held (output_of answer))
 
-at_whole : (old new : Wires) (told : Told) (input taken : List ℕ) (answer mine : Result (List ℕ) ReplayFault) → old.left ≡ Some input → TakesWhole old new taken
+at_whole : (old new : Wires) (told : Reported) (input taken : List ℕ) (answer mine : Result (List ℕ) ReplayFault) → old.left ≡ Some input → TakesWhole old new taken
     → IsKnown answer → IsKnown mine → Replays input answer → Replays taken mine → TellsExactly told (end_of mine) → new.held ≡ with_end old.held (output_of mine) → Ends old new told answer
 at_whole old new told input taken answer mine left whole known known_mine replays mines tells held =
     let all = all_taken old new input taken left whole in
@@ -207,9 +207,9 @@ at_whole old new told input taken answer mine left whole known known_mine replay
     let Q : Result (List ℕ) ReplayFault → Type 0 = λ x. Ends old new told x in
     subst Q same (tells, all.1, held)
 
-within : (old new : Wires) (told : Told) (end : RunEnd) → ReplayEnds old new end → TellsExactly told end
+within : (old new : Wires) (told : Reported) (end : RunEnd) → ReplayEnds old new end → TellsExactly told end
     → (input : List ℕ) (answer : Result (List ℕ) ReplayFault) → old.left ≡ Some input → length input ≤ JOURNAL_BYTES → Replays input answer → IsKnown answer
-    → Ends old new told answer ⊎ IsOutside told.status
+    → Ends old new told answer ⊎ IsOutsideEnd told.status
 within old new told ends.Done (taken, output, whole, outlines, held) tells input answer left short replays known =
     inl (at_whole old new told input taken answer (Ok output) left whole known tt replays outlines tells held)
 within old new told ends.Usage e tells input answer left short replays known = absurd e
@@ -230,8 +230,8 @@ within old new told ends.OutOfMemory e tells input answer left short replays kno
 no_room : (old new : Wires) (input taken : List ℕ) → old.left ≡ Some input → JOURNAL_BYTES < length input → TakesWhole old new taken → ⊥
 no_room old new input taken left long whole = let all = all_taken old new input taken left whole in omega (arith, ap length all.0, whole.short, long)
 
-past : (old new : Wires) (told : Told) (end : RunEnd) → ReplayEnds old new end → TellsExactly told end → (input : List ℕ) → old.left ≡ Some input → JOURNAL_BYTES < length input
-    → (TellsExactly told (ends.TooLarge JOURNAL_BYTES) × (new.held ≡ old.held)) ⊎ IsOutside told.status
+past : (old new : Wires) (told : Reported) (end : RunEnd) → ReplayEnds old new end → TellsExactly told end → (input : List ℕ) → old.left ≡ Some input → JOURNAL_BYTES < length input
+    → (TellsExactly told (ends.TooLarge JOURNAL_BYTES) × (new.held ≡ old.held)) ⊎ IsOutsideEnd told.status
 past old new told ends.Done (taken, output, whole, outlines, held) tells input left long = absurd (no_room old new input taken left long whole)
 past old new told ends.Usage e tells input left long = absurd e
 past old new told (ends.Answered end) e tells input left long = absurd e
@@ -247,7 +247,7 @@ past old new told ends.WriteFault e tells input left long = inr (inr (inl tells.
 past old new told ends.OutOfMemory e tells input left long = inr (inr (inr tells.0))
 
 -- A replay that ended so, and was told, is exact.
-pub replays_exactly : (old new : Wires) (told : Told) (end : RunEnd) → ReplayEnds old new end → Tells told end → ReplaysExactly old new told
+pub replays_exactly : (old new : Wires) (told : Reported) (end : RunEnd) → ReplayEnds old new end → TellsEnd told end → ReplaysExactly old new told
 replays_exactly old new told end e (inl tells) = record {
   within = λ input answer left short replays known. within old new told end e tells input answer left short replays (is_known answer known);
   past = past old new told end e tells;

@@ -18,7 +18,7 @@ use Rattle.rmi_cli.specs.declared.outlines.ReplayFault.{ReplayFault}
 use Rattle.rmi_cli.specs.declared.outlines.ReplayFault.TheVariants.{BadLine, Refused as RefusedTurn, OutOfMemory}
 use Rattle.history.specs.Outline.{outline}
 use Rattle.history.specs.declared.limits.TheConstants.{END_OF_TIME}
-use Rattle.rmi_cli.specs.Replay.{EventIsTaken, TakesLines, BeginsWith, Opens, ReplayStops, Goes, AllTaken, IsJournalUpTo, Outlines, Replays}
+use Rattle.rmi_cli.specs.Replay.{EventIsTaken, TakesLines, BeginsWith, OpensJournal, ReplayStops, LinesGo, AllTaken, IsJournalUpTo, Outlines, Replays}
 use Rattle.rmi_cli.specs.Taking.{TakesLine, IsTakenTo, Halts, fault_of, TakesTo}
 
 -- ---- lines and their ends
@@ -117,7 +117,7 @@ takes_one config h h2 lines more e number (line, spells, is) (taken, after) = re
 
 -- Further lines in front.
 pub goes_on : (config : SpaceConfig) (h mid : List Event) (lines more : List ℕ) (number next : ℕ) (stop : Result (Unit {0}) ReplayFault) (h2 : List Event)
-    → TakesTo config h lines number more next mid → Goes config mid more next stop h2 → Goes config h lines number stop h2
+    → TakesTo config h lines number more next mid → LinesGo config mid more next stop h2 → LinesGo config h lines number stop h2
 goes_on config h mid lines more number next stop h2 t goes =
     let P : List Event → Type 0 = λ g. TakesLines config g goes.events goes.front in
     let Q : ℕ → Type 0 = λ n. ReplayStops config h2 goes.rest n stop in
@@ -133,7 +133,7 @@ goes_on config h mid lines more number next stop h2 t goes =
 
 -- No line is taken here.
 pub stops_here : (config : SpaceConfig) (h : List Event) (lines : List ℕ) (number : ℕ) (stop : Result (Unit {0}) ReplayFault)
-    → ReplayStops config h lines number stop → Goes config h lines number stop h
+    → ReplayStops config h lines number stop → LinesGo config h lines number stop h
 stops_here config h lines number stop stops = record {
   events = [];
   front = [];
@@ -145,21 +145,21 @@ stops_here config h lines number stop stops = record {
 }
 
 -- The first line is bad.
-pub bad_here : (config : SpaceConfig) (h h2 : List Event) (lines : List ℕ) (number : ℕ) → h2 ≡ h → lines ≢ [] → ((e : Event) → BeginsWith config lines e → ⊥) → Goes config h lines number (Err (BadLine number)) h2
+pub bad_here : (config : SpaceConfig) (h h2 : List Event) (lines : List ℕ) (number : ℕ) → h2 ≡ h → lines ≢ [] → ((e : Event) → BeginsWith config lines e → ⊥) → LinesGo config h lines number (Err (BadLine number)) h2
 bad_here config h h2 lines number same some none =
-    subst (λ (g : List Event). Goes config h lines number (Err (BadLine number)) g) (sym same) (stops_here config h lines number (Err (BadLine number)) (some, none, refl))
+    subst (λ (g : List Event). LinesGo config h lines number (Err (BadLine number)) g) (sym same) (stops_here config h lines number (Err (BadLine number)) (some, none, refl))
 
 -- There was no memory for the first line.
-pub memory_here : (config : SpaceConfig) (h h2 : List Event) (lines : List ℕ) (number : ℕ) → h2 ≡ h → Goes config h lines number (Err OutOfMemory) h2
+pub memory_here : (config : SpaceConfig) (h h2 : List Event) (lines : List ℕ) (number : ℕ) → h2 ≡ h → LinesGo config h lines number (Err OutOfMemory) h2
 memory_here config h h2 lines number same =
-    subst (λ (g : List Event). Goes config h lines number (Err OutOfMemory) g) (sym same) (stops_here config h lines number (Err OutOfMemory) tt)
+    subst (λ (g : List Event). LinesGo config h lines number (Err OutOfMemory) g) (sym same) (stops_here config h lines number (Err OutOfMemory) tt)
 
 -- The first line's event is not taken.
 pub halts_here : (config : SpaceConfig) (h h2 : List Event) (lines more : List ℕ) (e : Event) (number : ℕ) (fault : ReplayFault) → h2 ≡ h → TakesLine config lines e more → Halts config h e fault
-    → Goes config h lines number (Err fault) h2
+    → LinesGo config h lines number (Err fault) h2
 halts_here config h h2 lines more e number (BadLine n) same t halt = absurd halt
 halts_here config h h2 lines more e number RefusedTurn same (line, spells, is) cause =
-    subst (λ (g : List Event). Goes config h lines number (Err RefusedTurn) g) (sym same) (stops_here config h lines number (Err RefusedTurn) (e, (line, more, spells, is), cause))
+    subst (λ (g : List Event). LinesGo config h lines number (Err RefusedTurn) g) (sym same) (stops_here config h lines number (Err RefusedTurn) (e, (line, more, spells, is), cause))
 halts_here config h h2 lines more e number OutOfMemory same t halt = memory_here config h h2 lines number same
 
 -- ---- the first of some lines
@@ -177,12 +177,12 @@ no_event config uid lines line rest here lacks is none e (line2, rest2, spelled,
 
 -- The input's first line spells no configuration.
 pub no_config : (input line rest : List ℕ) → Lacks 10 line → input ≡ line ++ 10 ∷ rest
-    → ((config : SpaceConfig) → SpellsConfig config line → ⊥) → (config : SpaceConfig) (lines : List ℕ) → Opens input config lines → ⊥
+    → ((config : SpaceConfig) → SpellsConfig config line → ⊥) → (config : SpaceConfig) (lines : List ℕ) → OpensJournal input config lines → ⊥
 no_config input line rest lacks is none config lines (line2, spelled, is2) =
     let same = same_line line line2 rest lines lacks (config_lacks config line2 spelled) (sym is ∙ is2) in
     none config (subst (SpellsConfig config) (sym same.line) spelled)
 
-pub no_first_line : (input : List ℕ) → Lacks 10 input → (config : SpaceConfig) (lines : List ℕ) → Opens input config lines → ⊥
+pub no_first_line : (input : List ℕ) → Lacks 10 input → (config : SpaceConfig) (lines : List ℕ) → OpensJournal input config lines → ⊥
 no_first_line input lacks config lines (line, spelled, is) = no_line input line lines lacks is
 
 -- ---- the whole input
@@ -198,14 +198,14 @@ to_taken config h [] front t = tt
 to_taken config h (e ∷ events) front (line, more, spells, taken, others, front_is) = (taken, to_taken config (h ++ e ∷ []) events more others)
 
 -- All lines were taken.
-pub outlined : (input : List ℕ) (config : SpaceConfig) (lines output : List ℕ) (h2 : List Event) → Opens input config lines → Goes config [] lines 2 (Ok tt) h2 → output ≡ outline config h2
+pub outlined : (input : List ℕ) (config : SpaceConfig) (lines output : List ℕ) (h2 : List Event) → OpensJournal input config lines → LinesGo config [] lines 2 (Ok tt) h2 → output ≡ outline config h2
     → Outlines input output
 outlined input config lines output h2 (first, opens, is) goes text =
     let spelled = to_front config [] goes.events goes.front goes.rest lines goes.taken goes.lines_are in
     let P : List ℕ → Type 0 = λ r. SpellsFront config.uid goes.events lines r in
     (config, goes.events, (first, lines, opens, subst P goes.stops spelled, is), to_taken config [] goes.events goes.front goes.taken, text ∙ ap (outline config) goes.after)
 
-up_to : (input : List ℕ) (config : SpaceConfig) (lines : List ℕ) (stop : Result (Unit {0}) ReplayFault) (h2 : List Event) → Opens input config lines → (goes : Goes config [] lines 2 stop h2)
+up_to : (input : List ℕ) (config : SpaceConfig) (lines : List ℕ) (stop : Result (Unit {0}) ReplayFault) (h2 : List Event) → OpensJournal input config lines → (goes : LinesGo config [] lines 2 stop h2)
     → IsJournalUpTo input config goes.events goes.rest
 up_to input config lines stop h2 opens goes = record {
   lines = lines;
@@ -215,7 +215,7 @@ up_to input config lines stop h2 opens goes = record {
 }
 
 -- A line was not taken.
-pub not_all : (input : List ℕ) (config : SpaceConfig) (lines : List ℕ) (fault : ReplayFault) (h2 : List Event) → Opens input config lines → Goes config [] lines 2 (Err fault) h2
+pub not_all : (input : List ℕ) (config : SpaceConfig) (lines : List ℕ) (fault : ReplayFault) (h2 : List Event) → OpensJournal input config lines → LinesGo config [] lines 2 (Err fault) h2
     → Replays input (Err fault)
 not_all input config lines (BadLine n) h2 opens goes =
     inr (config, goes.events, goes.rest, up_to input config lines (Err (BadLine n)) h2 opens goes, (goes.stops.0, goes.stops.1), goes.stops.2)

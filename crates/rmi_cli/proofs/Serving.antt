@@ -11,11 +11,11 @@ use Rattle.call_dispatch.specs.declared.outcome.Outcome.{Outcome}
 use Rattle.call_dispatch.specs.declared.end.ConnEnd.{ConnEnd}
 use Rattle.call_dispatch.specs.declared.end.ConnEnd.TheVariants.{OutOfMemory}
 use Rattle.call_dispatch.specs.Terms.{Terms}
-use Rattle.call_dispatch.specs.Acts.{Act, Call, States, entries, calls, Moves, Leads as WorkerLeads}
+use Rattle.call_dispatch.specs.Acts.{Act, Call, States, entries, calls, Moves, LeadsStates as WorkerLeads}
 use Rattle.call_dispatch.specs.Spot.{Spot, Course, took}
 use Rattle.call_dispatch.specs.Dialogue.{nothing, Dialogue}
 use Rattle.call_dispatch.specs.Tape.{Tick, tape}
-use Rattle.call_dispatch.specs.Progress.{Served, Settles}
+use Rattle.call_dispatch.specs.Progress.{IsServedFrom, Settles}
 use Rattle.sample_app.specs.Opened.{sample_events}
 use Rattle.sample_app.specs.Does as sample
 use Rattle.rmi_cli.specs.Answer.{answer_terms, IsOnly, ServesOne, ServesExactly}
@@ -58,7 +58,7 @@ counted_is before after numbers numbers2 told is none is2 leads =
 -- A connection that was served on the terms of the seed, over the sample space and by a sample worker that had counted nothing.
 pub serves_one : (seed : List ℕ) (given : ServedTerms) (terms : Terms) (start now : Spot) (by : ℕ) (s s2 : SpaceHistory) (numbers numbers2 : States) (end : ConnEnd)
     → terms ≡ answer_terms seed given.binding → start.drawn ≡ 0 → start.side.asked ≡ [] → by ≡ 1
-    → s ≡ served_opening seed given → Leads by s start.side.asked s2 now.side.asked → Served sample.May sample.Moves terms start now end
+    → s ≡ served_opening seed given → Leads by s start.side.asked s2 now.side.asked → IsServedFrom sample.May sample.Moves terms start now end
     → start.side.state ≡ Some numbers → numbers ≡ [] → now.side.state ≡ Some numbers2
     → ServesOne seed given start.wires now.wires start.side.given now.side.given end
 serves_one seed given terms start now by s s2 numbers numbers2 end same none empty one opened leads served told uncounted told2 = record {
@@ -77,7 +77,7 @@ serves_one seed given terms start now by s s2 numbers numbers2 end same none emp
 
 -- It went as each settled dialogue of its input says that has no acts.
 pub serves_exactly : (may : Invocation → Outcome → Type 0) (moves : States → Call → States → Type 0) (seed : List ℕ) (given : ServedTerms) (terms : Terms) (start now : Spot) (result : ConnEnd)
-    → terms ≡ answer_terms seed given.binding → start.drawn ≡ 0 → Served may moves terms start now result → ServesExactly seed given start.wires now.wires result
+    → terms ≡ answer_terms seed given.binding → start.drawn ≡ 0 → IsServedFrom may moves terms start now result → ServesExactly seed given start.wires now.wires result
 unfolding ServesExactly
 serves_exactly may moves seed given terms start now result same none served other rest end told dialogue quiet settled settled2 =
     let ticks : List Tick = tape served.course.acts in

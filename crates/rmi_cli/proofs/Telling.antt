@@ -4,11 +4,11 @@ use Rattle.std.specs.Prelude.{OnOk, IfErr}
 use Rattle.wire_io.specs.Wire.{with_end, Rose}
 use Rattle.wire_io.specs.declared.put.PutFault.{PutFault}
 use Rattle.rmi_cli.specs.Line.{line_of, status_of_run}
-use Rattle.rmi_cli.specs.Told.{Told, Took, told_line, Tells}
+use Rattle.rmi_cli.specs.Told.{Reported, Took, told_line, TellsEnd}
 use Rattle.rmi_cli.specs.declared.end.RunEnd.{RunEnd}
 use Rattle.rmi_cli.specs.declared.end.RunEnd.TheVariants.{Usage, Answered, Done, BadLine, Refused, TooLarge, NotShown, ListenFault, AcceptFault, ReadFault, WriteFault, OutOfMemory}
 
-pub took : (result : Result (Unit {0}) PutFault) (told : Told) (bytes : List ℕ) → OnOk result (told.after ≡ with_end told.before bytes)
+pub took : (result : Result (Unit {0}) PutFault) (told : Reported) (bytes : List ℕ) → OnOk result (told.after ≡ with_end told.before bytes)
     → IfErr result (λ e. (e.sent < length bytes) × (told.after ≡ with_end told.before (take e.sent bytes)))
     → IfErr result (λ e. Rose told.faults_before told.faults_after) → Took told bytes
 took (Ok u) told bytes ok sent fault = inl ok
@@ -30,9 +30,9 @@ line_told WriteFault not = refl
 line_told OutOfMemory not = refl
 
 -- The line of an end was written.
-pub told_so : (told : Told) (end : RunEnd) (bytes : List ℕ) → end ≢ Done → bytes ≡ line_of end ++ 10 ∷ [] → told.status ≡ status_of_run end → Took told bytes → Tells told end
+pub told_so : (told : Reported) (end : RunEnd) (bytes : List ℕ) → end ≢ Done → bytes ≡ line_of end ++ 10 ∷ [] → told.status ≡ status_of_run end → Took told bytes → TellsEnd told end
 told_so told end bytes not is status took = inl (status, subst (Took told) (is ∙ sym (line_told end not)) took)
 
 -- In its place, that there was no memory for it.
-pub told_wanting : (told : Told) (end : RunEnd) → end ≢ Done → told.status ≡ 5 → Took told (told_line OutOfMemory) → Tells told end
+pub told_wanting : (told : Reported) (end : RunEnd) → end ≢ Done → told.status ≡ 5 → Took told (told_line OutOfMemory) → TellsEnd told end
 told_wanting told end not status took = inr (not, (status, took))

@@ -12,11 +12,13 @@ use Rattle.call_dispatch.specs.Acts.{States, entries, moments, calls, MayAll, Mo
 use Rattle.call_dispatch.specs.Tape.{Tick, tape}
 use Rattle.call_dispatch.specs.Spot.{Course}
 use Rattle.call_dispatch.specs.Dialogue.{Dialogue}
+use Rattle.call_dispatch.specs.declared.setup.TheConstants.{DRAWS_BEGIN_BELOW}
 use Rattle.sample_app.specs.Kinds.{sample_kinds}
 use Rattle.sample_app.specs.Opened.{sample_events}
 use Rattle.sample_app.specs.Does as sample
-use Rattle.rmi_cli.specs.Opening.{low_signed, served_space}
-use Rattle.rmi_cli.specs.Told.{Told, TellsExactly, Tells}
+use Rattle.conn_server.specs.Plans.{low_signed}
+use Rattle.rmi_cli.specs.Opening.{served_space}
+use Rattle.rmi_cli.specs.Told.{Reported, TellsExactly, TellsEnd}
 use Rattle.rmi_cli.specs.declared.end.RunEnd.TheVariants.{Answered}
 use Rattle.rmi_cli.specs.declared.terms.Terms.{Terms as ServedTerms}
 
@@ -32,7 +34,7 @@ answer_terms seed binding = record {
   binding = binding;
   mark = to_be_bytes w64 (slice_index seed 2);
   unique = low_signed ((slice_index seed 0 + 1) % 2 ^ 64);
-  time = pos (slice_index seed 1 % 2 ^ 61);
+  time = pos (slice_index seed 1 % DRAWS_BEGIN_BELOW);
   kinds = sample_kinds;
 }
 
@@ -66,16 +68,16 @@ ServesExactly seed terms old new result = (other : Course) (rest : List ℕ) (en
     → (result ≡ end) × (new.left ≡ Some rest) × (new.held ≡ with_end old.held other.written)
 
 -- One connection was served, and its end is told.
-abbrev pub Answers : List ℕ → ServedTerms → Wires → Wires → Option (List ℕ) → Option (List ℕ) → Told → Type 0
-Answers seed terms old new given given2 told = (end : ConnEnd) × ServesOne seed terms old new given given2 end × Tells told (Answered end)
+abbrev pub Answers : List ℕ → ServedTerms → Wires → Wires → Option (List ℕ) → Option (List ℕ) → Reported → Type 0
+Answers seed terms old new given given2 told = (end : ConnEnd) × ServesOne seed terms old new given given2 end × TellsEnd told (Answered end)
 
 -- The outside failed: reading, writing or memory.
-abbrev pub IsOutside : ℕ → Type 0
-IsOutside status = (status ≡ 3) ⊎ ((status ≡ 4) ⊎ (status ≡ 5))
+abbrev pub IsOutsideEnd : ℕ → Type 0
+IsOutsideEnd status = (status ≡ 3) ⊎ ((status ≡ 4) ⊎ (status ≡ 5))
 
 -- Where a settled dialogue that neither makes a turn nor invokes anything stands for the input that was told, it is the one that was had: its
 -- rest is left, its output was written, and its end is told; unless the outside failed.
-unfoldable pub AnswersExactly : List ℕ → ServedTerms → Wires → Wires → Told → Type 0
+unfoldable pub AnswersExactly : List ℕ → ServedTerms → Wires → Wires → Reported → Type 0
 AnswersExactly seed terms old new told = (other : Course) (rest : List ℕ) (end : ConnEnd)
     → old.left ≡ Some (other.taken ++ rest) → Dialogue (answer_terms seed terms.binding) 0 other (Some rest) end → other.acts ≡ [] → IsSettled end
-    → (TellsExactly told (Answered end) × (new.left ≡ Some rest) × (new.held ≡ with_end old.held other.written)) ⊎ IsOutside told.status
+    → (TellsExactly told (Answered end) × (new.left ≡ Some rest) × (new.held ≡ with_end old.held other.written)) ⊎ IsOutsideEnd told.status

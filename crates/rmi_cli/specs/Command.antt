@@ -7,6 +7,7 @@ use Rattle.rmi_cli.specs.declared.words.Command.{Command}
 use Rattle.rmi_cli.specs.declared.words.Command.TheVariants.{Answer, Serve, Replay, Show, Drill}
 use Rattle.rmi_cli.specs.declared.words.DrillText.{DrillText}
 use Rattle.rmi_cli.specs.declared.words.DrillText.TheVariants.{Summary, Journal}
+use Rattle.rmi_cli.specs.declared.numbers.TheConstants.{MAX_ROUNDS}
 
 -- These words are a word alone.
 abbrev pub IsWord : List (List ℕ) → List ℕ → Type 0
@@ -36,7 +37,7 @@ pub record IsServe (serve : ServeWords) (words : List (List ℕ)) : Type 0 where
 pub record AreInRange (seed rounds : ℕ) : Type 0 where
   pub seed_fits : seed < 2 ^ 63
   pub some : 1 ≤ rounds
-  pub most : rounds ≤ 1000000
+  pub most : rounds ≤ MAX_ROUNDS
 
 -- These words are a word, and the numbers of a drill: its seed, then its rounds.
 pub record IsWordOfDrill (words : List (List ℕ)) (word : List ℕ) (seed rounds : ℕ) : Type 0 where

@@ -11,7 +11,7 @@ use Rattle.history.specs.Table.{places}
 use Rattle.journal.specs.Written.{journal_text}
 use Rattle.drill.specs.Rounds.{drill_config, drilled}
 use Rattle.rmi_cli.specs.Replay.{AllTaken}
-use Rattle.rmi_cli.specs.Told.{Told, TellsExactly, Tells}
+use Rattle.rmi_cli.specs.Told.{Reported, TellsExactly, TellsEnd}
 use Rattle.rmi_cli.specs.declared.words.DrillText.{DrillText}
 use Rattle.rmi_cli.specs.declared.words.DrillText.TheVariants.{Summary, Journal}
 use Rattle.rmi_cli.specs.declared.end.RunEnd.{RunEnd}
@@ -69,9 +69,9 @@ DrillEnds seed rounds text held held2 WriteFault =
 DrillEnds seed rounds text held held2 OutOfMemory = held2 ≡ held
 
 -- A drill was made, which is told, and nothing was read.
-abbrev pub Drills : DrillText → ℕ → ℕ → Wires → Wires → Told → Type 0
+abbrev pub Drills : DrillText → ℕ → ℕ → Wires → Wires → Reported → Type 0
 Drills text seed rounds old new told =
-    (end : RunEnd) × DrillEnds seed rounds (drill_text text seed rounds) old.held new.held end × Tells told end × (new.left ≡ old.left)
+    (end : RunEnd) × DrillEnds seed rounds (drill_text text seed rounds) old.held new.held end × TellsEnd told end × (new.left ≡ old.left)
 
 -- The output or memory failed.
 abbrev pub HasFailed : ℕ → Type 0
@@ -79,6 +79,6 @@ HasFailed status = (status ≡ 4) ⊎ (status ≡ 5)
 
 -- Where a drill's events are all taken, its text was written; where one is refused, that is told, and nothing was written. Unless the
 -- output or memory failed.
-pub record DrillsExactly (text : DrillText) (seed rounds : ℕ) (old new : Wires) (told : Told) : Type 0 where
+pub record DrillsExactly (text : DrillText) (seed rounds : ℕ) (old new : Wires) (told : Reported) : Type 0 where
   pub all : TakesAll seed rounds → (TellsExactly told Done × (new.held ≡ with_end old.held (drill_text text seed rounds))) ⊎ HasFailed told.status
   pub stopped : IsStopped seed rounds → (TellsExactly told RefusedTurn × (new.held ≡ old.held)) ⊎ HasFailed told.status

@@ -3,6 +3,7 @@ use Rattle.std.specs.Prelude.{◌≤◌}
 use Rattle.rmi_cli.specs.Terms.{IsInRange, IsServed}
 use Rattle.rmi_cli.specs.declared.words.Command.{Command}
 use Rattle.rmi_cli.specs.declared.words.Command.TheVariants.{Answer, Serve, Replay, Show, Drill}
+use Rattle.rmi_cli.specs.declared.numbers.TheConstants.{MAX_ROUNDS}
 
 -- What the command is told is in its limits.
 abbrev pub IsInLimits : Command → Type 0
@@ -10,4 +11,4 @@ IsInLimits (Answer terms) = IsInRange terms
 IsInLimits (Serve serve) = IsServed serve
 IsInLimits Replay = Unit {0}
 IsInLimits Show = Unit {0}
-IsInLimits (Drill text seed rounds) = rounds ≤ 1000000
+IsInLimits (Drill text seed rounds) = rounds ≤ MAX_ROUNDS

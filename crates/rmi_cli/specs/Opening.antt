@@ -1,21 +1,18 @@
 -- The sample space that connections are served over, by the seed of the run and the terms.
-use Rattle.std.specs.Prelude.{ℕ, ◌%◌, ◌^◌, ℤ, pos, List, slice_index}
-use Rattle.std.specs.Int.{w32, cast_signed}
+use Rattle.std.specs.Prelude.{ℕ, ◌%◌, pos, List, slice_index}
+use Rattle.call_dispatch.specs.declared.setup.TheConstants.{DRAWS_BEGIN_BELOW}
 use Rattle.history.specs.declared.asks.SpaceConfig.{SpaceConfig}
 use Rattle.space.specs.Built.{SpaceHistory}
+use Rattle.conn_server.specs.Plans.{low_signed}
 use Rattle.sample_app.specs.Opened.{sample_events}
 use Rattle.rmi_cli.specs.declared.terms.Terms.{Terms}
-
--- the low 32 bits of a word, as a signed number
-abbrev pub low_signed : ℕ → ℤ
-low_signed word = cast_signed w32 (word % 2 ^ 32)
 
 -- What the space keeps to: the lease and the wait for an acknowledgement are those of the terms, and the identifier is made from the seed.
 abbrev pub served_space : List ℕ → Terms → SpaceConfig
 served_space seed terms = record {
   lease_ms = terms.lease_ms;
   ack_ms = terms.ack_ms;
-  uid = record { unique = low_signed (slice_index seed 2); time = pos (slice_index seed 3 % 2 ^ 61); count = pos 0 };
+  uid = record { unique = low_signed (slice_index seed 2); time = pos (slice_index seed 3 % DRAWS_BEGIN_BELOW); count = pos 0 };
 }
 
 -- The space as it was opened: an object of each of the sample's kinds, and their names.

@@ -39,7 +39,7 @@ ReplayStops config h lines number (Err RefusedTurn) = (e : Event) × BeginsWith 
 ReplayStops config h lines number (Err OutOfMemory) = Unit {0}
 
 -- After the history h these lines, the first of which has this number, are taken up to a stop, which leaves the history h2.
-pub record Goes (config : SpaceConfig) (h : List Event) (lines : List ℕ) (number : ℕ) (stop : Result (Unit {0}) ReplayFault) (h2 : List Event) : Type 0 where
+pub record LinesGo (config : SpaceConfig) (h : List Event) (lines : List ℕ) (number : ℕ) (stop : Result (Unit {0}) ReplayFault) (h2 : List Event) : Type 0 where
   pub events : List Event
   pub front : List ℕ
   pub rest : List ℕ
@@ -51,8 +51,8 @@ pub record Goes (config : SpaceConfig) (h : List Event) (lines : List ℕ) (numb
 -- ---- the whole input
 
 -- The input's first line spells the configuration, and these lines follow.
-abbrev pub Opens : List ℕ → SpaceConfig → List ℕ → Type 0
-Opens input config lines = (line : List ℕ) × SpellsConfig config line × (input ≡ line ++ 10 ∷ lines)
+abbrev pub OpensJournal : List ℕ → SpaceConfig → List ℕ → Type 0
+OpensJournal input config lines = (line : List ℕ) × SpellsConfig config line × (input ≡ line ++ 10 ∷ lines)
 
 -- After the history h these events are all taken, one after another.
 abbrev pub AllTaken : SpaceConfig → List Event → List Event → Type 0
@@ -62,7 +62,7 @@ AllTaken config h (e ∷ events) = EventIsTaken config h e × AllTaken config (w
 -- The input is a journal up to this rest: of this configuration and of these events, which are all taken.
 pub record IsJournalUpTo (input : List ℕ) (config : SpaceConfig) (events : List Event) (rest : List ℕ) : Type 0 where
   pub lines : List ℕ
-  pub opens : Opens input config lines
+  pub opens : OpensJournal input config lines
   pub spelled : SpellsFront config.uid events lines rest
   pub taken : AllTaken config [] events
 
@@ -74,12 +74,12 @@ Outlines input output =
 -- The first bad line: the first line of all, which is number 1, or one after lines that were all taken.
 abbrev pub IsBadLine : List ℕ → ℕ → Type 0
 IsBadLine input number =
-    ((number ≡ 1) × ((config : SpaceConfig) (lines : List ℕ) → Opens input config lines → ⊥))
+    ((number ≡ 1) × ((config : SpaceConfig) (lines : List ℕ) → OpensJournal input config lines → ⊥))
     ⊎ ((config : SpaceConfig) × (events : List Event) × (rest : List ℕ) × IsJournalUpTo input config events rest × FirstLineIsBad config rest × (number ≡ 2 + length events))
 
 -- A turn is refused after lines that were all taken.
-abbrev pub IsRefused : List ℕ → Type 0
-IsRefused input =
+abbrev pub IsTurnRefused : List ℕ → Type 0
+IsTurnRefused input =
     (config : SpaceConfig) × (events : List Event) × (rest : List ℕ) × IsJournalUpTo input config events rest
     × ((e : Event) × BeginsWith config rest e × ((cause : Refused) × (refusal limits config (places config events) e ≡ Some cause)))
 
@@ -87,5 +87,5 @@ IsRefused input =
 abbrev pub Replays : List ℕ → Result (List ℕ) ReplayFault → Type 0
 Replays input (Ok output) = Outlines input output
 Replays input (Err (BadLine line)) = IsBadLine input line
-Replays input (Err RefusedTurn) = IsRefused input
+Replays input (Err RefusedTurn) = IsTurnRefused input
 Replays input (Err OutOfMemory) = Unit {0}

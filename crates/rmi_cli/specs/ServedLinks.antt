@@ -21,7 +21,7 @@ use Rattle.conn_server.specs.declared.jobs.LinkReport.{LinkReport}
 use Rattle.conn_server.specs.declared.plan.ServePlan.{ServePlan}
 use Rattle.conn_server.specs.declared.server.Report.{Report}
 use Rattle.rmi_cli.specs.Opening.{served_opening}
-use Rattle.rmi_cli.specs.Told.{Told, Tells}
+use Rattle.rmi_cli.specs.Told.{Reported, TellsEnd}
 use Rattle.rmi_cli.specs.declared.terms.ServeWords.{ServeWords}
 use Rattle.rmi_cli.specs.declared.end.RunEnd.{RunEnd}
 use Rattle.rmi_cli.specs.declared.end.RunEnd.TheVariants.{Done, ListenFault, AcceptFault, WriteFault, OutOfMemory}
@@ -95,10 +95,10 @@ ListensAlone port old new (Some served) = new.ports ≡ with_next old.ports port
 -- The run of `serve` by its seed and words, and by what it left as served, which tells of the links' sources and sinks as they are left; and the end
 -- that is told, where the output had failed so often before and after. Nothing was read.
 pub record Serving {I O T H : Type 0} (IsLink : ℕ → Accepted × Asked → LinkReport I O T H → Type 0) (seed : List ℕ) (serve : ServeWords) (served : Option (Report I O T H))
-    (heard heard2 : Heard) (old new : Wires) (faults faults2 : ℕ) (told : Told) : Type 0 where
+    (heard heard2 : Heard) (old new : Wires) (faults faults2 : ℕ) (told : Reported) : Type 0 where
   pub alone : ListensAlone serve.port heard heard2 served
   pub links : IfSome served (ServesLinks IsLink (served_opening seed serve.terms) serve.count heard.accepted heard2.accepted)
   pub end : RunEnd
   pub ends : ServeEnds old.held new.held faults faults2 served end
-  pub tells : Tells told end
+  pub tells : TellsEnd told end
   pub unread : new.left ≡ old.left

@@ -16,9 +16,9 @@ use Rattle.ser_read.specs.declared.fault.StreamKind.TheVariants as kinds
 use Rattle.ser_read.specs.Here.{Fails}
 use Rattle.ser_read.specs.Whole.{stream_at, going_on, BreaksWhole}
 use Rattle.graph_text.specs.GraphText.{graph_text}
-use Rattle.rmi_cli.specs.Answer.{IsOutside}
+use Rattle.rmi_cli.specs.Answer.{IsOutsideEnd}
 use Rattle.rmi_cli.specs.Line.{status_of_run}
-use Rattle.rmi_cli.specs.Told.{Told, TellsExactly, Tells}
+use Rattle.rmi_cli.specs.Told.{Reported, TellsExactly, TellsEnd}
 use Rattle.rmi_cli.specs.declared.end.RunEnd.{RunEnd}
 use Rattle.rmi_cli.specs.declared.end.RunEnd.TheVariants.{Done, Usage, Answered, BadLine, Refused, TooLarge, NotShown, ListenFault, AcceptFault, ReadFault, WriteFault, OutOfMemory}
 
@@ -65,8 +65,8 @@ ShowEnds old new WriteFault =
 ShowEnds old new OutOfMemory = (nodes : List Node) × (items : List Item) × TakesGraph old.left new.left nodes items × (new.held ≡ old.held)
 
 -- The input was shown to an end, which is told.
-abbrev pub ShowsInput : Wires → Wires → Told → Type 0
-ShowsInput old new told = (end : RunEnd) × ShowEnds old new end × Tells told end
+abbrev pub ShowsInput : Wires → Wires → Reported → Type 0
+ShowsInput old new told = (end : RunEnd) × ShowEnds old new end × TellsEnd told end
 
 -- How what is wrong in the bytes of a stream is named.
 abbrev pub told_kind : FaultKind → StreamKind
@@ -93,17 +93,17 @@ told_fault after (too_deep at) = faults.TooLarge Depth at
 -- failed, by the status. `Ends` says that the run ended so.
 pub record ExactlyShown (Ends : RunEnd → Type 0) (status : ℕ) (old new : Wires) : Type 0 where
   pub stream : (nodes : List Node) (items : List Item) (input : List ℕ) → old.left ≡ Some input → length input ≤ MESSAGE_BYTES → IsStream nodes items input
-      → (Ends Done × (new.left ≡ Some []) × (new.held ≡ with_end old.held (graph_text nodes items))) ⊎ IsOutside status
+      → (Ends Done × (new.left ≡ Some []) × (new.held ≡ with_end old.held (graph_text nodes items))) ⊎ IsOutsideEnd status
   pub within : (input : List ℕ) (fault : Fault) → old.left ≡ Some input → length input ≤ MESSAGE_BYTES → stream_of input ≡ Err fault
-      → (Ends (NotShown (told_fault (faults.Truncated (length input)) fault)) × (new.held ≡ old.held)) ⊎ IsOutside status
+      → (Ends (NotShown (told_fault (faults.Truncated (length input)) fault)) × (new.held ≡ old.held)) ⊎ IsOutsideEnd status
   pub past : (input : List ℕ) (fault : Fault) → old.left ≡ Some input → MESSAGE_BYTES < length input
       → going_on (stream_at MESSAGE_BYTES (take MESSAGE_BYTES input)) ≡ Err fault
-      → (Ends (NotShown (told_fault (faults.TooLarge Bytes MESSAGE_BYTES) fault)) × (new.held ≡ old.held)) ⊎ IsOutside status
+      → (Ends (NotShown (told_fault (faults.TooLarge Bytes MESSAGE_BYTES) fault)) × (new.held ≡ old.held)) ⊎ IsOutsideEnd status
 
 -- The end is this one.
 abbrev pub EndsExactly : Wires → Wires → RunEnd → Type 0
 EndsExactly old new result = ExactlyShown (λ end. result ≡ end) (status_of_run result) old new
 
 -- The end is told.
-abbrev pub ShowsExactly : Wires → Wires → Told → Type 0
+abbrev pub ShowsExactly : Wires → Wires → Reported → Type 0
 ShowsExactly old new told = ExactlyShown (TellsExactly told) told.status old new

@@ -1,5 +1,6 @@
 -- The terms on which a space is served, as the words may give them.
 use Rattle.std.specs.Prelude.{◌≡◌, ℕ, ◌≤◌, Bool, true, false, Option, Some, None, List, length, codes, decimal, slice_get}
+use Rattle.conn_server.specs.declared.plan.TheConstants.{MAX_LINKS}
 use Rattle.history.specs.declared.limits.TheConstants.{MAX_DURATION}
 use Rattle.rmi_cli.specs.declared.terms.Terms.{Terms}
 use Rattle.rmi_cli.specs.declared.terms.ServeWords.{ServeWords}
@@ -20,7 +21,7 @@ pub record IsServed (serve : ServeWords) : Type 0 where
   pub port : 1 ≤ serve.port
   pub port_fits : serve.port ≤ 65535
   pub count : 1 ≤ serve.count
-  pub count_fits : serve.count ≤ 65535
+  pub count_fits : serve.count ≤ MAX_LINKS
   pub terms : IsInRange serve.terms
 
 -- Whether clients may bind names is told by a word; where there is none, it is the default.

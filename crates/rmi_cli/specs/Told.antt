@@ -6,7 +6,7 @@ use Rattle.rmi_cli.specs.declared.end.RunEnd.{RunEnd}
 use Rattle.rmi_cli.specs.declared.end.RunEnd.TheVariants.{Usage, Answered, Done, BadLine, Refused, TooLarge, NotShown, ListenFault, AcceptFault, ReadFault, WriteFault, OutOfMemory}
 
 -- What a run answered, and what it did to the errors' sink: what that held, where it tells it, and its count of faults, before and after.
-pub record Told : Type 0 where
+pub record Reported : Type 0 where
   pub status : ℕ
   pub before : Option (List ℕ)
   pub after : Option (List ℕ)
@@ -14,19 +14,19 @@ pub record Told : Type 0 where
   pub faults_after : ℕ
 
 -- the same of a sink
-abbrev pub told_by : {E : Type 0} → (E → Option (List ℕ)) → (E → ℕ) → E → E → ℕ → Told
+abbrev pub told_by : {E : Type 0} → (E → Option (List ℕ)) → (E → ℕ) → E → E → ℕ → Reported
 told_by held faults before after status =
     record { status = status; before = held before; after = held after; faults_before = faults before; faults_after = faults after }
 
 -- The errors' sink failed after it took exactly a front of these bytes.
-pub record TookFront (told : Told) (bytes : List ℕ) : Type 0 where
+pub record TookFront (told : Reported) (bytes : List ℕ) : Type 0 where
   pub sent : ℕ
   pub less : sent < length bytes
   pub held : told.after ≡ with_end told.before (take sent bytes)
   pub rose : Rose told.faults_before told.faults_after
 
 -- The errors' sink took exactly these bytes, or failed after a front of them.
-abbrev pub Took : Told → List ℕ → Type 0
+abbrev pub Took : Reported → List ℕ → Type 0
 Took told bytes = (told.after ≡ with_end told.before bytes) ⊎ TookFront told bytes
 
 -- The line of an end, with its LF. No line tells that all was done.
@@ -45,9 +45,9 @@ told_line WriteFault = line_of WriteFault ++ 10 ∷ []
 told_line OutOfMemory = line_of OutOfMemory ++ 10 ∷ []
 
 -- The status is the end's, and the line is its line.
-abbrev pub TellsExactly : Told → RunEnd → Type 0
+abbrev pub TellsExactly : Reported → RunEnd → Type 0
 TellsExactly told end = (told.status ≡ status_of_run end) × Took told (told_line end)
 
 -- So an end is told; where it has a line for which there is no memory, want of memory is told in its place.
-abbrev pub Tells : Told → RunEnd → Type 0
-Tells told end = TellsExactly told end ⊎ ((end ≢ Done) × TellsExactly told OutOfMemory)
+abbrev pub TellsEnd : Reported → RunEnd → Type 0
+TellsEnd told end = TellsExactly told end ⊎ ((end ≢ Done) × TellsExactly told OutOfMemory)

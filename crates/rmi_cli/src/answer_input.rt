@@ -8,9 +8,10 @@ ghost use Rattle.rmi_cli.specs.Answer.{answer_terms, ServesOne, ServesExactly};
 ghost use Rattle.rmi_cli.specs.Opening.{served_opening};
 ghost use Rattle.rmi_cli.specs.Terms.{IsInRange};
 
-use crate::opening::{low_half, moment_of, opened_space};
+use crate::opening::opened_space;
 use crate::terms::Terms;
 use call_dispatch::{Book, ConnEnd, Setup, serve_connection};
+use conn_server::plan::{low_half, moment_of};
 use mod_utf::list::Units;
 use object_ids::UidDraw;
 use sample_app::{SampleWorker, sample_book};

@@ -4,6 +4,7 @@ ghost use Rattle.wire_io.specs.Wire.{Rose};
 ghost use Rattle.drill.specs.Rounds.{drill_config, drilled};
 ghost use Rattle.rmi_cli.specs.Drilled.{text_of, drill_text, TakesAll, DrillStops, end_of_refused, DrillEnds};
 ghost use Rattle.rmi_cli.specs.Line.{status_of_run};
+ghost use Rattle.rmi_cli.specs.declared.numbers.TheConstants.{MAX_ROUNDS};
 
 use crate::end::RunEnd;
 use crate::words::DrillText;
@@ -23,7 +24,7 @@ pub fn write_drill<K: Sink>(
     seed: u64,
     rounds: u64,
 ) -> RunEnd
-    requires { rounds ≤ 1000000 }
+    requires { rounds ≤ MAX_ROUNDS }
     ensures ends { DrillEnds seed rounds (drill_text text seed rounds) (K.held sink.old) (K.held sink.new) result }
     ensures known { status_of_run result ≢ 1 }
     ensures unread { status_of_run result ≢ 3 }
@@ -45,7 +46,7 @@ pub fn write_drill<K: Sink>(
 
 /// The space that takes the events of a drill.
 fn drilled_space(alloc: Global, seed: u64, rounds: u64) -> Result<Space, Refused>
-    requires { rounds ≤ 1000000 }
+    requires { rounds ≤ MAX_ROUNDS }
     ensures space { IfOk result (λ space. space ≡ record { configuration = drill_config; events = drilled seed rounds }) }
     ensures all { IfOk result (λ _. TakesAll seed rounds) }
     ensures refused { IfErr result (DrillStops seed rounds) }

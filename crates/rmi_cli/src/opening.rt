@@ -1,10 +1,10 @@
 //! The sample space that connections are served over.
-ghost use Rattle.std.specs.Prelude.{◌≡◌, ◌%◌, ◌^◌, IfOk};
-ghost use Rattle.rmi_cli.specs.Opening.{low_signed, served_space, served_opening};
+ghost use Rattle.std.specs.Prelude.{◌≡◌, IfOk};
+ghost use Rattle.rmi_cli.specs.Opening.{served_space, served_opening};
 ghost use Rattle.rmi_cli.specs.Terms.{IsInRange};
 
 use crate::terms::Terms;
-use conn_server::plan::MOMENTS;
+use conn_server::plan::{low_half, moment_of};
 use object_ids::Uid;
 use sample_app::sample_space;
 use space::{Space, SpaceConfig};
@@ -38,18 +38,4 @@ fn config_of(seed: &[u64; 4], terms: Terms) -> SpaceConfig
             count: 0,
         },
     }
-}
-
-/// The moment that a word of the seed gives, which is below 2^61.
-pub(crate) fn moment_of(word: u64) -> u64
-    ensures { result ≡ word % 2 ^ 61 }
-{
-    word % MOMENTS
-}
-
-/// The low 32 bits of a word, as a signed number.
-pub(crate) fn low_half(word: u64) -> i32
-    ensures { result ≡ low_signed word }
-{
-    ((word % (1 << 32)) as u32).cast_signed()
 }

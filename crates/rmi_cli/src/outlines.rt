@@ -1,7 +1,7 @@
 //! `replay`: the outline of the history that a journal spells.
 ghost use Rattle.std.specs.Prelude.{◌≡◌, ◌≢◌, ◌<◌, ◌+◌, ◌^◌, [], IfOk, IfErr, OnOk, OnErr, Err, length};
 ghost use Rattle.history.specs.declared.limits.TheConstants.{END_OF_TIME};
-ghost use Rattle.rmi_cli.specs.Replay.{Goes, Replays};
+ghost use Rattle.rmi_cli.specs.Replay.{LinesGo, Replays};
 ghost use Rattle.rmi_cli.specs.Taking.{TakesLine, WasBad, IsTakenTo, Halts, TakesTo, fault_of};
 
 use history::{Event, Refused, SpaceConfig};
@@ -58,7 +58,7 @@ fn take_lines(
 ) -> Result<(), ReplayFault>
     requires size { length lines.now < 2 ^ 32 }
     requires space { space.old.configuration ≡ config.now }
-    ensures goes { Goes config.now space.old.events lines.now 2 result space.new.events }
+    ensures goes { LinesGo config.now space.old.events lines.now 2 result space.new.events }
     ensures config { space.new.configuration ≡ config.now }
 {
     let mut rest = lines;
@@ -81,7 +81,7 @@ fn take_line<'a>(
     requires some { lines.now ≢ [] }
     requires space { space.old.configuration ≡ config.now }
     ensures next { IfOk result (λ more. TakesTo config.now space.old.events lines.now number more.now (number + 1) space.new.events) }
-    ensures stops { IfErr result (λ fault. Goes config.now space.old.events lines.now number (Err fault) space.new.events) }
+    ensures stops { IfErr result (λ fault. LinesGo config.now space.old.events lines.now number (Err fault) space.new.events) }
     ensures fewer { IfOk result (λ more. length more.now < length lines.now) }
     ensures config { space.new.configuration ≡ config.now }
 {

@@ -9,7 +9,7 @@ ghost use Rattle.rmi_cli.specs.Line.{status_of_run};
 ghost use Rattle.rmi_cli.specs.Replayed.{ReplaysInput, ReplaysExactly};
 ghost use Rattle.rmi_cli.specs.ServedLinks.{IsSampleLink, Serving, serve_plan, heard};
 ghost use Rattle.rmi_cli.specs.Shown.{ShowsInput, ShowsExactly};
-ghost use Rattle.rmi_cli.specs.Told.{told_by, TellsExactly, Tells};
+ghost use Rattle.rmi_cli.specs.Told.{told_by, TellsExactly, TellsEnd};
 ghost use Rattle.rmi_cli.specs.declared.end.RunEnd.{RunEnd as RunEnds};
 ghost use Rattle.rmi_cli.specs.declared.words.Command.{Command as Commands};
 ghost use Rattle.rmi_cli.specs.declared.words.DrillText.{DrillText as DrillTexts};
@@ -237,7 +237,7 @@ fn obey<'t, R: Threads + Wait + Sync, I: Source, O: Sink, E: Sink, T: Clock, L: 
 /// memory is told.
 #[tactic(auto, using(crate::proofs::Telling::took))]
 fn told<E: Sink>(alloc: Global, errors: &mut E, end: RunEnd) -> u8
-    ensures told { Tells (told_by E.held E.faults errors.old errors.new result) end }
+    ensures told { TellsEnd (told_by E.held E.faults errors.old errors.new result) end }
     ensures status { (result ≡ status_of_run end) ⊎ (result ≡ 5) }
 {
     if end.is_silent() {

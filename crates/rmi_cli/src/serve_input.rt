@@ -1,6 +1,7 @@
 //! `serve` over the program's listener and output.
 ghost use Rattle.std.specs.Prelude.{◌≡◌, ◌≢◌, ◌≤◌, length, IfOk, IfSome};
 ghost use Rattle.mod_utf.specs.Utf.{utf};
+ghost use Rattle.conn_server.specs.declared.plan.TheConstants.{MAX_LINKS};
 ghost use Rattle.wire_io.specs.Wire.{Rose};
 ghost use Rattle.wire_io.specs.declared.limits.TheConstants.{MAX_HOST_BYTES};
 ghost use Rattle.history.specs.Outline.{outline};
@@ -79,7 +80,7 @@ fn serve_on<'t, R: Threads + Wait + Sync, L: Listener, K: Sink>(
     port: u16,
 ) -> Served<L::In, L::Out, L::Ticks, SampleHand<'t, R>>
     requires fresh { IsFresh stage.lock stage.root }
-    requires few { stage.plan.count ≤ 65535 }
+    requires few { stage.plan.count ≤ MAX_LINKS }
     requires host { length (utf stage.plan.host) ≤ MAX_HOST_BYTES }
     requires book { stage.book ≡ sample_kinds }
     ensures served { IfSome result.report (ServesLinks (IsSampleLink L.In.left L.Out.held L.Ticks.given stage.entry.plan)
@@ -109,7 +110,7 @@ fn serve_links<'t, R: Threads + Wait + Sync, L: Listener>(
     stage: Stage<'t, R>,
 ) -> Report<L::In, L::Out, L::Ticks, SampleHand<'t, R>>
     requires fresh { IsFresh stage.lock stage.root }
-    requires few { stage.plan.count ≤ 65535 }
+    requires few { stage.plan.count ≤ MAX_LINKS }
     requires host { length (utf stage.plan.host) ≤ MAX_HOST_BYTES }
     requires book { stage.book ≡ sample_kinds }
     ensures served { ServesLinks (IsSampleLink L.In.left L.Out.held L.Ticks.given stage.entry.plan)

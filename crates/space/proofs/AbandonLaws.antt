@@ -41,18 +41,18 @@ pub runs-effective : (config : SpaceConfig) (events : List Event) (by : ℕ) (o 
 unfolding is_effective
 runs-effective config events by o r = lt-ltb 0 (running (places config events) by o) r
 
-pub end-asked : (config : SpaceConfig) (events : List Event) (by m : ℕ) (o : ObjId) (leases : LeaseTable) (exports : ExportTable) (runs : List Run) (withdrawn : List Withdrawal) (told opened used moment : ℕ) →
-    Keeps config events leases exports runs withdrawn told opened used moment → 0 < running (places config events) by o → IsAsked config events (event_of by m (Abandon o)) leases exports runs withdrawn told opened used moment true
-end-asked config events by m o leases exports runs withdrawn told opened used moment k r = record {
+pub end-asked : (config : SpaceConfig) (events : List Event) (by m : ℕ) (o : ObjId) (leases : LeaseTable) (exports : ExportTable) (runs : List Run) (withdrawn : List Withdrawal) (reported opened used moment : ℕ) →
+    Keeps config events leases exports runs withdrawn reported opened used moment → 0 < running (places config events) by o → IsAsked config events (event_of by m (Abandon o)) leases exports runs withdrawn reported opened used moment true
+end-asked config events by m o leases exports runs withdrawn reported opened used moment k r = record {
   keeps = k;
   tested = sym (effective-is config events by (Abandon o) exports.rows runs k.stands.rows_are k.stands.runs_stand ∙ runs-effective config events by o r);
 }
 
 -- The row of the object has a running call.
-pub end-counted : (config : SpaceConfig) (events : List Event) (by m : ℕ) (o : ObjId) (leases : LeaseTable) (exports : ExportTable) (runs : List Run) (withdrawn : List Withdrawal) (told opened used moment : ℕ) →
-    Keeps config events leases exports runs withdrawn told opened used moment → 0 < running (places config events) by o → 0 < running_of exports.rows o
-end-counted config events by m o leases exports runs withdrawn told opened used moment k r =
-    abandon-counted config events (event_of by m (Abandon o)) leases exports runs withdrawn told opened used moment true (end-asked config events by m o leases exports runs withdrawn told opened used moment k r) o refl refl
+pub end-counted : (config : SpaceConfig) (events : List Event) (by m : ℕ) (o : ObjId) (leases : LeaseTable) (exports : ExportTable) (runs : List Run) (withdrawn : List Withdrawal) (reported opened used moment : ℕ) →
+    Keeps config events leases exports runs withdrawn reported opened used moment → 0 < running (places config events) by o → 0 < running_of exports.rows o
+end-counted config events by m o leases exports runs withdrawn reported opened used moment k r =
+    abandon-counted config events (event_of by m (Abandon o)) leases exports runs withdrawn reported opened used moment true (end-asked config events by m o leases exports runs withdrawn reported opened used moment k r) o refl refl
 
 none-left : {X : Type 0} (test : X → Bool) (xs : List X) → list_any test xs ≡ true → length (without_first test xs) + 1 ≡ length xs
 none-left test [] h = absurd (cc)
@@ -63,17 +63,17 @@ none-left {X} test (x ∷ xs) h = go (test x) h (none-left test xs)
     go false h f = let e = f h in omega (arith, e)
 
 -- One call fewer runs then.
-pub runs-fewer : (config : SpaceConfig) (events : List Event) (by : ℕ) (o : ObjId) (leases : LeaseTable) (exports : ExportTable) (runs : List Run) (withdrawn : List Withdrawal) (told opened used moment : ℕ) →
-    Keeps config events leases exports runs withdrawn told opened used moment → 0 < running (places config events) by o → length (without_first (is_run by o) runs) + 1 ≡ length runs
-runs-fewer config events by o leases exports runs withdrawn told opened used moment k r =
+pub runs-fewer : (config : SpaceConfig) (events : List Event) (by : ℕ) (o : ObjId) (leases : LeaseTable) (exports : ExportTable) (runs : List Run) (withdrawn : List Withdrawal) (reported opened used moment : ℕ) →
+    Keeps config events leases exports runs withdrawn reported opened used moment → 0 < running (places config events) by o → length (without_first (is_run by o) runs) + 1 ≡ length runs
+runs-fewer config events by o leases exports runs withdrawn reported opened used moment k r =
     none-left (is_run by o) runs (effective-is config events by (Abandon o) exports.rows runs k.stands.rows_are k.stands.runs_stand ∙ runs-effective config events by o r)
 
 -- The unit that was reserved for the end, and the object stays.
 end-unrefused : (used running exported : ℕ) (o : ObjId) → used + running ≤ MAX_UNITS → exported ≤ MAX_EXPORTS → room_refusal used running exported true (Abandon o) ≡ None
 end-unrefused used running exported o few rows = rw (le-ltb (MAX_UNITS + 1) (used + running + 1 + 0) (omega (arith, few)), le-ltb MAX_EXPORTS (exported + 0) (omega (arith, rows))) refl
 
-pub rows-length : (config : SpaceConfig) (events : List Event) (leases : LeaseTable) (exports : ExportTable) (runs : List Run) (withdrawn : List Withdrawal) (told opened used moment : ℕ) → Keeps config events leases exports runs withdrawn told opened used moment → length exports.rows ≤ MAX_EXPORTS
-rows-length config events leases exports runs withdrawn told opened used moment k = (let same = ap length k.stands.rows_are in let long = mapped (table config (places config events)) in let few = k.stands.within.exports in omega (arith, same, long, few))
+pub rows-length : (config : SpaceConfig) (events : List Event) (leases : LeaseTable) (exports : ExportTable) (runs : List Run) (withdrawn : List Withdrawal) (reported opened used moment : ℕ) → Keeps config events leases exports runs withdrawn reported opened used moment → length exports.rows ≤ MAX_EXPORTS
+rows-length config events leases exports runs withdrawn reported opened used moment k = (let same = ap length k.stands.rows_are in let long = mapped (table config (places config events)) in let few = k.stands.within.exports in omega (arith, same, long, few))
   where
     mapped : (xs : List _) → length (rows_of (places config events) xs) ≡ length xs
     mapped [] = refl
@@ -81,15 +81,15 @@ rows-length config events leases exports runs withdrawn told opened used moment 
 
 -- ---- once it has acted
 
-pub end-acted : (config : SpaceConfig) (events : List Event) (by m : ℕ) (o : ObjId) (leases leases1 : LeaseTable) (exports t : ExportTable) (runs : List Run) (withdrawn : List Withdrawal) (told opened used moment time : ℕ) →
-    Keeps config events leases exports runs withdrawn told opened used moment → 0 < running (places config events) by o → m < END_OF_TIME → time ≡ max m moment →
+pub end-acted : (config : SpaceConfig) (events : List Event) (by m : ℕ) (o : ObjId) (leases leases1 : LeaseTable) (exports t : ExportTable) (runs : List Run) (withdrawn : List Withdrawal) (reported opened used moment time : ℕ) →
+    Keeps config events leases exports runs withdrawn reported opened used moment → 0 < running (places config events) by o → m < END_OF_TIME → time ≡ max m moment →
     ForEachLog leases (λ lease n calls. StandsFor lease leases1 (max time n) calls) → t ≡ record exports { rows = changed ended o exports.rows } →
-    HasActed config events (event_of by m (Abandon o)) leases leases1 exports t runs withdrawn told opened used moment true
-end-acted config events by m o leases leases1 exports t runs withdrawn told opened used moment time k r early at lapsed act = record {
-  asked = end-asked config events by m o leases exports runs withdrawn told opened used moment k r;
+    HasActed config events (event_of by m (Abandon o)) leases leases1 exports t runs withdrawn reported opened used moment true
+end-acted config events by m o leases leases1 exports t runs withdrawn reported opened used moment time k r early at lapsed act = record {
+  asked = end-asked config events by m o leases exports runs withdrawn reported opened used moment k r;
   early = early;
   room = end-unrefused used (length runs) (length exports.rows) o (let units = k.stands.used_is in let calls = k.stands.runs_stand.all in let few = k.stands.within.history in omega (arith, units, calls, few))
-      (rows-length config events leases exports runs withdrawn told opened used moment k);
+      (rows-length config events leases exports runs withdrawn reported opened used moment k);
   fit = refl;
   unrefused = λ lease n calls s le. refl;
   told_leases = λ lease n calls s le. (
@@ -100,40 +100,40 @@ end-acted config events by m o leases leases1 exports t runs withdrawn told open
 }
 
 -- WHAT IS KEPT once the call is ended.
-pub end-keeps : (config : SpaceConfig) (events : List Event) (by m : ℕ) (o : ObjId) (leases leases1 leases2 : LeaseTable) (exports t x3 : ExportTable) (runs : List Run) (withdrawn : List Withdrawal) (told opened used moment time : ℕ) (gone : List ObjId) (place : ℕ) (events' : List Event) (runs' : List Run) (withdrawn' : List Withdrawal) →
-    HasActed config events (event_of by m (Abandon o)) leases leases1 exports t runs withdrawn told opened used moment true → time ≡ max m moment → HasWithdrawn leases1 leases2 t x3 time [] gone →
+pub end-keeps : (config : SpaceConfig) (events : List Event) (by m : ℕ) (o : ObjId) (leases leases1 leases2 : LeaseTable) (exports t x3 : ExportTable) (runs : List Run) (withdrawn : List Withdrawal) (reported opened used moment time : ℕ) (gone : List ObjId) (place : ℕ) (events' : List Event) (runs' : List Run) (withdrawn' : List Withdrawal) →
+    HasActed config events (event_of by m (Abandon o)) leases leases1 exports t runs withdrawn reported opened used moment true → time ≡ max m moment → HasWithdrawn leases1 leases2 t x3 time [] gone →
     place ≡ length events → events' ≡ events ++ event_of by m (Abandon o) ∷ [] → AreSame runs' (without_first (is_run by o) runs) → withdrawn' ≡ withdrawn ++ map (withdrawal_at place) gone →
-    Keeps config events' leases2 x3 runs' withdrawn' told opened (used + 1) time
-end-keeps config events by m o leases leases1 leases2 exports t x3 runs withdrawn told opened used moment time gone place events' runs' withdrawn' a at w pl ev ru wi =
+    Keeps config events' leases2 x3 runs' withdrawn' reported opened (used + 1) time
+end-keeps config events by m o leases leases1 leases2 exports t x3 runs withdrawn reported opened used moment time gone place events' runs' withdrawn' a at w pl ev ru wi =
     let same : opened ≡ opened + 0 = omega arith in
-    let P : ℕ → Type 0 = λ n. Keeps config events' leases2 x3 runs' withdrawn' told n (used + 1) time in
+    let P : ℕ → Type 0 = λ n. Keeps config events' leases2 x3 runs' withdrawn' reported n (used + 1) time in
     subst P (sym same)
-    (turn-keeps config events (event_of by m (Abandon o)) leases leases1 leases2 exports t x3 runs withdrawn told opened used moment time true [] gone a at w
-    place told (opened + 0) (used + 1) events' runs' withdrawn' pl ev ru wi refl refl refl)
+    (turn-keeps config events (event_of by m (Abandon o)) leases leases1 leases2 exports t x3 runs withdrawn reported opened used moment time true [] gone a at w
+    place reported (opened + 0) (used + 1) events' runs' withdrawn' pl ev ru wi refl refl refl)
 
 -- Its room.
-pub end-room : (config : SpaceConfig) (events events' : List Event) (by m : ℕ) (o : ObjId) (leases leases' : LeaseTable) (x y : ExportTable) (runs runs' : List Run) (withdrawn withdrawn' : List Withdrawal) (told opened used moment told' opened' used' moment' events_room withdrawn_room events_room' withdrawn_room' : ℕ) →
-    Keeps config events leases x runs withdrawn told opened used moment → HasRoom events events_room runs withdrawn withdrawn_room x → 0 < running (places config events) by o →
-    Keeps config events' leases' y runs' withdrawn' told' opened' used' moment' → events' ≡ events ++ event_of by m (Abandon o) ∷ [] → AreSame runs' (without_first (is_run by o) runs) →
+pub end-room : (config : SpaceConfig) (events events' : List Event) (by m : ℕ) (o : ObjId) (leases leases' : LeaseTable) (x y : ExportTable) (runs runs' : List Run) (withdrawn withdrawn' : List Withdrawal) (reported opened used moment reported' opened' used' moment' events_room withdrawn_room events_room' withdrawn_room' : ℕ) →
+    Keeps config events leases x runs withdrawn reported opened used moment → HasRoom events events_room runs withdrawn withdrawn_room x → 0 < running (places config events) by o →
+    Keeps config events' leases' y runs' withdrawn' reported' opened' used' moment' → events' ≡ events ++ event_of by m (Abandon o) ∷ [] → AreSame runs' (without_first (is_run by o) runs) →
     events_room ≤ events_room' → withdrawn_room ≤ withdrawn_room' → HasRoom events' events_room' runs' withdrawn' withdrawn_room' y
-end-room config events events' by m o leases leases' x y runs runs' withdrawn withdrawn' told opened used moment told' opened' used' moment' events_room withdrawn_room events_room' withdrawn_room' k r run l ev ru er wr =
+end-room config events events' by m o leases leases' x y runs runs' withdrawn withdrawn' reported opened used moment reported' opened' used' moment' events_room withdrawn_room events_room' withdrawn_room' k r run l ev ru er wr =
     let longer : length events' ≡ length events + 1 = ap length ev ∙ length-append events (event_of by m (Abandon o) ∷ []) in
     let calls = as-many runs' (without_first (is_run by o) runs) ru in
-    let fewer = runs-fewer config events by o leases x runs withdrawn told opened used moment k run in
+    let fewer = runs-fewer config events by o leases x runs withdrawn reported opened used moment k run in
     let ends = r.ends in let goes = r.withdrawals in
-    room-next config events events' (event_of by m (Abandon o)) leases leases' x y runs runs' withdrawn withdrawn' told opened used moment told' opened' used' moment' (length x.rows) events_room' withdrawn_room' true (sym (runs-effective config events by o run)) k l ev
+    room-next config events events' (event_of by m (Abandon o)) leases leases' x y runs runs' withdrawn withdrawn' reported opened used moment reported' opened' used' moment' (length x.rows) events_room' withdrawn_room' true (sym (runs-effective config events by o run)) k l ev
     (omega arith) (omega (arith, longer, calls, fewer, ends, er)) (omega (arith, goes, wr))
 
 -- WHAT IT IS ANSWERED, of the space that contracts see.
-pub end-step : (config : SpaceConfig) (events events' : List Event) (by m : ℕ) (o : ObjId) (leases leases1 : LeaseTable) (exports t : ExportTable) (runs : List Run) (withdrawn : List Withdrawal) (told opened used moment : ℕ) (s : SpaceHistory) →
-    HasActed config events (event_of by m (Abandon o)) leases leases1 exports t runs withdrawn told opened used moment true → record { configuration = config; events = events } ≡ s → events' ≡ events ++ event_of by m (Abandon o) ∷ [] →
+pub end-step : (config : SpaceConfig) (events events' : List Event) (by m : ℕ) (o : ObjId) (leases leases1 : LeaseTable) (exports t : ExportTable) (runs : List Run) (withdrawn : List Withdrawal) (reported opened used moment : ℕ) (s : SpaceHistory) →
+    HasActed config events (event_of by m (Abandon o)) leases leases1 exports t runs withdrawn reported opened used moment true → record { configuration = config; events = events } ≡ s → events' ≡ events ++ event_of by m (Abandon o) ∷ [] →
     Step s.configuration s.events (event_of by m (Abandon o)) (Ok (turn_of s.configuration s.events (event_of by m (Abandon o)))) events'
-end-step config events events' by m o leases leases1 exports t runs withdrawn told opened used moment s a v ev =
+end-step config events events' by m o leases leases1 exports t runs withdrawn reported opened used moment s a v ev =
     let P : SpaceHistory → Type 0 = λ h. Step h.configuration h.events (event_of by m (Abandon o)) (Ok (turn_of h.configuration h.events (event_of by m (Abandon o)))) events' in
     let Q : List Event → Type 0 = λ es. Step config events (event_of by m (Abandon o)) (Ok (turn_of config events (event_of by m (Abandon o)))) es in
     subst P v (subst Q (sym ev)
     (step-taken config events (event_of by m (Abandon o)) (turn_of config events (event_of by m (Abandon o)))
-    (taken config events (event_of by m (Abandon o)) leases exports runs withdrawn told opened used moment true a.asked a.room a.fit a.unrefused) refl))
+    (taken config events (event_of by m (Abandon o)) leases exports runs withdrawn reported opened used moment true a.asked a.room a.fit a.unrefused) refl))
 
 -- ---- what its parts require
 

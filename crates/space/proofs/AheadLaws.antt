@@ -31,20 +31,20 @@ some-or-not {X} p (x ∷ xs) = go (p x) (some-or-not p xs)
     go false e = omega (arith, e)
 
 -- The running calls after one more event.
-runs-next : (config : SpaceConfig) (events : List Event) (e : Event) (leases leases' : LeaseTable) (x y : ExportTable) (runs runs' : List Run) (withdrawn withdrawn' : List Withdrawal) (told opened used moment told' opened' used' moment' : ℕ) →
-    Keeps config events leases x runs withdrawn told opened used moment → Keeps config (events ++ e ∷ []) leases' y runs' withdrawn' told' opened' used' moment' →
+runs-next : (config : SpaceConfig) (events : List Event) (e : Event) (leases leases' : LeaseTable) (x y : ExportTable) (runs runs' : List Run) (withdrawn withdrawn' : List Withdrawal) (reported opened used moment reported' opened' used' moment' : ℕ) →
+    Keeps config events leases x runs withdrawn reported opened used moment → Keeps config (events ++ e ∷ []) leases' y runs' withdrawn' reported' opened' used' moment' →
     length runs' + one_if (ends (place_of config (places config events) e)) ≡ length runs + one_if (starts (place_of config (places config events) e))
-runs-next config events e leases leases' x y runs runs' withdrawn withdrawn' told opened used moment told' opened' used' moment' k l =
+runs-next config events e leases leases' x y runs runs' withdrawn withdrawn' reported opened used moment reported' opened' used' moment' k l =
     let before = k.stands.runs_stand.all in
     let after : length runs' ≡ reserved (place_of config (places config events) e ∷ places config events) = l.stands.runs_stand.all ∙ ap reserved (places-push config events e) in
     let push = reserved-push config events e in
     omega (arith, before, after, push)
 
 -- The exported objects and the withdrawals after one more event: each that was exported, or is now, is one or the other.
-objects-next : (config : SpaceConfig) (events : List Event) (e : Event) (leases leases' : LeaseTable) (x y : ExportTable) (runs runs' : List Run) (withdrawn withdrawn' : List Withdrawal) (told opened used moment told' opened' used' moment' : ℕ) →
-    Keeps config events leases x runs withdrawn told opened used moment → Keeps config (events ++ e ∷ []) leases' y runs' withdrawn' told' opened' used' moment' →
+objects-next : (config : SpaceConfig) (events : List Event) (e : Event) (leases leases' : LeaseTable) (x y : ExportTable) (runs runs' : List Run) (withdrawn withdrawn' : List Withdrawal) (reported opened used moment reported' opened' used' moment' : ℕ) →
+    Keeps config events leases x runs withdrawn reported opened used moment → Keeps config (events ++ e ∷ []) leases' y runs' withdrawn' reported' opened' used' moment' →
     length withdrawn' + length y.rows ≡ length withdrawn + length x.rows + length (place_of config (places config events) e).exported_here
-objects-next config events e leases leases' x y runs runs' withdrawn_before withdrawn' told opened used moment told' opened' used' moment' k l =
+objects-next config events e leases leases' x y runs runs' withdrawn_before withdrawn' reported opened used moment reported' opened' used' moment' k l =
     let all : List Exported = table config (places config events) ++ (place_of config (places config events) e).exported_here in
     let kept : Exported → Bool = is_kept config (place_of config (places config events) e ∷ places config events) in
     let rows_before : length x.rows ≡ length (table config (places config events)) = ap length k.stands.rows_are ∙ length-map (table config (places config events)) (row_of (places config events)) in
@@ -69,26 +69,26 @@ at-most-one true = omega arith
 at-most-one false = omega arith
 
 -- THE ROOM after an event, by what there was of it before.
-pub room-next : (config : SpaceConfig) (events events' : List Event) (e : Event) (leases leases' : LeaseTable) (x y : ExportTable) (runs runs' : List Run) (withdrawn withdrawn' : List Withdrawal) (told opened used moment told' opened' used' moment' objects events_room withdrawn_room : ℕ) (effective : Bool) → effective ≡ is_effective config (places config events) e.by e.ask →
-    Keeps config events leases x runs withdrawn told opened used moment → Keeps config events' leases' y runs' withdrawn' told' opened' used' moment' → events' ≡ events ++ e ∷ [] →
+pub room-next : (config : SpaceConfig) (events events' : List Event) (e : Event) (leases leases' : LeaseTable) (x y : ExportTable) (runs runs' : List Run) (withdrawn withdrawn' : List Withdrawal) (reported opened used moment reported' opened' used' moment' objects events_room withdrawn_room : ℕ) (effective : Bool) → effective ≡ is_effective config (places config events) e.by e.ask →
+    Keeps config events leases x runs withdrawn reported opened used moment → Keeps config events' leases' y runs' withdrawn' reported' opened' used' moment' → events' ≡ events ++ e ∷ [] →
     length x.rows + opens effective e.ask ≤ objects → length events' + length runs' ≤ events_room → length withdrawn + objects ≤ withdrawn_room → HasRoom events' events_room runs' withdrawn' withdrawn_room y
-room-next config events events' e leases leases' x y runs runs' withdrawn withdrawn' told opened used moment told' opened' used' moment' objects events_room withdrawn_room effective f k l ev few er wr =
-    let P : List Event → Type 0 = λ es. Keeps config es leases' y runs' withdrawn' told' opened' used' moment' in
-    let all = objects-next config events e leases leases' x y runs runs' withdrawn withdrawn' told opened used moment told' opened' used' moment' k (subst P ev l) in
+room-next config events events' e leases leases' x y runs runs' withdrawn withdrawn' reported opened used moment reported' opened' used' moment' objects events_room withdrawn_room effective f k l ev few er wr =
+    let P : List Event → Type 0 = λ es. Keeps config es leases' y runs' withdrawn' reported' opened' used' moment' in
+    let all = objects-next config events e leases leases' x y runs runs' withdrawn withdrawn' reported opened used moment reported' opened' used' moment' k (subst P ev l) in
     let adds = adds-length config (places config events) e ∙ ap (λ v. opens v e.ask) (sym f) in
     record { ends = er; withdrawals = omega (arith, all, adds, few, wr) }
 
 -- One more call runs after an event, at most.
-pub room-turned : (config : SpaceConfig) (events events' : List Event) (e : Event) (leases leases' : LeaseTable) (x y : ExportTable) (runs runs' : List Run) (withdrawn withdrawn' : List Withdrawal) (told opened used moment told' opened' used' moment' objects events_room withdrawn_room : ℕ) (effective : Bool) → effective ≡ is_effective config (places config events) e.by e.ask →
-    Keeps config events leases x runs withdrawn told opened used moment → Keeps config events' leases' y runs' withdrawn' told' opened' used' moment' → events' ≡ events ++ e ∷ [] →
+pub room-turned : (config : SpaceConfig) (events events' : List Event) (e : Event) (leases leases' : LeaseTable) (x y : ExportTable) (runs runs' : List Run) (withdrawn withdrawn' : List Withdrawal) (reported opened used moment reported' opened' used' moment' objects events_room withdrawn_room : ℕ) (effective : Bool) → effective ≡ is_effective config (places config events) e.by e.ask →
+    Keeps config events leases x runs withdrawn reported opened used moment → Keeps config events' leases' y runs' withdrawn' reported' opened' used' moment' → events' ≡ events ++ e ∷ [] →
     length x.rows + opens effective e.ask ≤ objects → length events + length runs + 2 ≤ events_room → length withdrawn + objects ≤ withdrawn_room → HasRoom events' events_room runs' withdrawn' withdrawn_room y
-room-turned config events events' e leases leases' x y runs runs' withdrawn withdrawn' told opened used moment told' opened' used' moment' objects events_room withdrawn_room effective f k l ev few er wr =
-    let P : List Event → Type 0 = λ es. Keeps config es leases' y runs' withdrawn' told' opened' used' moment' in
-    let calls = runs-next config events e leases leases' x y runs runs' withdrawn withdrawn' told opened used moment told' opened' used' moment' k (subst P ev l) in
+room-turned config events events' e leases leases' x y runs runs' withdrawn withdrawn' reported opened used moment reported' opened' used' moment' objects events_room withdrawn_room effective f k l ev few er wr =
+    let P : List Event → Type 0 = λ es. Keeps config es leases' y runs' withdrawn' reported' opened' used' moment' in
+    let calls = runs-next config events e leases leases' x y runs runs' withdrawn withdrawn' reported opened used moment reported' opened' used' moment' k (subst P ev l) in
     let one = at-most-one (starts (place_of config (places config events) e)) in
     let longer : length events' ≡ length events + 1 = ap length ev ∙ length-append events (e ∷ []) in
     let within : length events' + length runs' ≤ events_room = omega (arith, calls, one, longer, er) in
-    room-next config events events' e leases leases' x y runs runs' withdrawn withdrawn' told opened used moment told' opened' used' moment' objects events_room withdrawn_room effective f k l ev few within wr
+    room-next config events events' e leases leases' x y runs runs' withdrawn withdrawn' reported opened used moment reported' opened' used' moment' objects events_room withdrawn_room effective f k l ev few within wr
 
 -- What was made of room does not matter to what is refused.
 pub room-grown : (events events' : List Event) (runs runs' : List Run) (withdrawn withdrawn' : List Withdrawal) (x y : ExportTable) (events_room withdrawn_room events_room' withdrawn_room' : ℕ) →
@@ -106,5 +106,5 @@ room-nothing events runs withdrawn x events_room withdrawn_room ev ru wi ex =
     record { ends = omega (arith, a, b); withdrawals = omega (arith, c, d) }
 
 -- There are not too many running calls.
-pub few-calls : (config : SpaceConfig) (events : List Event) (leases : LeaseTable) (exports : ExportTable) (runs : List Run) (withdrawn : List Withdrawal) (told opened used moment : ℕ) → Keeps config events leases exports runs withdrawn told opened used moment → length runs < 2 ^ 31
-few-calls config events leases exports runs withdrawn told opened used moment k = let all = k.stands.runs_stand.all in let few = k.stands.within.history in omega (arith, all, few)
+pub few-calls : (config : SpaceConfig) (events : List Event) (leases : LeaseTable) (exports : ExportTable) (runs : List Run) (withdrawn : List Withdrawal) (reported opened used moment : ℕ) → Keeps config events leases exports runs withdrawn reported opened used moment → length runs < 2 ^ 31
+few-calls config events leases exports runs withdrawn reported opened used moment k = let all = k.stands.runs_stand.all in let few = k.stands.within.history in omega (arith, all, few)

@@ -170,10 +170,10 @@ refused-row (Rebind x y) used running exported v lease n m count before names_it
     fills (Rebind x y) _ _ (first_of_two (await_refusal n rows waits stood v (Rebind x y)) (told_refusal lease n before (call_with names_it m (Rebind x y)) count stood v (Rebind x y))) refused (λ t. absurd (exports-stay exported few t)) (λ t. name-fills (Rebind x y) _ refused tt t) s
 
 -- WHAT AN EVENT IS ANSWERED is one of its ask's row.
-pub answer-row : (config : SpaceConfig) (events h2 : List Event) (e : Event) (leases : LeaseTable) (exports : ExportTable) (runs : List Run) (withdrawn : List Withdrawal) (told opened used moment : ℕ) (s : SpaceHistory) (answer : Result Turn Refused) →
-    Keeps config events leases exports runs withdrawn told opened used moment → AllByRecursion (λ n. length n ≤ MAX_NAME_UNITS) (names (places config events)) → record { configuration = config; events = events } ≡ s → Step s.configuration s.events e answer h2 →
+pub answer-row : (config : SpaceConfig) (events h2 : List Event) (e : Event) (leases : LeaseTable) (exports : ExportTable) (runs : List Run) (withdrawn : List Withdrawal) (reported opened used moment : ℕ) (s : SpaceHistory) (answer : Result Turn Refused) →
+    Keeps config events leases exports runs withdrawn reported opened used moment → AllByRecursion (λ n. length n ≤ MAX_NAME_UNITS) (names (places config events)) → record { configuration = config; events = events } ≡ s → Step s.configuration s.events e answer h2 →
     IsAnswerTo (λ o. 0 < running (places s.configuration s.events) e.by o) e.ask answer
-answer-row config events h2 e leases exports runs withdrawn told opened used moment s answer k short v t =
+answer-row config events h2 e leases exports runs withdrawn reported opened used moment s answer k short v t =
     let P : SpaceHistory → Type 0 = λ h. Step h.configuration h.events e answer h2 in
     let Q : SpaceHistory → Type 0 = λ h. IsAnswerTo (λ o. 0 < running (places h.configuration h.events) e.by o) e.ask answer in
     subst Q v (go answer (subst P (sym v) t))
@@ -184,7 +184,7 @@ answer-row config events h2 e leases exports runs withdrawn told opened used mom
       where
         why : (x : Refused) → (refusal limits config (places config events) e ≡ Some x) ⊎ (x ≡ OutOfMemory) → IsRefusalOf e.ask x
         why x (inl r) = refused-row e.ask used (length runs) (length exports.rows) (is_effective config (places config events) e.by e.ask) config.lease_ms (max e.moment (now (places config events))) (max e.moment (now (places config events))) (length (names (places config events)))
-            (live_calls (table config (places config events)) (lease_calls (places config events))) (has (table config (places config events))) exports.rows exports.waits (stood_for (places config events) e.ask) x (rows-length config events leases exports runs withdrawn told opened used moment k) (sym (refusal-kept config events e leases exports runs withdrawn told opened used moment k) ∙ r)
+            (live_calls (table config (places config events)) (lease_calls (places config events))) (has (table config (places config events))) exports.rows exports.waits (stood_for (places config events) e.ask) x (rows-length config events leases exports runs withdrawn reported opened used moment k) (sym (refusal-kept config events e leases exports runs withdrawn reported opened used moment k) ∙ r)
         why x (inr m) = subst (λ (y : Refused). IsRefusalOf e.ask y) (sym m) tt
 
 -- What runs may be said in other words.

@@ -41,20 +41,20 @@ use Rattle.history.proofs.NamedLaws.{named-exported}
 use Rattle.space.proofs.Acting.{stood_for}
 
 -- What is kept once there is room.
-pub keeps-roomy : (config : SpaceConfig) (events events' : List Event) (leases leases' : LeaseTable) (x y : ExportTable) (runs runs' : List Run) (withdrawn withdrawn' : List Withdrawal) (told opened used moment : ℕ) →
-    Keeps config events leases x runs withdrawn told opened used moment → y ≡ record x { room = y.room } → events' ≡ events → leases' ≡ leases → runs' ≡ runs → withdrawn' ≡ withdrawn → Keeps config events' leases' y runs' withdrawn' told opened used moment
-keeps-roomy config events events' leases leases' x y runs runs' withdrawn withdrawn' told opened used moment k r ev le ru wi =
-    let E : List Event → Type 0 = λ es. Keeps config es leases' y runs' withdrawn' told opened used moment in
-    let L : LeaseTable → Type 0 = λ ls. Keeps config events ls y runs' withdrawn' told opened used moment in
-    let R : List Run → Type 0 = λ rs. Keeps config events leases y rs withdrawn' told opened used moment in
-    let W : List Withdrawal → Type 0 = λ ws. Keeps config events leases y runs ws told opened used moment in
-    subst E (sym ev) (subst L (sym le) (subst R (sym ru) (subst W (sym wi) (keeps-room config events leases x y runs withdrawn told opened used moment y.room r k))))
+pub keeps-roomy : (config : SpaceConfig) (events events' : List Event) (leases leases' : LeaseTable) (x y : ExportTable) (runs runs' : List Run) (withdrawn withdrawn' : List Withdrawal) (reported opened used moment : ℕ) →
+    Keeps config events leases x runs withdrawn reported opened used moment → y ≡ record x { room = y.room } → events' ≡ events → leases' ≡ leases → runs' ≡ runs → withdrawn' ≡ withdrawn → Keeps config events' leases' y runs' withdrawn' reported opened used moment
+keeps-roomy config events events' leases leases' x y runs runs' withdrawn withdrawn' reported opened used moment k r ev le ru wi =
+    let E : List Event → Type 0 = λ es. Keeps config es leases' y runs' withdrawn' reported opened used moment in
+    let L : LeaseTable → Type 0 = λ ls. Keeps config events ls y runs' withdrawn' reported opened used moment in
+    let R : List Run → Type 0 = λ rs. Keeps config events leases y rs withdrawn' reported opened used moment in
+    let W : List Withdrawal → Type 0 = λ ws. Keeps config events leases y runs ws reported opened used moment in
+    subst E (sym ev) (subst L (sym le) (subst R (sym ru) (subst W (sym wi) (keeps-room config events leases x y runs withdrawn reported opened used moment y.room r k))))
 
-pub asked : (config : SpaceConfig) (events : List Event) (e : Event) (leases : LeaseTable) (x y : ExportTable) (runs seen : List Run) (withdrawn : List Withdrawal) (told opened used moment : ℕ) (stood : Option ObjId) (effective : Bool) →
-    Keeps config events leases x runs withdrawn told opened used moment → stood ≡ stood_for (places config events) e.ask → effective ≡ effective_by x.rows seen stood e.by e.ask → seen ≡ runs → y ≡ record x { room = y.room } →
-    IsAsked config events e leases y runs withdrawn told opened used moment effective
-asked config events e leases x y runs seen withdrawn told opened used moment stood effective k st f s r = record {
-  keeps = keeps-room config events leases x y runs withdrawn told opened used moment y.room r k;
+pub asked : (config : SpaceConfig) (events : List Event) (e : Event) (leases : LeaseTable) (x y : ExportTable) (runs seen : List Run) (withdrawn : List Withdrawal) (reported opened used moment : ℕ) (stood : Option ObjId) (effective : Bool) →
+    Keeps config events leases x runs withdrawn reported opened used moment → stood ≡ stood_for (places config events) e.ask → effective ≡ effective_by x.rows seen stood e.by e.ask → seen ≡ runs → y ≡ record x { room = y.room } →
+    IsAsked config events e leases y runs withdrawn reported opened used moment effective
+asked config events e leases x y runs seen withdrawn reported opened used moment stood effective k st f s r = record {
+  keeps = keeps-room config events leases x y runs withdrawn reported opened used moment y.room r k;
   tested = f ∙ ap (λ o. effective_by x.rows seen o e.by e.ask) st ∙ ap (λ rs. effective_by x.rows rs (stood_for (places config events) e.ask) e.by e.ask) s
       ∙ ap (λ l. effective_by l runs (stood_for (places config events) e.ask) e.by e.ask) (sym (ap (λ (t : ExportTable). t.rows) r));
 }
@@ -86,9 +86,9 @@ shorter {R} q (r ∷ rs) = go (q r) (shorter q rs)
     go true h = omega arith
     go false h = omega arith
 
-pub few-run : (config : SpaceConfig) (events : List Event) (leases : LeaseTable) (exports : ExportTable) (runs : List Run) (withdrawn : List Withdrawal) (told opened used moment : ℕ) → Keeps config events leases exports runs withdrawn told opened used moment →
+pub few-run : (config : SpaceConfig) (events : List Event) (leases : LeaseTable) (exports : ExportTable) (runs : List Run) (withdrawn : List Withdrawal) (reported opened used moment : ℕ) → Keeps config events leases exports runs withdrawn reported opened used moment →
     (o : ObjId) → running_of exports.rows o < 2 ^ 31
-few-run config events leases exports runs withdrawn told opened used moment k o =
+few-run config events leases exports runs withdrawn reported opened used moment k o =
     let rows = ap (λ l. running_of l o) k.stands.rows_are in
     let few = running-few (places config events) (table config (places config events)) o in
     let calls = k.stands.runs_stand.calls o in
@@ -98,9 +98,9 @@ few-run config events leases exports runs withdrawn told opened used moment k o 
     omega (arith, rows, few, calls, all, short, units_few)
 
 -- Where a connection runs a call of an object, its row has one.
-run-counted : (config : SpaceConfig) (events : List Event) (leases : LeaseTable) (exports : ExportTable) (runs : List Run) (withdrawn : List Withdrawal) (told opened used moment : ℕ) → Keeps config events leases exports runs withdrawn told opened used moment →
+run-counted : (config : SpaceConfig) (events : List Event) (leases : LeaseTable) (exports : ExportTable) (runs : List Run) (withdrawn : List Withdrawal) (reported opened used moment : ℕ) → Keeps config events leases exports runs withdrawn reported opened used moment →
     (by : ℕ) (o : ObjId) → 0 < running (places config events) by o → 0 < running_of exports.rows o
-run-counted config events leases exports runs withdrawn told opened used moment k by o r =
+run-counted config events leases exports runs withdrawn reported opened used moment k by o r =
     let lines = k.stands.runs_stand.lines by o in
     let calls = k.stands.runs_stand.calls o in
     let more = fewer (is_run by o) (is_run_on object_of o) (λ q h. (and_parts (q.by == by) (same_id q.object o) h).1) runs in
@@ -113,33 +113,33 @@ abandon-effective : (config : SpaceConfig) (events : List Event) (by : ℕ) (o :
 unfolding is_effective
 abandon-effective config events by o e = ltb-true 0 (running (places config events) by o) e
 
-pub abandon-counted : (config : SpaceConfig) (events : List Event) (e : Event) (leases : LeaseTable) (exports : ExportTable) (runs : List Run) (withdrawn : List Withdrawal) (told opened used moment : ℕ) (effective : Bool) →
-    IsAsked config events e leases exports runs withdrawn told opened used moment effective → (o : ObjId) → effective ≡ true → e.ask ≡ Abandon o → 0 < running_of exports.rows o
-abandon-counted config events e leases exports runs withdrawn told opened used moment effective q o t s =
-    run-counted config events leases exports runs withdrawn told opened used moment q.keeps e.by o
-    (abandon-effective config events e.by o (ap (is_effective config (places config events) e.by) (sym s) ∙ sym (is-effective config events e leases exports runs withdrawn told opened used moment effective q) ∙ t))
+pub abandon-counted : (config : SpaceConfig) (events : List Event) (e : Event) (leases : LeaseTable) (exports : ExportTable) (runs : List Run) (withdrawn : List Withdrawal) (reported opened used moment : ℕ) (effective : Bool) →
+    IsAsked config events e leases exports runs withdrawn reported opened used moment effective → (o : ObjId) → effective ≡ true → e.ask ≡ Abandon o → 0 < running_of exports.rows o
+abandon-counted config events e leases exports runs withdrawn reported opened used moment effective q o t s =
+    run-counted config events leases exports runs withdrawn reported opened used moment q.keeps e.by o
+    (abandon-effective config events e.by o (ap (is_effective config (places config events) e.by) (sym s) ∙ sym (is-effective config events e leases exports runs withdrawn reported opened used moment effective q) ∙ t))
 
 -- The same of a return, and what it returns is few enough.
 finish-effective : (config : SpaceConfig) (events : List Event) (by : ℕ) (o : ObjId) (made : List ℕ) (listed : List ObjId) (u : Uid) → is_effective config (places config events) by (Finish o made listed u) ≡ true → 0 < running (places config events) by o
 unfolding is_effective
 finish-effective config events by o made listed u e = ltb-true 0 (running (places config events) by o) e
 
-pub finish-counted : (config : SpaceConfig) (events : List Event) (e : Event) (leases : LeaseTable) (exports : ExportTable) (runs : List Run) (withdrawn : List Withdrawal) (told opened used moment : ℕ) (effective : Bool) →
-    IsAsked config events e leases exports runs withdrawn told opened used moment effective → (o : ObjId) (made : List ℕ) (listed : List ObjId) (u : Uid) → effective ≡ true → e.ask ≡ Finish o made listed u → 0 < running_of exports.rows o
-finish-counted config events e leases exports runs withdrawn told opened used moment effective q o made listed u t s =
-    run-counted config events leases exports runs withdrawn told opened used moment q.keeps e.by o
-    (finish-effective config events e.by o made listed u (ap (is_effective config (places config events) e.by) (sym s) ∙ sym (is-effective config events e leases exports runs withdrawn told opened used moment effective q) ∙ t))
+pub finish-counted : (config : SpaceConfig) (events : List Event) (e : Event) (leases : LeaseTable) (exports : ExportTable) (runs : List Run) (withdrawn : List Withdrawal) (reported opened used moment : ℕ) (effective : Bool) →
+    IsAsked config events e leases exports runs withdrawn reported opened used moment effective → (o : ObjId) (made : List ℕ) (listed : List ObjId) (u : Uid) → effective ≡ true → e.ask ≡ Finish o made listed u → 0 < running_of exports.rows o
+finish-counted config events e leases exports runs withdrawn reported opened used moment effective q o made listed u t s =
+    run-counted config events leases exports runs withdrawn reported opened used moment q.keeps e.by o
+    (finish-effective config events e.by o made listed u (ap (is_effective config (places config events) e.by) (sym s) ∙ sym (is-effective config events e leases exports runs withdrawn reported opened used moment effective q) ∙ t))
 
-pub finish-few : (config : SpaceConfig) (events : List Event) (e : Event) (leases : LeaseTable) (exports : ExportTable) (runs : List Run) (withdrawn : List Withdrawal) (told opened used moment time : ℕ) (effective : Bool) →
-    IsAsked config events e leases exports runs withdrawn told opened used moment effective → time ≡ max e.moment moment → await_refusal time exports.rows exports.waits (stood_for (places config events) e.ask) effective e.ask ≡ None →
+pub finish-few : (config : SpaceConfig) (events : List Event) (e : Event) (leases : LeaseTable) (exports : ExportTable) (runs : List Run) (withdrawn : List Withdrawal) (reported opened used moment time : ℕ) (effective : Bool) →
+    IsAsked config events e leases exports runs withdrawn reported opened used moment effective → time ≡ max e.moment moment → await_refusal time exports.rows exports.waits (stood_for (places config events) e.ask) effective e.ask ≡ None →
     (os : List ObjId) → os ≡ returned_by exports.space exports.added exports.rows (stood_for (places config events) e.ask) effective e.ask →
     (o : ObjId) (made : List ℕ) (listed : List ObjId) (u : Uid) → effective ≡ true → e.ask ≡ Finish o made listed u → awaiting_with time u os exports.waits ≤ MAX_AWAITING
-finish-few config events e leases exports runs withdrawn told opened used moment time effective q at fit os same o made listed u t s =
+finish-few config events e leases exports runs withdrawn reported opened used moment time effective q at fit os same o made listed u t s =
     let N : ℕ → Type 0 = λ n. WaitsStand reference_of end_of config.ack_ms n (places config events) exports.waits in
     let k = q.keeps in
     let time_is : time ≡ max e.moment (now (places config events)) = at ∙ ap (max e.moment) k.stands.moment_is in
     let few = return-few config events e exports.rows exports.waits o made listed u
-    (record { asked = s; effective = sym (is-effective config events e leases exports runs withdrawn told opened used moment effective q) ∙ t; rows_are = k.stands.rows_are; waits_stand = subst N k.stands.moment_is k.stands.waits_stand })
+    (record { asked = s; effective = sym (is-effective config events e leases exports runs withdrawn reported opened used moment effective q) ∙ t; rows_are = k.stands.rows_are; waits_stand = subst N k.stands.moment_is k.stands.waits_stand })
     (ap (λ n. await_refusal n exports.rows exports.waits (stood_for (places config events) e.ask) true (Finish o made listed u)) (sym time_is) ∙ ap (λ v. await_refusal time exports.rows exports.waits (stood_for (places config events) e.ask) v (Finish o made listed u)) (sym t)
     ∙ ap (await_refusal time exports.rows exports.waits (stood_for (places config events) e.ask) effective) (sym s) ∙ fit) in
     let is : awaiting_with time u os exports.waits ≡ awaiting_with (max e.moment (now (places config events))) u (new_ids config.uid (next (places config events)) made ++ filter (is_exported exports.rows) listed) exports.waits =
@@ -150,11 +150,11 @@ finish-few config events e leases exports runs withdrawn told opened used moment
     omega (arith, few, is)
 
 -- The same of a lookup.
-pub lookup-fits : (config : SpaceConfig) (events : List Event) (e : Event) (leases : LeaseTable) (exports : ExportTable) (runs : List Run) (withdrawn : List Withdrawal) (told opened used moment time : ℕ) (effective : Bool) →
-    IsAsked config events e leases exports runs withdrawn told opened used moment effective → await_refusal time exports.rows exports.waits (stood_for (places config events) e.ask) effective e.ask ≡ None →
+pub lookup-fits : (config : SpaceConfig) (events : List Event) (e : Event) (leases : LeaseTable) (exports : ExportTable) (runs : List Run) (withdrawn : List Withdrawal) (reported opened used moment time : ℕ) (effective : Bool) →
+    IsAsked config events e leases exports runs withdrawn reported opened used moment effective → await_refusal time exports.rows exports.waits (stood_for (places config events) e.ask) effective e.ask ≡ None →
     (os : List ObjId) → os ≡ returned_by exports.space exports.added exports.rows (stood_for (places config events) e.ask) effective e.ask →
     (n : List ℕ) (u : Uid) → e.ask ≡ Lookup n u → awaiting_with time u os exports.waits ≤ MAX_AWAITING
-lookup-fits config events e leases exports runs withdrawn told opened used moment time effective q fit os same n u s =
+lookup-fits config events e leases exports runs withdrawn reported opened used moment time effective q fit os same n u s =
     let P : List ObjId → Type 0 = λ l. awaiting_with time u l exports.waits ≤ MAX_AWAITING in
     subst P (sym (same ∙ ap (returned_by exports.space exports.added exports.rows (stood_for (places config events) e.ask) effective) s))
     (lookup-few time u (stood_for (places config events) e.ask) exports.waits q.keeps.stands.waits_stand.once
@@ -171,9 +171,9 @@ stood-is h bindings a s = go (name_in a)
     go (Some n) = s.objects n
 
 -- An object for which a name stands is exported, and has a pin.
-pub stood-pinned : (config : SpaceConfig) (events : List Event) (leases : LeaseTable) (exports : ExportTable) (runs : List Run) (withdrawn : List Withdrawal) (told opened used moment : ℕ) → Keeps config events leases exports runs withdrawn told opened used moment →
+pub stood-pinned : (config : SpaceConfig) (events : List Event) (leases : LeaseTable) (exports : ExportTable) (runs : List Run) (withdrawn : List Withdrawal) (reported opened used moment : ℕ) → Keeps config events leases exports runs withdrawn reported opened used moment →
     (a : Ask) (o : ObjId) → stood_for (places config events) a ≡ Some o → (is_exported exports.rows o ≡ true) × 0 < pins_of exports.rows o
-stood-pinned config events leases exports runs withdrawn told opened used moment k a o s = go (name_in a) s
+stood-pinned config events leases exports runs withdrawn reported opened used moment k a o s = go (name_in a) s
   where
     go : (n : Option (List ℕ)) → option_and_then (stands_for (places config events)) n ≡ Some o → (is_exported exports.rows o ≡ true) × 0 < pins_of exports.rows o
     go None e = absurd (cc)
@@ -199,9 +199,9 @@ still-pinned rows o p (there, some) = (exported-changed pinned_once o p (λ x. r
         subst R (sym e) (pinned (is_of o x) x h)
 
 -- No object has more pins than there are names.
-pub few-pins : (config : SpaceConfig) (events : List Event) (leases : LeaseTable) (exports : ExportTable) (runs : List Run) (withdrawn : List Withdrawal) (told opened used moment : ℕ) → Keeps config events leases exports runs withdrawn told opened used moment →
+pub few-pins : (config : SpaceConfig) (events : List Event) (leases : LeaseTable) (exports : ExportTable) (runs : List Run) (withdrawn : List Withdrawal) (reported opened used moment : ℕ) → Keeps config events leases exports runs withdrawn reported opened used moment →
     (o : ObjId) → pins_of exports.rows o < 2 ^ 31
-few-pins config events leases exports runs withdrawn told opened used moment k o =
+few-pins config events leases exports runs withdrawn reported opened used moment k o =
     let rows = ap (λ l. pins_of l o) k.stands.rows_are in
     let few = pins-few (places config events) (table config (places config events)) o in
     let names_few = k.stands.within.names in

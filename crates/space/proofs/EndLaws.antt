@@ -22,13 +22,13 @@ use Rattle.space.proofs.Keeping.{told_calls}
 use Rattle.space.proofs.TurnLaws.{HasActed, HasWithdrawn, is-acted}
 
 -- Once an ask has acted there are calls for which the leases stand.
-pub has-log : (config : SpaceConfig) (events : List Event) (e : Event) (leases leases1 : LeaseTable) (exports t : ExportTable) (runs : List Run) (withdrawn : List Withdrawal) (told opened used moment : ℕ) (effective : Bool) →
-    HasActed config events e leases leases1 exports t runs withdrawn told opened used moment effective → HasLog leases1
-has-log config events e leases leases1 exports t runs withdrawn told opened used moment effective a = record {
+pub has-log : (config : SpaceConfig) (events : List Event) (e : Event) (leases leases1 : LeaseTable) (exports t : ExportTable) (runs : List Run) (withdrawn : List Withdrawal) (reported opened used moment : ℕ) (effective : Bool) →
+    HasActed config events e leases leases1 exports t runs withdrawn reported opened used moment effective → HasLog leases1
+has-log config events e leases leases1 exports t runs withdrawn reported opened used moment effective a = record {
   lease = config.lease_ms;
   moment = max e.moment (now (places config events));
   calls = told_calls config events e;
-  stands = (is-acted config events e leases leases1 exports t runs withdrawn told opened used moment effective a).leases_stand;
+  stands = (is-acted config events e leases leases1 exports t runs withdrawn reported opened used moment effective a).leases_stand;
 }
 
 -- What the withdrawal answered, of a table but for its room.
@@ -44,11 +44,11 @@ has-withdrawn leases1 leases2 t y z time told_gone all_gone e kept gone dropped 
     record { kept = subst K e kept; gone = subst G e gone; dropped = subst D e dropped }
 
 -- What is kept of events, once they are there and there is as much room.
-pub appended : (config : SpaceConfig) (events events' : List Event) (leases : LeaseTable) (exports : ExportTable) (runs : List Run) (withdrawn : List Withdrawal) (told opened used moment room room' withdrawn_room : ℕ) (bindings : List Binding) →
-    Keeps config events leases exports runs withdrawn told opened used moment × HasRoom events room runs withdrawn withdrawn_room exports × AreBindings (places config events) bindings → events' ≡ events → room ≤ room' →
-    Keeps config events' leases exports runs withdrawn told opened used moment × HasRoom events' room' runs withdrawn withdrawn_room exports × AreBindings (places config events') bindings
-appended config events events' leases exports runs withdrawn told opened used moment room room' withdrawn_room bindings (k, r, b) e le =
-    let P : List Event → Type 0 = λ es. Keeps config es leases exports runs withdrawn told opened used moment in
+pub appended : (config : SpaceConfig) (events events' : List Event) (leases : LeaseTable) (exports : ExportTable) (runs : List Run) (withdrawn : List Withdrawal) (reported opened used moment room room' withdrawn_room : ℕ) (bindings : List Binding) →
+    Keeps config events leases exports runs withdrawn reported opened used moment × HasRoom events room runs withdrawn withdrawn_room exports × AreBindings (places config events) bindings → events' ≡ events → room ≤ room' →
+    Keeps config events' leases exports runs withdrawn reported opened used moment × HasRoom events' room' runs withdrawn withdrawn_room exports × AreBindings (places config events') bindings
+appended config events events' leases exports runs withdrawn reported opened used moment room room' withdrawn_room bindings (k, r, b) e le =
+    let P : List Event → Type 0 = λ es. Keeps config es leases exports runs withdrawn reported opened used moment in
     let N : List Event → Type 0 = λ es. AreBindings (places config es) bindings in
     let ends = r.ends in let same = ap length e in
     (subst P (sym e) k, record { ends = omega (arith, ends, same, le); withdrawals = r.withdrawals }, subst N (sym e) b)

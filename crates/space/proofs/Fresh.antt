@@ -45,8 +45,8 @@ stands-nothing config leases s = record {
   waits_stand = record { once = tt; each = λ r. rw (until-none config.ack_ms r) refl };
   runs_stand = runs-none caller_of object_of;
   withdrawn_are = sym (withdrawals-none config);
-  told_are = sym (pending-none config);
-  told_within = omega arith;
+  reported_are = sym (pending-none config);
+  reported_within = omega arith;
   used_is = sym units-none;
   moment_is = refl;
   within = within-nothing config;

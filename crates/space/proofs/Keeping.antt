@@ -36,7 +36,7 @@ use Rattle.export_table.specs.Rows.{is_row_kept as row_kept, held_by, withdrawn 
 use Rattle.export_table.specs.Table.{ExportTable}
 use Rattle.export_table.specs.Waits.{waiting}
 use Rattle.space.specs.declared.runs.Run.{Run}
-use Rattle.space.specs.Acts.{opens, new_ids, reply_at, started_reply, found_reply, withdrawal_at, told_after, room_refusal, await_refusal, lease_refusal, name_refusal, first_of_two, Agrees}
+use Rattle.space.specs.Acts.{opens, new_ids, reply_at, started_reply, found_reply, withdrawal_at, reported_after, room_refusal, await_refusal, lease_refusal, name_refusal, first_of_two, Agrees}
 use Rattle.space.specs.Kept.{live_calls, Stands, Keeps}
 use Rattle.space.specs.Runs.{RunsStand, caller_of, object_of}
 use Rattle.export_table.specs.Stands.{WaitsStand, reference_of, end_of, row_of, rows_of}
@@ -79,9 +79,9 @@ gone-rows h p q (x ∷ xs) e = go (p (row_of h x)) (q x) e.0 (gone-rows h p q xs
     go true false e r = absurd (cc)
     go false true e r = absurd (cc)
 
-objects-told : (n : ℕ) (os : List ObjId) → map (λ (w : Withdrawal). w.object) (map (withdrawal_at n) os) ≡ os
-objects-told n [] = refl
-objects-told n (o ∷ os) = ap (λ l. o ∷ l) (objects-told n os)
+objects-reported : (n : ℕ) (os : List ObjId) → map (λ (w : Withdrawal). w.object) (map (withdrawal_at n) os) ≡ os
+objects-reported n [] = refl
+objects-reported n (o ∷ os) = ap (λ l. o ∷ l) (objects-reported n os)
 
 at-place : (n : ℕ) (xs : List Exported) → map (withdrawal_at n) (ids xs) ≡ map (λ (x : Exported). record { object = x.id; place = n }) xs
 at-place n [] = refl
@@ -160,28 +160,28 @@ withdrawn-next config events e =
     ∙ ap (map (withdrawal_at (length events))) (withdrawn-ids config events e))
 
 -- WHAT A TURN TELLS as gone.
-pub gone-kept : (config : SpaceConfig) (events : List Event) (e : Event) (withdrawn : List Withdrawal) (told : ℕ) (os : List ObjId) → told ≤ length withdrawn → map (λ (w : Withdrawal). w.object) (drop told withdrawn) ≡ pending config (places config events) →
+pub gone-kept : (config : SpaceConfig) (events : List Event) (e : Event) (withdrawn : List Withdrawal) (reported : ℕ) (os : List ObjId) → reported ≤ length withdrawn → map (λ (w : Withdrawal). w.object) (drop reported withdrawn) ≡ pending config (places config events) →
     os ≡ gone_of (table config (places config events) ++ (place_of config (places config events) e).exported_here) (is_kept config (place_of config (places config events) e ∷ places config events)) →
-    map (λ (w : Withdrawal). w.object) (drop told (withdrawn ++ map (withdrawal_at (length events)) os)) ≡ gone config (places config events) e
-gone-kept config events e withdrawn told os le t o =
-    ap (map (λ (w : Withdrawal). w.object)) (drop-append-le told withdrawn (map (withdrawal_at (length events)) os) le)
-    ∙ map-append (λ (w : Withdrawal). w.object) (drop told withdrawn) (map (withdrawal_at (length events)) os)
-    ∙ ap (λ l. map (λ (w : Withdrawal). w.object) (drop told withdrawn) ++ l) (objects-told (length events) os ∙ o)
+    map (λ (w : Withdrawal). w.object) (drop reported (withdrawn ++ map (withdrawal_at (length events)) os)) ≡ gone config (places config events) e
+gone-kept config events e withdrawn reported os le t o =
+    ap (map (λ (w : Withdrawal). w.object)) (drop-append-le reported withdrawn (map (withdrawal_at (length events)) os) le)
+    ∙ map-append (λ (w : Withdrawal). w.object) (drop reported withdrawn) (map (withdrawal_at (length events)) os)
+    ∙ ap (λ l. map (λ (w : Withdrawal). w.object) (drop reported withdrawn) ++ l) (objects-reported (length events) os ∙ o)
     ∙ ap (λ l. l ++ gone_of (table config (places config events) ++ (place_of config (places config events) e).exported_here) (is_kept config (place_of config (places config events) e ∷ places config events))) t
     ∙ sym (gone-next config events e)
 
 -- What is to be told after the event.
-told-next : (config : SpaceConfig) (events : List Event) (e : Event) (withdrawn : List Withdrawal) (told : ℕ) (os : List ObjId) → told ≤ length withdrawn → map (λ (w : Withdrawal). w.object) (drop told withdrawn) ≡ pending config (places config events) →
+reported-next : (config : SpaceConfig) (events : List Event) (e : Event) (withdrawn : List Withdrawal) (reported : ℕ) (os : List ObjId) → reported ≤ length withdrawn → map (λ (w : Withdrawal). w.object) (drop reported withdrawn) ≡ pending config (places config events) →
     os ≡ gone_of (table config (places config events) ++ (place_of config (places config events) e).exported_here) (is_kept config (place_of config (places config events) e ∷ places config events)) →
-    map (λ (w : Withdrawal). w.object) (drop (told_after told (length (withdrawn ++ map (withdrawal_at (length events)) os)) e.ask) (withdrawn ++ map (withdrawal_at (length events)) os)) ≡ pending config (place_of config (places config events) e ∷ places config events)
-told-next config events e withdrawn told os le t o = go (is_abandon e.ask) (pending-push config (places config events) e (numbered-place config events e))
+    map (λ (w : Withdrawal). w.object) (drop (reported_after reported (length (withdrawn ++ map (withdrawal_at (length events)) os)) e.ask) (withdrawn ++ map (withdrawal_at (length events)) os)) ≡ pending config (place_of config (places config events) e ∷ places config events)
+reported-next config events e withdrawn reported os le t o = go (is_abandon e.ask) (pending-push config (places config events) e (numbered-place config events e))
   where
     all : List Withdrawal
     all = withdrawn ++ map (withdrawal_at (length events)) os
 
     go : (b : Bool) → pending config (place_of config (places config events) e ∷ places config events) ≡ (if b then gone config (places config events) e else []) →
-        map (λ (w : Withdrawal). w.object) (drop (if b then told else length (withdrawn ++ map (withdrawal_at (length events)) os)) (withdrawn ++ map (withdrawal_at (length events)) os)) ≡ pending config (place_of config (places config events) e ∷ places config events)
-    go true p = gone-kept config events e withdrawn told os le t o ∙ sym p
+        map (λ (w : Withdrawal). w.object) (drop (if b then reported else length (withdrawn ++ map (withdrawal_at (length events)) os)) (withdrawn ++ map (withdrawal_at (length events)) os)) ≡ pending config (place_of config (places config events) e ∷ places config events)
+    go true p = gone-kept config events e withdrawn reported os le t o ∙ sym p
     go false p = ap (map (λ (w : Withdrawal). w.object)) (drop_all (length (withdrawn ++ map (withdrawal_at (length events)) os)) (withdrawn ++ map (withdrawal_at (length events)) os) (omega arith)) ∙ sym p
 
 -- The table after the withdrawal.
@@ -199,13 +199,13 @@ next-push : (p : Place) (h : History) → next (p ∷ h) ≡ next h + length p.e
 unfolding next
 next-push p h = refl
 
-stands-push : (config : SpaceConfig) (events : List Event) (e : Event) (leases leases1 leases2 : LeaseTable) (exports t : ExportTable) (runs runs1 : List Run) (withdrawn : List Withdrawal) (told opened used moment : ℕ) (effective : Bool) → effective ≡ is_effective config (places config events) e.by e.ask →
-    Keeps config events leases exports runs withdrawn told opened used moment → refusal limits config (places config events) e ≡ None →
+stands-push : (config : SpaceConfig) (events : List Event) (e : Event) (leases leases1 leases2 : LeaseTable) (exports t : ExportTable) (runs runs1 : List Run) (withdrawn : List Withdrawal) (reported opened used moment : ℕ) (effective : Bool) → effective ≡ is_effective config (places config events) e.by e.ask →
+    Keeps config events leases exports runs withdrawn reported opened used moment → refusal limits config (places config events) e ≡ None →
     IsActed config events e leases1 t runs1 → t.space ≡ config.uid → t.ack ≡ config.ack_ms → t.added ≡ opened + opens effective e.ask →
     StandsFor config.lease_ms leases2 (max e.moment (now (places config events))) (map (without_all (going_now config events e t)) (told_calls config events e)) →
     Stands config (place_of config (places config events) e ∷ places config events) leases2 (left config events e t) runs1 (withdrawn_then config events e t withdrawn)
-    (told_after told (length (withdrawn_then config events e t withdrawn)) e.ask) (opened + opens effective e.ask) (used + units_of e.ask) (max e.moment (now (places config events)))
-stands-push config events e leases leases1 leases2 exports t runs runs1 withdrawn told opened used moment effective f k r a sp ac ad dropped =
+    (reported_after reported (length (withdrawn_then config events e t withdrawn)) e.ask) (opened + opens effective e.ask) (used + units_of e.ask) (max e.moment (now (places config events)))
+stands-push config events e leases leases1 leases2 exports t runs runs1 withdrawn reported opened used moment effective f k r a sp ac ad dropped =
     let goes : going_now config events e t ≡ gone_of (table config (places config events) ++ (place_of config (places config events) e).exported_here) (is_kept config (place_of config (places config events) e ∷ places config events)) = going-is config events e leases1 t runs1 a in
     let L : List ObjId → Type 0 = λ os. StandsFor config.lease_ms leases2 (max e.moment (now (places config events))) (map (without_all os) (told_calls config events e)) in
     let C : List Call → Type 0 = λ cs. StandsFor config.lease_ms leases2 (max e.moment (now (places config events))) cs in
@@ -229,16 +229,16 @@ stands-push config events e leases leases1 leases2 exports t runs runs1 withdraw
       waits_stand = waits-going (max e.moment (now (places config events))) config.ack_ms (place_of config (places config events) e ∷ places config events) t.waits a.waits_stand;
       runs_stand = a.runs_stand;
       withdrawn_are = ap (λ l. l ++ map (withdrawal_at (length events)) (going_now config events e t)) k.stands.withdrawn_are ∙ ap (λ os. withdrawals config (places config events) ++ map (withdrawal_at (length events)) os) goes ∙ sym (withdrawn-next config events e);
-      told_are = told-next config events e withdrawn told (going_now config events e t) k.stands.told_within k.stands.told_are goes;
-      told_within = told-few (is_abandon e.ask) told withdrawn (map (withdrawal_at (length events)) (going_now config events e t)) k.stands.told_within;
+      reported_are = reported-next config events e withdrawn reported (going_now config events e t) k.stands.reported_within k.stands.reported_are goes;
+      reported_within = reported-few (is_abandon e.ask) reported withdrawn (map (withdrawal_at (length events)) (going_now config events e t)) k.stands.reported_within;
       used_is = omega arith;
       moment_is = sym (now-push config (places config events) e);
       within = within-next config events e r;
     }
   where
-    told-few : (b : Bool) (n : ℕ) (xs ys : List Withdrawal) → n ≤ length xs → (if b then n else length (xs ++ ys)) ≤ length (xs ++ ys)
-    told-few true n xs ys h = let long = length-append xs ys in omega (arith, h, long)
-    told-few false n xs ys h = omega arith
+    reported-few : (b : Bool) (n : ℕ) (xs ys : List Withdrawal) → n ≤ length xs → (if b then n else length (xs ++ ys)) ≤ length (xs ++ ys)
+    reported-few true n xs ys h = let long = length-append xs ys in omega (arith, h, long)
+    reported-few false n xs ys h = omega arith
 
 -- ---- the answer
 
@@ -253,19 +253,19 @@ pub step-agrees : (config : SpaceConfig) (events : List Event) (e : Event) (refu
 step-agrees config events e refused (inl r) = step-refused config events e refused r
 step-agrees config events e refused (inr m) = inr (ap (λ x. Err x) m, refl)
 
-pub keeps-push : (config : SpaceConfig) (events : List Event) (e : Event) (leases leases1 leases2 : LeaseTable) (exports t : ExportTable) (runs runs1 : List Run) (withdrawn : List Withdrawal) (told opened used moment : ℕ) (effective : Bool) → effective ≡ is_effective config (places config events) e.by e.ask →
-    Keeps config events leases exports runs withdrawn told opened used moment → e.moment < END_OF_TIME → refusal limits config (places config events) e ≡ None →
+pub keeps-push : (config : SpaceConfig) (events : List Event) (e : Event) (leases leases1 leases2 : LeaseTable) (exports t : ExportTable) (runs runs1 : List Run) (withdrawn : List Withdrawal) (reported opened used moment : ℕ) (effective : Bool) → effective ≡ is_effective config (places config events) e.by e.ask →
+    Keeps config events leases exports runs withdrawn reported opened used moment → e.moment < END_OF_TIME → refusal limits config (places config events) e ≡ None →
     IsActed config events e leases1 t runs1 → t.space ≡ config.uid → t.ack ≡ config.ack_ms → t.added ≡ opened + opens effective e.ask →
     StandsFor config.lease_ms leases2 (max e.moment (now (places config events))) (map (without_all (going_now config events e t)) (told_calls config events e)) →
     Keeps config (events ++ e ∷ []) leases2 (left config events e t) runs1 (withdrawn_then config events e t withdrawn)
-    (told_after told (length (withdrawn_then config events e t withdrawn)) e.ask) (opened + opens effective e.ask) (used + units_of e.ask) (max e.moment (now (places config events)))
-keeps-push config events e leases leases1 leases2 exports t runs runs1 withdrawn told opened used moment effective f k early r a sp ac ad dropped =
+    (reported_after reported (length (withdrawn_then config events e t withdrawn)) e.ask) (opened + opens effective e.ask) (used + units_of e.ask) (max e.moment (now (places config events)))
+keeps-push config events e leases leases1 leases2 exports t runs runs1 withdrawn reported opened used moment effective f k early r a sp ac ad dropped =
     let S : History → Type 0 = λ g. Stands config g leases2 (left config events e t) runs1 (withdrawn_then config events e t withdrawn)
-    (told_after told (length (withdrawn_then config events e t withdrawn)) e.ask) (opened + opens effective e.ask) (used + units_of e.ask) (max e.moment (now (places config events))) in
+    (reported_after reported (length (withdrawn_then config events e t withdrawn)) e.ask) (opened + opens effective e.ask) (used + units_of e.ask) (max e.moment (now (places config events))) in
     let longer : length (events ++ e ∷ []) ≡ length events + 1 = length-append events (e ∷ []) in
     record {
       durations = k.durations;
-      stands = subst S (sym (places-push config events e)) (stands-push config events e leases leases1 leases2 exports t runs runs1 withdrawn told opened used moment effective f k r a sp ac ad dropped);
+      stands = subst S (sym (places-push config events e)) (stands-push config events e leases leases1 leases2 exports t runs runs1 withdrawn reported opened used moment effective f k r a sp ac ad dropped);
       early = (let before = k.early in let time = k.stands.moment_is in omega (arith, before, time, early));
       few_events = (let before = k.few_events in let some = some-units e.ask in omega (arith, before, some, longer));
       few_opened = (let before = k.few_opened in let few = opened-few effective e.ask in omega (arith, before, few));
@@ -285,9 +285,9 @@ call-alike p q h moment (Clean client number objects strong) = rw (filter-alike 
 call-alike p q h moment _ = refl
 
 -- The rows name what the table names.
-pub rows-has : (config : SpaceConfig) (events : List Event) (leases : LeaseTable) (exports : ExportTable) (runs : List Run) (withdrawn : List Withdrawal) (told opened used moment : ℕ) → Keeps config events leases exports runs withdrawn told opened used moment →
+pub rows-has : (config : SpaceConfig) (events : List Event) (leases : LeaseTable) (exports : ExportTable) (runs : List Run) (withdrawn : List Withdrawal) (reported opened used moment : ℕ) → Keeps config events leases exports runs withdrawn reported opened used moment →
     (o : ObjId) → is_exported exports.rows o ≡ has (table config (places config events)) o
-rows-has config events leases exports runs withdrawn told opened used moment k o = ap (λ l. is_exported l o) k.stands.rows_are ∙ exported-has (places config events) (table config (places config events)) o
+rows-has config events leases exports runs withdrawn reported opened used moment k o = ap (λ l. is_exported l o) k.stands.rows_are ∙ exported-has (places config events) (table config (places config events)) o
 
 rows-length : (h : History) (xs : List Exported) → length (rows_of h xs) ≡ length xs
 rows-length h [] = refl
@@ -295,13 +295,13 @@ rows-length h (x ∷ xs) = ap suc (rows-length h xs)
 
 -- The refusal, by what is kept: for want of room, for the references that are returned, and then as the lease table says after the calls
 -- that it stands for.
-pub refusal-kept : (config : SpaceConfig) (events : List Event) (e : Event) (leases : LeaseTable) (exports : ExportTable) (runs : List Run) (withdrawn : List Withdrawal) (told opened used moment : ℕ) → Keeps config events leases exports runs withdrawn told opened used moment →
+pub refusal-kept : (config : SpaceConfig) (events : List Event) (e : Event) (leases : LeaseTable) (exports : ExportTable) (runs : List Run) (withdrawn : List Withdrawal) (reported opened used moment : ℕ) → Keeps config events leases exports runs withdrawn reported opened used moment →
     refusal limits config (places config events) e
     ≡ first_of_two (room_refusal used (length runs) (length exports.rows) (is_effective config (places config events) e.by e.ask) e.ask)
     (first_of_two (await_refusal (max e.moment (now (places config events))) exports.rows exports.waits (stood_for (places config events) e.ask) (is_effective config (places config events) e.by e.ask) e.ask)
     (first_of_two (lease_refusal config.lease_ms (max e.moment (now (places config events))) (live_calls (table config (places config events)) (lease_calls (places config events))) (call_with (has (table config (places config events))) (max e.moment (now (places config events))) e.ask))
     (name_refusal (length (names (places config events))) (stood_for (places config events) e.ask) (is_effective config (places config events) e.by e.ask) e.ask)))
-refusal-kept config events e leases exports runs withdrawn told opened used moment k =
+refusal-kept config events e leases exports runs withdrawn reported opened used moment k =
     let N : ℕ → Type 0 = λ n. WaitsStand reference_of end_of config.ack_ms n (places config events) exports.waits in
     refusal-is config (places config events) e (await_refusal (max e.moment (now (places config events))) exports.rows exports.waits (stood_for (places config events) e.ask) (is_effective config (places config events) e.by e.ask) e.ask)
     (name_refusal (length (names (places config events))) (stood_for (places config events) e.ask) (is_effective config (places config events) e.by e.ask) e.ask)
@@ -368,13 +368,13 @@ reply-is config h e opened rows effective k rs f = go e.ask ∙ ap (λ n. reply_
     go ListNames = refl
 
 -- The turn of an event.
-pub turn-is : (config : SpaceConfig) (events : List Event) (e : Event) (leases leases1 : LeaseTable) (exports t : ExportTable) (runs runs1 : List Run) (withdrawn : List Withdrawal) (told opened used moment : ℕ) (effective : Bool) → Keeps config events leases exports runs withdrawn told opened used moment →
+pub turn-is : (config : SpaceConfig) (events : List Event) (e : Event) (leases leases1 : LeaseTable) (exports t : ExportTable) (runs runs1 : List Run) (withdrawn : List Withdrawal) (reported opened used moment : ℕ) (effective : Bool) → Keeps config events leases exports runs withdrawn reported opened used moment →
     effective ≡ is_effective config (places config events) e.by e.ask → IsActed config events e leases1 t runs1 →
-    turn_of config events e ≡ record { place = length events; reply = reply_at config opened exports.rows (names (places config events)) (stood_for (places config events) e.ask) effective e.ask; gone = map (λ (w : Withdrawal). w.object) (drop told withdrawn) ++ going_now config events e t }
-turn-is config events e leases leases1 exports t runs runs1 withdrawn told opened used moment effective k f a =
+    turn_of config events e ≡ record { place = length events; reply = reply_at config opened exports.rows (names (places config events)) (stood_for (places config events) e.ask) effective e.ask; gone = map (λ (w : Withdrawal). w.object) (drop reported withdrawn) ++ going_now config events e t }
+turn-is config events e leases leases1 exports t runs runs1 withdrawn reported opened used moment effective k f a =
     two _ _ _ _ (reply-is config (places config events) e opened exports.rows effective k.stands.opened_is k.stands.rows_are f)
-    (gone-next config events e ∙ ap (λ l. l ++ gone_of (table config (places config events) ++ (place_of config (places config events) e).exported_here) (is_kept config (place_of config (places config events) e ∷ places config events))) (sym k.stands.told_are)
-    ∙ ap (λ l. map (λ (w : Withdrawal). w.object) (drop told withdrawn) ++ l) (sym (going-is config events e leases1 t runs1 a)))
+    (gone-next config events e ∙ ap (λ l. l ++ gone_of (table config (places config events) ++ (place_of config (places config events) e).exported_here) (is_kept config (place_of config (places config events) e ∷ places config events))) (sym k.stands.reported_are)
+    ∙ ap (λ l. map (λ (w : Withdrawal). w.object) (drop reported withdrawn) ++ l) (sym (going-is config events e leases1 t runs1 a)))
   where
     two : (r s : Reply) (g g' : List ObjId) → r ≡ s → g ≡ g' → ◌≡◌ {A = Turn} (record { place = length events; reply = r; gone = g }) (record { place = length events; reply = s; gone = g' })
     two r s g g' p q = cc

@@ -193,7 +193,7 @@ pairs-more : (config : SpaceConfig) (events : List Event) (e : Event) (p : Pair)
     list_any (same_pair p) (pairs_with config.lease_ms (max e.moment (now (places config events))) (lease_calls (places config events)) (ids (table config (places config events))) ++ flat_map (new_pairs config.lease_ms (lease_calls (places config events))) (lease_call config (places config events) e)) ≡ true
 pairs-more config events e p r =
     list_any-append (same_pair p) (pairs_with config.lease_ms m (lease_calls (places config events)) (ids (table config (places config events)))) (flat_map (new_pairs config.lease_ms (lease_calls (places config events))) (lease_call config (places config events) e))
-    ∙ go e.ask told
+    ∙ go e.ask reported
   where
     m : ℕ
     m = max e.moment (now (places config events))
@@ -213,8 +213,8 @@ pairs-more config events e p r =
     there : has (table config (places config events)) p.object ≡ true
     there = was-there config events e p.object exported parts.0
 
-    told : is_remembered config.lease_ms (max e.moment (now (places config events))) (calls_of p.client (call_with (has (table config (places config events))) (max e.moment (now (places config events))) e.ask ++ lease_calls (places config events))) p.object ≡ true
-    told =
+    reported : is_remembered config.lease_ms (max e.moment (now (places config events))) (calls_of p.client (call_with (has (table config (places config events))) (max e.moment (now (places config events))) e.ask ++ lease_calls (places config events))) p.object ≡ true
+    reported =
         sym (is_remembered-alike p.object config.lease_ms (max e.moment (now (places config events)))
         (calls_of p.client (call_with (has (added (places config events))) (max e.moment (now (places config events))) e.ask ++ lease_calls (places config events)))
         (calls_of p.client (call_with (has (table config (places config events))) (max e.moment (now (places config events))) e.ask ++ lease_calls (places config events)))
@@ -266,9 +266,9 @@ pairs-later lease t u calls objects le =
     any-pairs_with lease t calls objects p ∙ and_from (list_any (same_id p.object) objects) (is_remembered lease t (calls_of p.client calls) p.object) two.0 (remembered-earlier lease t u (calls_of p.client calls) p.object le two.1)))
 
 -- The pairs after one call are those that a table of live calls counts, and so are the clients after a dirty.
-pub pairs-told : (objects : List Exported) (lease : ℕ) (calls : List Call) (x : Call) →
+pub pairs-reported : (objects : List Exported) (lease : ℕ) (calls : List Call) (x : Call) →
     length (distinct same_pair (pairs_with lease x.moment calls (ids objects) ++ (new_pairs lease calls x ++ []))) ≡ pairs_with_call lease (live_calls objects calls) x
-pairs-told objects lease calls x =
+pairs-reported objects lease calls x =
     distinct-same same_pair pair-equality (pairs_with lease x.moment calls (ids objects) ++ (new_pairs lease calls x ++ [])) (pairs lease x.moment (live_calls objects calls) ++ new_pairs lease (live_calls objects calls) x)
     (λ p. list_any-append (same_pair p) (pairs_with lease x.moment calls (ids objects)) (new_pairs lease calls x ++ [])
     ∙ ap (λ v. v || list_any (same_pair p) (new_pairs lease calls x ++ [])) (pairs-live objects lease x.moment calls p)
@@ -278,9 +278,9 @@ pairs-told objects lease calls x =
     whole : (ps : List Pair) → ps ++ [] ≡ ps
     whole ps = rw append-nil refl
 
-pub clients-told : (objects : List Exported) (lease t : ℕ) (calls : List Call) (x : Call) →
+pub clients-reported : (objects : List Exported) (lease t : ℕ) (calls : List Call) (x : Call) →
     length (distinct same_client (clients_with_time_left lease t calls ++ x.client ∷ [])) ≡ clients_with_call lease t (live_calls objects calls) x.client
-clients-told objects lease t calls x = ap (λ cs. length (distinct same_client (cs ++ x.client ∷ []))) (sym (left-live objects lease t calls))
+clients-reported objects lease t calls x = ap (λ cs. length (distinct same_client (cs ++ x.client ∷ []))) (sym (left-live objects lease t calls))
 
 -- ---- names
 

@@ -83,15 +83,15 @@ kinds-are h now waits [] = refl
 kinds-are h now waits (x ∷ objects) = ap (λ l. with_kind x ∷ l) (kinds-are h now waits objects)
 
 -- What an export table of a history's objects tells of them.
-pub kind-told : (config : SpaceConfig) (events : List Event) (rows : List Export) (o : ObjId) (kind : Option ℕ) (s : SpaceHistory) → record { configuration = config; events = events } ≡ s
+pub kind-reported : (config : SpaceConfig) (events : List Event) (rows : List Export) (o : ObjId) (kind : Option ℕ) (s : SpaceHistory) → record { configuration = config; events = events } ≡ s
     → rows ≡ rows_of (places config events) (table config (places config events)) → kind ≡ kind_of rows o → kind ≡ kind_among (table s.configuration (places s.configuration s.events)) o
-kind-told config events rows o kind s viewed is told =
+kind-reported config events rows o kind s viewed is reported =
     let P : SpaceHistory → Type 0 = λ x. kind ≡ kind_among (table x.configuration (places x.configuration x.events)) o in
-    subst P viewed (told ∙ ap (λ l. kind_of l o) is ∙ kind-among (places config events) (table config (places config events)) o)
+    subst P viewed (reported ∙ ap (λ l. kind_of l o) is ∙ kind-among (places config events) (table config (places config events)) o)
 
-pub kinds-told : (config : SpaceConfig) (events : List Event) (rows : List Export) (now : ℕ) (waits : List Wait) (listed : List ExportRow) (objects : List ObjectKind) (s : SpaceHistory)
+pub kinds-reported : (config : SpaceConfig) (events : List Event) (rows : List Export) (now : ℕ) (waits : List Wait) (listed : List ExportRow) (objects : List ObjectKind) (s : SpaceHistory)
     → record { configuration = config; events = events } ≡ s → rows ≡ rows_of (places config events) (table config (places config events))
     → listed ≡ map (row_at now waits) rows → objects ≡ map row_kind listed → objects ≡ map with_kind (table s.configuration (places s.configuration s.events))
-kinds-told config events rows now waits listed objects s viewed is rows-are told =
+kinds-reported config events rows now waits listed objects s viewed is rows-are reported =
     let P : SpaceHistory → Type 0 = λ x. objects ≡ map with_kind (table x.configuration (places x.configuration x.events)) in
-    subst P viewed (told ∙ ap (map row_kind) rows-are ∙ ap (λ l. map row_kind (map (row_at now waits) l)) is ∙ kinds-are (places config events) now waits (table config (places config events)))
+    subst P viewed (reported ∙ ap (map row_kind) rows-are ∙ ap (λ l. map row_kind (map (row_at now waits) l)) is ∙ kinds-are (places config events) now waits (table config (places config events)))

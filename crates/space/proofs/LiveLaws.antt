@@ -223,9 +223,9 @@ has-nowhere objects more exported objects' stays n y h = go (has objects y) refl
     go true e = absurd (let there = n.old y e in cc)
     go false e = refl
 
-live-told : (objects more exported objects' : List Exported) (stays : Exported → Bool) → IsNext objects more exported objects' stays → (ys : List ObjId) →
+live-reported : (objects more exported objects' : List Exported) (stays : Exported → Bool) → IsNext objects more exported objects' stays → (ys : List ObjId) →
     filter (has objects') (filter (has exported) ys) ≡ filter (λ y. not (among y (gone_of (objects ++ more) stays))) (filter (has objects) ys)
-live-told objects more exported objects' stays n ys =
+live-reported objects more exported objects' stays n ys =
     filter-two (has objects') (has exported) (λ y. not (among y (gone_of (objects ++ more) stays))) (has objects) ys (all ys)
   where
     each : (y : ObjId) (b : Bool) → has exported y ≡ b → (has objects' y && b) ≡ (not (among y (gone_of (objects ++ more) stays)) && has objects y)
@@ -254,14 +254,14 @@ live-kept objects more exported objects' stays n (x ∷ calls) e =
     whole (y ∷ ys) f = rw (f.0, whole ys f.1) refl
 
     same : (ys : List ObjId) → AllByRecursion (λ y. has exported y ≡ true) ys → filter (has objects') ys ≡ filter (λ y. not (among y (gone_of (objects ++ more) stays))) (filter (has objects) ys)
-    same ys f = ap (filter (has objects')) (sym (whole ys f)) ∙ live-told objects more exported objects' stays n ys
+    same ys f = ap (filter (has objects')) (sym (whole ys f)) ∙ live-reported objects more exported objects' stays n ys
 
 live-call : (objects more exported objects' : List Exported) (stays : Exported → Bool) → IsNext objects more exported objects' stays → (moment : ℕ) (a : Ask) →
     live_calls objects' (call_with (has exported) moment a) ≡ map (without_all (gone_of (objects ++ more) stays)) (call_with (has objects) moment a)
 live-call objects more exported objects' stays n moment (Dirty client number asked named) =
-    ap (λ (os : List ObjId). record { moment = moment; client = client; number = number; objects = os; kind = DirtyCall } ∷ []) (live-told objects more exported objects' stays n named)
+    ap (λ (os : List ObjId). record { moment = moment; client = client; number = number; objects = os; kind = DirtyCall } ∷ []) (live-reported objects more exported objects' stays n named)
 live-call objects more exported objects' stays n moment (Clean client number named strong) =
-    ap (λ (os : List ObjId). record { moment = moment; client = client; number = number; objects = os; kind = if strong then Strong else Weak } ∷ []) (live-told objects more exported objects' stays n named)
+    ap (λ (os : List ObjId). record { moment = moment; client = client; number = number; objects = os; kind = if strong then Strong else Weak } ∷ []) (live-reported objects more exported objects' stays n named)
 live-call objects more exported objects' stays n moment _ = refl
 
 -- THE LIVE CALLS AFTER AN EVENT are those before it with the event's own, without the objects that go.
@@ -275,9 +275,9 @@ live-push objects more exported objects' stays n moment a calls e =
     ∙ sym (map-append (without_all (gone_of (objects ++ more) stays)) (call_with (has objects) moment a) (live_calls objects calls))
 
 -- Before they go, the event's own call and the live ones say the same of each object that was in the table or is new.
-pub told-alike : (objects exported : List Exported) (o : ObjId) (moment : ℕ) (a : Ask) (calls : List Call) → has exported o ≡ has objects o → (has objects o ≡ false → list_any (is_naming o) calls ≡ false) →
+pub reported-alike : (objects exported : List Exported) (o : ObjId) (moment : ℕ) (a : Ask) (calls : List Call) → has exported o ≡ has objects o → (has objects o ≡ false → list_any (is_naming o) calls ≡ false) →
     AllAlike o (call_with (has exported) moment a ++ calls) (call_with (has objects) moment a ++ live_calls objects calls)
-told-alike objects exported o moment a calls same none =
+reported-alike objects exported o moment a calls same none =
     AllAlike-append o (call_with (has exported) moment a) (call_with (has objects) moment a) calls (live_calls objects calls)
     (call_with-alike (has exported) (has objects) o same moment a) (go (has objects o) refl)
   where

@@ -30,7 +30,7 @@ use Rattle.history.proofs.RunningLaws.{is_running-calls}
 use Rattle.history.proofs.TableLaws.{places-numbered, table-place, now-push, withdrawn-place}
 use Rattle.dgc_server.specs.Counts.{without_all}
 use Rattle.space.specs.Kept.{live_calls}
-use Rattle.space.proofs.LiveLaws.{IsNext, gone_of, live-push, told-alike}
+use Rattle.space.proofs.LiveLaws.{IsNext, gone_of, live-push, reported-alike}
 use Rattle.space.proofs.Named.{calls-names, naming-has, lease_calls-push}
 use Rattle.export_table.proofs.ThereLaws.{old-not-new, new-not-old, not-exported-nowhere}
 use Rattle.space.proofs.ObjectLaws.{named-there, awaited-there}
@@ -115,13 +115,13 @@ not-there-awaits config events r h = go (awaits config.ack_ms (now (places confi
 -- ---- what is kept, before anything goes
 
 -- The event's own call and the live calls say whether an object of the table, or a new one, is held.
-told-both : (config : SpaceConfig) (events : List Event) (e : Event) (o : ObjId) → has (added (places config events)) o ≡ has (table config (places config events)) o →
+reported-both : (config : SpaceConfig) (events : List Event) (e : Event) (o : ObjId) → has (added (places config events)) o ≡ has (table config (places config events)) o →
     AllAlike o (lease_calls (place_of config (places config events) e ∷ places config events))
     (call_with (has (table config (places config events))) (max e.moment (now (places config events))) e.ask ++ live_calls (table config (places config events)) (lease_calls (places config events)))
-told-both config events e o same =
+reported-both config events e o same =
     let P : List Call → Type 0 = λ l. AllAlike o l (call_with (has (table config (places config events))) (max e.moment (now (places config events))) e.ask ++ live_calls (table config (places config events)) (lease_calls (places config events))) in
     subst P (sym (lease_calls-push config (places config events) e))
-    (told-alike (table config (places config events)) (added (places config events)) o (max e.moment (now (places config events))) e.ask (lease_calls (places config events)) same
+    (reported-alike (table config (places config events)) (added (places config events)) o (max e.moment (now (places config events))) e.ask (lease_calls (places config events)) same
     (λ h. not-exported-named config events o (same ∙ h)))
 
 pub held-next : (config : SpaceConfig) (events : List Event) (e : Event) (t : ℕ) →
@@ -141,7 +141,7 @@ held-next config events e t =
     one x same =
         is_held-alike x.id config.lease_ms t (lease_calls (place_of config (places config events) e ∷ places config events))
         (call_with (has (table config (places config events))) (max e.moment (now (places config events))) e.ask ++ live_calls (table config (places config events)) (lease_calls (places config events)))
-        (told-both config events e x.id same)
+        (reported-both config events e x.id same)
 
 -- WHAT KEEPS AN OBJECT after an event, by how many calls of it run, by any list of the references that await, and by the calls that the
 -- lease table was told before objects go.

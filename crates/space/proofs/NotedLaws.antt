@@ -19,7 +19,7 @@ use Rattle.history.specs.Replies.{ids, reply, reply_found}
 use Rattle.history.specs.Steps.{turn_of, answer_with, history_with, Step}
 use Rattle.history.specs.Table.{is_effective, exports, table, place_of, places}
 use Rattle.space.specs.Built.{SpaceHistory}
-use Rattle.space.specs.Noted.{FitsIn, made_by, turned}
+use Rattle.space.specs.Noted.{NoteFitsIn, made_by, turned}
 use Rattle.space.proofs.Quiet.{exported_from-length}
 
 -- ---- what a step says
@@ -165,7 +165,7 @@ turn-small config events h2 e s turn v t =
 -- The same as there is room for a copy.
 pub fits-turn : (config : SpaceConfig) (events h2 : List Event) (e : Event) (s : SpaceHistory) (answer : Result (Turn × List ObjId) Refused) (ids_room : ℕ) (listed : List (List ℕ)) →
     record { configuration = config; events = events } ≡ s → Step s.configuration s.events e (turned answer) h2 →
-    (e.ask ≡ ListNames → listed ≡ names (places config events)) → made_by e.ask ≤ ids_room → IfOk answer (λ x. x.1 ≡ x.0.gone) → FitsIn answer ids_room listed
+    (e.ask ≡ ListNames → listed ≡ names (places config events)) → made_by e.ask ≤ ids_room → IfOk answer (λ x. x.1 ≡ x.0.gone) → NoteFitsIn answer ids_room listed
 fits-turn config events h2 e s (Ok x) ids_room listed v t l i g =
     let small = turn-small config events h2 e s x.0 v t in
     record {

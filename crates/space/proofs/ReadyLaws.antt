@@ -24,7 +24,7 @@ use Rattle.space.specs.declared.prepared.Admitted.{Admitted}
 use Rattle.space.specs.declared.prepared.Prepared.{Prepared}
 use Rattle.space.specs.declared.runs.Run.{Run}
 use Rattle.space.specs.declared.tables.Tables.{Tables}
-use Rattle.space.specs.Acts.{ForEachLogBy, acted, acted_names, acted_runs, await_refusal, awaiting_with, effective_by, opens, reply_at, returned_by, room_refusal, told_after, told_refusal, withdrawal_at}
+use Rattle.space.specs.Acts.{ForEachLogBy, acted, acted_names, acted_runs, await_refusal, awaiting_with, effective_by, opens, reply_at, returned_by, room_refusal, reported_after, told_refusal, withdrawal_at}
 use Rattle.space.specs.Ahead.{HasRoom}
 use Rattle.space.specs.Doubts.{AreInDoubt, HasLog, taken_by}
 use Rattle.space.specs.Kept.{Keeps}
@@ -48,7 +48,7 @@ pub is-ready : (t : Tables) {e : Event} {a : Admitted} {p : Prepared} {noted : B
     a.stood ≡ option_and_then (object_of t.names) (name_in e.ask) → a.effective ≡ effective_by t.exports.rows t.runs.items a.stood e.by e.ask → room_refusal t.units (length t.runs.items) (length t.exports.rows) a.effective e.ask ≡ None →
     p.opened ≡ opens a.effective e.ask → p.objects ≡ length t.exports.rows + opens a.effective e.ask → p.listed.references.items ≡ returned_by t.config.uid t.added t.exports.rows a.stood a.effective e.ask →
     AreInDoubt t.leases time t.exports.waits (taken_by t.exports.waits (id_at t.config.uid t.added) a.stood p.listed.references.items e.ask) p.listed.doubtful.items →
-    p.untold.gone.items ≡ map (λ (w : Withdrawal). w.object) (drop t.told t.withdrawn.items) → vec_len p.untold.gone + length p.listed.doubtful.items ≤ vec_capacity p.untold.gone →
+    p.untold.gone.items ≡ map (λ (w : Withdrawal). w.object) (drop t.reported t.withdrawn.items) → vec_len p.untold.gone + length p.listed.doubtful.items ≤ vec_capacity p.untold.gone →
     (noted ≡ true → vec_len p.untold.gone + length p.listed.doubtful.items ≤ vec_capacity p.untold.spare) → p.reply ≡ reply_at t.config t.added t.exports.rows (names_in t.names) a.stood a.effective e.ask →
     await_refusal time t.exports.rows t.exports.waits a.stood a.effective e.ask ≡ None →
     counted ≡ length p.listed.references.items →
@@ -66,14 +66,14 @@ is-ready t {e} {a} {p} {noted} {time} {counted} {events} {runs} {withdrawn} {exp
     let N : ExportTable → ℕ → ℕ → Option ObjId → Type 0 = λ x n c o. ForEachLogBy n t.leases (λ lease calls. told_refusal lease n calls (call_with (is_exported x.rows) n e.ask) c o a.effective e.ask ≡ None) in
     let D : ℕ → Type 0 = λ n. AreInDoubt t.leases n t.exports.waits (taken_by t.exports.waits (id_at t.config.uid t.added) a.stood p.listed.references.items e.ask) p.listed.doubtful.items in
     let stood : a.stood ≡ stood_for (places t.config t.events.items) e.ask = st ∙ stood-is (places t.config t.events.items) t.names e.ask b in
-    let asked : IsAsked t.config t.events.items e t.leases t.exports t.runs.items t.withdrawn.items t.told t.added t.units t.moment a.effective =
+    let asked : IsAsked t.config t.events.items e t.leases t.exports t.runs.items t.withdrawn.items t.reported t.added t.units t.moment a.effective =
     record { keeps = k; tested = f ∙ ap (λ o. effective_by t.exports.rows t.runs.items o e.by e.ask) stood } in
     let events_same = ap length ev in let runs_same = ap length ru in let withdrawn_same = ap length wi in
     subst E (sym ev) (subst R (sym ru) (subst W (sym wi) (subst X (sym ex) (record {
       before = t.leases;
-      keeps = keeps-room t.config t.events.items t.leases t.exports (record t.exports { room = exports.room }) t.runs.items t.withdrawn.items t.told t.added t.units t.moment exports.room refl k;
+      keeps = keeps-room t.config t.events.items t.leases t.exports (record t.exports { room = exports.room }) t.runs.items t.withdrawn.items t.reported t.added t.units t.moment exports.room refl k;
       leases_told = subst (λ n. O (record t.exports { room = exports.room }) n) at (subst (λ x. O x time) ex ok);
-      names_told = names-next t.config t.events.items e a.effective t.names bindings b (is-effective t.config t.events.items e t.leases t.exports t.runs.items t.withdrawn.items t.told t.added t.units t.moment a.effective asked) ns;
+      names_told = names-next t.config t.events.items e a.effective t.names bindings b (is-effective t.config t.events.items e t.leases t.exports t.runs.items t.withdrawn.items t.reported t.added t.units t.moment a.effective asked) ns;
       early = early;
       stood_is = stood;
       effective_is = f;
@@ -100,11 +100,11 @@ is-ready t {e} {a} {p} {noted} {time} {counted} {events} {runs} {withdrawn} {exp
 -- ---- what follows of a turn that may rely on it
 
 pub asked-when-ready : {t : Tables} {e : Event} {a : Admitted} {p : Prepared} {noted : Bool} (r : IsReady t e a p noted) →
-    IsAsked t.config t.events.items e r.before t.exports t.runs.items t.withdrawn.items t.told t.added t.units t.moment a.effective
+    IsAsked t.config t.events.items e r.before t.exports t.runs.items t.withdrawn.items t.reported t.added t.units t.moment a.effective
 asked-when-ready {t} {e} {a} {p} {noted} r = record { keeps = r.keeps; tested = r.effective_is ∙ ap (λ o. effective_by t.exports.rows t.runs.items o e.by e.ask) r.stood_is }
 
 pub acted-when-ready : {t : Tables} {e : Event} {a : Admitted} {p : Prepared} {noted : Bool} {time : ℕ} (r : IsReady t e a p noted) → time ≡ max e.moment t.moment →
-    HasActed t.config t.events.items e r.before t.leases t.exports (acted a.stood a.effective time e.ask t.exports) t.runs.items t.withdrawn.items t.told t.added t.units t.moment a.effective
+    HasActed t.config t.events.items e r.before t.leases t.exports (acted a.stood a.effective time e.ask t.exports) t.runs.items t.withdrawn.items t.reported t.added t.units t.moment a.effective
 acted-when-ready {t} {e} {a} {p} {noted} {time} r at =
     let N : Option ObjId → Type 0 = λ o. ForEachLogBy (max e.moment t.moment) r.before (λ lease calls. told_refusal lease (max e.moment t.moment) calls (call_with (is_exported t.exports.rows) (max e.moment t.moment) e.ask)
     (length (names (places t.config t.events.items))) o a.effective e.ask ≡ None) in
@@ -123,37 +123,37 @@ pub step-when-ready : {t : Tables} {e : Event} {a : Admitted} {p : Prepared} {no
     place ≡ length t.events.items → HasWithdrawn t.leases leases (acted a.stood a.effective time e.ask t.exports) exports time p.untold.gone.items gone →
     Step t.config t.events.items e (Ok (record { place = place; reply = p.reply; gone = gone })) (t.events.items ++ e ∷ [])
 step-when-ready {t} {e} {a} {p} {noted} {time} {place} {leases} {exports} {gone} r at pl w =
-    turn-step t.config t.events.items e r.before t.leases leases t.exports (acted a.stood a.effective time e.ask t.exports) exports t.runs.items t.withdrawn.items t.told t.added t.units t.moment time a.effective p.untold.gone.items gone
+    turn-step t.config t.events.items e r.before t.leases leases t.exports (acted a.stood a.effective time e.ask t.exports) exports t.runs.items t.withdrawn.items t.reported t.added t.units t.moment time a.effective p.untold.gone.items gone
     (acted-when-ready r at) at w place p.reply gone (t.events.items ++ e ∷ []) pl refl
     (r.reply_is ∙ ap (λ o. reply_at t.config t.added t.exports.rows (names (places t.config t.events.items)) o a.effective e.ask) r.stood_is) r.gone_are refl
 
 -- WHAT IT LEAVES.
-pub whole-when-ready : {t : Tables} {e : Event} {a : Admitted} {p : Prepared} {noted : Bool} {time place told added used withdrawn_room : ℕ} {leases : LeaseTable} {exports : ExportTable} {gone : List ObjId} {runs : List Run} {withdrawn : List Withdrawal} →
+pub whole-when-ready : {t : Tables} {e : Event} {a : Admitted} {p : Prepared} {noted : Bool} {time place reported added used withdrawn_room : ℕ} {leases : LeaseTable} {exports : ExportTable} {gone : List ObjId} {runs : List Run} {withdrawn : List Withdrawal} →
     IsReady t e a p noted → time ≡ max e.moment t.moment → place ≡ length t.events.items → HasWithdrawn t.leases leases (acted a.stood a.effective time e.ask t.exports) exports time p.untold.gone.items gone →
     AreSame runs (acted_runs a.effective e.by e.ask t.runs.items) → withdrawn ≡ t.withdrawn.items ++ map (withdrawal_at place) (drop (length p.untold.gone.items) gone) → t.withdrawn.room ≤ withdrawn_room →
-    told ≡ told_after t.told (length withdrawn) e.ask → added ≡ t.added + p.opened → used ≡ t.units + units_of e.ask →
-    Keeps t.config (t.events.items ++ e ∷ []) leases exports runs withdrawn told added used time × HasRoom (t.events.items ++ e ∷ []) t.events.capacity runs withdrawn withdrawn_room exports × AreBindings (places t.config (t.events.items ++ e ∷ [])) t.names
-whole-when-ready {t} {e} {a} {p} {noted} {time} {place} {told} {added} {used} {withdrawn_room} {leases} {exports} {gone} {runs} {withdrawn} r at pl w ru wi grow tl ad us =
-    let kept : Keeps t.config (t.events.items ++ e ∷ []) leases exports runs withdrawn told added used time =
-    turn-keeps t.config t.events.items e r.before t.leases leases t.exports (acted a.stood a.effective time e.ask t.exports) exports t.runs.items t.withdrawn.items t.told t.added t.units t.moment time a.effective p.untold.gone.items gone
-    (acted-when-ready r at) at w place told added used (t.events.items ++ e ∷ []) runs withdrawn pl refl ru wi tl (ad ∙ ap (λ n. t.added + n) r.opened_is) us in
+    reported ≡ reported_after t.reported (length withdrawn) e.ask → added ≡ t.added + p.opened → used ≡ t.units + units_of e.ask →
+    Keeps t.config (t.events.items ++ e ∷ []) leases exports runs withdrawn reported added used time × HasRoom (t.events.items ++ e ∷ []) t.events.capacity runs withdrawn withdrawn_room exports × AreBindings (places t.config (t.events.items ++ e ∷ [])) t.names
+whole-when-ready {t} {e} {a} {p} {noted} {time} {place} {reported} {added} {used} {withdrawn_room} {leases} {exports} {gone} {runs} {withdrawn} r at pl w ru wi grow tl ad us =
+    let kept : Keeps t.config (t.events.items ++ e ∷ []) leases exports runs withdrawn reported added used time =
+    turn-keeps t.config t.events.items e r.before t.leases leases t.exports (acted a.stood a.effective time e.ask t.exports) exports t.runs.items t.withdrawn.items t.reported t.added t.units t.moment time a.effective p.untold.gone.items gone
+    (acted-when-ready r at) at w place reported added used (t.events.items ++ e ∷ []) runs withdrawn pl refl ru wi tl (ad ∙ ap (λ n. t.added + n) r.opened_is) us in
     let room = r.withdrawal_room in (
       kept,
-      room-turned t.config t.events.items (t.events.items ++ e ∷ []) e r.before leases t.exports exports t.runs.items runs t.withdrawn.items withdrawn t.told t.added t.units t.moment told added used time (length t.exports.rows + opens a.effective e.ask) t.events.capacity withdrawn_room
-          a.effective (is-effective t.config t.events.items e r.before t.exports t.runs.items t.withdrawn.items t.told t.added t.units t.moment a.effective (asked-when-ready r)) r.keeps kept refl (omega arith) r.event_room (omega (arith, room, grow)),
+      room-turned t.config t.events.items (t.events.items ++ e ∷ []) e r.before leases t.exports exports t.runs.items runs t.withdrawn.items withdrawn t.reported t.added t.units t.moment reported added used time (length t.exports.rows + opens a.effective e.ask) t.events.capacity withdrawn_room
+          a.effective (is-effective t.config t.events.items e r.before t.exports t.runs.items t.withdrawn.items t.reported t.added t.units t.moment a.effective (asked-when-ready r)) r.keeps kept refl (omega arith) r.event_room (omega (arith, room, grow)),
       r.names_told,
     )
 
 -- ---- what its parts require of the exported objects
 
 pub few-when-ready : {t : Tables} {e : Event} {a : Admitted} {p : Prepared} {noted : Bool} → IsReady t e a p noted → (o : ObjId) → running_of t.exports.rows o < 2 ^ 31
-few-when-ready {t} r o = few-run t.config t.events.items r.before t.exports t.runs.items t.withdrawn.items t.told t.added t.units t.moment r.keeps o
+few-when-ready {t} r o = few-run t.config t.events.items r.before t.exports t.runs.items t.withdrawn.items t.reported t.added t.units t.moment r.keeps o
 
 pub abandoned-when-ready : {t : Tables} {e : Event} {a : Admitted} {p : Prepared} {noted : Bool} → IsReady t e a p noted → (o : ObjId) → a.effective ≡ true → e.ask ≡ Abandon o → 0 < running_of t.exports.rows o
-abandoned-when-ready {t} {e} {a} r o f s = abandon-counted t.config t.events.items e r.before t.exports t.runs.items t.withdrawn.items t.told t.added t.units t.moment a.effective (asked-when-ready r) o f s
+abandoned-when-ready {t} {e} {a} r o f s = abandon-counted t.config t.events.items e r.before t.exports t.runs.items t.withdrawn.items t.reported t.added t.units t.moment a.effective (asked-when-ready r) o f s
 
 pub finished-when-ready : {t : Tables} {e : Event} {a : Admitted} {p : Prepared} {noted : Bool} → IsReady t e a p noted → (o : ObjId) (made : List ℕ) (listed : List ObjId) (u : Uid) → a.effective ≡ true → e.ask ≡ Finish o made listed u → 0 < running_of t.exports.rows o
-finished-when-ready {t} {e} {a} r o made listed u f s = finish-counted t.config t.events.items e r.before t.exports t.runs.items t.withdrawn.items t.told t.added t.units t.moment a.effective (asked-when-ready r) o made listed u f s
+finished-when-ready {t} {e} {a} r o made listed u f s = finish-counted t.config t.events.items e r.before t.exports t.runs.items t.withdrawn.items t.reported t.added t.units t.moment a.effective (asked-when-ready r) o made listed u f s
 
 pub countable-when-ready : {t : Tables} {e : Event} {a : Admitted} {p : Prepared} {noted : Bool} → IsReady t e a p noted → t.exports.added + opens a.effective e.ask < END_OF_NUMBERS
 countable-when-ready {t} {e} {a} r =
@@ -176,10 +176,10 @@ references-when-ready {t} {e} {a} r see =
     see ∙ r.references_are ∙ ap (λ s. returned_by s t.added t.exports.rows a.stood a.effective e.ask) (sym r.keeps.stands.space_is) ∙ ap (λ n. returned_by t.exports.space n t.exports.rows a.stood a.effective e.ask) (sym r.keeps.stands.added_is)
 
 pub stands-when-ready : {t : Tables} {e : Event} {a : Admitted} {p : Prepared} {noted : Bool} → IsReady t e a p noted → (o : ObjId) → a.stood ≡ Some o → (is_exported t.exports.rows o ≡ true) × 0 < pins_of t.exports.rows o
-stands-when-ready {t} {e} r o s = stood-pinned t.config t.events.items r.before t.exports t.runs.items t.withdrawn.items t.told t.added t.units t.moment r.keeps e.ask o (sym r.stood_is ∙ s)
+stands-when-ready {t} {e} r o s = stood-pinned t.config t.events.items r.before t.exports t.runs.items t.withdrawn.items t.reported t.added t.units t.moment r.keeps e.ask o (sym r.stood_is ∙ s)
 
 pub few-pins-when-ready : {t : Tables} {e : Event} {a : Admitted} {p : Prepared} {noted : Bool} → IsReady t e a p noted → (o : ObjId) → pins_of t.exports.rows o < 2 ^ 31
-few-pins-when-ready {t} r o = few-pins t.config t.events.items r.before t.exports t.runs.items t.withdrawn.items t.told t.added t.units t.moment r.keeps o
+few-pins-when-ready {t} r o = few-pins t.config t.events.items r.before t.exports t.runs.items t.withdrawn.items t.reported t.added t.units t.moment r.keeps o
 
 pub bound-when-ready : {t : Tables} {e : Event} {a : Admitted} {p : Prepared} {noted : Bool} → IsReady t e a p noted → (o : ObjId) → a.effective ≡ true → object_bound e.ask ≡ Some o → is_exported t.exports.rows o ≡ true
 bound-when-ready {t} {e} {a} r o f b = bound-exported t.exports.rows t.runs.items a.stood e.by e.ask o (sym r.effective_is ∙ f) b
@@ -196,12 +196,12 @@ returns {t} {e} {a} r see = references-when-ready r see ∙ ap (λ o. returned_b
 pub looks-when-ready : {t : Tables} {e : Event} {a : Admitted} {p : Prepared} {noted : Bool} {time : ℕ} {seen : List ObjId} → IsReady t e a p noted → time ≡ max e.moment t.moment → seen ≡ p.listed.references.items →
     (n : List ℕ) (u : Uid) → e.ask ≡ Lookup n u → awaiting_with time u seen t.exports.waits ≤ MAX_AWAITING
 looks-when-ready {t} {e} {a} {p} {noted} {time} {seen} r at see n u s =
-    lookup-fits t.config t.events.items e r.before t.exports t.runs.items t.withdrawn.items t.told t.added t.units t.moment time a.effective (asked-when-ready r) (fits r at) seen (returns r see) n u s
+    lookup-fits t.config t.events.items e r.before t.exports t.runs.items t.withdrawn.items t.reported t.added t.units t.moment time a.effective (asked-when-ready r) (fits r at) seen (returns r see) n u s
 
 pub awaiting-when-ready : {t : Tables} {e : Event} {a : Admitted} {p : Prepared} {noted : Bool} {time : ℕ} {seen : List ObjId} → IsReady t e a p noted → time ≡ max e.moment t.moment → seen ≡ p.listed.references.items →
     (o : ObjId) (made : List ℕ) (listed : List ObjId) (u : Uid) → a.effective ≡ true → e.ask ≡ Finish o made listed u → awaiting_with time u seen t.exports.waits ≤ MAX_AWAITING
 awaiting-when-ready {t} {e} {a} {p} {noted} {time} {seen} r at see o made listed u f s =
-    finish-few t.config t.events.items e r.before t.exports t.runs.items t.withdrawn.items t.told t.added t.units t.moment time a.effective (asked-when-ready r) at (fits r at) seen (returns r see) o made listed u f s
+    finish-few t.config t.events.items e r.before t.exports t.runs.items t.withdrawn.items t.reported t.added t.units t.moment time a.effective (asked-when-ready r) at (fits r at) seen (returns r see) o made listed u f s
 
 pub wait-room-when-ready : {t : Tables} {e : Event} {a : Admitted} {p : Prepared} {noted : Bool} {seen : List ObjId} → IsReady t e a p noted → seen ≡ p.listed.references.items → length seen ≤ t.exports.room.waits
 wait-room-when-ready r see = let same = ap length see in let room = r.wait_room in omega (arith, same, room)
@@ -209,13 +209,13 @@ wait-room-when-ready r see = let same = ap length see in let room = r.wait_room 
 -- ---- the running calls
 
 pub few-calls-when-ready : {t : Tables} {e : Event} {a : Admitted} {p : Prepared} {noted : Bool} → IsReady t e a p noted → length t.runs.items < 2 ^ 31
-few-calls-when-ready {t} r = few-calls t.config t.events.items r.before t.exports t.runs.items t.withdrawn.items t.told t.added t.units t.moment r.keeps
+few-calls-when-ready {t} r = few-calls t.config t.events.items r.before t.exports t.runs.items t.withdrawn.items t.reported t.added t.units t.moment r.keeps
 
 -- ---- what its withdrawal requires
 
 pub log-when-ready : {t : Tables} {e : Event} {a : Admitted} {p : Prepared} {noted : Bool} → IsReady t e a p noted → HasLog t.leases
 log-when-ready {t} {e} {a} r =
-    has-log t.config t.events.items e r.before t.leases t.exports (acted a.stood a.effective (max e.moment t.moment) e.ask t.exports) t.runs.items t.withdrawn.items t.told t.added t.units t.moment a.effective (acted-when-ready r refl)
+    has-log t.config t.events.items e r.before t.leases t.exports (acted a.stood a.effective (max e.moment t.moment) e.ask t.exports) t.runs.items t.withdrawn.items t.reported t.added t.units t.moment a.effective (acted-when-ready r refl)
 
 pub withdrawal-room-when-ready : {t : Tables} {e : Event} {a : Admitted} {p : Prepared} {noted : Bool} (time : ℕ) {exports : ExportTable} → IsReady t e a p noted → exports ≡ record (acted a.stood a.effective time e.ask t.exports) { room = exports.room } →
     length t.withdrawn.items + length exports.rows ≤ t.withdrawn.room
@@ -232,7 +232,7 @@ among-when-ready {t} {e} {a} {p} {noted} {time} {exports} {seen} r at x see =
     let L : List ObjId → Type 0 = λ l. AreInDoubt r.before time t.exports.waits (taken_by t.exports.waits (id_at t.config.uid t.added) a.stood l e.ask) p.listed.doubtful.items in
     let O : Option ObjId → Type 0 = λ o. AreInDoubt r.before time t.exports.waits (taken_by t.exports.waits (id_at t.config.uid t.added) o (returned_by t.config.uid t.added t.exports.rows o a.effective e.ask) e.ask) p.listed.doubtful.items in
     settled-roomy t.leases (acted a.stood a.effective time e.ask t.exports) exports time p.listed.doubtful.items seen x see
-    (settled-but t.config t.events.items e r.before t.leases t.exports (acted a.stood a.effective time e.ask t.exports) t.runs.items t.withdrawn.items t.told t.added t.units t.moment a.effective (acted-when-ready r at) time p.listed.doubtful.items at
+    (settled-but t.config t.events.items e r.before t.leases t.exports (acted a.stood a.effective time e.ask t.exports) t.runs.items t.withdrawn.items t.reported t.added t.units t.moment a.effective (acted-when-ready r at) time p.listed.doubtful.items at
     (subst O r.stood_is (subst L r.references_are (subst N (sym at) r.doubtful_are))))
 
 -- There is room for the copy of what goes.

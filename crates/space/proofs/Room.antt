@@ -32,7 +32,7 @@ use Rattle.dgc_server.specs.Counts.{dirty_call, clean_call}
 use Rattle.space.specs.Acts.{opens, room_refusal, lease_refusal, name_refusal, first_of_two}
 use Rattle.space.specs.Kept.{live_calls, IsWithin}
 use Rattle.space.proofs.Clients.{fewer-left}
-use Rattle.space.proofs.LimitLaws.{awaiting-later, pairs-later, pairs-told, clients-told}
+use Rattle.space.proofs.LimitLaws.{awaiting-later, pairs-later, pairs-reported, clients-reported}
 use Rattle.space.proofs.Acting.{stood_for}
 use Rattle.space.proofs.Quiet.{adds-length}
 use Rattle.export_table.proofs.WaitLaws.{count-awaiting}
@@ -178,12 +178,12 @@ call-is config h e w = go e.ask
         (if nat_lt MAX_CLIENTS (clients_with_event config h (record e { ask = a })) then Some (Full Clients) else if nat_lt MAX_PAIRS (pairs_with_event config h (record e { ask = a })) then Some (Full Pairs) else None)
         ≡ lease_refusal config.lease_ms (max e.moment (now h)) (live_calls (table config h) (lease_calls h)) (lease_call config h (record e { ask = a }))
     go (Dirty client number asked objects) =
-        two _ _ _ _ (clients-told (table config h) config.lease_ms (max e.moment (now h)) (lease_calls h) (dirty_call (max e.moment (now h)) client number (filter (has (table config h)) objects)))
-        (pairs-told (table config h) config.lease_ms (lease_calls h) (dirty_call (max e.moment (now h)) client number (filter (has (table config h)) objects)))
+        two _ _ _ _ (clients-reported (table config h) config.lease_ms (max e.moment (now h)) (lease_calls h) (dirty_call (max e.moment (now h)) client number (filter (has (table config h)) objects)))
+        (pairs-reported (table config h) config.lease_ms (lease_calls h) (dirty_call (max e.moment (now h)) client number (filter (has (table config h)) objects)))
     go (Clean client number objects true) =
-        only-pairs _ _ (le-ltb MAX_CLIENTS _ (clients-few config h e w)) ∙ ap (λ n. if nat_lt MAX_PAIRS n then Some (Full Pairs) else None) (pairs-told (table config h) config.lease_ms (lease_calls h) (clean_call (max e.moment (now h)) client number (filter (has (table config h)) objects) true))
+        only-pairs _ _ (le-ltb MAX_CLIENTS _ (clients-few config h e w)) ∙ ap (λ n. if nat_lt MAX_PAIRS n then Some (Full Pairs) else None) (pairs-reported (table config h) config.lease_ms (lease_calls h) (clean_call (max e.moment (now h)) client number (filter (has (table config h)) objects) true))
     go (Clean client number objects false) =
-        only-pairs _ _ (le-ltb MAX_CLIENTS _ (clients-few config h e w)) ∙ ap (λ n. if nat_lt MAX_PAIRS n then Some (Full Pairs) else None) (pairs-told (table config h) config.lease_ms (lease_calls h) (clean_call (max e.moment (now h)) client number (filter (has (table config h)) objects) false))
+        only-pairs _ _ (le-ltb MAX_CLIENTS _ (clients-few config h e w)) ∙ ap (λ n. if nat_lt MAX_PAIRS n then Some (Full Pairs) else None) (pairs-reported (table config h) config.lease_ms (lease_calls h) (clean_call (max e.moment (now h)) client number (filter (has (table config h)) objects) false))
     go _ = none-full _ _ (le-ltb MAX_CLIENTS _ (clients-few config h e w)) (le-ltb MAX_PAIRS _ (pairs-few config h e w))
 
 -- ---- the first cause

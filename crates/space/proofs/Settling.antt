@@ -84,21 +84,21 @@ settles x stood effective a names lease m t calls os some_ack some_lease freed e
     returned : List ObjId
     returned = returned_by x.space x.added x.rows stood effective a
 
-    told : List Call
-    told = call_with names t a ++ calls
+    reported : List Call
+    reported = call_with names t a ++ calls
 
     after : List Wait
     after = (acted stood effective t a x).waits
 
     test : ObjId → Bool
-    test o = is_awaited t o after || is_held lease t told o
+    test o = is_awaited t o after || is_held lease t reported o
 
     held_on : (o : ObjId) → is_held lease m calls o ≡ true → (b : Bool) → is_held lease t calls o ≡ b → (among os o || test o) ≡ true
     held_on o held false e = or_left (among os o) (test o) (freed o held e)
     held_on o held true e =
-        elim (or_cases (among (taken_by x.waits fresh stood returned a) o) (is_held lease t told o) (holds-stay names lease t a calls x.waits fresh stood returned o some_lease e)) [
+        elim (or_cases (among (taken_by x.waits fresh stood returned a) o) (is_held lease t reported o) (holds-stay names lease t a calls x.waits fresh stood returned o some_lease e)) [
           | inl gone ↦ or_left (among os o) (test o) (taken o gone)
-          | inr stays ↦ or_right (among os o) (test o) (or_right (is_awaited t o after) (is_held lease t told o) stays)
+          | inr stays ↦ or_right (among os o) (test o) (or_right (is_awaited t o after) (is_held lease t reported o) stays)
         ]
 
     safe : (o : ObjId) → (is_awaited m o x.waits || is_held lease m calls o) ≡ true → (among os o || test o) ≡ true
@@ -107,20 +107,20 @@ settles x stood effective a names lease m t calls os some_ack some_lease freed e
         | inl gone ↦ or_left (among os o) (test o) (ended o gone)
         | inr still ↦ elim (or_cases (among (taken_by x.waits fresh stood returned a) o) (is_awaited t o after) (waits-stay stood effective t a x fresh returned o some_ack still)) [
           | inl gone ↦ or_left (among os o) (test o) (taken o gone)
-          | inr stays ↦ or_right (among os o) (test o) (or_left (is_awaited t o after) (is_held lease t told o) stays)
+          | inr stays ↦ or_right (among os o) (test o) (or_left (is_awaited t o after) (is_held lease t reported o) stays)
         ]
       ]
       | inr held ↦ held_on o held (is_held lease t calls o) refl
     ]
 
 -- ONLY AN OBJECT IN DOUBT can go at an event.
-pub settled-but : (config : SpaceConfig) (events : List Event) (e : Event) (leases leases1 : LeaseTable) (exports t : ExportTable) (runs : List Run) (withdrawn : List Withdrawal) (told opened used moment : ℕ) (effective : Bool) →
-    HasActed config events e leases leases1 exports t runs withdrawn told opened used moment effective → (time : ℕ) (os : List ObjId) → time ≡ max e.moment moment →
+pub settled-but : (config : SpaceConfig) (events : List Event) (e : Event) (leases leases1 : LeaseTable) (exports t : ExportTable) (runs : List Run) (withdrawn : List Withdrawal) (reported opened used moment : ℕ) (effective : Bool) →
+    HasActed config events e leases leases1 exports t runs withdrawn reported opened used moment effective → (time : ℕ) (os : List ObjId) → time ≡ max e.moment moment →
     AreInDoubt leases time exports.waits (taken_by exports.waits (id_at config.uid opened) (stood_for (places config events) e.ask) (returned_by config.uid opened exports.rows (stood_for (places config events) e.ask) effective e.ask) e.ask) os →
     ForEachLog leases1 (λ lease m calls. is_settled_but os time (held_by lease (max time m) calls) t.waits t.rows ≡ true)
-settled-but config events e leases leases1 exports t runs withdrawn told opened used moment effective a time os at doubt lease m calls s =
+settled-but config events e leases leases1 exports t runs withdrawn reported opened used moment effective a time os at doubt lease m calls s =
     let k = a.asked.keeps in
-    let d = is-acted config events e leases leases1 exports t runs withdrawn told opened used moment effective a in
+    let d = is-acted config events e leases leases1 exports t runs withdrawn reported opened used moment effective a in
     let T : ℕ = max e.moment (now (places config events)) in
     let same : time ≡ T = at ∙ ap (max e.moment) k.stands.moment_is in
     let live : List Call = live_calls (table config (places config events)) (lease_calls (places config events)) in

@@ -66,13 +66,13 @@ unfolding summary
 summary-is config events = refl
 
 -- THE COUNTS of what is kept.
-counts-are : (config : SpaceConfig) (events : List Event) (leases : LeaseTable) (exports : ExportTable) (runs : List Run) (withdrawn : List Withdrawal) (told opened used moment : ℕ) → Keeps config events leases exports runs withdrawn told opened used moment →
+counts-are : (config : SpaceConfig) (events : List Event) (leases : LeaseTable) (exports : ExportTable) (runs : List Run) (withdrawn : List Withdrawal) (reported opened used moment : ℕ) → Keeps config events leases exports runs withdrawn reported opened used moment →
     (clients pairs_left bound : ℕ) → clients ≡ length (lease_rows config.lease_ms moment (live_calls (table config (places config events)) (lease_calls (places config events)))) →
     pairs_left ≡ length (pairs config.lease_ms moment (live_calls (table config (places config events)) (lease_calls (places config events)))) →
     bound ≡ length (names (places config events)) →
     ◌≡◌ {A = Counts} (record { objects = length exports.rows; clients = clients; pairs = pairs_left; awaiting = length (waiting moment exports.waits); names = bound; withdrawn = length withdrawn })
     (counted config (places config events))
-counts-are config events leases exports runs withdrawn told opened used moment k clients pairs_left bound c p n =
+counts-are config events leases exports runs withdrawn reported opened used moment k clients pairs_left bound c p n =
     let h = places config events in let live = live_calls (table config (places config events)) (lease_calls (places config events)) in
     six (length exports.rows) clients pairs_left (length (waiting moment exports.waits)) bound (length withdrawn)
     (length (table config h)) (length (clients_with_time_left config.lease_ms (now h) (lease_calls h))) (length (pairs_with config.lease_ms (now h) (lease_calls h) (ids (table config h))))
@@ -95,21 +95,21 @@ max_same m = omega arith
 
 -- ---- what was written
 
-pub summarized : (config : SpaceConfig) (events : List Event) (leases : LeaseTable) (exports : ExportTable) (runs : List Run) (withdrawn : List Withdrawal) (told opened used moment : ℕ) (rows : List LeaseRow) (counts : Counts) (start first second : List ℕ) (s : SpaceHistory) →
-    record { configuration = config; events = events } ≡ s → Keeps config events leases exports runs withdrawn told opened used moment →
+pub summarized : (config : SpaceConfig) (events : List Event) (leases : LeaseTable) (exports : ExportTable) (runs : List Run) (withdrawn : List Withdrawal) (reported opened used moment : ℕ) (rows : List LeaseRow) (counts : Counts) (start first second : List ℕ) (s : SpaceHistory) →
+    record { configuration = config; events = events } ≡ s → Keeps config events leases exports runs withdrawn reported opened used moment →
     ((lease m : ℕ) (calls : List Call) → StandsFor lease leases m calls → rows ≡ lease_rows lease (max moment m) calls) →
     ((lease m : ℕ) (calls : List Call) → StandsFor lease leases m calls → counts.pairs ≡ length (pairs lease (max moment m) calls)) →
     counts.objects ≡ length exports.rows → counts.clients ≡ length rows → counts.awaiting ≡ length (waiting moment exports.waits) → counts.names ≡ length (names (places config events)) → counts.withdrawn ≡ length withdrawn →
     start ≡ [] → first ≡ start ++ events_text (length events) used moment → second ≡ first ++ counts_text counts →
     second ≡ summary s.configuration s.events
-summarized config events leases exports runs withdrawn told opened used moment rows counts start first second s v k of_rows of_pairs o c a n w empty one two =
+summarized config events leases exports runs withdrawn reported opened used moment rows counts start first second s v k of_rows of_pairs o c a n w empty one two =
     let live = live_calls (table config (places config events)) (lease_calls (places config events)) in
     let same = max_same moment in
     let P : SpaceHistory → Type 0 = λ x. second ≡ summary x.configuration x.events in
     let clients = c ∙ ap length (of_rows config.lease_ms moment live k.stands.leases_stand ∙ ap (λ (t : ℕ). lease_rows config.lease_ms t live) same) in
     let pairs_left = of_pairs config.lease_ms moment live k.stands.leases_stand ∙ ap (λ (t : ℕ). length (pairs config.lease_ms t live)) same in
     let all = six counts.objects counts.clients counts.pairs counts.awaiting counts.names counts.withdrawn (length exports.rows) counts.clients counts.pairs (length (waiting moment exports.waits)) counts.names (length withdrawn) o refl refl a refl w
-    ∙ counts-are config events leases exports runs withdrawn told opened used moment k counts.clients counts.pairs counts.names clients pairs_left n in
+    ∙ counts-are config events leases exports runs withdrawn reported opened used moment k counts.clients counts.pairs counts.names clients pairs_left n in
     subst P v (
     two ∙ ap (λ (x : Counts). first ++ counts_text x) all
     ∙ ap (λ (t : List ℕ). t ++ counts_text (counted config (places config events)))

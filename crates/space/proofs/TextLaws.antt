@@ -139,10 +139,10 @@ outline-kept config events waits bindings b w =
     parts a b b' c c' n n' d p q r = rw (p, q, r) refl
 
 -- THE OUTLINE of a space.
-pub outline-is : (config : SpaceConfig) (events : List Event) (leases : LeaseTable) (exports : ExportTable) (runs : List Run) (withdrawn : List Withdrawal) (told opened used moment : ℕ) (bindings : List Binding) → Keeps config events leases exports runs withdrawn told opened used moment →
+pub outline-is : (config : SpaceConfig) (events : List Event) (leases : LeaseTable) (exports : ExportTable) (runs : List Run) (withdrawn : List Withdrawal) (reported opened used moment : ℕ) (bindings : List Binding) → Keeps config events leases exports runs withdrawn reported opened used moment →
     AreBindings (places config events) bindings →
     outline config events ≡ kept_text config (length events) used moment (live_calls (table config (places config events)) (lease_calls (places config events))) (map (row_at moment exports.waits) exports.rows) bindings withdrawn
-outline-is config events leases exports runs withdrawn told opened used moment bindings k b =
+outline-is config events leases exports runs withdrawn reported opened used moment bindings k b =
     let W : ℕ → Type 0 = λ n. WaitsStand reference_of end_of config.ack_ms n (places config events) exports.waits in
     outline-kept config events exports.waits bindings b (subst W k.stands.moment_is k.stands.waits_stand)
     ∙ five_more _ _ _ _ _ _ _ _ _ _ (length-places config events) (sym k.stands.used_is) (sym k.stands.moment_is) (sym k.stands.rows_are) (sym k.stands.withdrawn_are)
@@ -156,15 +156,15 @@ max_same : (m : ℕ) → max m m ≡ m
 max_same m = omega arith
 
 -- What was written, part after part.
-pub written : (config : SpaceConfig) (events : List Event) (leases : LeaseTable) (exports : ExportTable) (runs : List Run) (withdrawn : List Withdrawal) (told opened used moment count : ℕ) (bindings : List Binding) (start first second third fourth fifth : List ℕ) (s : SpaceHistory) →
-    record { configuration = config; events = events } ≡ s → Keeps config events leases exports runs withdrawn told opened used moment → AreBindings (places config events) bindings →
+pub written : (config : SpaceConfig) (events : List Event) (leases : LeaseTable) (exports : ExportTable) (runs : List Run) (withdrawn : List Withdrawal) (reported opened used moment count : ℕ) (bindings : List Binding) (start first second third fourth fifth : List ℕ) (s : SpaceHistory) →
+    record { configuration = config; events = events } ≡ s → Keeps config events leases exports runs withdrawn reported opened used moment → AreBindings (places config events) bindings →
     count ≡ length events → first ≡ start ++ events_text count used moment →
     ((lease m : ℕ) (calls : List Call) → StandsFor lease leases m calls → second ≡ first ++ flat_map (λ r. object_line config (held_row lease (max moment m) calls r)) (map (row_at moment exports.waits) exports.rows)) →
     ((lease m : ℕ) (calls : List Call) → StandsFor lease leases m calls → third ≡ second ++ flat_map lease_line (lease_rows lease (max moment m) calls)) →
     fourth ≡ third ++ flat_map (binding_text config) bindings →
     fifth ≡ fourth ++ flat_map (withdrawal_line config) withdrawn →
     fifth ≡ start ++ outline s.configuration s.events
-written config events leases exports runs withdrawn told opened used moment count bindings start first second third fourth fifth s v k bs n b c d f e =
+written config events leases exports runs withdrawn reported opened used moment count bindings start first second third fourth fifth s v k bs n b c d f e =
     let same = max_same moment in
     let P : SpaceHistory → Type 0 = λ x. fifth ≡ start ++ outline x.configuration x.events in
     subst P v (
@@ -177,7 +177,7 @@ written config events leases exports runs withdrawn told opened used moment coun
     ∙ ap (λ t. first ++ flat_map (λ r. object_line config (held_row config.lease_ms t live r)) rows) same
     ∙ ap (λ t. t ++ flat_map (λ r. object_line config (held_row config.lease_ms moment live r)) rows) (b ∙ ap (λ x. start ++ events_text x used moment) n))))
     ∙ after_start start (events_text (length events) used moment) (flat_map (λ r. object_line config (held_row config.lease_ms moment live r)) rows) (flat_map lease_line (lease_rows config.lease_ms moment live)) (flat_map (binding_text config) bindings) (flat_map (withdrawal_line config) withdrawn)
-    ∙ ap (λ t. start ++ t) (sym (outline-is config events leases exports runs withdrawn told opened used moment bindings k bs)))
+    ∙ ap (λ t. start ++ t) (sym (outline-is config events leases exports runs withdrawn reported opened used moment bindings k bs)))
   where
     live : List Call
     live = live_calls (table config (places config events)) (lease_calls (places config events))

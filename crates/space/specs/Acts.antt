@@ -146,8 +146,8 @@ abbrev pub withdrawal_at : ℕ → ObjId → Withdrawal
 withdrawal_at place o = record { object = o; place = place }
 
 -- How many of all withdrawals were told as gone, once an ask is answered: all, but after an Abandon only those told before it.
-abbrev pub told_after : ℕ → ℕ → Ask → ℕ
-told_after told all ask = if is_abandon ask then told else all
+abbrev pub reported_after : ℕ → ℕ → Ask → ℕ
+reported_after reported all ask = if is_abandon ask then reported else all
 
 -- ---- refusals
 

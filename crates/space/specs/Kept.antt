@@ -48,7 +48,7 @@ pub record IsWithin (config : SpaceConfig) (h : History) : Type 0 where
 
 -- What is kept is that of a history: the leases, the exported objects and the references that await, the running calls, the withdrawals and
 -- how many of them were told as gone, how many objects there ever were, the units and the greatest moment.
-pub record Stands (config : SpaceConfig) (h : History) (leases : LeaseTable) (exports : ExportTable) (runs : List Run) (withdrawn : List Withdrawal) (told opened used moment : ℕ) : Type 0 where
+pub record Stands (config : SpaceConfig) (h : History) (leases : LeaseTable) (exports : ExportTable) (runs : List Run) (withdrawn : List Withdrawal) (reported opened used moment : ℕ) : Type 0 where
   pub leases_stand : StandsFor config.lease_ms leases moment (live_calls (table config h) (lease_calls h))
   pub space_is : exports.space ≡ config.uid
   pub ack_is : exports.ack ≡ config.ack_ms
@@ -58,16 +58,16 @@ pub record Stands (config : SpaceConfig) (h : History) (leases : LeaseTable) (ex
   pub waits_stand : WaitsStand reference_of end_of config.ack_ms moment h exports.waits
   pub runs_stand : RunsStand caller_of object_of h runs
   pub withdrawn_are : withdrawn ≡ withdrawals config h
-  pub told_are : map (λ w. w.object) (drop told withdrawn) ≡ pending config h
-  pub told_within : told ≤ length withdrawn
+  pub reported_are : map (λ w. w.object) (drop reported withdrawn) ≡ pending config h
+  pub reported_within : reported ≤ length withdrawn
   pub used_is : used ≡ units h
   pub moment_is : moment ≡ now h
   pub within : IsWithin config h
 
 -- The same of a list of events, with what bounds the numbers. They are a legal history.
-pub record Keeps (config : SpaceConfig) (events : List Event) (leases : LeaseTable) (exports : ExportTable) (runs : List Run) (withdrawn : List Withdrawal) (told opened used moment : ℕ) : Type 0 where
+pub record Keeps (config : SpaceConfig) (events : List Event) (leases : LeaseTable) (exports : ExportTable) (runs : List Run) (withdrawn : List Withdrawal) (reported opened used moment : ℕ) : Type 0 where
   pub durations : HasDurations config
-  pub stands : Stands config (places config events) leases exports runs withdrawn told opened used moment
+  pub stands : Stands config (places config events) leases exports runs withdrawn reported opened used moment
   pub early : moment < END_OF_TIME
   pub few_events : length events ≤ used
   pub few_opened : opened ≤ used

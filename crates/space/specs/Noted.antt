@@ -24,9 +24,9 @@ pub record HasRoomFor (turn : Turn) (gone : List ObjId) (ids : ℕ) (names : Lis
   pub gone_are : gone ≡ turn.gone
   pub names_are : (ns : List (List ℕ)) → turn.reply ≡ Names ns → names ≡ ns
 
-abbrev pub FitsIn : Result (Turn × List ObjId) Refused → ℕ → List (List ℕ) → Type 0
-FitsIn (Ok x) ids names = HasRoomFor x.0 x.1 ids names
-FitsIn (Err refused) ids names = Unit {0}
+abbrev pub NoteFitsIn : Result (Turn × List ObjId) Refused → ℕ → List (List ℕ) → Type 0
+NoteFitsIn (Ok x) ids names = HasRoomFor x.0 x.1 ids names
+NoteFitsIn (Err refused) ids names = Unit {0}
 
-abbrev pub Fits : Result (Turn × List ObjId) Refused → Note → Type 0
-Fits answer note = FitsIn answer (vec_capacity note.ids) note.names
+abbrev pub NoteFits : Result (Turn × List ObjId) Refused → Note → Type 0
+NoteFits answer note = NoteFitsIn answer (vec_capacity note.ids) note.names

@@ -125,15 +125,15 @@ IsAnswerTo runs ask (Err refused) = IsRefusalOf ask refused
 -- ---- the history
 
 -- The ask ends a call that a connection runs, without an answer.
-abbrev pub GivesUp : SpaceConfig → List Event → ℕ → Ask → Type 0
-GivesUp config h by (Abandon object) = 0 < running (places config h) by object
-GivesUp config h by _ = ⊥
+abbrev pub EndsUnanswered : SpaceConfig → List Event → ℕ → Ask → Type 0
+EndsUnanswered config h by (Abandon object) = 0 < running (places config h) by object
+EndsUnanswered config h by _ = ⊥
 
 -- The entry is what a connection's event was answered after a history, and leaves a history.
 abbrev pub GoesBy : SpaceConfig → ℕ → List Event → ℕ → Ask → AskedEnd → List Event → Type 0
 GoesBy config by h moment ask (Turned turn) next = Step config h (event_of by moment ask) (Ok turn) next
 GoesBy config by h moment ask (Denied refused) next = Step config h (event_of by moment ask) (Err refused) next
-GoesBy config by h moment ask (Abandoned place) next = GivesUp config h by ask × (place ≡ length h) × Step config h (event_of by moment ask) (Ok (turn_of config h (event_of by moment ask))) next
+GoesBy config by h moment ask (Abandoned place) next = EndsUnanswered config h by ask × (place ≡ length h) × Step config h (event_of by moment ask) (Ok (turn_of config h (event_of by moment ask))) next
 
 -- A connection's entries lead from a history to another, one after the other, and no other event comes between.
 abbrev pub Went : SpaceConfig → ℕ → List Event → List Asked → List Event → Type 0

@@ -21,7 +21,7 @@ use Rattle.space.specs.Kept.{Keeps}
 -- all that it adds.
 pub record IsReady (t : Tables) (e : Event) (a : Admitted) (p : Prepared) (noted : Bool) : Type 0 where
   pub before : LeaseTable
-  pub keeps : Keeps t.config t.events.items before t.exports t.runs.items t.withdrawn.items t.told t.added t.units t.moment
+  pub keeps : Keeps t.config t.events.items before t.exports t.runs.items t.withdrawn.items t.reported t.added t.units t.moment
   pub leases_told : ForEachLogBy (max e.moment t.moment) before (λ lease calls.
       StandsFor lease t.leases (max e.moment t.moment) (call_with (is_exported t.exports.rows) (max e.moment t.moment) e.ask ++ calls))
   pub names_told : AreBindings (places t.config (with_event t.events.items e)) t.names
@@ -39,7 +39,7 @@ pub record IsReady (t : Tables) (e : Event) (a : Admitted) (p : Prepared) (noted
   pub references_are : p.listed.references.items ≡ returned_by t.config.uid t.added t.exports.rows a.stood a.effective e.ask
   pub doubtful_are : AreInDoubt before (max e.moment t.moment) t.exports.waits
       (taken_by t.exports.waits (id_at t.config.uid t.added) a.stood p.listed.references.items e.ask) p.listed.doubtful.items
-  pub gone_are : p.untold.gone.items ≡ map (λ w. w.object) (drop t.told t.withdrawn.items)
+  pub gone_are : p.untold.gone.items ≡ map (λ w. w.object) (drop t.reported t.withdrawn.items)
   pub reply_is : p.reply ≡ reply_at t.config t.added t.exports.rows (names (places t.config t.events.items)) a.stood a.effective e.ask
   -- the room
   pub gone_room : vec_len p.untold.gone + length p.listed.doubtful.items ≤ vec_capacity p.untold.gone

@@ -10,7 +10,7 @@ use Rattle.space.specs.Kept.{Keeps}
 -- It is what is kept of these events, and has room.
 abbrev pub IsWholeWith : Tables → List Event → Type 0
 IsWholeWith t events =
-    Keeps t.config events t.leases t.exports t.runs.items t.withdrawn.items t.told t.added t.units t.moment
+    Keeps t.config events t.leases t.exports t.runs.items t.withdrawn.items t.reported t.added t.units t.moment
     × HasRoom events t.events.capacity t.runs.items t.withdrawn.items t.withdrawn.room t.exports
     × AreBindings (places t.config events) t.names
 

@@ -1,10 +1,10 @@
 //! Calls that end without an answer.
-ghost use Rattle.std.specs.Prelude.{◌≡◌, ◌<◌, ◌++◌, ◌∷◌, [], Ok};
+ghost use Rattle.std.specs.Prelude.{◌≡◌, ◌<◌, Ok};
 ghost use Rattle.history.specs.declared.asks.Ask.TheVariants.{Abandon};
 ghost use Rattle.history.specs.Collector.{Collects};
 ghost use Rattle.history.specs.Running.{running};
 ghost use Rattle.history.specs.Steps.{Step, turn_of};
-ghost use Rattle.history.specs.Table.{places};
+ghost use Rattle.history.specs.Table.{places, with_event};
 ghost use Rattle.history.specs.declared.limits.TheConstants.{END_OF_TIME};
 ghost use Rattle.space.specs.Acts.{event_of};
 
@@ -20,7 +20,7 @@ impl Space {
     pub fn abandon(&mut self, by: u32, moment: u64, object: ObjId)
         requires moment { moment < END_OF_TIME }
         requires running { 0 < running (places self.old.configuration self.old.events) by object }
-        ensures events { self.new.events ≡ self.old.events ++ event_of by moment (Abandon object) ∷ [] }
+        ensures events { self.new.events ≡ with_event self.old.events (event_of by moment (Abandon object)) }
         ensures config { self.new.configuration ≡ self.old.configuration }
 
         // The history's table keeps what there is a reason to keep, and the rest is withdrawn. This follows from `step`.

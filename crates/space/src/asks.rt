@@ -4,7 +4,7 @@ ghost use Rattle.history.specs.declared.limits.TheConstants.{MAX_UNITS, END_OF_N
 ghost use Rattle.history.specs.Names.{name_in};
 ghost use Rattle.export_table.specs.Rows.{is_exported};
 ghost use Rattle.rmi_registry.specs.Named.{names_in, object_of};
-ghost use Rattle.space.specs.Acts.{effective_by, opens, reply_at, room_refusal, started_reply, unbound_reply, found_reply, told_after};
+ghost use Rattle.space.specs.Acts.{effective_by, opens, reply_at, room_refusal, started_reply, unbound_reply, found_reply, reported_after};
 
 use crate::returns::new_ids;
 use crate::runs::Runs;
@@ -216,8 +216,8 @@ fn found_reply(exports: &Exports, stood: Option<ObjId>) -> Reply
 
 /// How many of the space's withdrawals are told as gone once an ask is answered. That is all of them; but an Abandon tells none, and
 /// leaves the number as it was.
-pub(crate) fn told_after(told: usize, all: usize, ask: &Ask) -> usize
-    ensures { result ≡ told_after told all ask.now }
+pub(crate) fn reported_after(reported: usize, all: usize, ask: &Ask) -> usize
+    ensures { result ≡ reported_after reported all ask.now }
 {
-    if is_abandon(ask) { told } else { all }
+    if is_abandon(ask) { reported } else { all }
 }

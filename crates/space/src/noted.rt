@@ -10,7 +10,7 @@ ghost use Rattle.history.specs.Table.{places};
 ghost use Rattle.history.specs.declared.limits.TheConstants.{END_OF_TIME};
 ghost use Rattle.space.specs.Acts.{event_of};
 ghost use Rattle.space.specs.Entries.{entry_of};
-ghost use Rattle.space.specs.Noted.{Fits, made_by, turned};
+ghost use Rattle.space.specs.Noted.{NoteFits, made_by, turned};
 ghost use Rattle.space.specs.Ports.{IsAnswerTo};
 ghost use Rattle.rmi_registry.specs.Named.{names_in, IsRegistry};
 
@@ -112,7 +112,7 @@ fn with_entry(
     note: Note,
     answer: Result<(Turn, ObjIds), Refused>,
 ) -> Result<(Result<Turn, Refused>, Asked), AllocError>
-    requires fits { Fits answer note }
+    requires fits { NoteFits answer note }
     ensures answer { IfOk result (λ x. x.0 ≡ turned answer) }
     ensures noted { IfOk result (λ x. x.1 ≡ entry_of moment note.ask (turned answer)) }
     ensures known { IfOk result (λ x. x.0 ≢ Err Refused.OutOfMemory) }

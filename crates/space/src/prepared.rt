@@ -163,13 +163,13 @@ pub(crate) fn prepare(
     ask: &Ask,
 ) -> Result<Prepared, Refused>
     requires countable { tables.now.added + opens effective ask.now < END_OF_NUMBERS }
-    requires told { tables.now.told ≤ length tables.now.withdrawn.items }
+    requires reported { tables.now.reported ≤ length tables.now.withdrawn.items }
     ensures opened { IfOk result (λ p. p.opened ≡ opens effective ask.now) }
     ensures objects { IfOk result (λ p. p.objects ≡ length tables.now.exports.rows + opens effective ask.now) }
     ensures references { IfOk result (λ p. p.listed.references.items ≡ returned_by tables.now.config.uid tables.now.added tables.now.exports.rows stood effective ask.now) }
     ensures doubtful { IfOk result (λ p. AreInDoubt tables.now.leases now tables.now.exports.waits
         (taken_by tables.now.exports.waits (id_at tables.now.config.uid tables.now.added) stood p.listed.references.items ask.now) p.listed.doubtful.items) }
-    ensures gone { IfOk result (λ p. p.untold.gone.items ≡ map (λ w. w.object) (drop tables.now.told tables.now.withdrawn.items)) }
+    ensures gone { IfOk result (λ p. p.untold.gone.items ≡ map (λ w. w.object) (drop tables.now.reported tables.now.withdrawn.items)) }
     ensures room { IfOk result (λ p. vec_len p.untold.gone + length p.listed.doubtful.items ≤ vec_capacity p.untold.gone) }
     ensures spare { IfOk result (λ p. noted ≡ true → vec_len p.untold.gone + length p.listed.doubtful.items ≤ vec_capacity p.untold.spare) }
     ensures reply { IfOk result (λ p. p.reply ≡ reply_at tables.now.config tables.now.added tables.now.exports.rows (names_in tables.now.names) stood effective ask.now) }
@@ -208,11 +208,11 @@ fn listed_and_untold(
     ask: &Ask,
 ) -> Result<(Listed, Untold), Refused>
     requires countable { tables.now.added + opens effective ask.now < END_OF_NUMBERS }
-    requires told { tables.now.told ≤ length tables.now.withdrawn.items }
+    requires reported { tables.now.reported ≤ length tables.now.withdrawn.items }
     ensures references { IfOk result (λ x. x.0.references.items ≡ returned_by tables.now.config.uid tables.now.added tables.now.exports.rows stood effective ask.now) }
     ensures doubtful { IfOk result (λ x. AreInDoubt tables.now.leases now tables.now.exports.waits
         (taken_by tables.now.exports.waits (id_at tables.now.config.uid tables.now.added) stood x.0.references.items ask.now) x.0.doubtful.items) }
-    ensures gone { IfOk result (λ x. x.1.gone.items ≡ map (λ w. w.object) (drop tables.now.told tables.now.withdrawn.items)) }
+    ensures gone { IfOk result (λ x. x.1.gone.items ≡ map (λ w. w.object) (drop tables.now.reported tables.now.withdrawn.items)) }
     ensures room { IfOk result (λ x. vec_len x.1.gone + length x.0.doubtful.items ≤ vec_capacity x.1.gone) }
     ensures spare { IfOk result (λ x. noted ≡ true → vec_len x.1.gone + length x.0.doubtful.items ≤ vec_capacity x.1.spare) }
     ensures refusal { Agrees (await_refusal now tables.now.exports.rows tables.now.exports.waits stood effective ask.now) result }
@@ -269,14 +269,14 @@ fn listed_by(
 
 /// The objects that are still to be told as gone, with room for so many more, and for a copy of them all, where one is asked for.
 fn untold_with(tables: &Tables, noted: bool, most: usize) -> Result<Untold, AllocError>
-    requires { tables.now.told ≤ length tables.now.withdrawn.items }
-    ensures gone { IfOk result (λ u. u.gone.items ≡ map (λ w. w.object) (drop tables.now.told tables.now.withdrawn.items)) }
+    requires { tables.now.reported ≤ length tables.now.withdrawn.items }
+    ensures gone { IfOk result (λ u. u.gone.items ≡ map (λ w. w.object) (drop tables.now.reported tables.now.withdrawn.items)) }
     ensures room { IfOk result (λ u. vec_len u.gone + most ≤ vec_capacity u.gone) }
     ensures spare { IfOk result (λ u. noted ≡ true → vec_len u.gone + most ≤ vec_capacity u.spare) }
 {
     let gone = tables
         .withdrawn
-        .still_to_tell(tables.alloc, tables.told, most)?;
+        .still_to_tell(tables.alloc, tables.reported, most)?;
     let spare = room_for_copy(tables.alloc, noted, gone.len() + most)?;
     Ok(Untold { gone, spare })
 }

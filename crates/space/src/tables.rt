@@ -7,7 +7,7 @@ ghost use Rattle.space.specs.Ready.{IsReady};
 ghost use Rattle.space.specs.Whole.{IsWhole, IsWholeWith};
 
 use crate::acts::act;
-use crate::asks::told_after;
+use crate::asks::reported_after;
 use crate::names::settle;
 use crate::prepared::{Admitted, Prepared, admit, prepare};
 use crate::rooms::room_for_all;
@@ -46,7 +46,7 @@ pub struct Tables {
     /// The withdrawals, in their order.
     pub withdrawn: Withdrawals,
     /// How many withdrawals were told as gone.
-    pub told: usize,
+    pub reported: usize,
     /// How many objects were ever exported.
     pub added: u64,
 }
@@ -137,7 +137,7 @@ impl Tables {
             place,
             &mut ready.untold.gone,
         );
-        self.told = told_after(self.told, self.withdrawn.len(), ask);
+        self.reported = reported_after(self.reported, self.withdrawn.len(), ask);
         self.added += ready.opened;
         self.units += units_of(ask);
         self.moment = now;

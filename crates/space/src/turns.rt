@@ -77,7 +77,7 @@ impl Space {
                 runs: Runs::new(alloc),
                 events: EventLog::new(alloc, config.uid),
                 withdrawn: Withdrawals::new(alloc),
-                told: 0,
+                reported: 0,
                 added: 0,
                 names: Names::fresh(alloc),
             },

@@ -85,14 +85,14 @@ impl Withdrawals {
     pub fn still_to_tell(
         &self,
         alloc: Global,
-        told: usize,
+        reported: usize,
         more: usize,
     ) -> Result<Vec<ObjId>, AllocError>
-        requires { told ≤ length self.now.items }
-        ensures items { IfOk result (λ gone. gone.items ≡ map (λ w. w.object) (drop told self.now.items)) }
+        requires { reported ≤ length self.now.items }
+        ensures items { IfOk result (λ gone. gone.items ≡ map (λ w. w.object) (drop reported self.now.items)) }
         ensures room { IfOk result (λ gone. vec_len gone + more ≤ vec_capacity gone) }
     {
-        let mut gone = rest_of(alloc, &self.objects, told)?;
+        let mut gone = rest_of(alloc, &self.objects, reported)?;
         gone.reserve(more)?;
         Ok(gone)
     }

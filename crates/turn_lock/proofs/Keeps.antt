@@ -18,7 +18,7 @@ use Rattle.space.specs.Built.{SpaceHistory}
 use Rattle.turn_lock.specs.declared.view.View.{View}
 use Rattle.turn_lock.specs.declared.view.Stage.{Stage}
 use Rattle.turn_lock.specs.declared.view.Stage.TheVariants.{Idle, Drawn, Called}
-use Rattle.turn_lock.specs.Rule.{Events, StartsWith, events_by, longer, space_with, HasOwn, MayComeTo, Waits, Knows, Fits, HasEnded, Kept, root, spent, at_home, holding, in_stage, drew, looked, published, passed_over, advanced, absorbed, left_of, right_of, both_of, Settled}
+use Rattle.turn_lock.specs.Rule.{Events, StartsWith, events_by, longer, space_with, HasOwn, MayComeTo, Waits, Knows, SeatFits, HasEnded, KeepsRule, root, spent, at_home, holding, in_stage, drew, looked, published, passed_over, advanced, absorbed, left_of, right_of, both_of, Settled}
 use Rattle.turn_lock.proofs.Views.{all_set, sum_set, sum_one, sum_rest, sum_same, sum_le, within, same_at, put, put_here, put_else}
 
 abbrev St : Type 0
@@ -30,7 +30,7 @@ IsCalled (Called t h) = true
 IsCalled _ = false
 
 -- the ticket is far below the end of the word
-few : (h0 : SpaceHistory) (s : St) (r : Kept h0 s) → r.ticket ≤ 4611686020574871552
+few : (h0 : SpaceHistory) (s : St) (r : KeepsRule h0 s) → r.ticket ≤ 4611686020574871552
 few h0 s r = let le = sum_le (λ (v : View). v.drawn) (λ (v : View). v.parts) s.views (λ j u e. (r.each j u e).room) in
     let d = r.drawn in let p = r.parts in omega (arith, le)
 
@@ -38,7 +38,7 @@ few h0 s r = let le = sum_le (λ (v : View). v.drawn) (λ (v : View). v.parts) s
 abbrev IsSameHolder : View → View → Type 0
 IsSameHolder v w = (w.parts ≡ v.parts) × (w.made ≡ v.made) × (w.ended ≡ v.ended)
 
-counted_set : (h0 : SpaceHistory) (s : St) (r : Kept h0 s) (id : ℕ) (v w : View) → get_elem? s.views id ≡ some v → IsSameHolder v w
+counted_set : (h0 : SpaceHistory) (s : St) (r : KeepsRule h0 s) (id : ℕ) (v w : View) → get_elem? s.views id ≡ some v → IsSameHolder v w
     → (u : View) → get_elem? (set s.views id w) 0 ≡ some u → length (set s.views id w) ≡ suc u.made
 counted_set h0 s r id v w at same u e = length-set s.views id w ∙ ⊎_elim
     (λ (x : (0 ≡ id) × (w ≡ u)). r.counted v (subst (λ k. get_elem? s.views k ≡ some v) (sym x.0) at) ∙ ap suc (sym same.1 ∙ ap (λ (y : View). y.made) x.1))
@@ -53,14 +53,14 @@ ended_one tail tail' views id v w p at same others none_new e = dite (ℕ_discre
     (ap (events_by p.0) (none_new zero) ∙ e.0, (w, subst (λ k. get_elem? (set views id w) k ≡ some w) (sym here) (set_here views id w (within views id v at)), same ∙ zero)))
     (λ other. (others p.0 other ∙ e.0, (e.1.0, set_else views id p.0 w other ∙ e.1.1, e.1.2)))
 
-ended_set : (h0 : SpaceHistory) (s : St) (r : Kept h0 s) (tail' : Events) (id : ℕ) (v w : View) → get_elem? s.views id ≡ some v → IsSameHolder v w → ((n : ℕ) → n ≢ id → events_by n tail' ≡ events_by n r.tail) → (v.parts ≡ 0 → tail' ≡ r.tail)
+ended_set : (h0 : SpaceHistory) (s : St) (r : KeepsRule h0 s) (tail' : Events) (id : ℕ) (v w : View) → get_elem? s.views id ≡ some v → IsSameHolder v w → ((n : ℕ) → n ≢ id → events_by n tail' ≡ events_by n r.tail) → (v.parts ≡ 0 → tail' ≡ r.tail)
     → (u : View) → get_elem? (set s.views id w) 0 ≡ some u → (p : ℕ × Events) → Contains u.ended p → HasEnded tail' (set s.views id w) p
 ended_set h0 s r tail' id v w at same others none_new u e p has = ended_one r.tail tail' s.views id v w p at same.0 others none_new (⊎_elim
     (λ (x : (0 ≡ id) × (w ≡ u)). r.ended v (subst (λ k. get_elem? s.views k ≡ some v) (sym x.0) at) p (subst (λ l. Contains l p) (ap (λ (y : View). y.ended) (sym x.1) ∙ same.2) has))
     (λ (x : (0 ≢ id) × (get_elem? s.views 0 ≡ some u)). r.ended u x.1 p has)
     (at_set s.views id 0 w u e))
 
-spent_set : (h0 : SpaceHistory) (s : St) (r : Kept h0 s) (id : ℕ) (v w : View) → get_elem? s.views id ≡ some v → IsSameHolder v w
+spent_set : (h0 : SpaceHistory) (s : St) (r : KeepsRule h0 s) (id : ℕ) (v w : View) → get_elem? s.views id ≡ some v → IsSameHolder v w
     → (u : View) → get_elem? (set s.views id w) 0 ≡ some u → (j : ℕ) (y : View) → get_elem? (set s.views id w) j ≡ some y → y.parts ≡ 0 → (l : Events) × Contains u.ended (j, l)
 spent_set h0 s r id v w at same u e j y e' nil =
     let old : (y' : View) × (get_elem? s.views j ≡ some y') × (y'.parts ≡ 0) = ⊎_elim
@@ -126,15 +126,15 @@ own_none first by other own tail seen rest h split empty =
     (h.0, h.1, two.0)
 
 -- what one seat's step to the view w leaves of the rule
-stepped_kept : (h0 : SpaceHistory) (s : St) (r : Kept h0 s) (id : ℕ) (v w : View) (ticket' serving' : ℕ) (tail' : Events) (out' : Bool) (owner' : ℕ → ℕ) (words' : List ℕ) (homes' : List (maybe.Option (Option SpaceHistory)))
+stepped_kept : (h0 : SpaceHistory) (s : St) (r : KeepsRule h0 s) (id : ℕ) (v w : View) (ticket' serving' : ℕ) (tail' : Events) (out' : Bool) (owner' : ℕ → ℕ) (words' : List ℕ) (homes' : List (maybe.Option (Option SpaceHistory)))
     → get_elem? s.views id ≡ some v → IsSameHolder v w → (more : Events) × (tail' ≡ r.tail ++ more) → words' ≡ ticket' ∷ serving' ∷ length (h0.events ++ tail') ∷ [] → serving' ≤ ticket' → IsLegal h0.configuration (h0.events ++ tail')
     → homes' ≡ at_home out' (space_with h0.configuration (h0.events ++ tail')) ∷ []
     → (out' ≡ true → (u : View) × (get_elem? (set s.views id w) (owner' serving') ≡ some u) × (u.stage ≡ Called serving' (h0.events ++ tail')))
-    → Fits h0 tail' ticket' serving' out' owner' id w
+    → SeatFits h0 tail' ticket' serving' out' owner' id w
     → ((j : ℕ) (g : Stage) → j ≢ id → Waits r.ticket r.serving r.out (h0.events ++ r.tail) r.owner j g → Waits ticket' serving' out' (h0.events ++ tail') owner' j g)
     → ((n : ℕ) → n ≢ id → events_by n tail' ≡ events_by n r.tail) → (v.parts ≡ 0 → tail' ≡ r.tail)
     → w.drawn + r.ticket ≡ v.drawn + ticket'
-    → Kept h0 record { words = words'; homes = homes'; views = set s.views id w }
+    → KeepsRule h0 record { words = words'; homes = homes'; views = set s.views id w }
 stepped_kept h0 s r id v w ticket' serving' tail' out' owner' words' homes' at same grows words order legal home caller here waits others none_new drawn = record {
   ticket = ticket';
   serving = serving';
@@ -146,14 +146,14 @@ stepped_kept h0 s r id v w ticket' serving' tail' out' owner' words' homes' at s
   legal = legal;
   home = home;
   caller = caller;
-  each = all_set (Fits h0 tail' ticket' serving' out' owner') s.views id w here
+  each = all_set (SeatFits h0 tail' ticket' serving' out' owner') s.views id w here
       (λ j u other e. let f = r.each j u e in record {
         mine = λ some_part. let m = f.mine some_part in record {
           numbered = m.numbered;
           configured = m.configured;
           opened = m.opened;
           begun = starts_more h0.events r.tail tail' u.seen grows m.begun;
-          begun_told = starts_more h0.events r.tail tail' u.told grows m.begun_told;
+          begun_heard = starts_more h0.events r.tail tail' u.heard grows m.begun_heard;
           owned = others j other ∙ m.owned;
           owned_seen = m.owned_seen;
         };
@@ -170,14 +170,14 @@ stepped_kept h0 s r id v w ticket' serving' tail' out' owner' words' homes' at s
   spent_ones = spent_set h0 s r id v w at same;
 }
 
-stays : (h0 : SpaceHistory) (s : St) (r : Kept h0 s) → (more : Events) × (r.tail ≡ r.tail ++ more)
+stays : (h0 : SpaceHistory) (s : St) (r : KeepsRule h0 s) → (more : Events) × (r.tail ≡ r.tail ++ more)
 stays h0 s r = ([], sym (append-nil r.tail))
 
 not_called : (g : Stage) (t : ℕ) (h : Events) → IsCalled g ≡ false → ¬ (g ≡ Called t h)
 not_called g t h quiet e = true≢false (sym (ap IsCalled e) ∙ quiet)
 
 -- the caller is another seat than one that is not called
-caller_else : (h0 : SpaceHistory) (s : St) (r : Kept h0 s) (id : ℕ) (v w : View) (owner' : ℕ → ℕ) → get_elem? s.views id ≡ some v → IsCalled v.stage ≡ false → ((t : ℕ) → t < r.ticket → owner' t ≡ r.owner t)
+caller_else : (h0 : SpaceHistory) (s : St) (r : KeepsRule h0 s) (id : ℕ) (v w : View) (owner' : ℕ → ℕ) → get_elem? s.views id ≡ some v → IsCalled v.stage ≡ false → ((t : ℕ) → t < r.ticket → owner' t ≡ r.owner t)
     → r.out ≡ true → (u : View) × (get_elem? (set s.views id w) (owner' r.serving) ≡ some u) × (u.stage ≡ Called r.serving (h0.events ++ r.tail))
 caller_else h0 s r id v w owner' at quiet same is_out =
     let c = r.caller is_out in
@@ -199,7 +199,7 @@ quiet_drawn : (g : Stage) (t : ℕ) → g ≡ Drawn t → IsCalled g ≡ false
 quiet_drawn g t e = ap IsCalled e
 
 pub draws : (h0 : SpaceHistory) (id : ℕ) (v : View) → v.stage ≡ Idle → v.drawn < 2147483648 * v.parts
-    → Allows (Kept h0) 1 id (v, []) 0 (λ n. (n + 1) % 18446744073709551616) (drew (step 1 0 1 0 none) (v, []))
+    → Allows (KeepsRule h0) 1 id (v, []) 0 (λ n. (n + 1) % 18446744073709551616) (drew (step 1 0 1 0 none) (v, []))
 draws h0 id v idle room s r deep at fits =
     let n : ℕ = slice_index s.words 0 in
     let is : n ≡ r.ticket = ap (λ ws. slice_index ws 0) r.words in
@@ -239,11 +239,11 @@ hand_of (Called t h) = h
 hand_of _ = []
 
 -- the word that a look reads is written back
-same_words : (h0 : SpaceHistory) (s : St) (r : Kept h0 s) → slice_set s.words 1 (slice_index s.words 1) ≡ r.ticket ∷ r.serving ∷ length (h0.events ++ r.tail) ∷ []
+same_words : (h0 : SpaceHistory) (s : St) (r : KeepsRule h0 s) → slice_set s.words 1 (slice_index s.words 1) ≡ r.ticket ∷ r.serving ∷ length (h0.events ++ r.tail) ∷ []
 same_words h0 s r = ap (λ ws. slice_set ws 1 (slice_index ws 1)) r.words
 
 -- while the seat's ticket is served and the seat has not been called, the slot is at home
-slot_home : (h0 : SpaceHistory) (s : St) (r : Kept h0 s) (id : ℕ) (v : View) (t : ℕ) → get_elem? s.views id ≡ some v → v.stage ≡ Drawn t → r.serving ≡ t → (b : Bool) → r.out ≡ b → b ≡ false
+slot_home : (h0 : SpaceHistory) (s : St) (r : KeepsRule h0 s) (id : ℕ) (v : View) (t : ℕ) → get_elem? s.views id ≡ some v → v.stage ≡ Drawn t → r.serving ≡ t → (b : Bool) → r.out ≡ b → b ≡ false
 slot_home h0 s r id v t at drawn now false is = refl
 slot_home h0 s r id v t at drawn now true is =
     let waits : Waits r.ticket r.serving r.out (h0.events ++ r.tail) r.owner id (Drawn t) = subst (Waits r.ticket r.serving r.out (h0.events ++ r.tail) r.owner id) drawn (r.each id v at).waits in
@@ -270,7 +270,7 @@ comes h0 j tail v legal m =
       has_own = (tail, ap (λ l. l ++ tail) (sym m.opened), ap (λ k. events_by k tail) m.numbered ∙ m.owned);
     }
 
-pub looks : (h0 : SpaceHistory) (id : ℕ) (v : View) (t : ℕ) → v.stage ≡ Drawn t → 0 < v.parts → Allows (Kept h0) 1 id (v, []) 1 (λ n. n) (looked (step 1 1 0 0 none) (v, []))
+pub looks : (h0 : SpaceHistory) (id : ℕ) (v : View) (t : ℕ) → v.stage ≡ Drawn t → 0 < v.parts → Allows (KeepsRule h0) 1 id (v, []) 1 (λ n. n) (looked (step 1 1 0 0 none) (v, []))
 looks h0 id v t drawn part s r deep at fits =
     let n : ℕ = slice_index s.words 1 in
     let is : n ≡ r.serving = ap (λ ws. slice_index ws 1) r.words in
@@ -313,7 +313,7 @@ advances_on ticket serving out log owner id j (Drawn t) here other h =
 advances_on ticket serving out log owner id j (Called t hand) here other h = absurd (other (sym h.2 ∙ (ap owner h.0 ∙ here)))
 
 pub advances : (h0 : SpaceHistory) (id : ℕ) (v : View) (t : ℕ) (hand : Events) → v.stage ≡ Called t hand → 0 < v.parts
-    → Allows (Kept h0) 1 id (v, holding (space_with v.config hand)) 1 (λ n. (n + 1) % 18446744073709551616) (advanced (step 1 1 1 0 none) (v, holding (space_with v.config hand)))
+    → Allows (KeepsRule h0) 1 id (v, holding (space_with v.config hand)) 1 (λ n. (n + 1) % 18446744073709551616) (advanced (step 1 1 1 0 none) (v, holding (space_with v.config hand)))
 advances h0 id v t hand called part s r deep at fits =
     let n : ℕ = slice_index s.words 1 in
     let is : n ≡ r.serving = ap (λ ws. slice_index ws 1) r.words in
@@ -354,7 +354,7 @@ waits_still ticket serving out out' log log' owner id j (Drawn t) here other h =
 waits_still ticket serving out out' log log' owner id j (Called t hand) here other h = absurd (other (sym h.2 ∙ (ap owner h.0 ∙ here)))
 
 pub publishes : (h0 : SpaceHistory) (id : ℕ) (v : View) (carried : List (ℕ × Option SpaceHistory)) (t : ℕ) (hand : Events) (e : Event) (n : ℕ) → v.stage ≡ Called t hand → 0 < v.parts → e.by ≡ v.number
-    → n ≡ length (hand ++ e ∷ []) → IsLegal v.config (hand ++ e ∷ []) → Allows (Kept h0) 1 id (v, carried) 2 (λ _. n) (λ _. published e (step 1 2 n 0 none) (v, carried) n)
+    → n ≡ length (hand ++ e ∷ []) → IsLegal v.config (hand ++ e ∷ []) → Allows (KeepsRule h0) 1 id (v, carried) 2 (λ _. n) (λ _. published e (step 1 2 n 0 none) (v, carried) n)
 publishes h0 id v carried t hand e n called part by many legal s r deep at fits =
     let log : Events = h0.events ++ r.tail in
     let f = r.each id v at in
@@ -380,7 +380,7 @@ publishes h0 id v carried t hand e n called part by many legal s r deep at fits 
               configured = mine.configured;
               opened = mine.opened;
               begun = ([], log_is ∙ sym (append-nil (hand ++ e ∷ [])));
-              begun_told = starts_more h0.events r.tail tail' v.told (e ∷ [], refl) mine.begun_told;
+              begun_heard = starts_more h0.events r.tail tail' v.heard (e ∷ [], refl) mine.begun_heard;
               owned = own_is;
               owned_seen = (tail', sym log_is, own_is);
             };
@@ -401,7 +401,7 @@ publishes h0 id v carried t hand e n called part by many legal s r deep at fits 
     )
 
 pub passes_over : (h0 : SpaceHistory) (id : ℕ) (v : View) (carried : List (ℕ × Option SpaceHistory)) (t : ℕ) (hand : Events) (n : ℕ) → v.stage ≡ Called t hand → 0 < v.parts → n ≡ length hand
-    → Allows (Kept h0) 1 id (v, carried) 2 (λ _. n) (λ _. passed_over (step 1 2 n 0 none) (v, carried) n)
+    → Allows (KeepsRule h0) 1 id (v, carried) 2 (λ _. n) (λ _. passed_over (step 1 2 n 0 none) (v, carried) n)
 passes_over h0 id v carried t hand n called part many s r deep at fits =
     let log : Events = h0.events ++ r.tail in
     let f = r.each id v at in
@@ -421,7 +421,7 @@ passes_over h0 id v carried t hand n called part many s r deep at fits =
               configured = mine.configured;
               opened = mine.opened;
               begun = ([], sym waits.3 ∙ sym (append-nil hand));
-              begun_told = mine.begun_told;
+              begun_heard = mine.begun_heard;
               owned = mine.owned;
               owned_seen = (r.tail, waits.3, mine.owned);
             };
@@ -440,7 +440,7 @@ at_end_or (x ∷ xs) a b zero e = inl e
 at_end_or (x ∷ xs) a b (suc j) e = ⊎_elim (λ t. inl t) (λ (t : (j ≡ length xs) × (a ≡ b)). inr (ap suc t.0, t.1)) (at_end_or xs a b j e)
 
 -- the first seat makes another
-pub splits : (h0 : SpaceHistory) (id : ℕ) (v : View) → id ≡ 0 → v.stage ≡ Idle → 1 < v.parts → v.drawn ≤ 2147483648 * (v.parts - 1) → Splits (Kept h0) id v (left_of v) (right_of v)
+pub splits : (h0 : SpaceHistory) (id : ℕ) (v : View) → id ≡ 0 → v.stage ≡ Idle → 1 < v.parts → v.drawn ≤ 2147483648 * (v.parts - 1) → Splits (KeepsRule h0) id v (left_of v) (right_of v)
 splits h0 id v first idle some_parts room s r at =
     let l : View = left_of v in
     let n : View = right_of v in
@@ -452,7 +452,7 @@ splits h0 id v first idle some_parts room s r at =
     let many : length s.views ≡ suc v.made = r.counted v at_first in
     let size : length vs ≡ suc v.made = length-set s.views id l ∙ many in
     let size' : length (vs ++ n ∷ []) ≡ suc (suc v.made) = length-append vs (n ∷ []) ∙ omega (arith, size) in
-    let Now : ℕ → View → Type 0 = Fits h0 r.tail r.ticket r.serving r.out r.owner in
+    let Now : ℕ → View → Type 0 = SeatFits h0 r.tail r.ticket r.serving r.out r.owner in
     record {
       ticket = r.ticket;
       serving = r.serving;
@@ -472,7 +472,7 @@ splits h0 id v first idle some_parts room s r at =
               configured = mine.configured;
               opened = mine.opened;
               begun = mine.begun;
-              begun_told = (h0.events ++ r.tail, refl);
+              begun_heard = (h0.events ++ r.tail, refl);
               owned = empty;
               owned_seen = own_none h0.events id j v.own r.tail v.seen mine.begun.0 mine.owned_seen mine.begun.1 empty;
             });
@@ -541,15 +541,15 @@ longer_begins : (log xs ys : Events) → StartsWith log xs → StartsWith log ys
 longer_begins log xs ys p q true is = let lt = ltb-true (length xs) (length ys) is in (shorter log xs ys p q (omega (arith, lt)), ([], sym (append-nil ys)))
 longer_begins log xs ys p q false is = let le = ltb-false (length xs) (length ys) is in (([], sym (append-nil xs)), shorter log ys xs q p le)
 
-pub absorbs : (h0 : SpaceHistory) (id : ℕ) (v : View) → v.stage ≡ Idle → 0 < v.parts → Allows (Kept h0) 1 id (v, []) 0 (λ n. n) (absorbed (step 1 0 0 0 none) (v, []))
+pub absorbs : (h0 : SpaceHistory) (id : ℕ) (v : View) → v.stage ≡ Idle → 0 < v.parts → Allows (KeepsRule h0) 1 id (v, []) 0 (λ n. n) (absorbed (step 1 0 0 0 none) (v, []))
 absorbs h0 id v idle part s r deep at fits =
     let n : ℕ = slice_index s.words 0 in
     let log : Events = h0.events ++ r.tail in
     let f = r.each id v at in
     let mine = f.mine part in
-    let w : View = record v { seen = longer v.seen v.told } in
-    let end = longer_starts log v.seen v.told mine.begun mine.begun_told (ltb (length v.seen) (length v.told)) in
-    let both = longer_begins log v.seen v.told mine.begun mine.begun_told (ltb (length v.seen) (length v.told)) refl in
+    let w : View = record v { seen = longer v.seen v.heard } in
+    let end = longer_starts log v.seen v.heard mine.begun mine.begun_heard (ltb (length v.seen) (length v.heard)) in
+    let both = longer_begins log v.seen v.heard mine.begun mine.begun_heard (ltb (length v.seen) (length v.heard)) refl in
     let own_is : HasOwn h0.events id v.own w.seen = subst (HasOwn h0.events id v.own) (sym both.0.1)
     (longer_own h0.events id v.own r.tail v.seen both.0.0 end.0 mine.owned_seen (end.1 ∙ ap (λ l. l ++ end.0) both.0.1) mine.owned) in
     let own_now : HasOwn v.opening v.number v.own w.seen = subst (λ (x : Events × ℕ). HasOwn x.0 x.1 v.own w.seen) (λ i. (sym mine.opened i, sym mine.numbered i)) own_is in
@@ -561,7 +561,7 @@ absorbs h0 id v idle part s r deep at fits =
       stepped_kept h0 s r id v w r.ticket r.serving r.tail r.out r.owner (slice_set s.words 0 n) s.homes at (refl, refl, refl) (stays h0 s r)
           (ap (λ ws. slice_set ws 0 (slice_index ws 0)) r.words) r.order r.legal r.home (caller_else h0 s r id v w r.owner at (quiet_idle v.stage idle) (λ k lt. refl))
           (record {
-            mine = λ _. record { numbered = mine.numbered; configured = mine.configured; opened = mine.opened; begun = end; begun_told = mine.begun_told; owned = mine.owned; owned_seen = own_is };
+            mine = λ _. record { numbered = mine.numbered; configured = mine.configured; opened = mine.opened; begun = end; begun_heard = mine.begun_heard; owned = mine.owned; owned_seen = own_is };
             room = f.room;
             still = f.still;
             waits = f.waits;
@@ -571,7 +571,7 @@ absorbs h0 id v idle part s r deep at fits =
     )
 
 -- the first seat takes another's view in
-pub joins : (h0 : SpaceHistory) (id : ℕ) (v : View) (other : ℕ) (w : View) → id ≡ 0 → v.stage ≡ Idle → 0 < v.parts → w.stage ≡ Idle → 0 < w.parts → Joins (Kept h0) id v other w (both_of v w) spent
+pub joins : (h0 : SpaceHistory) (id : ℕ) (v : View) (other : ℕ) (w : View) → id ≡ 0 → v.stage ≡ Idle → 0 < v.parts → w.stage ≡ Idle → 0 < w.parts → Joins (KeepsRule h0) id v other w (both_of v w) spent
 joins h0 id v other w first idle part idle' part' s r at two there =
     let b : View = both_of v w in
     let vs : List View = set s.views id b in
@@ -582,7 +582,7 @@ joins h0 id v other w first idle part idle' part' s r at two there =
     let theirs = g.mine part' in
     let at_first : get_elem? s.views 0 ≡ some v = subst (λ k. get_elem? s.views k ≡ some v) first at in
     let size : length (set vs other spent) ≡ length s.views = length-set vs other spent ∙ length-set s.views id b in
-    let Now : ℕ → View → Type 0 = Fits h0 r.tail r.ticket r.serving r.out r.owner in
+    let Now : ℕ → View → Type 0 = SeatFits h0 r.tail r.ticket r.serving r.out r.owner in
     let is_first : (u : View) → get_elem? (set vs other spent) 0 ≡ some u → b ≡ u = λ u e. ⊎_elim
     (λ (x : (0 ≡ other) × (spent ≡ u)). absurd (two (sym x.0 ∙ sym first)))
     (λ (x : (0 ≢ other) × (get_elem? vs 0 ≡ some u)). ⊎_elim (λ (y : (0 ≡ id) × (b ≡ u)). y.1) (λ (y : (0 ≢ id) × (get_elem? s.views 0 ≡ some u)). absurd (y.0 (sym first))) (at_set s.views id 0 b u x.1))
@@ -611,7 +611,7 @@ joins h0 id v other w first idle part idle' part' s r at two there =
               configured = mine.configured;
               opened = mine.opened;
               begun = mine.begun;
-              begun_told = theirs.begun;
+              begun_heard = theirs.begun;
               owned = mine.owned;
               owned_seen = mine.owned_seen;
             };
@@ -642,7 +642,7 @@ joins h0 id v other w first idle part idle' part' s r at two there =
           (at_set vs other j spent y e'));
     }
 
-pub starts : (h0 : SpaceHistory) → IsLegal h0.configuration h0.events → Kept h0 (opening (0 ∷ 0 ∷ length h0.events ∷ []) (Some h0 ∷ []) (root h0))
+pub starts : (h0 : SpaceHistory) → IsLegal h0.configuration h0.events → KeepsRule h0 (opening (0 ∷ 0 ∷ length h0.events ∷ []) (Some h0 ∷ []) (root h0))
 starts h0 legal =
     let all : h0.events ++ [] ≡ h0.events = append-nil h0.events in
     let one : (j : ℕ) (u : View) → get_elem? (root h0 ∷ []) j ≡ some u → (j ≡ 0) × (root h0 ≡ u) = λ j u e. only j u e in
@@ -657,13 +657,13 @@ starts h0 legal =
       legal = subst (IsLegal h0.configuration) (sym all) legal;
       home = ap (λ l. some (Some (space_with h0.configuration l)) ∷ []) (sym all);
       caller = λ e. absurd (true≢false (sym e));
-      each = λ j u e. let t = one j u e in subst (Fits h0 [] 0 0 false (λ t. 0) j) t.1 (record {
+      each = λ j u e. let t = one j u e in subst (SeatFits h0 [] 0 0 false (λ t. 0) j) t.1 (record {
         mine = λ _. record {
           numbered = sym t.0;
           configured = refl;
           opened = refl;
           begun = ([], refl);
-          begun_told = (h0.events ++ [], refl);
+          begun_heard = (h0.events ++ [], refl);
           owned = refl;
           owned_seen = ([], sym all, refl);
         };
@@ -688,10 +688,10 @@ starts h0 legal =
 
 -- once every part is back, the slot is at home, and the events are those of the first seat and of the ended passes
 pub closes : (h0 : SpaceHistory) (id : ℕ) (v : View) (ws : List ℕ) (xs : List (Option SpaceHistory)) → id ≡ 0 → v.parts ≡ 2147483649 → v.stage ≡ Idle
-    → Final (Seen (Kept h0) id v) ws xs → (h : SpaceHistory) × (get_elem? xs 0 ≡ some (Some h)) × Settled h0 v h
+    → Final (Seen (KeepsRule h0) id v) ws xs → (h : SpaceHistory) × (get_elem? xs 0 ≡ some (Some h)) × Settled h0 v h
 closes h0 id v ws xs first whole idle final =
     let s : St = final.0 in
-    let r : Kept h0 s = final.1.0 in
+    let r : KeepsRule h0 s = final.1.0 in
     let at : get_elem? s.views id ≡ some v = final.1.1 in
     let at_first : get_elem? s.views 0 ≡ some v = subst (λ k. get_elem? s.views k ≡ some v) first at in
     let part : 0 < v.parts = omega (arith, whole) in
@@ -722,7 +722,7 @@ closes h0 id v ws xs first whole idle final =
     there (x ∷ xs) zero lt = (x, refl)
     there (x ∷ xs) (suc n) lt = there xs n (omega (arith, lt))
 
-    settled_out : (h0 : SpaceHistory) (s : St) (r : Kept h0 s) (id : ℕ) (v : View) → get_elem? s.views id ≡ some v → v.stage ≡ Idle → ((j : ℕ) (u : View) → get_elem? s.views j ≡ some u → j ≢ id → u.parts ≡ 0)
+    settled_out : (h0 : SpaceHistory) (s : St) (r : KeepsRule h0 s) (id : ℕ) (v : View) → get_elem? s.views id ≡ some v → v.stage ≡ Idle → ((j : ℕ) (u : View) → get_elem? s.views j ≡ some u → j ≢ id → u.parts ≡ 0)
         → (b : Bool) → r.out ≡ b → b ≡ false
     settled_out h0 s r id v at idle gone false is = refl
     settled_out h0 s r id v at idle gone true is =

@@ -26,7 +26,7 @@ use Rattle.turn_lock.specs.declared.handles.Pass.{Pass}
 use Rattle.turn_lock.specs.Rule.{Events, MayComeTo, TurnedAt, own_after, space_with}
 use Rattle.turn_lock.specs.Handles.{seen_space, view_of}
 use Rattle.turn_lock.specs.Answers.{Gained, taken_of, events_of}
-use Rattle.turn_lock.specs.Ports.{Went}
+use Rattle.turn_lock.specs.Ports.{PortWent}
 use Rattle.turn_lock.specs.PortLaws.{pass_self}
 use Rattle.turn_lock.proofs.Turning.{runs_there}
 
@@ -125,21 +125,21 @@ gained_ended v w before m o place t at runs =
     gained_by v w before (event_of v.number m (Abandon o)) (Ok (turn_of v.config before (event_of v.number m (Abandon o)))) (abandoned_at m o place ∷ []) t refl
     (among_one v.config v.number v.seen t.came.others before w.seen (abandoned_at m o place) t.came.apart t.came.after (runs, at, t.step))
 
-went_by : (p q : Pass) (xs ys : List Asked) (gained : List Asked) → ys ≡ xs ++ gained → Gained (view_of p) (view_of q) gained → (view_of q).drawn ≡ (view_of p).drawn + 1 → q.seat.id ≡ p.seat.id → q.room + 1 ≡ p.room → Went p xs q ys
+went_by : (p q : Pass) (xs ys : List Asked) (gained : List Asked) → ys ≡ xs ++ gained → Gained (view_of p) (view_of q) gained → (view_of q).drawn ≡ (view_of p).drawn + 1 → q.seat.id ≡ p.seat.id → q.room + 1 ≡ p.room → PortWent p xs q ys
 went_by p q xs ys gained is views drawn same room = (gained, is, record { views = views; same_seat = same; counts = omega (arith, drawn, room) })
 
 pub went_entered : (p q : Pass) (xs ys : List Asked) (before : Events) (by m : ℕ) (a : Ask) (answer : Result Turn Refused) (entry : Asked) → by ≡ (view_of p).number → TurnedAt (view_of p) before (event_of by m a) answer (view_of q)
-    → entry ≡ entry_of m a answer → ys ≡ xs ++ entry ∷ [] → q.seat.id ≡ p.seat.id → q.room + 1 ≡ p.room → Went p xs q ys
+    → entry ≡ entry_of m a answer → ys ≡ xs ++ entry ∷ [] → q.seat.id ≡ p.seat.id → q.room + 1 ≡ p.room → PortWent p xs q ys
 went_entered p q xs ys before by m a answer entry number t is longer same room =
     let t' : TurnedAt (view_of p) before (event_of (view_of p).number m a) answer (view_of q) = subst (λ (n : ℕ). TurnedAt (view_of p) before (event_of n m a) answer (view_of q)) number t in
     went_by p q xs ys (entry_of m a answer ∷ []) (longer ∙ ap (λ x. xs ++ x ∷ []) is) (gained_entered (view_of p) (view_of q) before m a answer t') (ap (λ (y : View). y.drawn) t.after) same room
 
-pub went_unentered : (p q : Pass) (xs ys : List Asked) (before : Events) (e : Event) → TurnedAt (view_of p) before e (Err OutOfMemory) (view_of q) → ys ≡ xs → q.seat.id ≡ p.seat.id → q.room + 1 ≡ p.room → Went p xs q ys
+pub went_unentered : (p q : Pass) (xs ys : List Asked) (before : Events) (e : Event) → TurnedAt (view_of p) before e (Err OutOfMemory) (view_of q) → ys ≡ xs → q.seat.id ≡ p.seat.id → q.room + 1 ≡ p.room → PortWent p xs q ys
 went_unentered p q xs ys before e t same_list same room =
     went_by p q xs ys [] (same_list ∙ sym (append-nil xs)) (gained_unentered (view_of p) (view_of q) before e t) (ap (λ (y : View). y.drawn) t.after) same room
 
 pub went_ended : (p q : Pass) (xs ys : List Asked) (before : Events) (by m : ℕ) (o : ObjId) (place : ℕ) → by ≡ (view_of p).number → TurnedAt (view_of p) before (event_of by m (Abandon o)) (Ok (turn_of (view_of p).config before (event_of by m (Abandon o)))) (view_of q)
-    → place ≡ length before → 0 < running (places (view_of p).config before) by o → ys ≡ xs ++ abandoned_at m o place ∷ [] → q.seat.id ≡ p.seat.id → q.room + 1 ≡ p.room → Went p xs q ys
+    → place ≡ length before → 0 < running (places (view_of p).config before) by o → ys ≡ xs ++ abandoned_at m o place ∷ [] → q.seat.id ≡ p.seat.id → q.room + 1 ≡ p.room → PortWent p xs q ys
 went_ended p q xs ys before by m o place number t at runs longer same room =
     let v = view_of p in
     let P : ℕ → Type 0 = λ n. TurnedAt v before (event_of n m (Abandon o)) (Ok (turn_of v.config before (event_of n m (Abandon o)))) (view_of q) × (0 < running (places v.config before) n o) in
@@ -150,5 +150,5 @@ went_ended p q xs ys before by m o place number t at runs longer same room =
 pub shown_now : (v : View) (by : ℕ) (entries : List Asked) (room : ℕ) (o : ObjId) → by ≡ v.number → IsTied v.number (seen_space v) entries room → Shows entries o → 0 < running (places v.config v.seen) by o
 shown_now v by entries room o number tied shows = subst (λ (n : ℕ). 0 < running (places v.config v.seen) n o) (sym number) (shown-runs v.number (seen_space v) entries room o tied shows)
 
-pub went_same : (p : Pass) (xs ys : List Asked) → ys ≡ xs → Went p xs p ys
+pub went_same : (p : Pass) (xs ys : List Asked) → ys ≡ xs → PortWent p xs p ys
 went_same p xs ys same = ([], same ∙ sym (append-nil xs), pass_self p)

@@ -13,7 +13,7 @@ use Rattle.space.specs.declared.asked.Asked.{Asked}
 use Rattle.space.specs.declared.asked.AskedEnd.{AskedEnd}
 use Rattle.space.specs.declared.asked.AskedEnd.TheVariants.{Turned, Abandoned, Refused as Denied}
 use Rattle.turn_lock.specs.declared.view.View.{View}
-use Rattle.turn_lock.specs.Rule.{Events, StartsWith, events_by, Kept}
+use Rattle.turn_lock.specs.Rule.{Events, StartsWith, events_by, KeepsRule}
 
 -- The passes of a lock round a space, each at its number, have one history. It is legal and goes on from the space's; what each pass has seen
 -- begins it; the further events of a pass's number are exactly its own, in order; the same is true of the list that a pass had when it was
@@ -30,7 +30,7 @@ pub record Ordered (s : SpaceHistory) (passes : List View) : Type 0 where
 
 -- Where the rule of a lock holds, its passes are ordered. The table of words keeps the rule between any two steps.
 abbrev pub RuleOrders : Type 0
-RuleOrders = (s : SpaceHistory) (t : State (Option SpaceHistory) View) → Kept s t → Ordered s t.views
+RuleOrders = (s : SpaceHistory) (t : State (Option SpaceHistory) View) → KeepsRule s t → Ordered s t.views
 
 -- The event of an entry was taken.
 abbrev pub IsTaken : AskedEnd → Type 0

@@ -12,7 +12,7 @@ use Rattle.turn_lock.specs.Rule.{Events}
 use Rattle.turn_lock.specs.Handles.{IsPassOf, IsRootOf, view_of}
 use Rattle.turn_lock.specs.Lending.{with_pass}
 use Rattle.turn_lock.specs.Answers.{Gained, taken_of, events_of}
-use Rattle.turn_lock.specs.Ports.{PassWent, Went}
+use Rattle.turn_lock.specs.Ports.{PassWent, PortWent}
 
 -- ---- histories
 
@@ -68,14 +68,14 @@ pass_self p = record { views = gained_self (view_of p); same_seat = refl; counts
 pub pass_on : (p q r : Pass) (xs ys : List Asked) → PassWent p q xs → PassWent q r ys → PassWent p r (xs ++ ys)
 pass_on p q r xs ys a b = record { views = gained_on (view_of p) (view_of q) (view_of r) xs ys a.views b.views; same_seat = b.same_seat ∙ a.same_seat; counts = b.counts ∙ a.counts }
 
-pub went_self : (p : Pass) (xs : List Asked) → Went p xs p xs
+pub went_self : (p : Pass) (xs : List Asked) → PortWent p xs p xs
 went_self p xs = ([], sym (append-nil xs), pass_self p)
 
-pub went_on : (p q r : Pass) (xs ys zs : List Asked) → Went p xs q ys → Went q ys r zs → Went p xs r zs
+pub went_on : (p q r : Pass) (xs ys zs : List Asked) → PortWent p xs q ys → PortWent q ys r zs → PortWent p xs r zs
 went_on p q r xs ys zs a b = (a.0 ++ b.0, b.1 ∙ (ap (λ l. l ++ b.0) a.1 ∙ append_assoc xs a.0 b.0), pass_on p q r a.0 b.0 a.2 b.2)
 
 -- A pass whose list was empty went by all its entries.
-pub went_all : (p q : Pass) (ys : List Asked) → Went p [] q ys → PassWent p q ys
+pub went_all : (p q : Pass) (ys : List Asked) → PortWent p [] q ys → PassWent p q ys
 went_all p q ys a = subst (λ (l : List Asked). PassWent p q l) (sym a.1) a.2
 
 -- The root stays the lock's where only its own pass made turns.

@@ -12,5 +12,5 @@ pub record PassWent (p q : Pass) (gained : List Asked) : Type 0 where
   pub counts : (view_of q).drawn + q.room ≡ (view_of p).drawn + p.room
 
 -- A port's pass went from p to q, while its list got further entries.
-abbrev pub Went : Pass → List Asked → Pass → List Asked → Type 0
-Went p before q after = (gained : List Asked) × (after ≡ before ++ gained) × PassWent p q gained
+abbrev pub PortWent : Pass → List Asked → Pass → List Asked → Type 0
+PortWent p before q after = (gained : List Asked) × (after ≡ before ++ gained) × PassWent p q gained

@@ -61,11 +61,11 @@ some_event = record { by = 0; moment = 0; ask = Tick }
 
 -- The first seat of a table round this space, which has all parts.
 abbrev pub root : SpaceHistory → View
-root s = record { number = 0; parts = 2147483649; drawn = 0; config = s.configuration; opening = s.events; seen = s.events; told = []; own = []; stage = Idle; made = 0; ended = [] }
+root s = record { number = 0; parts = 2147483649; drawn = 0; config = s.configuration; opening = s.events; seen = s.events; heard = []; own = []; stage = Idle; made = 0; ended = [] }
 
 -- A seat that was joined.
 abbrev pub spent : View
-spent = record { number = 0; parts = 0; drawn = 0; config = no_config; opening = []; seen = []; told = []; own = []; stage = Idle; made = 0; ended = [] }
+spent = record { number = 0; parts = 0; drawn = 0; config = no_config; opening = []; seen = []; heard = []; own = []; stage = Idle; made = 0; ended = [] }
 
 abbrev pub in_stage : View → Stage → View
 in_stage v g = record v { stage = g }
@@ -102,19 +102,19 @@ Waits ticket serving out log owner j (Called t hand) = (t ≡ serving) × (t < t
 
 -- What a seat knows is so: its number is its place, what it has seen begins the history, and its own events are those of its number after
 -- the opening, in all of the history and in what it has seen.
-pub record KnowsOf (s : SpaceHistory) (tail : Events) (j number : ℕ) (config : SpaceConfig) (opening seen told own : Events) : Type 0 where
+pub record KnowsOf (s : SpaceHistory) (tail : Events) (j number : ℕ) (config : SpaceConfig) (opening seen heard own : Events) : Type 0 where
   pub numbered : number ≡ j
   pub configured : config ≡ s.configuration
   pub opened : opening ≡ s.events
   pub begun : StartsWith (s.events ++ tail) seen
-  pub begun_told : StartsWith (s.events ++ tail) told
+  pub begun_heard : StartsWith (s.events ++ tail) heard
   pub owned : events_by j tail ≡ own
   pub owned_seen : HasOwn s.events j own seen
 
 abbrev pub Knows : SpaceHistory → Events → ℕ → View → Type 0
-Knows s tail j v = KnowsOf s tail j v.number v.config v.opening v.seen v.told v.own
+Knows s tail j v = KnowsOf s tail j v.number v.config v.opening v.seen v.heard v.own
 
-pub record Fits (s : SpaceHistory) (tail : Events) (ticket serving : ℕ) (out : Bool) (owner : ℕ → ℕ) (j : ℕ) (v : View) : Type 0 where
+pub record SeatFits (s : SpaceHistory) (tail : Events) (ticket serving : ℕ) (out : Bool) (owner : ℕ → ℕ) (j : ℕ) (v : View) : Type 0 where
   pub mine : 0 < v.parts → Knows s tail j v
   pub room : v.drawn ≤ most_turns * v.parts
   pub still : v.parts ≡ 0 → v.stage ≡ Idle
@@ -127,7 +127,7 @@ HasEnded tail views p = (events_by p.0 tail ≡ p.1) × ((u : View) × (get_elem
 -- A table round a space: the words are the tickets and the length of one history, which is legal and goes on from the space's; the slot has
 -- the space with this history, but while the pass that is called has it out; each seat knows what is so; and no event after the opening has
 -- a number that no pass has.
-pub record Kept (s : SpaceHistory) (t : State (Option SpaceHistory) View) : Type 0 where
+pub record KeepsRule (s : SpaceHistory) (t : State (Option SpaceHistory) View) : Type 0 where
   pub ticket : ℕ
   pub serving : ℕ
   pub tail : Events
@@ -138,7 +138,7 @@ pub record Kept (s : SpaceHistory) (t : State (Option SpaceHistory) View) : Type
   pub legal : history.IsLegal s.configuration (s.events ++ tail)
   pub home : t.homes ≡ at_home out (space_with s.configuration (s.events ++ tail)) ∷ []
   pub caller : out ≡ true → (v : View) × (get_elem? t.views (owner serving) ≡ some v) × (v.stage ≡ Called serving (s.events ++ tail))
-  pub each : (j : ℕ) (v : View) → get_elem? t.views j ≡ some v → Fits s tail ticket serving out owner j v
+  pub each : (j : ℕ) (v : View) → get_elem? t.views j ≡ some v → SeatFits s tail ticket serving out owner j v
   pub strangers : (n : ℕ) → length t.views ≤ n → events_by n tail ≡ []
   pub drawn : sum_by (λ v. v.drawn) t.views ≡ ticket
   pub parts : sum_by (λ v. v.parts) t.views ≡ 2147483649
@@ -179,17 +179,17 @@ advanced st m n m' = m' ≡ (in_stage m.0 Idle, rest m.1)
 -- there are.
 abbrev pub absorbed : At → Sat → ℕ → Sat → Type 0
 absorbed st m n m' =
-    (m' ≡ (record m.0 { seen = longer m.0.seen m.0.told }, m.1)) × StartsWith m'.0.seen m.0.seen × StartsWith m'.0.seen m.0.told
+    (m' ≡ (record m.0 { seen = longer m.0.seen m.0.heard }, m.1)) × StartsWith m'.0.seen m.0.seen × StartsWith m'.0.seen m.0.heard
     × HasOwn m'.0.opening m'.0.number m'.0.own m'.0.seen × (m.0.parts ≤ 2147483649)
 
 abbrev pub left_of : View → View
 left_of v = record v { parts = v.parts - 1; made = v.made + 1 }
 
 abbrev pub right_of : View → View
-right_of v = record { number = v.made + 1; parts = 1; drawn = 0; config = v.config; opening = v.opening; seen = v.seen; told = []; own = []; stage = Idle; made = 0; ended = [] }
+right_of v = record { number = v.made + 1; parts = 1; drawn = 0; config = v.config; opening = v.opening; seen = v.seen; heard = []; own = []; stage = Idle; made = 0; ended = [] }
 
 abbrev pub both_of : View → View → View
-both_of v w = record v { parts = v.parts + w.parts; drawn = v.drawn + w.drawn; told = w.seen; ended = v.ended ++ (w.number, w.own) ∷ [] }
+both_of v w = record v { parts = v.parts + w.parts; drawn = v.drawn + w.drawn; heard = w.seen; ended = v.ended ++ (w.number, w.own) ∷ [] }
 
 -- The seat whose ticket t is served, with a history in hand.
 abbrev pub in_hand : View → ℕ → Events → View
@@ -199,7 +199,7 @@ in_hand v t h = record v { stage = Called t h; drawn = v.drawn + 1 }
 
 -- The root after it joined a pass.
 abbrev pub joined_of : View → View → View
-joined_of v w = record v { parts = v.parts + w.parts; drawn = v.drawn + w.drawn; seen = longer v.seen w.seen; told = w.seen; ended = v.ended ++ (w.number, w.own) ∷ [] }
+joined_of v w = record v { parts = v.parts + w.parts; drawn = v.drawn + w.drawn; seen = longer v.seen w.seen; heard = w.seen; ended = v.ended ++ (w.number, w.own) ∷ [] }
 
 -- A pass's own events after this answer.
 abbrev pub own_after : Events → Event → Result Turn Refused → Events

@@ -3,7 +3,7 @@ ghost use Rattle.std.specs.Prelude.{◌≡◌, [], refl};
 ghost use mathlib.Core.Path.{◌∙◌};
 ghost use Rattle.space.specs.Ties.{IsTied};
 ghost use Rattle.turn_lock.specs.Handles.{IsPassOf, seen_space, view_of};
-ghost use Rattle.turn_lock.specs.Ports.{Went};
+ghost use Rattle.turn_lock.specs.Ports.{PortWent};
 ghost use Rattle.turn_lock.specs.PortLaws.{went_self, went_on};
 
 use crate::handles::{Pass, TurnLock};
@@ -64,7 +64,7 @@ impl<'a, R: Wait> Port for PassPort<'a, R, AskedLog> {
 
     ghost ready = { λ p. IsPassOf p.lock.now p.pass.now × IsTied (view_of p.pass.now).number (seen_space (view_of p.pass.now)) p.asked.items p.asked.capacity };
 
-    ghost leads = { λ p q. (q.pass.ghost_name ≡ p.pass.ghost_name) × (q.lock.now ≡ p.lock.now) × Went p.pass.now p.asked.items q.pass.now q.asked.items };
+    ghost leads = { λ p q. (q.pass.ghost_name ≡ p.pass.ghost_name) × (q.lock.now ≡ p.lock.now) × PortWent p.pass.now p.asked.items q.pass.now q.asked.items };
 
     fn turn(&mut self, moment: u64, ask: Ask) -> Result<Turn, Refused> {
         if self.asked.reserve(self.asked.len() + 2).is_err() {

@@ -20,9 +20,9 @@ pub(crate) const LENGTH: usize = 2;
 pub struct Law;
 
 impl TableRule<Option<Space>, View, Snapshot<Space>> for Law {
-    ghost use Rattle.turn_lock.specs.Rule.{Kept, root};
+    ghost use Rattle.turn_lock.specs.Rule.{KeepsRule, root};
 
-    ghost holds = { λ opening. Kept opening.value };
+    ghost holds = { λ opening. KeepsRule opening.value };
 
     ghost first = { λ opening. root opening.value };
 }

@@ -27,7 +27,7 @@ pub struct View {
     /// The events that it has seen, from the first on.
     pub seen: LinkedList<Event>,
     /// What the pass that was joined last had seen.
-    pub told: LinkedList<Event>,
+    pub heard: LinkedList<Event>,
     /// Its own events, in order.
     pub own: LinkedList<Event>,
     /// What it is doing.

@@ -3,4 +3,4 @@ use Rattle.call_dispatch.proofs.Cutting.{told_denied}
 use Rattle.call_dispatch.proofs.calls.denied.Goals as goal
 
 pub returns-in-HistoryFull-clause-denied : goal.returns-in-HistoryFull-clause-denied
-returns-in-HistoryFull-clause-denied c = rw c.in-HistoryFull.is (told_denied c.args.uid HistoryFull c.told.result (λ same. cc) c.told.ensures.prepared)
+returns-in-HistoryFull-clause-denied c = rw c.in-HistoryFull.is (told_denied c.args.uid HistoryFull c.fault_answer.result (λ same. cc) c.fault_answer.ensures.prepared)

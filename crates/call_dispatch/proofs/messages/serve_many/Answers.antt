@@ -1,4 +1,4 @@
-use Rattle.std.proofs.Common.{rules, length, ◌≤◌, ◌∷◌, [], ◌++◌, pos, ◌<ℤ◌, ◌^◌, sym, subst, Ok, Err, arith, length-append}
+use Rattle.std.proofs.Common.{rules, length, ◌≤◌, ◌∷◌, [], ◌++◌, pos, ◌<ℤ◌, sym, subst, Ok, Err, arith, length-append}
 use Rattle.mod_utf.specs.Utf.{utf}
 use Rattle.call_dispatch.specs.Terms.{Terms}
 use Rattle.call_dispatch.specs.Spot.{spot_of}
@@ -6,9 +6,10 @@ use Rattle.call_dispatch.proofs.Steps.{goes_on_more}
 use Rattle.call_dispatch.proofs.MessageSteps.{stream_at_code}
 use Rattle.call_dispatch.proofs.Staying.{lent_on, grew_on, steps_on}
 use Rattle.call_dispatch.proofs.messages.serve_many.Goals as goal
+use Rattle.call_dispatch.specs.declared.setup.TheConstants.{DRAWS_BEGIN_BELOW}
 
 pub serve_message-requires-clause-time : goal.serve_message-requires-clause-time
-serve_message-requires-clause-time g c = subst (λ (t : Terms). t.time <ℤ pos (2 ^ 61)) (sym c.loop-after.invariant.4.terms) c.requires.time
+serve_message-requires-clause-time g c = subst (λ (t : Terms). t.time <ℤ pos DRAWS_BEGIN_BELOW) (sym c.loop-after.invariant.4.terms) c.requires.time
 
 pub serve_message-requires-clause-host : goal.serve_message-requires-clause-host
 serve_message-requires-clause-host g c = subst (λ (t : Terms). length (utf t.host) ≤ 255) (sym c.loop-after.invariant.4.terms) c.requires.host

@@ -6,20 +6,21 @@ use Rattle.call_dispatch.specs.Spot.{Spot, spot_of, IsLent}
 use Rattle.call_dispatch.specs.Faults.{counts_of, Grew}
 use Rattle.call_dispatch.specs.Rows.{Exchange, GoOn}
 use Rattle.call_dispatch.specs.Dialogue.{Opening, protocol_of, opened}
-use Rattle.call_dispatch.specs.Progress.{Stands}
+use Rattle.call_dispatch.specs.Progress.{StandsWhole}
 use Rattle.call_dispatch.proofs.messages.serve_many.Given as goal
 use Rattle.call_dispatch.specs.declared.results.TheConstants.{RETURN_BYTES}
+use Rattle.call_dispatch.specs.declared.messages.TheConstants.{MAX_MESSAGES}
 
 -- So many exchanges stand, and the connection goes on; each took and wrote at most so much, made at most three turns, invoked the worker at
 -- most once and drew at most two identifiers.
 abbrev pub invariant-loop-after : goal.invariant-loop-after
 invariant-loop-after g l = ((start : Spot) (opening : Opening) → protocol_of opening ≡ Stream
-    → Stands g.W.Worker.may g.W.Worker.moves (terms_of l.initial.connection.book.now l.initial.connection.setup.now) start
+    → StandsWhole g.W.Worker.may g.W.Worker.moves (terms_of l.initial.connection.book.now l.initial.connection.setup.now) start
     (spot_of g.S.Source.left g.K.Sink.held g.C.Clock.given g.P.Port.asked g.W.Worker.calls g.W.Worker.seen g.W.Worker.state l.initial.connection) l.initial.connection.pull.at l.before (opened opening [])
     → (exchanges : List Exchange) × (length exchanges ≡ l.served) × GoOn exchanges
-    × Stands g.W.Worker.may g.W.Worker.moves (terms_of l.initial.connection.book.now l.initial.connection.setup.now) start
+    × StandsWhole g.W.Worker.may g.W.Worker.moves (terms_of l.initial.connection.book.now l.initial.connection.setup.now) start
     (spot_of g.S.Source.left g.K.Sink.held g.C.Clock.given g.P.Port.asked g.W.Worker.calls g.W.Worker.seen g.W.Worker.state l.connection) l.connection.pull.at l.sent (opened opening exchanges))
-    × (l.served ≤ 2 ^ 28)
+    × (l.served ≤ MAX_MESSAGES)
     × (l.connection.pull.at ≤ l.initial.connection.pull.at + 2 ^ 24 * l.served)
     × (l.sent ≤ l.before + RETURN_BYTES * l.served)
     × IsLent l.initial.connection l.connection
@@ -32,4 +33,4 @@ invariant-loop-after g l = ((start : Spot) (opening : Opening) → protocol_of o
     × (l.connection.setup.now.draw.drawn ≤ l.initial.connection.setup.now.draw.drawn + 2 * l.served)
 
 abbrev pub decreases-loop-after : goal.decreases-loop-after
-decreases-loop-after g l = 2 ^ 28 - l.served
+decreases-loop-after g l = MAX_MESSAGES - l.served

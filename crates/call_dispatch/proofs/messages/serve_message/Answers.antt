@@ -20,17 +20,17 @@ returns-in-Err-clause-steps g c start opening exchanges count code stands =
     rw c.end_of.ensures (code_ends _ _ _ start _ _ _ _ _ _ (opened opening exchanges) c.in-Err.fault moved code
     (omega (arith, c.mark.ensures.at, c.mark.ensures.stop, c.requires.at)) c.in-Err.ensures.gives)
 
-pub returns-then-served-eq-MESSAGES-clause-steps : goal.returns-then-served-eq-MESSAGES-clause-steps
-returns-then-served-eq-MESSAGES-clause-steps g c start opening exchanges count code stands =
+pub returns-then-served-eq-MAX_MESSAGES-clause-steps : goal.returns-then-served-eq-MAX_MESSAGES-clause-steps
+returns-then-served-eq-MAX_MESSAGES-clause-steps g c start opening exchanges count code stands =
     let gives = rw c.in-Ok-Some.field-0-is at c.in-Ok-Some.ensures.gives in
     talks_took _ _ _ start _ _ _ _ (opened opening exchanges) _ ends.MessageLimit stands (ap g.S.Source.left (sym c.mark.ensures.source) ∙ gives.left) refl refl refl
-    (code, count ∙ c.if-served-eq-MESSAGES.true, (_, (c.in-Ok-Some.code, refl), refl))
+    (code, count ∙ c.if-served-eq-MAX_MESSAGES.true, (_, (c.in-Ok-Some.code, refl), refl))
 
 pub returns-in-Ping-clause-steps : goal.returns-in-Ping-clause-steps
 returns-in-Ping-clause-steps g c start opening exchanges count code stands =
     let gives = rw c.in-Ping.is at (rw c.in-Ok-Some.field-0-is at c.in-Ok-Some.ensures.gives) in
     ping_steps _ _ _ start _ _ _ _ _ opening exchanges c.write_answer.result stands code
-    (omega (arith, count, c.requires.served, c.if-served-eq-MESSAGES.false)) (ap g.S.Source.left (sym c.mark.ensures.source) ∙ gives.left) refl refl
+    (omega (arith, count, c.requires.served, c.if-served-eq-MAX_MESSAGES.false)) (ap g.S.Source.left (sym c.mark.ensures.source) ∙ gives.left) refl refl
     (gives.at ∙ ap (λ n. n + 1) c.mark.ensures.at) c.write_answer.ensures.writes
 
 pub returns-in-DgcAck-clause-steps : goal.returns-in-DgcAck-clause-steps
@@ -38,7 +38,7 @@ returns-in-DgcAck-clause-steps g c start opening exchanges count code stands =
     let gives = rw c.in-DgcAck.is at (rw c.in-Ok-Some.field-0-is at c.in-Ok-Some.ensures.gives) in
     let moved = rw (← c.mark.ensures.source, ← c.mark.ensures.at) at stands in
     rw (c.acknowledge.ensures.sink, c.acknowledge.ensures.setup) (ack_steps _ _ _ start _ _ _ _ _ _ _ _ opening exchanges c.acknowledge.result moved code
-    (omega (arith, count, c.requires.served, c.if-served-eq-MESSAGES.false)) (omega (arith, c.mark.ensures.at, c.mark.ensures.stop, c.requires.at)) gives c.acknowledge.ensures.acknowledges)
+    (omega (arith, count, c.requires.served, c.if-served-eq-MAX_MESSAGES.false)) (omega (arith, c.mark.ensures.at, c.mark.ensures.stop, c.requires.at)) gives c.acknowledge.ensures.acknowledges)
 
 pub returns-in-DgcAck-clause-most : goal.returns-in-DgcAck-clause-most
 returns-in-DgcAck-clause-most g c =
@@ -55,7 +55,7 @@ pub returns-in-Call-clause-steps : goal.returns-in-Call-clause-steps
 returns-in-Call-clause-steps g c start opening exchanges count code stands =
     let gives = rw c.in-Call.is at (rw c.in-Ok-Some.field-0-is at c.in-Ok-Some.ensures.gives) in
     c.serve_call.ensures.serves start (spot_of g.S.Source.left g.K.Sink.held g.C.Clock.given g.P.Port.asked g.W.Worker.calls g.W.Worker.seen g.W.Worker.state c.args.connection.now) opening exchanges (record {
-      few = omega (arith, count, c.requires.served, c.if-served-eq-MESSAGES.false);
+      few = omega (arith, count, c.requires.served, c.if-served-eq-MAX_MESSAGES.false);
       code = code;
       place = c.args.connection.now.pull.at;
       stands = stands;

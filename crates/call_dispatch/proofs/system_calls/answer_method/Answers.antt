@@ -20,7 +20,7 @@ returns-in-Ok-Barred-clause-answers g c head bytes known call =
     let same = ap (λ s. terms_of c.args.connection.now.book.now s) c.draw_uids.ensures.drawn in
     let barred = is_barred _ c.in-Ok-Barred.bar (rw c.in-Ok-Barred.field-0-is at c.in-Ok-Barred.ensures) in
     let demands = demand_is c.args.connection.now.book.now c.args.connection.now.setup.now c.draw_uids.new.setup c.args.method c.args.arguments _ _ _ _ same c.draw_uids.ensures.client barred in
-    read_barred g.W.Worker.may g.W.Worker.moves (terms_of c.args.connection.now.book.now c.args.connection.now.setup.now) head bytes c.args.method c.args.arguments c.in-Ok-Barred.bar _ (side_of g.C.Clock.given g.P.Port.asked g.W.Worker.calls g.W.Worker.seen g.W.Worker.state c.args.connection.now) c.args.connection.now.setup.now.draw.drawn _ c.told.result known call uid_is demands drew (rw c.bar_message.ensures at c.told.ensures.prepared)
+    read_barred g.W.Worker.may g.W.Worker.moves (terms_of c.args.connection.now.book.now c.args.connection.now.setup.now) head bytes c.args.method c.args.arguments c.in-Ok-Barred.bar _ (side_of g.C.Clock.given g.P.Port.asked g.W.Worker.calls g.W.Worker.seen g.W.Worker.state c.args.connection.now) c.args.connection.now.setup.now.draw.drawn _ c.fault_answer.result known call uid_is demands drew (rw c.bar_message.ensures at c.fault_answer.ensures.prepared)
 
 pub ask_turn-requires-clause-quiet : goal.ask_turn-requires-clause-quiet
 ask_turn-requires-clause-quiet g c =

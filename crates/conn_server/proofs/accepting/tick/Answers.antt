@@ -4,7 +4,7 @@ use Rattle.history.specs.declared.asks.Ask.TheVariants.{Tick}
 use Rattle.wire_io.specs.Wire.{Gave}
 use Rattle.space.specs.declared.asked.Asked.{Asked}
 use Rattle.turn_lock.specs.Ports.{PassWent}
-use Rattle.call_dispatch.specs.Acts.{Tells, Leads}
+use Rattle.call_dispatch.specs.Acts.{TellsMore, LeadsStates}
 use Rattle.conn_server.specs.Made.{told_of}
 use Rattle.conn_server.proofs.Ticks.{entry_there}
 use Rattle.conn_server.proofs.accepting.tick.Goals as goal
@@ -24,8 +24,8 @@ returns-clause-given g c =
 
 pub returns-clause-seen : goal.returns-clause-seen
 returns-clause-seen g c =
-    entry_there (λ entry. Tells (g.H.Worker.seen c.args.hand.now) (told_of entry) (g.H.Worker.seen c.tell_answer.new.hand)) c.now-moment.result Tick c.turn-answer.result.0 c.tick_entry.result c.tick_entry.ensures c.tell_answer.ensures.seen
+    entry_there (λ entry. TellsMore (g.H.Worker.seen c.args.hand.now) (told_of entry) (g.H.Worker.seen c.tell_answer.new.hand)) c.now-moment.result Tick c.turn-answer.result.0 c.tick_entry.result c.tick_entry.ensures c.tell_answer.ensures.seen
 
 pub returns-clause-state : goal.returns-clause-state
 returns-clause-state g c =
-    entry_there (λ entry. Leads g.H.Worker.moves (g.H.Worker.state c.args.hand.now) (told_of entry) (g.H.Worker.state c.tell_answer.new.hand)) c.now-moment.result Tick c.turn-answer.result.0 c.tick_entry.result c.tick_entry.ensures c.tell_answer.ensures.state
+    entry_there (λ entry. LeadsStates g.H.Worker.moves (g.H.Worker.state c.args.hand.now) (told_of entry) (g.H.Worker.state c.tell_answer.new.hand)) c.now-moment.result Tick c.turn-answer.result.0 c.tick_entry.result c.tick_entry.ensures c.tell_answer.ensures.state

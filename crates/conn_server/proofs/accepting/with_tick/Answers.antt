@@ -2,7 +2,7 @@ use Rattle.std.proofs.Common.{◌≡◌, refl}
 use Rattle.std.specs.Prelude.{option_to_list, ◌∷◌, []}
 use Rattle.history.specs.declared.asks.Ask.TheVariants.{Tick}
 use Rattle.wire_io.specs.Wire.{Gave}
-use Rattle.call_dispatch.specs.Acts.{Tells, Leads}
+use Rattle.call_dispatch.specs.Acts.{TellsMore, LeadsStates}
 use Rattle.conn_server.specs.Made.{told_of}
 use Rattle.conn_server.proofs.Taking.{tick_accepting}
 use Rattle.conn_server.proofs.Ticks.{known_there, kept_there}
@@ -23,7 +23,7 @@ pub returns-clause-given : goal.returns-clause-given
 returns-clause-given g c = known_there (λ k. k.value) (λ entry. Gave (g.T.Clock.given c.args.clock.now) (g.T.Clock.given c.tick-entry.new.clock) (entry.moment ∷ [])) c.tick-entry.result c.kept-known.result c.kept-known.ensures.known c.tick-entry.ensures.given
 
 pub returns-clause-seen : goal.returns-clause-seen
-returns-clause-seen g c = known_there (λ k. k.value) (λ entry. Tells (g.H.Worker.seen c.args.hand.now) (told_of entry) (g.H.Worker.seen c.tick-entry.new.hand)) c.tick-entry.result c.kept-known.result c.kept-known.ensures.known c.tick-entry.ensures.seen
+returns-clause-seen g c = known_there (λ k. k.value) (λ entry. TellsMore (g.H.Worker.seen c.args.hand.now) (told_of entry) (g.H.Worker.seen c.tick-entry.new.hand)) c.tick-entry.result c.kept-known.result c.kept-known.ensures.known c.tick-entry.ensures.seen
 
 pub returns-clause-state : goal.returns-clause-state
-returns-clause-state g c = known_there (λ k. k.value) (λ entry. Leads g.H.Worker.moves (g.H.Worker.state c.args.hand.now) (told_of entry) (g.H.Worker.state c.tick-entry.new.hand)) c.tick-entry.result c.kept-known.result c.kept-known.ensures.known c.tick-entry.ensures.state
+returns-clause-state g c = known_there (λ k. k.value) (λ entry. LeadsStates g.H.Worker.moves (g.H.Worker.state c.args.hand.now) (told_of entry) (g.H.Worker.state c.tick-entry.new.hand)) c.tick-entry.result c.kept-known.result c.kept-known.ensures.known c.tick-entry.ensures.state

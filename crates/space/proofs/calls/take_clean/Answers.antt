@@ -24,17 +24,17 @@ pub returns-in-Ok-clause-refusal : goal.returns-in-Ok-clause-refusal
 returns-in-Ok-clause-refusal c lease moment calls s le =
     let fits : FitsSigned w64 c.args.number.now = search rules in
     let time : max c.args.now moment ≡ c.args.now = omega arith in
-    let told : ℕ → ℤ → List ObjId → Option Refused = λ t n os. call_refusal lease t calls (clean_call t c.args.client.now n os c.args.strong) in
-    let P : ℤ → Type 0 = λ n. told (max c.args.now moment) n c.args.live.now ≡ None in
-    let M : ℕ → Type 0 = λ t. told t c.args.number.now c.args.live.now ≡ None in
+    let reported : ℕ → ℤ → List ObjId → Option Refused = λ t n os. call_refusal lease t calls (clean_call t c.args.client.now n os c.args.strong) in
+    let P : ℤ → Type 0 = λ n. reported (max c.args.now moment) n c.args.live.now ≡ None in
+    let M : ℕ → Type 0 = λ t. reported t c.args.number.now c.args.live.now ≡ None in
     subst M time (subst P (to_z-of_z w64 c.args.number.now fits) (clean-taken c.args.strong (clients_with_call lease (max c.args.now moment) calls c.args.client.now) _ _ (c.in-Ok.ensures.pairs lease moment calls s)))
 
 pub returns-in-Err-clause-refusal : goal.returns-in-Err-clause-refusal
 returns-in-Err-clause-refusal c lease moment calls s le =
     let fits : FitsSigned w64 c.args.number.now = search rules in
     let time : max c.args.now moment ≡ c.args.now = omega arith in
-    let told : ℕ → ℤ → List ObjId → Option Refused = λ t n os. call_refusal lease t calls (clean_call t c.args.client.now n os c.args.strong) in
-    let A : ℕ → ℤ → List ObjId → Refused → Type 0 = λ t n os r. (told t n os ≡ Some r) ⊎ (r ≡ OutOfMemory) in
+    let reported : ℕ → ℤ → List ObjId → Option Refused = λ t n os. call_refusal lease t calls (clean_call t c.args.client.now n os c.args.strong) in
+    let A : ℕ → ℤ → List ObjId → Refused → Type 0 = λ t n os r. (reported t n os ≡ Some r) ⊎ (r ≡ OutOfMemory) in
     let P : ℤ → Type 0 = λ n. A (max c.args.now moment) n c.args.live.now (refused_for c.in-Err.fault) in
     let M : ℕ → Type 0 = λ t. A t c.args.number.now c.args.live.now (refused_for c.in-Err.fault) in
     let R : Refused → Type 0 = λ r. A c.args.now c.args.number.now c.args.live.now r in

@@ -8,7 +8,7 @@ pub returns : goal.returns
 returns c =
     let count : c.len.result ≡ length c.space.inside.tables.events.items = search rules in
     let gone : c.len-4.result ≡ length c.space.inside.tables.withdrawn.items = search rules in
-    summarized c.space.inside.tables.config c.space.inside.tables.events.items c.space.inside.tables.leases c.space.inside.tables.exports c.space.inside.tables.runs.items c.space.inside.tables.withdrawn.items c.space.inside.tables.told c.space.inside.tables.added c.space.inside.tables.units c.space.inside.tables.moment
+    summarized c.space.inside.tables.config c.space.inside.tables.events.items c.space.inside.tables.leases c.space.inside.tables.exports c.space.inside.tables.runs.items c.space.inside.tables.withdrawn.items c.space.inside.tables.reported c.space.inside.tables.added c.space.inside.tables.units c.space.inside.tables.moment
     c.in_ok-clients.clients (record { objects = c.from.result; clients = c.len-2.result; pairs = c.from-2.result; awaiting = c.from-3.result; names = c.from-4.result; withdrawn = c.len-4.result })
     c.new-text.result c.put_events_line.new.out c.put_counts.new.text c.args.space.now c.space.view_is c.space.invariant.0
     c.in_ok-clients.ensures (λ lease m calls stands. c.from-2.ensures ∙ c.pairs.ensures lease m calls stands)

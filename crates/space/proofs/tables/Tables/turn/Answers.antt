@@ -12,7 +12,7 @@ use Rattle.export_table.specs.Rows.{is_exported}
 use Rattle.export_table.specs.Table.{ExportTable}
 use Rattle.dgc_server.proofs.Told.{error-is}
 use Rattle.space.specs.Acts.{ForEachLogBy, event_of, effective_by, await_refusal, told_refusal, Agrees}
-use Rattle.space.proofs.TurnLaws.{room-step, await-step, memory-step, told-step, whole-err}
+use Rattle.space.proofs.TurnLaws.{room-step, await-step, memory-step, reported-step, whole-err}
 use Rattle.space.proofs.AheadLaws.{room-grown, few-calls}
 use Rattle.space.proofs.AskLaws.{stood-is, keeps-roomy, asked, room-as, room-exports, room-units, returned-few}
 use Rattle.space.proofs.ReadyLaws.{is-ready}
@@ -27,16 +27,16 @@ returns-in_err-admitted-clause-refused c =
     let effective = effective_by c.args.self.now.exports.rows c.args.self.now.runs.items stood c.args.by c.args.ask.now in
     subst P (sym (error-is c.from_residual.result c.in_err-admitted.field-0.0 c.from_residual.ensures.1))
     (room-step c.args.self.now.config c.args.self.now.events.items (event_of c.args.by c.args.moment c.args.ask.now) c.args.self.now.leases c.args.self.now.exports c.args.self.now.runs.items c.args.self.now.withdrawn.items
-    c.args.self.now.told c.args.self.now.added c.args.self.now.units c.args.self.now.moment effective c.in_err-admitted.field-0.0
+    c.args.self.now.reported c.args.self.now.added c.args.self.now.units c.args.self.now.moment effective c.in_err-admitted.field-0.0
     (asked c.args.self.now.config c.args.self.now.events.items (event_of c.args.by c.args.moment c.args.ask.now) c.args.self.now.leases c.args.self.now.exports c.args.self.now.exports c.args.self.now.runs.items c.args.self.now.runs.items c.args.self.now.withdrawn.items
-    c.args.self.now.told c.args.self.now.added c.args.self.now.units c.args.self.now.moment stood effective c.requires.whole.0 (stood-is (places c.args.self.now.config c.args.self.now.events.items) c.args.self.now.names c.args.ask.now c.requires.whole.2) refl refl refl)
+    c.args.self.now.reported c.args.self.now.added c.args.self.now.units c.args.self.now.moment stood effective c.requires.whole.0 (stood-is (places c.args.self.now.config c.args.self.now.events.items) c.args.self.now.names c.args.ask.now c.requires.whole.2) refl refl refl)
     c.in_err-admitted.ensures.refused)
 
 pub returns-in_err-room_for_all-clause-whole : goal.returns-in_err-room_for_all-clause-whole
 returns-in_err-room_for_all-clause-whole c =
     whole-err c.from_residual-in_err-room_for_all.result
     (keeps-roomy c.args.self.now.config c.args.self.now.events.items c.room_for_all.new.events.items c.args.self.now.leases c.args.self.now.leases c.args.self.now.exports c.room_for_all.new.exports c.args.self.now.runs.items c.room_for_all.new.runs.items
-    c.args.self.now.withdrawn.items c.room_for_all.new.withdrawn.items c.args.self.now.told c.args.self.now.added c.args.self.now.units c.args.self.now.moment
+    c.args.self.now.withdrawn.items c.room_for_all.new.withdrawn.items c.args.self.now.reported c.args.self.now.added c.args.self.now.units c.args.self.now.moment
     c.requires.whole.0 c.room_for_all.ensures.rest c.room_for_all.ensures.events refl c.room_for_all.ensures.runs c.room_for_all.ensures.withdrawn)
     (room-grown c.args.self.now.events.items c.room_for_all.new.events.items c.args.self.now.runs.items c.room_for_all.new.runs.items c.args.self.now.withdrawn.items c.room_for_all.new.withdrawn.items c.args.self.now.exports c.room_for_all.new.exports
     c.args.self.now.events.capacity c.args.self.now.withdrawn.room c.room_for_all.new.events.capacity c.room_for_all.new.withdrawn.room
@@ -48,7 +48,7 @@ pub returns-in_err-settle-clause-whole : goal.returns-in_err-settle-clause-whole
 returns-in_err-settle-clause-whole c =
     whole-err c.from_residual-in_err-settle.result
     (keeps-roomy c.args.self.now.config c.args.self.now.events.items c.room_for_all.new.events.items c.args.self.now.leases c.settle.new.leases c.args.self.now.exports c.room_for_all.new.exports c.args.self.now.runs.items c.room_for_all.new.runs.items
-    c.args.self.now.withdrawn.items c.room_for_all.new.withdrawn.items c.args.self.now.told c.args.self.now.added c.args.self.now.units c.args.self.now.moment
+    c.args.self.now.withdrawn.items c.room_for_all.new.withdrawn.items c.args.self.now.reported c.args.self.now.added c.args.self.now.units c.args.self.now.moment
     c.requires.whole.0 c.room_for_all.ensures.rest c.room_for_all.ensures.events (c.in_err-settle.ensures {u = tt}).err c.room_for_all.ensures.runs c.room_for_all.ensures.withdrawn)
     (room-grown c.args.self.now.events.items c.room_for_all.new.events.items c.args.self.now.runs.items c.room_for_all.new.runs.items c.args.self.now.withdrawn.items c.room_for_all.new.withdrawn.items c.args.self.now.exports c.room_for_all.new.exports
     c.args.self.now.events.capacity c.args.self.now.withdrawn.room c.room_for_all.new.events.capacity c.room_for_all.new.withdrawn.room
@@ -70,10 +70,10 @@ returns-in_err-settle-clause-refused c =
     let C : ℕ → Type 0 = λ n. ForEachLogBy (max c.args.moment c.args.self.now.moment) c.args.self.now.leases (λ lease calls. Agrees {T = Unit {0}} (told_refusal lease (max c.args.moment c.args.self.now.moment) calls (call_with (is_exported c.room_for_all.new.exports.rows) (max c.args.moment c.args.self.now.moment) c.args.ask.now) n (option_and_then (object_of c.args.self.now.names) (name_in c.args.ask.now)) c.in_ok-admitted.admitted.effective c.args.ask.now) (Err c.in_err-settle.field-0.0)) in
     let O : Option ObjId → Type 0 = λ o. ForEachLogBy (max c.args.moment c.args.self.now.moment) c.args.self.now.leases (λ lease calls. Agrees {T = Unit {0}} (told_refusal lease (max c.args.moment c.args.self.now.moment) calls (call_with (is_exported c.room_for_all.new.exports.rows) (max c.args.moment c.args.self.now.moment) c.args.ask.now) (length (names (places c.args.self.now.config c.args.self.now.events.items))) o c.in_ok-admitted.admitted.effective c.args.ask.now) (Err c.in_err-settle.field-0.0)) in
     subst P (sym (error-is c.from_residual-in_err-settle.result c.in_err-settle.field-0.0 c.from_residual-in_err-settle.ensures.1))
-    (told-step c.args.self.now.config c.args.self.now.events.items (event_of c.args.by c.args.moment c.args.ask.now) c.args.self.now.leases c.room_for_all.new.exports c.args.self.now.runs.items c.args.self.now.withdrawn.items
-    c.args.self.now.told c.args.self.now.added c.args.self.now.units c.args.self.now.moment c.in_ok-admitted.admitted.effective c.in_err-settle.field-0.0
+    (reported-step c.args.self.now.config c.args.self.now.events.items (event_of c.args.by c.args.moment c.args.ask.now) c.args.self.now.leases c.room_for_all.new.exports c.args.self.now.runs.items c.args.self.now.withdrawn.items
+    c.args.self.now.reported c.args.self.now.added c.args.self.now.units c.args.self.now.moment c.in_ok-admitted.admitted.effective c.in_err-settle.field-0.0
     (asked c.args.self.now.config c.args.self.now.events.items (event_of c.args.by c.args.moment c.args.ask.now) c.args.self.now.leases c.args.self.now.exports c.room_for_all.new.exports c.args.self.now.runs.items c.args.self.now.runs.items c.args.self.now.withdrawn.items
-    c.args.self.now.told c.args.self.now.added c.args.self.now.units c.args.self.now.moment c.in_ok-admitted.admitted.stood c.in_ok-admitted.admitted.effective c.requires.whole.0 (c.in_ok-admitted.ensures.stood ∙ stood-is (places c.args.self.now.config c.args.self.now.events.items) c.args.self.now.names c.args.ask.now c.requires.whole.2) c.in_ok-admitted.ensures.effective refl c.room_for_all.ensures.rest)
+    c.args.self.now.reported c.args.self.now.added c.args.self.now.units c.args.self.now.moment c.in_ok-admitted.admitted.stood c.in_ok-admitted.admitted.effective c.requires.whole.0 (c.in_ok-admitted.ensures.stood ∙ stood-is (places c.args.self.now.config c.args.self.now.events.items) c.args.self.now.names c.args.ask.now c.requires.whole.2) c.in_ok-admitted.ensures.effective refl c.room_for_all.ensures.rest)
     (room-as c.args.self.now.units (length c.args.self.now.runs.items) (length c.args.self.now.exports.rows) c.in_ok-admitted.admitted.effective c.args.ask.now c.args.self.now.runs.items c.args.self.now.exports c.room_for_all.new.exports None None
     (sym c.in_ok-admitted.ensures.room) refl refl c.room_for_all.ensures.rest refl)
     (ap (λ o. await_refusal (max c.args.moment c.args.self.now.moment) c.room_for_all.new.exports.rows c.room_for_all.new.exports.waits o c.in_ok-admitted.admitted.effective c.args.ask.now) (sym (c.in_ok-admitted.ensures.stood ∙ stood-is (places c.args.self.now.config c.args.self.now.events.items) c.args.self.now.names c.args.ask.now c.requires.whole.2))
@@ -88,9 +88,9 @@ returns-in_err-ready-clause-refused c =
     let O : Option ObjId → Type 0 = λ o. Agrees {T = Unit {0}} (await_refusal (max c.args.moment c.args.self.now.moment) c.args.self.now.exports.rows c.args.self.now.exports.waits o c.in_ok-admitted.admitted.effective c.args.ask.now) (Err c.in_err-ready.field-0.0) in
     subst P (sym (error-is c.from_residual-in_err-ready.result c.in_err-ready.field-0.0 c.from_residual-in_err-ready.ensures.1))
     (await-step c.args.self.now.config c.args.self.now.events.items (event_of c.args.by c.args.moment c.args.ask.now) c.args.self.now.leases c.args.self.now.exports c.args.self.now.runs.items c.args.self.now.withdrawn.items
-    c.args.self.now.told c.args.self.now.added c.args.self.now.units c.args.self.now.moment c.in_ok-admitted.admitted.effective c.in_err-ready.field-0.0
+    c.args.self.now.reported c.args.self.now.added c.args.self.now.units c.args.self.now.moment c.in_ok-admitted.admitted.effective c.in_err-ready.field-0.0
     (asked c.args.self.now.config c.args.self.now.events.items (event_of c.args.by c.args.moment c.args.ask.now) c.args.self.now.leases c.args.self.now.exports c.args.self.now.exports c.args.self.now.runs.items c.args.self.now.runs.items c.args.self.now.withdrawn.items
-    c.args.self.now.told c.args.self.now.added c.args.self.now.units c.args.self.now.moment c.in_ok-admitted.admitted.stood c.in_ok-admitted.admitted.effective c.requires.whole.0 (c.in_ok-admitted.ensures.stood ∙ stood-is (places c.args.self.now.config c.args.self.now.events.items) c.args.self.now.names c.args.ask.now c.requires.whole.2) c.in_ok-admitted.ensures.effective refl refl)
+    c.args.self.now.reported c.args.self.now.added c.args.self.now.units c.args.self.now.moment c.in_ok-admitted.admitted.stood c.in_ok-admitted.admitted.effective c.requires.whole.0 (c.in_ok-admitted.ensures.stood ∙ stood-is (places c.args.self.now.config c.args.self.now.events.items) c.args.self.now.names c.args.ask.now c.requires.whole.2) c.in_ok-admitted.ensures.effective refl refl)
     (room-as c.args.self.now.units (length c.args.self.now.runs.items) (length c.args.self.now.exports.rows) c.in_ok-admitted.admitted.effective c.args.ask.now c.args.self.now.runs.items c.args.self.now.exports c.args.self.now.exports None None
     (sym c.in_ok-admitted.ensures.room) refl refl refl refl)
     (subst O (c.in_ok-admitted.ensures.stood ∙ stood-is (places c.args.self.now.config c.args.self.now.events.items) c.args.self.now.names c.args.ask.now c.requires.whole.2) (subst N time c.in_err-ready.ensures.refusal)))
@@ -105,7 +105,7 @@ room_for_all-requires-clause-few_returned c =
 
 pub room_for_all-requires-clause-few_runs : goal.room_for_all-requires-clause-few_runs
 room_for_all-requires-clause-few_runs c =
-    let few = few-calls c.args.self.now.config c.args.self.now.events.items c.args.self.now.leases c.args.self.now.exports c.args.self.now.runs.items c.args.self.now.withdrawn.items c.args.self.now.told c.args.self.now.added c.args.self.now.units c.args.self.now.moment c.requires.whole.0 in
+    let few = few-calls c.args.self.now.config c.args.self.now.events.items c.args.self.now.leases c.args.self.now.exports c.args.self.now.runs.items c.args.self.now.withdrawn.items c.args.self.now.reported c.args.self.now.added c.args.self.now.units c.args.self.now.moment c.requires.whole.0 in
     omega (arith, few)
 
 pub prepare-requires-clause-countable : goal.prepare-requires-clause-countable

@@ -31,7 +31,7 @@ returns-in-Ok c = record {
   row = if-ok c.with_entry.result (λ x. x.0 ≡ turned c.turn_with-answer.result) (λ x. IsAnswerTo (λ o. 0 < running (places c.args.self.now.configuration c.args.self.now.events) c.args.by o) c.args.ask x.0) c.with_entry.ensures.answer
       (λ x e. (let P : Result Turn Refused → Type 0 = λ a. IsAnswerTo (λ o. 0 < running (places c.args.self.now.configuration c.args.self.now.events) c.args.by o) c.args.ask a in
       subst P (sym e) (answer-row c.self.inside.tables.config c.self.inside.tables.events.items c.turn_with-answer.new.self.events (event_of c.args.by c.args.moment c.args.ask) c.self.inside.tables.leases c.self.inside.tables.exports c.self.inside.tables.runs.items c.self.inside.tables.withdrawn.items
-      c.self.inside.tables.told c.self.inside.tables.added c.self.inside.tables.units c.self.inside.tables.moment c.args.self.now (turned c.turn_with-answer.result) c.self.invariant.0 (names-short c.self.inside.tables.config c.self.inside.tables.events.items c.self.inside.tables.names c.self.invariant.2 c.take_note.ensures.sound) c.self.view_is c.turn_with-answer.ensures.step)));
+      c.self.inside.tables.reported c.self.inside.tables.added c.self.inside.tables.units c.self.inside.tables.moment c.args.self.now (turned c.turn_with-answer.result) c.self.invariant.0 (names-short c.self.inside.tables.config c.self.inside.tables.events.items c.self.inside.tables.names c.self.invariant.2 c.take_note.ensures.sound) c.self.view_is c.turn_with-answer.ensures.step)));
   known = search rules;
   config = search rules;
   err = on-err c.with_entry.result c.with_entry.ensures.err (λ e. stays c.turn_with-answer.result (c.turn_with-answer.new.self ≡ c.args.self.now) e c.turn_with-answer.ensures.err);

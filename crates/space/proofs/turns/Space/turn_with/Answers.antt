@@ -19,7 +19,7 @@ invariant_of-self-in-Err c = c.in-Err.ensures.whole
 pub invariant_of-self : goal.invariant_of-self
 invariant_of-self c =
     appended c.turn.new.self.config (c.turn.new.self.events.items ++ event_of c.args.by c.args.moment c.args.ask ∷ []) c.put_event.new.events.items c.turn.new.self.leases c.turn.new.self.exports c.turn.new.self.runs.items c.turn.new.self.withdrawn.items
-    c.turn.new.self.told c.turn.new.self.added c.turn.new.self.units c.turn.new.self.moment c.turn.new.self.events.capacity c.put_event.new.events.capacity c.turn.new.self.withdrawn.room c.turn.new.self.names
+    c.turn.new.self.reported c.turn.new.self.added c.turn.new.self.units c.turn.new.self.moment c.turn.new.self.events.capacity c.put_event.new.events.capacity c.turn.new.self.withdrawn.room c.turn.new.self.names
     c.in-Ok.ensures.with_event c.put_event.ensures.items c.put_event.ensures.capacity
 
 pub returns-in-Ok-clause-step : goal.returns-in-Ok-clause-step

@@ -13,6 +13,6 @@ rest_of-requires c =
 
 pub returns-clause-items : goal.returns-clause-items
 returns-clause-items c =
-    c.in_ok-reserve.ensures.items ∙ c.in_ok-gone.ensures ∙ ap (drop c.args.told) c.deref.ensures.value
-    ∙ sym (paired-objects c.args.told c.self.inside.objects.items c.self.inside.places.items c.self.invariant)
-    ∙ ap (λ (t : WithdrawalTable). map (λ (w : Withdrawal). w.object) (drop c.args.told t.items)) c.self.view_is
+    c.in_ok-reserve.ensures.items ∙ c.in_ok-gone.ensures ∙ ap (drop c.args.reported) c.deref.ensures.value
+    ∙ sym (paired-objects c.args.reported c.self.inside.objects.items c.self.inside.places.items c.self.invariant)
+    ∙ ap (λ (t : WithdrawalTable). map (λ (w : Withdrawal). w.object) (drop c.args.reported t.items)) c.self.view_is

@@ -44,7 +44,7 @@ returns-clause-root c =
     let some = some_out c.args.lock.now r c.requires.own.0 (omega (arith, few, parts, one)) in
     let out : r.out - 1 + 1 ≡ r.out = omega (arith, some) in
     let me : c.load.new.seat.me ≡ (joined_of (view_of r.pass) (view_of p), []) =
-    f.2.0 ∙ (ap (λ (m : Sat). (record m.0 { seen = longer m.0.seen m.0.told }, m.1)) e.2 ∙ ap (λ l. (joined_of (view_of r.pass) (view_of p), l)) c.requires.own.0.pass_is.empty) in
+    f.2.0 ∙ (ap (λ (m : Sat). (record m.0 { seen = longer m.0.seen m.0.heard }, m.1)) e.2 ∙ ap (λ l. (joined_of (view_of r.pass) (view_of p), l)) c.requires.own.0.pass_is.empty) in
     (root_joined c.args.lock.now r s p c.requires.own.0 c.requires.own.1 f.2.3 (f.0 ∙ e.0) (f.1 ∙ e.1) me refl refl refl out, out)
 
 pub returns-clause-ordered : goal.returns-clause-ordered
