@@ -12,8 +12,8 @@ use std::alloc::Global;
 use wire_io::mem::MemSource;
 use wire_io::pull::Pull;
 
-/// Writes a graph as a stream, and reads the stream. What is read is the same graph, with all that is shared in it; it is
-/// refused only for want of memory.
+/// Writes a graph as a stream, and reads the stream. What is read is the same graph, with all that is shared in it; a
+/// refusal is none of the bytes': there was no memory, or a read failed.
 pub fn read_back(alloc: Global, graph: &Graph) -> Result<Graph, StreamFault>
     ensures same { length (canonical graph.now.nodes graph.now.items) ≤ LAST_POSITION → ∥ AnswersGraph graph.now.nodes graph.now.items result ∥₁ }
 {
