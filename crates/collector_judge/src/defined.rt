@@ -6,9 +6,9 @@ use history::plain::limits::units;
 use history::plain::names::{names, stands_for};
 use history::plain::places::now;
 use history::plain::running::running;
-use history::plain::table::{lease_calls, places, table};
+use history::plain::table::{lease_calls, table};
 use history::plain::turns::withdrawals;
-use history::{Call, CallKind, Event, Exported, Name, Place, SpaceConfig};
+use history::{Call, CallKind, Exported, Name, Place, SpaceConfig};
 use journal::ObjectRow;
 use journal::outline::{
     put_events_line, put_lease_line, put_name_line, put_object_line, put_withdrawal_line,
@@ -17,17 +17,15 @@ use mod_utf::list::{ByteList, Same};
 use object_ids::{ObjId, Vmid};
 use std::alloc::{AllocError, Global};
 
-/// The outline of these events.
+/// The outline of these places.
 pub(crate) fn defined_outline(
     alloc: Global,
     config: &SpaceConfig,
-    events: &[Event],
+    places: &[Place],
 ) -> Result<ByteList, AllocError> {
-    let history = places(alloc, config, events)?;
-    let places = history.as_slice();
     let mut text = ByteList::new(alloc);
     let used = u64::try_from(units(places)).unwrap_or(u64::MAX);
-    put_events_line(&mut text, events.len() as u64, used, now(places))?;
+    put_events_line(&mut text, places.len() as u64, used, now(places))?;
     put_objects(alloc, config, places, &mut text)?;
     put_leases(alloc, config, places, &mut text)?;
     put_names(alloc, config, places, &mut text)?;

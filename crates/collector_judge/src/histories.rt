@@ -1,18 +1,24 @@
-//! Random histories: short ones of few objects, clients, connections and returns, with leases of a few milliseconds, so that calls meet. Each begins
-//! with the opening of a pinned object, a call of it, and a return of two new objects.
+//! Random histories of few clients, connections and returns, with leases of a few milliseconds, so that calls meet. Each begins with the opening of a
+//! pinned object, a call of it, and a return of two new objects. What is asked next most often names objects that are exported then.
 ghost use Rattle.std.specs.Prelude.{◌≤◌};
 ghost use Rattle.history.specs.declared.limits.TheConstants.{MAX_DURATION};
 
+use crate::course::Course;
 use crate::draws::Draws;
-use history::{Ask, Event, EventList, Name, SpaceConfig};
+use history::plain::running::running;
+use history::{Ask, Event, Exported, Name, SpaceConfig};
 use mod_utf::list::{ByteList, Kinds, Units};
 use object_ids::{ObjId, ObjIds, Uid, Vmid};
 use std::alloc::{AllocError, Global};
 
 /// How many connections there are.
 pub(crate) const CONNECTIONS: u64 = 2;
-/// The longest lease, and the longest time to acknowledge.
+/// The longest lease, and the longest time to acknowledge, of one half of the spaces, and of the other half.
 const LONGEST: u64 = 6;
+
+const LONGER: u64 = 30;
+/// How often a running call is looked for.
+const TRIES: u64 = 6;
 /// The number of the first object.
 const FIRST: i64 = 16;
 /// The last moment.
@@ -27,14 +33,25 @@ pub(crate) fn numbered(unique: i32) -> Uid {
     }
 }
 
+/// A duration, in milliseconds.
+fn duration(draws: &mut Draws) -> u64
+    ensures some { 1 ≤ result }
+    ensures short { result ≤ MAX_DURATION }
+{
+    match draws.below(2) {
+        0 => 1 + draws.below(LONGEST),
+        _ => 1 + draws.below(LONGER),
+    }
+}
+
 /// A random configuration.
 pub(crate) fn configuration(draws: &mut Draws) -> SpaceConfig
     ensures lease { (1 ≤ result.lease_ms) × (result.lease_ms ≤ MAX_DURATION) }
     ensures ack { (1 ≤ result.ack_ms) × (result.ack_ms ≤ MAX_DURATION) }
 {
     SpaceConfig {
-        lease_ms: 1 + draws.below(LONGEST),
-        ack_ms: 1 + draws.below(LONGEST),
+        lease_ms: duration(draws),
+        ack_ms: duration(draws),
         uid: numbered(7),
     }
 }
@@ -42,62 +59,90 @@ pub(crate) fn configuration(draws: &mut Draws) -> SpaceConfig
 /// The moments on which the next one depends, in milliseconds.
 #[derive(Debug, Drop)]
 struct Clock {
-    /// The last moment.
-    last: u64,
-    /// The last at which something may end.
-    end: u64,
+    /// The greatest moment.
+    now: u64,
+    /// The end of the last lease.
+    lease_end: u64,
+    /// The end of the last wait.
+    wait_end: u64,
 }
 
 impl Clock {
-    /// The next moment: often the last one or one near an end, sometimes one that goes back.
+    /// The next moment: often the greatest one or one near an end, sometimes one that goes back.
     fn next(&mut self, draws: &mut Draws) -> u64
         ensures { result ≤ 1000000 }
     {
-        let moment = match draws.below(8) {
-            0 => self.last.saturating_add(1),
-            1 => self.last.saturating_add(draws.below(2 * LONGEST)),
-            2 => self.last.saturating_sub(1 + draws.below(LONGEST)),
-            3 => self.end.saturating_sub(1),
-            4 => self.end,
-            _ => self.last,
+        let moment = match draws.below(16) {
+            0 | 1 => self.now.saturating_add(1),
+            2 => self.now.saturating_add(draws.below(2 * LONGEST)),
+            3 => self.now.saturating_sub(1 + draws.below(LONGEST)),
+            4 => self.lease_end.saturating_sub(1),
+            5 => self.lease_end,
+            6 => self.wait_end.saturating_sub(1),
+            7 => self.wait_end,
+            _ => self.now,
         };
-        self.last = moment.min(LAST_MOMENT);
-        self.last
+        let moment = moment.min(LAST_MOMENT);
+        self.now = self.now.max(moment);
+        moment
+    }
+
+    /// Notes the end of the lease or of the wait that an ask begins now.
+    fn note(&mut self, config: &SpaceConfig, ask: &Ask) {
+        match ask {
+            Ask::Dirty {
+                client: _,
+                number: _,
+                asked: _,
+                objects: _,
+            } => self.lease_end = self.now.saturating_add(config.lease_ms),
+            Ask::Finish {
+                object: _,
+                made: _,
+                listed: _,
+                uid: _,
+            } => self.wait_end = self.now.saturating_add(config.ack_ms),
+            Ask::Lookup { name: _, uid: _ } => {
+                self.wait_end = self.now.saturating_add(config.ack_ms)
+            }
+            _ => {}
+        }
     }
 }
 
-/// So many random events, after a return of two objects.
-pub(crate) fn events(
+/// The course of so many random events, after a return of two objects.
+pub(crate) fn course(
     alloc: Global,
     config: &SpaceConfig,
     draws: &mut Draws,
     count: u64,
-) -> Result<EventList, AllocError> {
-    let mut events = returned(alloc, config)?;
+) -> Result<Course, AllocError> {
+    let mut course = Course::new(alloc);
+    begin(alloc, config, &mut course)?;
     let mut clock = Clock {
-        last: 0,
-        end: config.ack_ms,
+        now: 0,
+        lease_end: config.lease_ms,
+        wait_end: config.ack_ms,
     };
     for _ in 0..count {
         let moment = clock.next(draws);
-        let ask = ask(alloc, config.uid, draws)?;
-        clock.end = end_after(config, moment, &ask, clock.end);
         let by = draws.below(CONNECTIONS) as u32;
-        events.push(Event { by, moment, ask })?;
+        let ask = ask(alloc, config, &course, by, draws)?;
+        clock.note(config, &ask);
+        course.take(alloc, config, Event { by, moment, ask })?;
     }
-    Ok(events)
+    Ok(course)
 }
 
-/// The opening of a pinned object, a call of it, and a return of two new objects.
-fn returned(alloc: Global, config: &SpaceConfig) -> Result<EventList, AllocError> {
+/// Takes the opening of a pinned object, a call of it, and a return of two new objects.
+fn begin(alloc: Global, config: &SpaceConfig, course: &mut Course) -> Result<(), AllocError> {
     let object = ObjId {
         number: FIRST,
         space: config.uid,
     };
     let pinned = true;
-    let mut events = EventList::new(alloc);
-    add(&mut events, Ask::Open { kind: 2, pinned })?;
-    add(&mut events, Ask::Begin { object })?;
+    take_at_first(alloc, config, course, Ask::Open { kind: 2, pinned })?;
+    take_at_first(alloc, config, course, Ask::Begin { object })?;
     let made = Kinds::from_slice(alloc, &[1, 3])?;
     let listed = ObjIds::new(alloc);
     let uid = numbered(0);
@@ -107,73 +152,70 @@ fn returned(alloc: Global, config: &SpaceConfig) -> Result<EventList, AllocError
         listed,
         uid,
     };
-    add(&mut events, finish)?;
-    Ok(events)
+    take_at_first(alloc, config, course, finish)
 }
 
-/// Appends an event of the first connection at the first moment.
-fn add(events: &mut EventList, ask: Ask) -> Result<(), AllocError> {
-    events.push(Event {
+/// Takes an ask of the first connection at the first moment.
+fn take_at_first(
+    alloc: Global,
+    config: &SpaceConfig,
+    course: &mut Course,
+    ask: Ask,
+) -> Result<(), AllocError> {
+    let event = Event {
         by: 0,
         moment: 0,
         ask,
-    })
+    };
+    course.take(alloc, config, event)
 }
 
-/// The moment at which a lease or a wait ends that an ask begins, or else the one that was noted before.
-fn end_after(config: &SpaceConfig, moment: u64, ask: &Ask, before: u64) -> u64 {
-    match ask {
-        Ask::Dirty {
-            client: _,
-            number: _,
-            asked: _,
-            objects: _,
-        } => moment.saturating_add(config.lease_ms),
-        Ask::Finish {
-            object: _,
-            made: _,
-            listed: _,
-            uid: _,
-        } => moment.saturating_add(config.ack_ms),
-        _ => before,
-    }
-}
-
-/// A random ask: one in four speaks of names.
-fn ask(alloc: Global, space: Uid, draws: &mut Draws) -> Result<Ask, AllocError> {
-    match draws.below(21) {
+/// A random ask of a connection: one in four speaks of names.
+fn ask(
+    alloc: Global,
+    config: &SpaceConfig,
+    course: &Course,
+    by: u32,
+    draws: &mut Draws,
+) -> Result<Ask, AllocError> {
+    match draws.below(22) {
         0 => Ok(Ask::Open {
             kind: draws.below(3) as u32,
-            pinned: draws.below(4) == 0,
+            pinned: draws.below(8) == 0,
         }),
         1..=3 => Ok(Ask::Begin {
-            object: object(space, draws),
+            object: object(config.uid, course, draws),
         }),
-        4..=6 => finish(alloc, space, draws),
+        4..=6 => finish(alloc, config.uid, course, by, draws),
         7 => Ok(Ask::Abandon {
-            object: object(space, draws),
+            object: called(config.uid, course, by, draws),
         }),
-        8..=10 => dirty(alloc, space, draws),
-        11..=13 => clean(alloc, space, draws),
+        8..=10 => dirty(alloc, config.uid, course, draws),
+        11..=13 => clean(alloc, config.uid, course, draws),
         14 => Ok(Ask::Ack {
             uid: numbered(draws.below(3) as i32),
         }),
-        15 => Ok(Ask::Tick),
-        _ => of_names(alloc, space, draws),
+        15..=16 => Ok(Ask::Tick),
+        _ => of_names(alloc, config.uid, course, draws),
     }
 }
 
 /// A random ask that speaks of names.
-fn of_names(alloc: Global, space: Uid, draws: &mut Draws) -> Result<Ask, AllocError> {
+fn of_names(
+    alloc: Global,
+    space: Uid,
+    course: &Course,
+    draws: &mut Draws,
+) -> Result<Ask, AllocError> {
     let name = name(alloc, draws)?;
     match draws.below(8) {
         0..=1 => Ok(Ask::Bind {
             name,
-            object: object(space, draws),
+            object: object(space, course, draws),
         }),
         2..=3 => Ok(Ask::Rebind {
             name,
-            object: object(space, draws),
+            object: object(space, course, draws),
         }),
         4 => Ok(Ask::Unbind { name }),
         5..=6 => Ok(Ask::Lookup {
@@ -193,39 +235,77 @@ fn name(alloc: Global, draws: &mut Draws) -> Result<Name, AllocError> {
     }
 }
 
-/// An object: one of the first four, at times of another space.
-fn object(space: Uid, draws: &mut Draws) -> ObjId {
-    let space = match draws.below(16) {
-        0 => numbered(8),
-        _ => space,
+/// An object: most often one of the table, else one of the first four, at times of another space.
+fn object(space: Uid, course: &Course, draws: &mut Draws) -> ObjId {
+    match draws.below(16) {
+        0 => ObjId {
+            number: FIRST + draws.below(4) as i64,
+            space: numbered(8),
+        },
+        1..=3 => ObjId {
+            number: FIRST + draws.below(4) as i64,
+            space,
+        },
+        _ => in_table(space, course.table.as_slice(), draws),
+    }
+}
+
+/// An object of a table, or the first where the table is empty.
+fn in_table(space: Uid, table: &[Exported], draws: &mut Draws) -> ObjId {
+    let first = ObjId {
+        number: FIRST,
+        space,
     };
-    let number = match draws.below(8) {
-        0..=2 => FIRST,
-        3..=5 => FIRST + 1,
-        6 => FIRST + 2,
-        _ => FIRST + 3,
-    };
-    ObjId { number, space }
+    let count = table.len() as u64;
+    if count == 0 {
+        return first;
+    }
+    match table.get(draws.below(count) as usize) {
+        Some(x) => x.id,
+        None => first,
+    }
+}
+
+/// An object, most often one of which this connection runs a call, where there is one.
+fn called(space: Uid, course: &Course, by: u32, draws: &mut Draws) -> ObjId {
+    for _ in 0..TRIES {
+        let drawn = object(space, course, draws);
+        if running(course.places.as_slice(), by, drawn) > 0 {
+            return drawn;
+        }
+    }
+    object(space, course, draws)
 }
 
 /// A list of up to two such objects.
-fn objects(alloc: Global, space: Uid, draws: &mut Draws) -> Result<ObjIds, AllocError> {
+fn objects(
+    alloc: Global,
+    space: Uid,
+    course: &Course,
+    draws: &mut Draws,
+) -> Result<ObjIds, AllocError> {
     let mut ids = ObjIds::new(alloc);
     for _ in 0..draws.below(3) {
-        ids.push(object(space, draws))?;
+        ids.push(object(space, course, draws))?;
     }
     Ok(ids)
 }
 
-fn finish(alloc: Global, space: Uid, draws: &mut Draws) -> Result<Ask, AllocError> {
+fn finish(
+    alloc: Global,
+    space: Uid,
+    course: &Course,
+    by: u32,
+    draws: &mut Draws,
+) -> Result<Ask, AllocError> {
     let mut made = Kinds::new(alloc);
     for _ in 0..draws.below(3) {
         made.push(1)?;
     }
     Ok(Ask::Finish {
-        object: object(space, draws),
+        object: called(space, course, by, draws),
         made,
-        listed: objects(alloc, space, draws)?,
+        listed: objects(alloc, space, course, draws)?,
         uid: numbered(draws.below(3) as i32),
     })
 }
@@ -245,29 +325,30 @@ fn client(alloc: Global, draws: &mut Draws) -> Result<Vmid, AllocError> {
     }
 }
 
-/// The number of a lease call.
-fn number(draws: &mut Draws) -> i64 {
-    match draws.below(16) {
+/// The number of a lease call, which most often rises with the length of a course.
+fn number(course: &Course, draws: &mut Draws) -> i64 {
+    match draws.below(64) {
         0 => i64::MIN,
         1 => i64::MAX,
-        k => k as i64 / 4,
+        2..=15 => draws.below(4) as i64,
+        _ => (course.places.len().min(1_000) as i64 / 4).saturating_add(draws.below(3) as i64),
     }
 }
 
-fn dirty(alloc: Global, space: Uid, draws: &mut Draws) -> Result<Ask, AllocError> {
+fn dirty(alloc: Global, space: Uid, course: &Course, draws: &mut Draws) -> Result<Ask, AllocError> {
     Ok(Ask::Dirty {
         client: client(alloc, draws)?,
-        number: number(draws),
+        number: number(course, draws),
         asked: 1,
-        objects: objects(alloc, space, draws)?,
+        objects: objects(alloc, space, course, draws)?,
     })
 }
 
-fn clean(alloc: Global, space: Uid, draws: &mut Draws) -> Result<Ask, AllocError> {
+fn clean(alloc: Global, space: Uid, course: &Course, draws: &mut Draws) -> Result<Ask, AllocError> {
     Ok(Ask::Clean {
         client: client(alloc, draws)?,
-        number: number(draws),
-        objects: objects(alloc, space, draws)?,
+        number: number(course, draws),
+        objects: objects(alloc, space, course, draws)?,
         strong: draws.below(3) == 0,
     })
 }

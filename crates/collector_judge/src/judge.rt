@@ -2,10 +2,12 @@
 ghost use Rattle.std.specs.Prelude.{◌≤◌, ◌<◌, IsTrue};
 ghost use Rattle.history.specs.declared.limits.TheConstants.{END_OF_TIME, MAX_DURATION};
 
+use crate::course::Course;
 use crate::defined::defined_outline;
 use history::limits::END_OF_TIME;
+use history::plain::table::places;
 use history::plain::turns::answers;
-use history::{Ask, Event, Limits, Refused, SpaceConfig, Turn};
+use history::{Ask, Event, Limits, Place, Refused, SpaceConfig, Turn};
 use mod_utf::list::Same;
 use space::{Space, outline};
 use std::alloc::{AllocError, Global};
@@ -98,15 +100,15 @@ fn first_difference(
     Ok(None)
 }
 
-/// Whether the outline of a space is that of these events.
+/// Whether the outline of a space is that of these places.
 fn is_outlined(
     alloc: Global,
     space: &Space,
     config: &SpaceConfig,
-    events: &[Event],
+    places: &[Place],
 ) -> Result<bool, AllocError> {
     let text = outline(alloc, space)?;
-    let defined = defined_outline(alloc, config, events)?;
+    let defined = defined_outline(alloc, config, places)?;
     Ok(text.is_same(&defined))
 }
 
@@ -115,22 +117,40 @@ fn is_outlined(
 fn judge_space(
     alloc: Global,
     config: &SpaceConfig,
-    space: &mut Space,
     events: &[Event],
+    places: &[Place],
     answers: &[Result<Turn, Refused>],
-) -> Result<Verdict, AllocError> {
-    if let Some(place) = first_difference(alloc, space, events, answers)? {
+) -> Result<Verdict, AllocError>
+    requires lease { (1 ≤ config.now.lease_ms) × (config.now.lease_ms ≤ MAX_DURATION) }
+    requires ack { (1 ≤ config.now.ack_ms) × (config.now.ack_ms ≤ MAX_DURATION) }
+{
+    let mut space = Space::fresh(alloc, config);
+    if let Some(place) = first_difference(alloc, &mut space, events, answers)? {
         return Ok(Verdict::Answer(place));
     }
-    Ok(if is_outlined(alloc, space, config, events)? {
+    Ok(if is_outlined(alloc, &space, config, places)? {
         Verdict::Agree
     } else {
         Verdict::Outline
     })
 }
 
-/// Judges a space of this configuration by what the definitions say of some events.
-pub(crate) fn judge(
+/// Judges a space of this configuration by a course.
+pub(crate) fn judge_course(
+    alloc: Global,
+    config: &SpaceConfig,
+    course: &Course,
+) -> Result<Verdict, AllocError>
+    requires lease { (1 ≤ config.now.lease_ms) × (config.now.lease_ms ≤ MAX_DURATION) }
+    requires ack { (1 ≤ config.now.ack_ms) × (config.now.ack_ms ≤ MAX_DURATION) }
+{
+    let events = course.events.as_slice();
+    let answers = course.answers.as_slice();
+    judge_space(alloc, config, events, course.places.as_slice(), answers)
+}
+
+/// Judges a space of this configuration by what the plain functions make of the whole of some events.
+pub(crate) fn judge_plainly(
     alloc: Global,
     config: &SpaceConfig,
     events: &[Event],
@@ -140,6 +160,6 @@ pub(crate) fn judge(
 {
     let limits = Limits::of_space();
     let answers = answers(alloc, &limits, config, Vec::new(alloc), events)?;
-    let mut space = Space::fresh(alloc, config);
-    judge_space(alloc, config, &mut space, events, answers.as_slice())
+    let places = places(alloc, config, events)?;
+    judge_space(alloc, config, events, places.as_slice(), answers.as_slice())
 }
