@@ -14,7 +14,6 @@ use object_ids::{ObjId, ObjIds};
 use std::alloc::{AllocError, Global};
 
 /// A history, and what the definitions say of it.
-#[derive(Debug, Drop)]
 pub(crate) struct Course {
     /// Its events.
     pub(crate) events: EventList,
@@ -28,6 +27,25 @@ pub(crate) struct Course {
     untold: Vec<ObjId>,
     /// How many objects were told as gone by a later turn than that of the Abandon that withdrew them.
     pub(crate) told_later: u64,
+}
+
+// Written out, so that whoever owns one has one call at each exit, and not the drop of each field.
+impl Drop for Course {
+    fn drop(self) {
+        let Course {
+            events,
+            places,
+            answers,
+            table,
+            untold,
+            told_later: _,
+        } = self;
+        drop(events);
+        drop(places);
+        drop(answers);
+        drop(table);
+        drop(untold);
+    }
 }
 
 impl Course {
@@ -50,22 +68,32 @@ impl Course {
         config: &SpaceConfig,
         event: Event,
     ) -> Result<(), AllocError> {
-        let place = self.place_of(alloc, config, &event)?;
-        let index = place.index;
-        let reply = reply_to(alloc, config, self, &place)?;
-        self.table
-            .extend_from_slice(place.exported_here.as_slice())?;
-        self.places.insert(0, place)?;
-        self.count_untold(&event.ask);
-        self.withdraw(alloc, config)?;
+        let turn = self.turn(alloc, config, &event)?;
+        self.answers.push(Ok(turn))?;
+        self.events.push(event)
+    }
+
+    /// The turn of an event, whose place is the newest then.
+    fn turn(
+        &mut self,
+        alloc: Global,
+        config: &SpaceConfig,
+        event: &Event,
+    ) -> Result<Turn, AllocError> {
+        let p = self.place_of(alloc, config, event)?;
+        let place = p.index;
+        let reply = reply_to(alloc, config, self, &p)?;
+        self.put(alloc, config, p)?;
         let gone = self.told(alloc, &event.ask)?;
-        self.events.push(event)?;
-        self.answers.push(Ok(Turn {
-            place: index,
-            reply,
-            gone,
-        }))?;
-        Ok(())
+        Ok(Turn { place, reply, gone })
+    }
+
+    /// Has a place be the newest, and withdraws what isn't kept then.
+    fn put(&mut self, alloc: Global, config: &SpaceConfig, p: Place) -> Result<(), AllocError> {
+        self.count_untold(&p.event.ask);
+        self.table.extend_from_slice(p.exported_here.as_slice())?;
+        self.places.insert(0, p)?;
+        self.withdraw(alloc, config)
     }
 
     /// The place of an event.

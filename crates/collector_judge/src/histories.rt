@@ -170,7 +170,7 @@ fn take_at_first(
     course.take(alloc, config, event)
 }
 
-/// A random ask of a connection: one in four speaks of names.
+/// A random ask of a connection: one in five speaks of names.
 fn ask(
     alloc: Global,
     config: &SpaceConfig,
@@ -178,24 +178,24 @@ fn ask(
     by: u32,
     draws: &mut Draws,
 ) -> Result<Ask, AllocError> {
-    match draws.below(22) {
-        0 => Ok(Ask::Open {
+    match draws.below(26) {
+        0..=1 => Ok(Ask::Open {
             kind: draws.below(3) as u32,
             pinned: draws.below(8) == 0,
         }),
-        1..=3 => Ok(Ask::Begin {
+        2..=6 => Ok(Ask::Begin {
             object: object(config.uid, course, draws),
         }),
-        4..=6 => finish(alloc, config.uid, course, by, draws),
-        7 => Ok(Ask::Abandon {
+        7..=10 => finish(alloc, config.uid, course, by, draws),
+        11 => Ok(Ask::Abandon {
             object: called(config.uid, course, by, draws),
         }),
-        8..=10 => dirty(alloc, config.uid, course, draws),
-        11..=13 => clean(alloc, config.uid, course, draws),
-        14 => Ok(Ask::Ack {
+        12..=14 => dirty(alloc, config.uid, course, draws),
+        15..=17 => clean(alloc, config.uid, course, draws),
+        18 => Ok(Ask::Ack {
             uid: numbered(draws.below(3) as i32),
         }),
-        15..=16 => Ok(Ask::Tick),
+        19..=20 => Ok(Ask::Tick),
         _ => of_names(alloc, config.uid, course, draws),
     }
 }
@@ -299,7 +299,7 @@ fn finish(
     draws: &mut Draws,
 ) -> Result<Ask, AllocError> {
     let mut made = Kinds::new(alloc);
-    for _ in 0..draws.below(3) {
+    for _ in 0..draws.below(4) {
         made.push(1)?;
     }
     Ok(Ask::Finish {
