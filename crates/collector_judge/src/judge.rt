@@ -4,6 +4,7 @@ ghost use Rattle.history.specs.declared.limits.TheConstants.{END_OF_TIME, MAX_DU
 
 use crate::course::Course;
 use crate::defined::defined_outline;
+use crate::listed::are_answered;
 use history::limits::END_OF_TIME;
 use history::plain::table::places;
 use history::plain::turns::answers;
@@ -19,12 +20,14 @@ pub(crate) enum Verdict {
     Agree,
     /// Other answers to the event at this place.
     Answer(usize),
+    /// Other answers to the events where they are one list.
+    List,
     /// Other outlines at the end.
     Outline,
 }
 
 /// Whether a space may be asked an event: it is not too late.
-fn is_early(event: &Event) -> bool
+pub(crate) fn is_early(event: &Event) -> bool
     ensures { IsTrue result → event.now.moment < END_OF_TIME }
 {
     event.moment < END_OF_TIME
@@ -73,7 +76,8 @@ fn is_answered_in_a_list(
     })
 }
 
-fn are_same(a: &Result<Turn, Refused>, b: &Result<Turn, Refused>) -> bool {
+/// Whether two answers are the same.
+pub(crate) fn are_same(a: &Result<Turn, Refused>, b: &Result<Turn, Refused>) -> bool {
     match (a, b) {
         (Ok(a), Ok(b)) => a.is_same(b),
         (Err(a), Err(b)) => *a == *b,
@@ -113,7 +117,7 @@ fn is_outlined(
 }
 
 /// Makes the turns of some events in a space without events, and compares each answer and the outline that they leave with those of the
-/// definitions.
+/// definitions; and their answers where they are handed in as one list.
 fn judge_space(
     alloc: Global,
     config: &SpaceConfig,
@@ -127,6 +131,9 @@ fn judge_space(
     let mut space = Space::fresh(alloc, config);
     if let Some(place) = first_difference(alloc, &mut space, events, answers)? {
         return Ok(Verdict::Answer(place));
+    }
+    if !are_answered(alloc, config, events, answers)? {
+        return Ok(Verdict::List);
     }
     Ok(if is_outlined(alloc, &space, config, places)? {
         Verdict::Agree

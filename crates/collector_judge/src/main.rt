@@ -7,6 +7,7 @@ mod defined;
 mod draws;
 mod histories;
 mod judge;
+mod listed;
 
 ghost use Rattle.std.specs.Prelude.{◌≤◌};
 ghost use Rattle.history.specs.declared.limits.TheConstants.{MAX_DURATION};
@@ -51,6 +52,10 @@ fn show<W: Write>(
         Verdict::Answer(place) => {
             writeln!(out, "another answer to the last event of")?;
             place.saturating_add(1)
+        }
+        Verdict::List => {
+            writeln!(out, "other answers to the whole list of")?;
+            events.len()
         }
         _ => {
             writeln!(out, "another outline of")?;
