@@ -127,7 +127,7 @@ with_empties (suc e) bs mid ps blocks tail em whole is =
     let x = block_is [] bs em.0 em.1 in
     (x.0 ++ r.0, (x.0, r.0, x.1, refl, r.1), x.2 ∙ ap (λ (l : List ℕ). x.0 ++ l) r.2 ∙ sym (append_assoc x.0 r.0 tail))
 
-header_is : (k : ℕ) (bs rest : List ℕ) → Header k bs rest → (header : List ℕ) × IsBlockHeader k header × (bs ≡ header ++ rest)
+pub header_is : (k : ℕ) (bs rest : List ℕ) → Header k bs rest → (header : List ℕ) × IsBlockHeader k header × (bs ≡ header ++ rest)
 header_is k bs rest (inl h) = (0x77 ∷ k ∷ [], inl (h.0, refl), h.1)
 header_is k bs rest (inr h) = (0x7A ∷ to_be_bytes w32 k, inr (h.0, refl), h.1)
 

@@ -30,3 +30,4 @@ pub mod ToEnd
 pub mod Rows
 pub mod Fronts
 pub mod Missing
+pub mod Left

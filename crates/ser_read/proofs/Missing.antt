@@ -1,27 +1,27 @@
 -- Where a block is missing.
 use Rattle.std.proofs.Common.{◌≡◌, ◌≢◌, inl, inr, ℕ, zero, suc, ◌-◌, ◌≤◌, ◌&&◌, List, [], ◌∷◌, ◌++◌, length, Result, Ok, Err, refl, ap, sym, subst, ◌∙◌, arith, leb, leb-true, eqb, append_assoc}
 use Rattle.std.proofs.lemmas.Bool.{and_parts, eqb-false}
-use Rattle.std.specs.Int.{w32, to_be_bytes}
 use Rattle.ser_values.specs.Reading.{Fault, byte_at}
 use Rattle.ser_values.proofs.PlainSound.{AreBytes, chosen, byte_sound}
 use Rattle.ser_read.specs.declared.block.Head.{Head}
 use Rattle.ser_read.specs.declared.block.Head.TheVariants.{Block, Code}
 use Rattle.ser_read.specs.Heads.{head_at}
-use Rattle.ser_read.specs.Wants.{WantFault, missing_block, ◌▸◌, lifted, no_block, only_block, opened_at, run_at}
-use Rattle.ser_read.specs.Laws.{MissesBlock}
-use Rattle.ser_read.proofs.Empties.{Header, Empties, found}
+use Rattle.ser_read.specs.Wants.{WantFault, inside, missing_block, ◌▸◌, lifted, no_block, only_block, opened_at, run_at}
+use Rattle.ser_read.specs.Laws.{AreEmptyBlocks, MissesBlock}
+use Rattle.ser_read.proofs.Empties.{Empties, found}
 use Rattle.ser_read.proofs.Asked.{more_of}
+use Rattle.ser_read.proofs.Heading.{header_is}
 use Rattle.ser_read.proofs.Runs.{opened_here}
 
 -- ---- faults
 
-lifted_err : {A B : Type 0} (r : Result A Fault) (f : A → Result B WantFault) (at : ℕ) → (lifted r ▸ f) ≡ Err (missing_block at) → (x : A) × (r ≡ Ok x) × (f x ≡ Err (missing_block at))
-lifted_err (Ok x) f at e = (x, refl, e)
-lifted_err (Err d) f at e = absurd cc
+pub lifted_err : {A B : Type 0} (r : Result A Fault) (f : A → Result B WantFault) (fault : WantFault) → ((d : Fault) → inside d ≢ fault) → (lifted r ▸ f) ≡ Err fault → (x : A) × (r ≡ Ok x) × (f x ≡ Err fault)
+lifted_err (Ok x) f fault outer e = (x, refl, e)
+lifted_err (Err d) f fault outer e = absurd (outer d (let same = e in cc))
 
-want_err : {A B : Type 0} (r : Result A WantFault) (g : A → B) (at : ℕ) → (r ▸ λ x. Ok (g x)) ≡ Err (missing_block at) → r ≡ Err (missing_block at)
-want_err (Ok x) g at e = absurd cc
-want_err (Err d) g at e = cc
+pub want_err : {A B : Type 0} (r : Result A WantFault) (g : A → B) (fault : WantFault) → (r ▸ λ x. Ok (g x)) ≡ Err fault → r ≡ Err fault
+want_err (Ok x) g fault e = absurd cc
+want_err (Err d) g fault e = cc
 
 -- ---- the code
 
@@ -46,16 +46,12 @@ missed code p at e = elim (chosen (eqb code 0x79) _ _ _ e) [
 
 -- ---- empty blocks
 
-header_front : (bs rest : List ℕ) → Header 0 bs rest → (front : List ℕ) × (bs ≡ front ++ rest)
-header_front bs rest (inl h) = (0x77 ∷ 0 ∷ [], h.1)
-header_front bs rest (inr h) = (0x7A ∷ to_be_bytes w32 0, h.1)
-
-empties_front : (e : ℕ) (bs rest : List ℕ) → Empties e bs rest → (front : List ℕ) × (bs ≡ front ++ rest)
-empties_front zero bs rest e = ([], e)
-empties_front (suc n) bs rest (b, head, more) =
-    let one = header_front bs b head in
-    let others = empties_front n b rest more in
-    (one.0 ++ others.0, one.1 ∙ ap (λ xs. one.0 ++ xs) others.1 ∙ sym (append_assoc one.0 others.0 rest))
+pub empties_are : (e : ℕ) (bs rest : List ℕ) → Empties e bs rest → (blocks : List ℕ) × AreEmptyBlocks e blocks × (bs ≡ blocks ++ rest)
+empties_are zero bs rest e = ([], refl, e)
+empties_are (suc n) bs rest (b, head, more) =
+    let one = header_is 0 bs b head in
+    let others = empties_are n b rest more in
+    (one.0 ++ others.0, (one.0, others.0, one.1, refl, others.1), one.2 ∙ ap (λ xs. one.0 ++ xs) others.2 ∙ sym (append_assoc one.0 others.0 rest))
 
 -- ---- runs
 
@@ -82,7 +78,7 @@ none : (end n at : ℕ) (bytes : List ℕ) (code p : ℕ) (more : List ℕ) → 
 unfolding run_at
 none end n at bytes code p more whole is m =
     let f = found end (suc (length bytes)) bytes (Code code p, more) is whole in
-    let front = empties_front f.count bytes f.mid f.empties in
+    let front = empties_are f.count bytes f.mid f.empties in
     record {
       count = 0;
       fewer = omega arith;
@@ -94,7 +90,7 @@ none end n at bytes code p more whole is m =
       next = subst (λ q. head_at end bytes ≡ Ok (Code code q, more)) m.0 is;
       begins = (m.1, m.2, f.is.1, m.3, f.is.2, m.4);
       front = front.0;
-      rest_is = front.1 ∙ ap (λ xs. front.0 ++ xs) f.is.0;
+      rest_is = front.2 ∙ ap (λ xs. front.0 ++ xs) f.is.0;
       at_is = sym m.0 ∙ f.is.3 ∙ ap (λ xs. end - length xs) f.is.0;
     }
 
@@ -105,8 +101,8 @@ misses_block end (suc n) block at bytes whole e = go (λ k bs w i. misses_block 
   where
     after : ((k : ℕ) (bs : List ℕ) → AreBytes bs → run_at end n k bs ≡ Err (missing_block at) → MissesBlock end n k at bs) → (block : ℕ) (o : ℕ × List ℕ) → opened_at end block bytes ≡ Ok o → AreBytes o.1 → more_of end n o ≡ Err (missing_block at) → MissesBlock end (suc n) block at bytes
     after rec block o opened left e =
-        let b = lifted_err (byte_at o.1) (λ b. run_at end n (o.0 - 1) b.1 ▸ λ r. Ok (b.0 ∷ r.0, r.1, r.2)) at e in
-        let inner = want_err (run_at end n (o.0 - 1) b.0.1) (λ r. (b.0.0 ∷ r.0, r.1, r.2)) at b.2 in
+        let b = lifted_err (byte_at o.1) (λ b. run_at end n (o.0 - 1) b.1 ▸ λ r. Ok (b.0 ∷ r.0, r.1, r.2)) (missing_block at) (λ d same. cc) e in
+        let inner = want_err (run_at end n (o.0 - 1) b.0.1) (λ r. (b.0.0 ∷ r.0, r.1, r.2)) (missing_block at) b.2 in
         let bytes_left = subst AreBytes (byte_sound o.1 b.0 b.1) left in
         one_more end n block at bytes o b.0 opened b.1 (rec (o.0 - 1) b.0.1 bytes_left.1 inner)
 

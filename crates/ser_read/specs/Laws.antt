@@ -1,5 +1,5 @@
 -- Laws of lists of wants, which functions of `laws` promise.
-use Rattle.std.specs.Prelude.{◌≡◌, ◌≢◌, ◌↔◌, ◌<◌, ◌≤◌, ◌-◌, ℕ, List, [], ◌∷◌, ◌++◌, length, Ok, Err}
+use Rattle.std.specs.Prelude.{◌≡◌, ◌≢◌, ◌↔◌, ◌⊎◌, ◌<◌, ◌≤◌, ◌-◌, ℕ, zero, suc, List, [], ◌∷◌, ◌++◌, length, Ok, Err}
 use Rattle.class_desc.specs.declared.slot.Item.{Item}
 use Rattle.class_desc.specs.declared.slot.Item.TheVariants as items
 use Rattle.ser_values.specs.declared.node.Node.{Node}
@@ -9,9 +9,9 @@ use Rattle.ser_read.specs.declared.serving.Want.{Want}
 use Rattle.ser_read.specs.declared.serving.Want.TheVariants as wanted
 use Rattle.ser_read.specs.declared.block.Head.TheVariants.{Code}
 use Rattle.ser_read.specs.Heads.{head_at}
-use Rattle.ser_read.specs.Wants.{◌▸◌, missing_block, Stand, nothing_read, run_at, serve, serve_to_close}
+use Rattle.ser_read.specs.Wants.{◌▸◌, missing_block, block_left, Stand, nothing_read, run_at, slot_next, serve, serve_to_close}
 use Rattle.ser_read.specs.Asked.{IsAsked}
-use Rattle.ser_read.specs.Heading.{EndsInBlock, inside_block}
+use Rattle.ser_read.specs.Heading.{IsBlockHeader, EndsInBlock, inside_block}
 
 -- Reading want by want, from left to right, answers exactly what a front of the bytes spells.
 abbrev pub WantsAreAsked : Type 0
@@ -84,3 +84,29 @@ pub record MissesBlock (end n block at : ℕ) (bytes : List ℕ) : Type 0 where
 -- Where reading wanted bytes answers that a block is missing, it is so.
 abbrev pub MissingBlocksStand : Type 0
 MissingBlocksStand = (end n block at : ℕ) (bytes : List ℕ) → AreBytes bytes → run_at end n block bytes ≡ Err (missing_block at) → MissesBlock end n block at bytes
+
+-- so many empty blocks, one after the other: each is its header alone
+abbrev pub AreEmptyBlocks : ℕ → List ℕ → Type 0
+AreEmptyBlocks zero bytes = bytes ≡ []
+AreEmptyBlocks (suc n) bytes = (header : List ℕ) × (others : List ℕ) × IsBlockHeader 0 header × (bytes ≡ header ++ others) × AreEmptyBlocks n others
+
+-- Empty blocks stand next, if any, and then the header of a block of at least one byte. Behind this header is the position.
+pub record BeginsBlock (end at : ℕ) (bytes : List ℕ) : Type 0 where
+  pub count : ℕ
+  pub blocks : List ℕ
+  pub are_empty : AreEmptyBlocks count blocks
+  pub n : ℕ
+  pub some : 0 < n
+  pub header : List ℕ
+  pub head : IsBlockHeader n header
+  pub rest : List ℕ
+  pub bytes_are : bytes ≡ blocks ++ (header ++ rest)
+  pub at_is : at ≡ end - length rest
+
+-- So many bytes of the present block are left, at least one, and the position is that of the next byte; or none is left, and another block begins.
+abbrev pub LeavesBlock : ℕ → ℕ → ℕ → List ℕ → Type 0
+LeavesBlock end block at bytes = ((0 < block) × (at ≡ end - length bytes)) ⊎ ((block ≡ 0) × BeginsBlock end at bytes)
+
+-- Where a wanted reference answers that a block is left, it is so.
+abbrev pub LeftBlocksStand : Type 0
+LeftBlocksStand = (end : ℕ) (s : Stand) (at : ℕ) (bytes : List ℕ) → AreBytes bytes → slot_next end s bytes ≡ Err (block_left at) → LeavesBlock end s.block at bytes

@@ -1,5 +1,5 @@
 //! Laws of reading, for those who read contracts: these functions do nothing.
-ghost use Rattle.ser_read.specs.Laws.{WantsAreAsked, AskedIsServed, AskedIsOne, AskedAreStreams, ServedOneAfterTheOther, HeadEndsInBlock, HeadGoesOn, AskedIsHeaded, MissingBlocksStand};
+ghost use Rattle.ser_read.specs.Laws.{WantsAreAsked, AskedIsServed, AskedIsOne, AskedAreStreams, ServedOneAfterTheOther, HeadEndsInBlock, HeadGoesOn, AskedIsHeaded, MissingBlocksStand, LeftBlocksStand};
 ghost use Rattle.ser_read.specs.Whole.{FaultsStandInBytes};
 
 /// Reading want by want, from left to right, answers exactly what a front of the bytes spells.
@@ -51,4 +51,10 @@ pub fn faults_stand_in_bytes()
 /// fault's position.
 pub fn missing_blocks_stand()
     ensures { MissingBlocksStand }
+{}
+
+/// Where a wanted reference answers that a block is left, bytes of the present block are left and the next one stands at the fault's position; or
+/// none is, and behind empty blocks, if any, stands the header of a block that has bytes, and the fault's position is the one behind it.
+pub fn left_blocks_stand()
+    ensures { LeftBlocksStand }
 {}
