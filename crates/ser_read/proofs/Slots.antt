@@ -7,7 +7,7 @@ use Rattle.class_desc.specs.declared.field.TypeCode.TheVariants as codes
 use Rattle.class_desc.specs.TypeCode.{is_primitive}
 use Rattle.ser_values.specs.declared.node.Node.{Node}
 use Rattle.ser_values.specs.declared.node.SlotPlace.{SlotPlace}
-use Rattle.wire_io.specs.Pulled as pulled
+use Rattle.wire_io.specs.Pulled.{PullState}
 use Rattle.ser_values.specs.Reading.{◌>>=◌, Fault, short, Progress, Step, Slots, fill, byte_at, take_at, size_at, value_at, elements_at, null_at, coded, slot_at, bad, too_many, too_deep, admits_code, code_fault}
 use Rattle.ser_read.specs.declared.fault.StreamFault.{StreamFault}
 use Rattle.ser_read.specs.declared.fault.StreamFault.TheVariants as faults
@@ -42,12 +42,12 @@ coded_null : (end left : ℕ) (inner : Slots) (p : SlotPlace) (unread : List ℕ
 unfolding coded
 coded_null end left inner p unread at code now bs h = rw h refl
 
-pub null_reads : (q : pulled.SlotPlace) (left : ℕ) (inner : ℕ → Slots) (p : SlotPlace) (unread : List ℕ) (at code : ℕ) (now : Progress) (result : Result Slot StreamFault) → code ≡ 0x70
+pub null_reads : (q : PullState) (left : ℕ) (inner : ℕ → Slots) (p : SlotPlace) (unread : List ℕ) (at code : ℕ) (now : Progress) (result : Result Slot StreamFault) → code ≡ 0x70
     → ((after : StreamFault) (now : Progress) (bs : List ℕ) → Gives {Y = Slot × Progress × List ℕ} after (λ slot. (slot, now, bs)) result (null_at p at now bs)) → IfOk result (λ x. Reads {Y = Slot × Progress × List ℕ} short q q (λ end. coded end left (inner end) p unread at code now) (λ rest. (x, now, rest)))
 null_reads q left inner p unread at code now (Ok x) h g = done (λ end bs. coded_null end left (inner end) p unread at code now bs h ∙ g faults.ReadFault now bs)
 null_reads q left inner p unread at code now (Err e) h g = tt
 
-pub null_stops : (q : pulled.SlotPlace) (left : ℕ) (inner : ℕ → Slots) (p : SlotPlace) (unread : List ℕ) (at code : ℕ) (now : Progress) (result : Result Slot StreamFault) → code ≡ 0x70
+pub null_stops : (q : PullState) (left : ℕ) (inner : ℕ → Slots) (p : SlotPlace) (unread : List ℕ) (at code : ℕ) (now : Progress) (result : Result Slot StreamFault) → code ≡ 0x70
     → ((after : StreamFault) (now : Progress) (bs : List ℕ) → Gives {Y = Slot × Progress × List ℕ} after (λ slot. (slot, now, bs)) result (null_at p at now bs)) → ((n : ℕ) → Caused n n result) → IfErr result (λ e. Breaks {Y = Slot × Progress × List ℕ} q q e (λ end. coded end left (inner end) p unread at code now))
 null_stops q left inner p unread at code now (Ok x) h g cause = tt
 null_stops q left inner p unread at code now (Err (faults.Bad kind a)) h g cause = bad_here kind a (g faults.ReadFault now []).1 (λ end bs here. coded_null end left (inner end) p unread at code now bs h ∙ (g faults.ReadFault now bs).0)
@@ -94,16 +94,16 @@ unfolding item_at
 item_long end ref code now bs h = rw h refl
 
 -- the branch that is taken
-pub when : {Y : Type 0} {p q : pulled.SlotPlace} {b : Bool} {x : ℕ → List ℕ → Result Y Fault} (y : ℕ → List ℕ → Result Y Fault) {out : List ℕ → Y} → b ≡ true → Reads short p q x out → Reads short p q (λ end bs. if b then x end bs else y end bs) out
+pub when : {Y : Type 0} {p q : PullState} {b : Bool} {x : ℕ → List ℕ → Result Y Fault} (y : ℕ → List ℕ → Result Y Fault) {out : List ℕ → Y} → b ≡ true → Reads short p q x out → Reads short p q (λ end bs. if b then x end bs else y end bs) out
 when y h r = said (λ end bs here. rw h refl) r
 
-pub otherwise : {Y : Type 0} {p q : pulled.SlotPlace} {b : Bool} (x : ℕ → List ℕ → Result Y Fault) {y : ℕ → List ℕ → Result Y Fault} {out : List ℕ → Y} → b ≡ false → Reads short p q y out → Reads short p q (λ end bs. if b then x end bs else y end bs) out
+pub otherwise : {Y : Type 0} {p q : PullState} {b : Bool} (x : ℕ → List ℕ → Result Y Fault) {y : ℕ → List ℕ → Result Y Fault} {out : List ℕ → Y} → b ≡ false → Reads short p q y out → Reads short p q (λ end bs. if b then x end bs else y end bs) out
 otherwise x h r = said (λ end bs here. rw h refl) r
 
-pub stops_when : {Y : Type 0} {p q : pulled.SlotPlace} {e : StreamFault} {b : Bool} {x : ℕ → List ℕ → Result Y Fault} (y : ℕ → List ℕ → Result Y Fault) → b ≡ true → Breaks p q e x → Breaks p q e (λ end bs. if b then x end bs else y end bs)
+pub stops_when : {Y : Type 0} {p q : PullState} {e : StreamFault} {b : Bool} {x : ℕ → List ℕ → Result Y Fault} (y : ℕ → List ℕ → Result Y Fault) → b ≡ true → Breaks p q e x → Breaks p q e (λ end bs. if b then x end bs else y end bs)
 stops_when y h r = breaks_as (λ end bs f here is. rw h is) r
 
-pub stops_otherwise : {Y : Type 0} {p q : pulled.SlotPlace} {e : StreamFault} {b : Bool} (x : ℕ → List ℕ → Result Y Fault) {y : ℕ → List ℕ → Result Y Fault} → b ≡ false → Breaks p q e y → Breaks p q e (λ end bs. if b then x end bs else y end bs)
+pub stops_otherwise : {Y : Type 0} {p q : PullState} {e : StreamFault} {b : Bool} (x : ℕ → List ℕ → Result Y Fault) {y : ℕ → List ℕ → Result Y Fault} → b ≡ false → Breaks p q e y → Breaks p q e (λ end bs. if b then x end bs else y end bs)
 stops_otherwise x h r = breaks_as (λ end bs f here is. rw h is) r
 
 -- a reference where block data is left, and where none is
