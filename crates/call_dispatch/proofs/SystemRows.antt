@@ -14,6 +14,7 @@ use Rattle.history.specs.declared.asks.Ask.TheVariants as asks
 use Rattle.history.specs.declared.replies.Reply.{Reply}
 use Rattle.history.specs.declared.replies.Reply.TheVariants as replies
 use Rattle.history.specs.declared.replies.Refused.TheVariants as refusals
+use Rattle.history.specs.declared.limits.TheConstants.{MAX_NAME_UNITS}
 use Rattle.java_shapes.specs.declared.ref_views.LiveRef.{LiveRef}
 use Rattle.java_shapes.specs.Ids.{objids_at, lease_at, vmid_at}
 use Rattle.java_shapes.specs.LiveRefs.{live_ref_at}
@@ -145,12 +146,12 @@ a_clean_of : (terms : Terms) (graph : Graph) (client uid : Uid) (s t : Slot) (nu
 unfolding demand_of
 a_clean_of terms graph client uid s t number objects vmid a b = rw (b, a) refl
 
-a_lookup_asks : (terms : Terms) (graph : Graph) (client uid : Uid) (s : Slot) (name : List ℕ) → text_at graph.nodes s ≡ Some name → nat_le (length name) 255 ≡ true
+a_lookup_asks : (terms : Terms) (graph : Graph) (client uid : Uid) (s : Slot) (name : List ℕ) → text_at graph.nodes s ≡ Some name → nat_le (length name) MAX_NAME_UNITS ≡ true
     → demand_of terms (Registry registry.Lookup) (arguments_of graph (args.Ref s ∷ [])) client uid ≡ Ok (asks.Lookup name uid)
 unfolding demand_of
 a_lookup_asks terms graph client uid s name a short = rw (a, short) refl
 
-a_long_name : (terms : Terms) (graph : Graph) (client uid : Uid) (s : Slot) (name : List ℕ) → text_at graph.nodes s ≡ Some name → nat_le (length name) 255 ≡ false
+a_long_name : (terms : Terms) (graph : Graph) (client uid : Uid) (s : Slot) (name : List ℕ) → text_at graph.nodes s ≡ Some name → nat_le (length name) MAX_NAME_UNITS ≡ false
     → demand_of terms (Registry registry.Lookup) (arguments_of graph (args.Ref s ∷ [])) client uid ≡ Err bars.NameTooLong
 unfolding demand_of
 a_long_name terms graph client uid s name a long = rw (a, long) refl
@@ -162,11 +163,11 @@ unfolding demand_of
 a_closed_bind terms graph client uid s t name r a b closed = rw (a, b, closed) refl
 
 a_foreign_bind : (terms : Terms) (graph : Graph) (client uid : Uid) (s t : Slot) (name : List ℕ) (r : LiveRef) → text_at graph.nodes s ≡ Some name → live_ref_at graph.nodes t ≡ Some r → terms.binding ≡ true
-    → nat_le (length name) 255 ≡ true → is_local terms.host terms.port r ≡ false → demand_of terms (Registry registry.Bind) (arguments_of graph (args.Ref s ∷ args.Ref t ∷ [])) client uid ≡ Err bars.ForeignReference
+    → nat_le (length name) MAX_NAME_UNITS ≡ true → is_local terms.host terms.port r ≡ false → demand_of terms (Registry registry.Bind) (arguments_of graph (args.Ref s ∷ args.Ref t ∷ [])) client uid ≡ Err bars.ForeignReference
 unfolding demand_of
 a_foreign_bind terms graph client uid s t name r a b opened short foreign = rw (a, b, opened, short, foreign) refl
 
 pub an_own_bind : (terms : Terms) (graph : Graph) (client uid : Uid) (s t : Slot) (name : List ℕ) (r : LiveRef) → text_at graph.nodes s ≡ Some name → live_ref_at graph.nodes t ≡ Some r → terms.binding ≡ true
-    → nat_le (length name) 255 ≡ true → is_local terms.host terms.port r ≡ true → demand_of terms (Registry registry.Bind) (arguments_of graph (args.Ref s ∷ args.Ref t ∷ [])) client uid ≡ Ok (asks.Bind name r.id)
+    → nat_le (length name) MAX_NAME_UNITS ≡ true → is_local terms.host terms.port r ≡ true → demand_of terms (Registry registry.Bind) (arguments_of graph (args.Ref s ∷ args.Ref t ∷ [])) client uid ≡ Ok (asks.Bind name r.id)
 unfolding demand_of
 an_own_bind terms graph client uid s t name r a b opened short own = rw (a, b, opened, short, own) refl

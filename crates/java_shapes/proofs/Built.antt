@@ -11,6 +11,7 @@ use Rattle.class_desc.specs.declared.known_class.KnownClass.TheVariants as known
 use Rattle.class_desc.specs.KnownClass.{parts_of, plain, typed}
 use Rattle.object_ids.specs.declared.ids.Uid.{Uid}
 use Rattle.object_ids.specs.Client.{Client}
+use Rattle.object_ids.specs.declared.limits.TheConstants.{MAX_ADDRESS_BYTES}
 use Rattle.ser_values.specs.declared.fault.BuildFault.{BuildFault}
 use Rattle.ser_values.specs.declared.value.Value.TheVariants as values
 use Rattle.ser_values.specs.declared.value.Values.TheVariants as kinds
@@ -114,7 +115,7 @@ parts_told : (nodes : List Node) (held : Held) (place slot : Slot) (addr : List 
 unfolding vmid_parts
 parts_told nodes held place slot addr uid a b c d = rw (a, b, c, d) refl
 
-pub vmid_seen : (nodes : List Node) (vmid : Client) (s : Slot) → VmidAt nodes vmid s → nat_le (length vmid.addr) 255 ≡ true → vmid_at nodes s ≡ Some vmid
+pub vmid_seen : (nodes : List Node) (vmid : Client) (s : Slot) → VmidAt nodes vmid s → nat_le (length vmid.addr) MAX_ADDRESS_BYTES ≡ true → vmid_at nodes s ≡ Some vmid
 vmid_seen nodes vmid s h short =
     let t = two_types nodes (typed types.Array (codes "addr") (codes "[B")) (typed types.Object (codes "uid") (codes "Ljava/rmi/server/UID;")) h.own.texts h.own.typed in
     let own = own_seen nodes (codes "java.rmi.dgc.VMID") known.Vmid h.class s (record { values = values.Ref h.addr ∷ values.Ref h.uid ∷ []; note = [] }) h.own h.is same_vmid_name in
@@ -130,7 +131,7 @@ not_null : (nodes : List Node) (vmid : Client) (s : Slot) → vmid_at nodes s �
 not_null nodes vmid slots.Null h = absurd cc
 not_null nodes vmid (slots.Node k) h = rw h refl
 
-pub lease_seen : (nodes : List Node) (value : ℤ) (vmid : Client) (s : Slot) → LeaseAt nodes value vmid s → nat_le (length vmid.addr) 255 ≡ true → lease_at nodes s ≡ Some (record { value = value; vmid = Some vmid })
+pub lease_seen : (nodes : List Node) (value : ℤ) (vmid : Client) (s : Slot) → LeaseAt nodes value vmid s → nat_le (length vmid.addr) MAX_ADDRESS_BYTES ≡ true → lease_at nodes s ≡ Some (record { value = value; vmid = Some vmid })
 lease_seen nodes value vmid s h short =
     let t = two_types nodes (plain types.J (codes "value")) (typed types.Object (codes "vmid") (codes "Ljava/rmi/dgc/VMID;")) h.own.texts h.own.typed in
     let own = own_seen nodes (codes "java.rmi.dgc.Lease") known.Lease h.class s (record { values = values.J value ∷ values.Ref h.client ∷ []; note = [] }) h.own h.is same_lease_name in

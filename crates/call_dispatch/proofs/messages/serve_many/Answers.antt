@@ -1,5 +1,6 @@
 use Rattle.std.proofs.Common.{rules, length, ◌≤◌, ◌∷◌, [], ◌++◌, pos, ◌<ℤ◌, sym, subst, Ok, Err, arith, length-append}
 use Rattle.mod_utf.specs.Utf.{utf}
+use Rattle.wire_io.specs.declared.limits.TheConstants.{MAX_HOST_BYTES}
 use Rattle.call_dispatch.specs.Terms.{Terms}
 use Rattle.call_dispatch.specs.Spot.{spot_of}
 use Rattle.call_dispatch.proofs.Steps.{goes_on_more}
@@ -12,7 +13,7 @@ pub serve_message-requires-clause-time : goal.serve_message-requires-clause-time
 serve_message-requires-clause-time g c = subst (λ (t : Terms). t.time <ℤ pos DRAWS_BEGIN_BELOW) (sym c.loop-after.invariant.4.terms) c.requires.time
 
 pub serve_message-requires-clause-host : goal.serve_message-requires-clause-host
-serve_message-requires-clause-host g c = subst (λ (t : Terms). length (utf t.host) ≤ 255) (sym c.loop-after.invariant.4.terms) c.requires.host
+serve_message-requires-clause-host g c = subst (λ (t : Terms). length (utf t.host) ≤ MAX_HOST_BYTES) (sym c.loop-after.invariant.4.terms) c.requires.host
 
 pub returns-in-Err-clause-goes_on : goal.returns-in-Err-clause-goes_on
 returns-in-Err-clause-goes_on g c start opening is stands =
