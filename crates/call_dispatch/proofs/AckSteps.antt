@@ -34,6 +34,7 @@ use Rattle.call_dispatch.proofs.Blaming.{counts, blameless, rose_after}
 use Rattle.call_dispatch.proofs.MessageSteps.{limit_left}
 use Rattle.call_dispatch.proofs.Steps.{spot_at, talks_on, talks_in, stands_more}
 use Rattle.call_dispatch.specs.declared.messages.TheConstants.{MAX_MESSAGES}
+use Rattle.call_dispatch.specs.declared.results.TheConstants.{RETURN_BYTES}
 
 -- The input stopped behind some bytes.
 stops_behind : (P Q : List ℕ → Type 0) (old mid new : PullState) (fault : StreamFault) (front : List ℕ) → Takes old mid front → StopsIn P mid new fault → ((part : List ℕ) → P part → Q (front ++ part)) → StopsIn Q old new fault
@@ -112,7 +113,7 @@ pub ack_most : (may : Invocation → Outcome → Type 0) (moves : States → Cal
 ack_most may moves first now a b sent (Ok sent2) (same, (uid, moment, answer, fits, noted, takes, led)) = (omega (arith, same), omega (arith, takes.at))
 ack_most may moves first now a b sent (Err end) how = tt
 
-pub most_of_ack : (result : Result ℕ ConnEnd) (sent first mid now : ℕ) → mid ≤ first + 1 → IfOk result (λ after. (after ≤ sent) × (now ≤ mid + 14)) → IfOk result (λ after. (after ≤ sent + 2 ^ 30) × (now ≤ first + 2 ^ 24))
+pub most_of_ack : (result : Result ℕ ConnEnd) (sent first mid now : ℕ) → mid ≤ first + 1 → IfOk result (λ after. (after ≤ sent) × (now ≤ mid + 14)) → IfOk result (λ after. (after ≤ sent + RETURN_BYTES) × (now ≤ first + 2 ^ 24))
 most_of_ack (Ok after) sent first mid now coded h = (omega (arith, h.0), omega (arith, h.1, coded))
 most_of_ack (Err end) sent first mid now coded h = tt
 
