@@ -1,5 +1,5 @@
 //! Writing the lines of a journal. After a refusal, which comes only for want of memory, a front of the line stands appended.
-ghost use Rattle.std.specs.Prelude.{◌≡◌, ◌∷◌, ◌++◌, ◌<◌, ◌^◌, [], codes, decimal, FitsSigned, OnOk, OnErr};
+ghost use Rattle.std.specs.Prelude.{◌≡◌, ◌∷◌, ◌++◌, ◌<◌, ◌^◌, [], codes, decimal, pos, FitsSigned, OnOk, OnErr};
 ghost use Rattle.std.specs.Int.{w64};
 ghost use Rattle.std.specs.List.{join_with_byte};
 ghost use Rattle.std.specs.Fmt.{signed_decimal};
@@ -22,6 +22,9 @@ use std::alloc::AllocError;
 pub fn put_first_line(out: &mut ByteList, config: &SpaceConfig) -> Result<(), AllocError>
     ensures text { OnOk result (out.new ≡ out.old ++ ended (config_text config.now)) }
     ensures err { OnErr result (AppendsFront out.old (ended (config_text config.now)) out.new) }
+
+    // The numbers of an identifier without a count are within their ranges.
+    ensures fits { config.now.uid.count ≡ pos 0 → IsUid config.now.uid }
 {
     put_line(
         out,

@@ -1,5 +1,3 @@
-use Rattle.std.proofs.Common.{w32, w64, rules}
-use Rattle.std.specs.Prelude.{FitsSigned}
 use Rattle.journal.proofs.Written.{config_spelled}
 use Rattle.space.proofs.SummaryLaws.{journalled, events-fit, journal_spelled}
 use Rattle.space.proofs.journal_text.journal.Goals as goal
@@ -11,10 +9,8 @@ returns-clause-text c = journalled c.space.inside.tables.config c.space.inside.t
 
 pub returns-clause-spelled : goal.returns-clause-spelled
 returns-clause-spelled c =
-    let unique : FitsSigned w32 c.space.inside.tables.config.uid.unique = search rules in
-    let time : FitsSigned w64 c.space.inside.tables.config.uid.time = search rules in
     journal_spelled c.space.inside.tables.config c.space.inside.tables.events.items c.put_events.new.text c.args.space.now c.space.view_is c.space.invariant.0.durations
-    (λ fits. config_spelled c.space.inside.tables.config unique time fits)
+    (λ fits. let ids = (c.in_ok-put_first_line.ensures {u = tt}).fits fits.count in config_spelled c.space.inside.tables.config ids.unique ids.time fits)
     (events-fit c.space.inside.tables.config c.space.inside.tables.events.items c.space.inside.tables.moment c.space.invariant.0.stands.moment_is c.space.invariant.0.early
     (c.in_ok-put_events.ensures {u = tt}).fits)
     (returns-clause-text c)
