@@ -26,11 +26,11 @@ use std::io::Write;
 /// How many histories there are of a row, the fewest random events of each, and how many numbers of random events there are.
 const ROWS: [(u64, u64, u64); 6] = [
     (4_000, 3, 4),
-    (400, 7, 13),
-    (100, 20, 14),
-    (100, 34, 14),
-    (60, 48, 13),
-    (4, 150, 11),
+    (1_000, 7, 13),
+    (300, 20, 14),
+    (300, 34, 14),
+    (200, 48, 13),
+    (12, 150, 11),
 ];
 /// How many seeds there are for each row.
 const SEEDS: u64 = 1_000_000;
