@@ -6,6 +6,7 @@ use Rattle.wire_io.specs.declared.pull.PullEnd.TheVariants as pulled
 use Rattle.wire_io.proofs.Pulling.{takes_more}
 use Rattle.object_ids.specs.declared.ids.Uid.{Uid}
 use Rattle.object_ids.specs.Bytes.{bytes_of_uid}
+use Rattle.ser_values.specs.declared.limits.TheConstants.{MESSAGE_BYTES}
 use Rattle.history.specs.declared.asks.Ask.TheVariants.{Ack}
 use Rattle.history.specs.declared.replies.Refused.TheVariants.{HistoryFull}
 use Rattle.ser_read.specs.declared.fault.StreamFault.{StreamFault}
@@ -113,7 +114,7 @@ pub ack_most : (may : Invocation → Outcome → Type 0) (moves : States → Cal
 ack_most may moves first now a b sent (Ok sent2) (same, (uid, moment, answer, fits, noted, takes, led)) = (omega (arith, same), omega (arith, takes.at))
 ack_most may moves first now a b sent (Err end) how = tt
 
-pub most_of_ack : (result : Result ℕ ConnEnd) (sent first mid now : ℕ) → mid ≤ first + 1 → IfOk result (λ after. (after ≤ sent) × (now ≤ mid + 14)) → IfOk result (λ after. (after ≤ sent + RETURN_BYTES) × (now ≤ first + 2 ^ 24))
+pub most_of_ack : (result : Result ℕ ConnEnd) (sent first mid now : ℕ) → mid ≤ first + 1 → IfOk result (λ after. (after ≤ sent) × (now ≤ mid + 14)) → IfOk result (λ after. (after ≤ sent + RETURN_BYTES) × (now ≤ first + MESSAGE_BYTES))
 most_of_ack (Ok after) sent first mid now coded h = (omega (arith, h.0), omega (arith, h.1, coded))
 most_of_ack (Err end) sent first mid now coded h = tt
 

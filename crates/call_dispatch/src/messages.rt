@@ -1,6 +1,7 @@
 //! The messages of a connection, after its opening.
 ghost use Rattle.std.specs.Prelude.{◌≡◌, ◌<◌, ◌≤◌, ◌+◌, ◌^◌, pos, ◌<ℤ◌, length, IfOk, OnOk};
 ghost use Rattle.mod_utf.specs.Utf.{utf};
+ghost use Rattle.ser_values.specs.declared.limits.TheConstants.{MESSAGE_BYTES};
 ghost use Rattle.space.specs.Balance.{Balanced};
 ghost use Rattle.jrmp_frames.specs.declared.header.Protocol.TheVariants.{Stream, SingleOp};
 ghost use Rattle.call_dispatch.specs.Faults.{counts_of, Blames, BlamesIn};
@@ -30,8 +31,10 @@ use space::Port;
 use std::alloc::Global;
 use wire_io::{Clock, Sink, Source};
 
-// How many bytes a message has at most is what the README says.
+// How many bytes a message has at most, and how many messages a connection, is what the README says.
 const _: () = prove!(MESSAGE_BYTES == 16_777_216);
+
+const _: () = prove!(MAX_MESSAGES == 268_435_456);
 
 /// How many messages a connection has at most.
 pub const MAX_MESSAGES: u32 = 1 << 28;
@@ -153,7 +156,7 @@ fn serve_message<S: Source, K: Sink, C: Clock, P: Port, W: Worker>(
         (spot_of S.left K.held C.given P.asked W.calls W.seen W.state connection.old)
         (spot_of S.left K.held C.given P.asked W.calls W.seen W.state connection.new) connection.old.pull.at sent served connection.new.pull.at result }
     ensures going { OnOk result (served < MAX_MESSAGES) }
-    ensures most { IfOk result (λ after. (after ≤ sent + RETURN_BYTES) × (connection.new.pull.at ≤ connection.old.pull.at + 2 ^ 24)) }
+    ensures most { IfOk result (λ after. (after ≤ sent + RETURN_BYTES) × (connection.new.pull.at ≤ connection.old.pull.at + MESSAGE_BYTES)) }
     ensures lent { IsLent connection.old connection.new }
     ensures balanced { Balanced (P.asked connection.new.port.now) }
     ensures ready { P.ready connection.new.port.now }

@@ -2,6 +2,7 @@
 //! pinned object, a call of it, and a return of two new objects. What is asked next most often names objects that are exported then.
 ghost use Rattle.std.specs.Prelude.{◌≤◌};
 ghost use Rattle.history.specs.declared.limits.TheConstants.{MAX_DURATION};
+ghost use Rattle.collector_judge.specs.declared.histories.TheConstants.{LATEST};
 
 use crate::course::Course;
 use crate::draws::Draws;
@@ -13,16 +14,16 @@ use std::alloc::{AllocError, Global};
 
 /// How many connections there are.
 pub(crate) const CONNECTIONS: u64 = 2;
-/// The longest lease, and the longest time to acknowledge, of one half of the spaces, and of the other half.
+/// The longest duration of one half of the draws, in milliseconds.
 const LONGEST: u64 = 6;
-
+/// The longest duration of the other half.
 const LONGER: u64 = 30;
 /// How often a running call is looked for.
 const TRIES: u64 = 6;
 /// The number of the first object.
 const FIRST: i64 = 16;
-/// The last moment.
-const LAST_MOMENT: u64 = 1_000_000;
+/// The last moment, in milliseconds.
+const LATEST: u64 = 1_000_000;
 
 /// An identifier of few.
 pub(crate) fn numbered(unique: i32) -> Uid {
@@ -70,7 +71,7 @@ struct Clock {
 impl Clock {
     /// The next moment: often the greatest one or one near an end, sometimes one that goes back.
     fn next(&mut self, draws: &mut Draws) -> u64
-        ensures { result ≤ 1000000 }
+        ensures { result ≤ LATEST }
     {
         let moment = match draws.below(16) {
             0 | 1 => self.now.saturating_add(1),
@@ -82,7 +83,7 @@ impl Clock {
             7 => self.wait_end,
             _ => self.now,
         };
-        let moment = moment.min(LAST_MOMENT);
+        let moment = moment.min(LATEST);
         self.now = self.now.max(moment);
         moment
     }

@@ -33,8 +33,8 @@ pub(crate) fn is_early(event: &Event) -> bool
     event.moment < END_OF_TIME
 }
 
-/// Whether a space answers an event so. Every second abandon of a running call is made by `abandon`, which answers nothing, and of the other
-/// events every third one is handed in as a list by `turns`.
+/// Whether a space answers an event so. An abandon of a running call at an even moment is made by `abandon`, which answers nothing, and of the other
+/// events those whose moment is a multiple of 3 are handed in as a list by `turns`.
 fn is_answered(
     alloc: Global,
     space: &mut Space,
@@ -105,7 +105,7 @@ fn first_difference(
 }
 
 /// Whether the outline of a space is that of these places.
-fn is_outlined(
+pub(crate) fn is_outlined(
     alloc: Global,
     space: &Space,
     config: &SpaceConfig,
@@ -132,7 +132,7 @@ fn judge_space(
     if let Some(place) = first_difference(alloc, &mut space, events, answers)? {
         return Ok(Verdict::Answer(place));
     }
-    if !are_answered(alloc, config, events, answers)? {
+    if !are_answered(alloc, config, events, places, answers)? {
         return Ok(Verdict::List);
     }
     Ok(if is_outlined(alloc, &space, config, places)? {

@@ -3,8 +3,8 @@ ghost use Rattle.std.specs.Prelude.{◌≤◌, ◌<◌, IfOk, IfSome};
 ghost use Rattle.std.specs.List.{AllByRecursion};
 ghost use Rattle.history.specs.declared.limits.TheConstants.{END_OF_TIME, MAX_DURATION};
 
-use crate::judge::{are_same, is_early};
-use history::{Event, Refused, SpaceConfig, Turn};
+use crate::judge::{are_same, is_early, is_outlined};
+use history::{Event, Place, Refused, SpaceConfig, Turn};
 use mod_utf::list::Same;
 use space::Space;
 use std::alloc::{AllocError, Global};
@@ -43,11 +43,12 @@ fn are_turns(turns: &[Turn], answers: &[Result<Turn, Refused>]) -> bool {
     true
 }
 
-/// Whether a new space takes a list so.
+/// Whether a new space takes a list so, and has the outline of these places then.
 fn takes(
     alloc: Global,
     config: &SpaceConfig,
     events: &[Event],
+    places: &[Place],
     answers: &[Result<Turn, Refused>],
 ) -> Result<bool, AllocError>
     requires lease { (1 ≤ config.now.lease_ms) × (config.now.lease_ms ≤ MAX_DURATION) }
@@ -64,14 +65,15 @@ fn takes(
         (Some(Err(answer)), Some(refused)) => *answer == refused,
         _ => false,
     };
-    Ok(is_end && are_turns(turns, answers))
+    Ok(is_end && are_turns(turns, answers) && is_outlined(alloc, &space, config, places)?)
 }
 
-/// Whether a new space answers a list so.
+/// Whether a new space answers a list so, and has the outline of these places then.
 fn answers_all(
     alloc: Global,
     config: &SpaceConfig,
     events: &[Event],
+    places: &[Place],
     answers: &[Result<Turn, Refused>],
 ) -> Result<bool, AllocError>
     requires lease { (1 ≤ config.now.lease_ms) × (config.now.lease_ms ≤ MAX_DURATION) }
@@ -92,18 +94,22 @@ fn answers_all(
             None => return Ok(false),
         }
     }
-    Ok(given.len() == answers.len())
+    Ok(given.len() == answers.len() && is_outlined(alloc, &space, config, places)?)
 }
 
-/// Whether new spaces answer some events so where they are handed in as one list, by `turns` and by `answers`.
+/// Whether new spaces answer some events so where they are handed in as one list, by `turns` and by `answers`, and have the outline of these places then.
 pub(crate) fn are_answered(
     alloc: Global,
     config: &SpaceConfig,
     events: &[Event],
+    places: &[Place],
     answers: &[Result<Turn, Refused>],
 ) -> Result<bool, AllocError>
     requires lease { (1 ≤ config.now.lease_ms) × (config.now.lease_ms ≤ MAX_DURATION) }
     requires ack { (1 ≤ config.now.ack_ms) × (config.now.ack_ms ≤ MAX_DURATION) }
 {
-    Ok(takes(alloc, config, events, answers)? && answers_all(alloc, config, events, answers)?)
+    Ok(
+        takes(alloc, config, events, places, answers)?
+            && answers_all(alloc, config, events, places, answers)?,
+    )
 }

@@ -1,5 +1,6 @@
 //! Judges spaces by the definitions of histories: makes random histories, the same in each run, and compares what a space answers to each
-//! event, and the outline that it has at the end, with what the plain functions of `history` compute from the list of events.
+//! event, and the outline that it has at the end, with what the plain functions of `history` compute from the list of events; of long histories
+//! with a course, which keeps the places and the table from event to event and has those functions compute the rest.
 #![tactic(auto)]
 
 mod course;

@@ -77,7 +77,7 @@ fn with_room<I: Source, O: Sink, T: Clock, H: Worker>(
     (accepting, true)
 }
 
-/// TellsMore a hand what an answer tells as withdrawn.
+/// Tells a hand what an answer tells as withdrawn.
 fn tell_answer<H: Worker>(hand: &mut H, answer: &Result<Turn, Refused>)
     ensures seen { TellsMore (H.seen hand.old) (map unreferenced (gone_with (end_of answer.now))) (H.seen hand.new) }
     ensures state { LeadsStates H.moves (H.state hand.old) (map unreferenced (gone_with (end_of answer.now))) (H.state hand.new) }

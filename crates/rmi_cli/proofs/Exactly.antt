@@ -4,12 +4,12 @@ use Rattle.wire_io.specs.Wire.{Wires}
 use Rattle.call_dispatch.specs.declared.end.ConnEnd.{ConnEnd}
 use Rattle.call_dispatch.specs.declared.end.ConnEnd.TheVariants.{Ended, BadHeader, UnknownProtocol, BadMessage, BadStream, TooLarge, Truncated, NoSuchObject, NoSuchMethod, SpaceFull, MessageLimit, ReadFault, WriteFault, OutOfMemory}
 use Rattle.call_dispatch.specs.End.{status_of, IsSettled}
-use Rattle.rmi_cli.specs.Answer.{ServesExactly, AnswersExactly, IsOutsideEnd}
+use Rattle.rmi_cli.specs.Answer.{ServesExactly, AnswersExactly, IsOutsideStatus}
 use Rattle.rmi_cli.specs.Told.{Reported, TellsExactly, TellsEnd}
 use Rattle.rmi_cli.specs.declared.end.RunEnd.TheVariants.{Answered}
 use Rattle.rmi_cli.specs.declared.terms.Terms.{Terms}
 
-settled_or_outside : (end : ConnEnd) → IsSettled end ⊎ IsOutsideEnd (status_of end)
+settled_or_outside : (end : ConnEnd) → IsSettled end ⊎ IsOutsideStatus (status_of end)
 settled_or_outside Ended = inl tt
 settled_or_outside (BadHeader at) = inl tt
 settled_or_outside (UnknownProtocol byte) = inl tt
@@ -33,5 +33,5 @@ told_settles seed terms old new told result settles (inl tells) other rest end i
     elim (settled_or_outside result) [
       | inl ok ↦ let went = settles other rest end is dialogue quiet settled ok in
           let P : ConnEnd → Type 0 = λ x. TellsExactly told (Answered x) in inl (subst P went.0 tells, went.1, went.2)
-      | inr not ↦ inr (subst IsOutsideEnd (sym tells.0) not)
+      | inr not ↦ inr (subst IsOutsideStatus (sym tells.0) not)
     ]

@@ -13,7 +13,7 @@ use Rattle.rmi_cli.specs.declared.outlines.ReplayFault.{ReplayFault}
 use Rattle.rmi_cli.specs.declared.outlines.ReplayFault.TheVariants.{BadLine, Refused as RefusedTurn, OutOfMemory}
 use Rattle.rmi_cli.specs.declared.end.RunEnd.{RunEnd}
 use Rattle.rmi_cli.specs.declared.end.RunEnd.TheVariants as ends
-use Rattle.rmi_cli.specs.Answer.{IsOutsideEnd}
+use Rattle.rmi_cli.specs.Answer.{IsOutsideStatus}
 use Rattle.rmi_cli.specs.Replay.{EventIsTaken, BeginsWith, OpensJournal, ReplayStops, AllTaken, IsJournalUpTo, Replays}
 use Rattle.rmi_cli.specs.declared.journal_input.TheConstants.{JOURNAL_BYTES}
 use Rattle.rmi_cli.specs.Replayed.{TakesWhole, ReplayEnds, end_of, output_of, ReplaysExactly}
@@ -209,7 +209,7 @@ at_whole old new told input taken answer mine left whole known known_mine replay
 
 within : (old new : Wires) (told : Reported) (end : RunEnd) → ReplayEnds old new end → TellsExactly told end
     → (input : List ℕ) (answer : Result (List ℕ) ReplayFault) → old.left ≡ Some input → length input ≤ JOURNAL_BYTES → Replays input answer → IsKnown answer
-    → Ends old new told answer ⊎ IsOutsideEnd told.status
+    → Ends old new told answer ⊎ IsOutsideStatus told.status
 within old new told ends.Done (taken, output, whole, outlines, held) tells input answer left short replays known =
     inl (at_whole old new told input taken answer (Ok output) left whole known tt replays outlines tells held)
 within old new told ends.Usage e tells input answer left short replays known = absurd e
@@ -231,7 +231,7 @@ no_room : (old new : Wires) (input taken : List ℕ) → old.left ≡ Some input
 no_room old new input taken left long whole = let all = all_taken old new input taken left whole in omega (arith, ap length all.0, whole.short, long)
 
 past : (old new : Wires) (told : Reported) (end : RunEnd) → ReplayEnds old new end → TellsExactly told end → (input : List ℕ) → old.left ≡ Some input → JOURNAL_BYTES < length input
-    → (TellsExactly told (ends.TooLarge JOURNAL_BYTES) × (new.held ≡ old.held)) ⊎ IsOutsideEnd told.status
+    → (TellsExactly told (ends.TooLarge JOURNAL_BYTES) × (new.held ≡ old.held)) ⊎ IsOutsideStatus told.status
 past old new told ends.Done (taken, output, whole, outlines, held) tells input left long = absurd (no_room old new input taken left long whole)
 past old new told ends.Usage e tells input left long = absurd e
 past old new told (ends.Answered end) e tells input left long = absurd e

@@ -16,7 +16,7 @@ use Rattle.graph_text.specs.GraphText.{graph_text}
 use Rattle.wire_io.specs.Wire.{Wires, with_end}
 use Rattle.rmi_cli.specs.declared.end.RunEnd.{RunEnd}
 use Rattle.rmi_cli.specs.declared.end.RunEnd.TheVariants as ends
-use Rattle.rmi_cli.specs.Answer.{IsOutsideEnd}
+use Rattle.rmi_cli.specs.Answer.{IsOutsideStatus}
 use Rattle.rmi_cli.specs.Line.{status_of_fault}
 use Rattle.ser_values.specs.declared.limits.TheConstants.{MESSAGE_BYTES}
 use Rattle.rmi_cli.specs.Shown.{TakesGraph, ShowEnds, told_kind, told_fault, EndsExactly, ShowsExactly}
@@ -46,7 +46,7 @@ stop_is : (Y : Type 0) (f g : Fault) → stopped Y f ≡ stopped Y g → f ≡ g
 stop_is Y f g e = cc
 
 -- The fault that is told where reading stops is that of the stop, or the outside's.
-told_or_outside : (Y : Type 0) (after e : StreamFault) (f : Fault) → Fails after e (stopped Y f) → (e ≡ told_fault after f) ⊎ IsOutsideEnd (status_of_fault e)
+told_or_outside : (Y : Type 0) (after e : StreamFault) (f : Fault) → Fails after e (stopped Y f) → (e ≡ told_fault after f) ⊎ IsOutsideStatus (status_of_fault e)
 told_or_outside Y after faults.OutOfMemory f is = inr (inr (inr refl))
 told_or_outside Y after faults.ReadFault f is = inr (inl refl)
 told_or_outside Y after (faults.Truncated at) f is = inl (sym is.1 ∙ ap (told_fault after) (sym (stop_is Y f short is.0)))
@@ -60,7 +60,7 @@ no_stop : {Y : Type 0} (y : Y) (f : Fault) → Ok y ≡ Err f → ⊥
 no_stop y f e = cc
 
 -- Where reading gives something, a fault is the outside's.
-read_or_outside : {Y : Type 0} (after e : StreamFault) (y : Y) → Fails after e (Ok y) → IsOutsideEnd (status_of_fault e)
+read_or_outside : {Y : Type 0} (after e : StreamFault) (y : Y) → Fails after e (Ok y) → IsOutsideStatus (status_of_fault e)
 read_or_outside after faults.OutOfMemory y is = inr (inr refl)
 read_or_outside after faults.ReadFault y is = inl refl
 read_or_outside after (faults.Truncated at) y is = absurd (no_stop y short is.0)
@@ -112,7 +112,7 @@ no_room left nodes items input all long = omega (arith, all.within, long)
 
 -- An end at a fault at which reading stops.
 abbrev Ended : Wires → Wires → StreamFault → StreamFault → Fault → Type 0
-Ended old new fault after f = ((ends.NotShown fault ≡ ends.NotShown (told_fault after f)) × (new.held ≡ old.held)) ⊎ IsOutsideEnd (status_of_fault fault)
+Ended old new fault after f = ((ends.NotShown fault ≡ ends.NotShown (told_fault after f)) × (new.held ≡ old.held)) ⊎ IsOutsideStatus (status_of_fault fault)
 
 ended_at : {Y : Type 0} (old new : Wires) (fault after : StreamFault) (f : Fault) (read : Result Y Fault) → new.held ≡ old.held → Fails after fault read → read ≡ Err f → Ended old new fault after f
 ended_at {Y} old new fault after f read held fails stops =
@@ -122,7 +122,7 @@ ended_at {Y} old new fault after f read held fails stops =
     ]
 
 -- What a stream came to.
-outside_stops : (fault after : StreamFault) (nodes : List Node) (items : List Item) (input : List ℕ) → IsStream nodes items input → Fails after fault (stream_of input) → IsOutsideEnd (status_of_fault fault)
+outside_stops : (fault after : StreamFault) (nodes : List Node) (items : List Item) (input : List ℕ) → IsStream nodes items input → Fails after fault (stream_of input) → IsOutsideStatus (status_of_fault fault)
 outside_stops fault after nodes items input is fails =
     read_or_outside after fault (nodes, items) (subst (λ (r : Result Answer Fault). Fails after fault r) (stream_complete nodes items input is) fails)
 
@@ -170,14 +170,14 @@ shows_exactly old new told end exact (inr memory) = record {
 shows_exactly old new told end exact (inl tells) = record {
   stream = λ nodes items input left short is. elim (exact.stream nodes items input left short is) [
     | inl had ↦ inl (subst (λ (e : RunEnd). TellsExactly told e) had.0 tells, had.1, had.2)
-    | inr outside ↦ inr (subst IsOutsideEnd (sym tells.0) outside)
+    | inr outside ↦ inr (subst IsOutsideStatus (sym tells.0) outside)
   ];
   within = λ input f left short stops. elim (exact.within input f left short stops) [
     | inl had ↦ inl (subst (λ (e : RunEnd). TellsExactly told e) had.0 tells, had.1)
-    | inr outside ↦ inr (subst IsOutsideEnd (sym tells.0) outside)
+    | inr outside ↦ inr (subst IsOutsideStatus (sym tells.0) outside)
   ];
   past = λ input f left long stops. elim (exact.past input f left long stops) [
     | inl had ↦ inl (subst (λ (e : RunEnd). TellsExactly told e) had.0 tells, had.1)
-    | inr outside ↦ inr (subst IsOutsideEnd (sym tells.0) outside)
+    | inr outside ↦ inr (subst IsOutsideStatus (sym tells.0) outside)
   ];
 }

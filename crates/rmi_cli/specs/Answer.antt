@@ -72,12 +72,12 @@ abbrev pub Answers : List ℕ → ServedTerms → Wires → Wires → Option (Li
 Answers seed terms old new given given2 told = (end : ConnEnd) × ServesOne seed terms old new given given2 end × TellsEnd told (Answered end)
 
 -- The outside failed: reading, writing or memory.
-abbrev pub IsOutsideEnd : ℕ → Type 0
-IsOutsideEnd status = (status ≡ 3) ⊎ ((status ≡ 4) ⊎ (status ≡ 5))
+abbrev pub IsOutsideStatus : ℕ → Type 0
+IsOutsideStatus status = (status ≡ 3) ⊎ ((status ≡ 4) ⊎ (status ≡ 5))
 
 -- Where a settled dialogue that neither makes a turn nor invokes anything stands for the input that was told, it is the one that was had: its
 -- rest is left, its output was written, and its end is told; unless the outside failed.
 unfoldable pub AnswersExactly : List ℕ → ServedTerms → Wires → Wires → Reported → Type 0
 AnswersExactly seed terms old new told = (other : Course) (rest : List ℕ) (end : ConnEnd)
     → old.left ≡ Some (other.taken ++ rest) → Dialogue (answer_terms seed terms.binding) 0 other (Some rest) end → other.acts ≡ [] → IsSettled end
-    → (TellsExactly told (Answered end) × (new.left ≡ Some rest) × (new.held ≡ with_end old.held other.written)) ⊎ IsOutsideEnd told.status
+    → (TellsExactly told (Answered end) × (new.left ≡ Some rest) × (new.held ≡ with_end old.held other.written)) ⊎ IsOutsideStatus told.status

@@ -2,7 +2,7 @@
 use Rattle.std.specs.Prelude.{◌≡◌, ◌≢◌, ℕ, ◌+◌, ◌<◌, ◌≤◌, ◌⊎◌, List, [], length, take, Some, Result, Ok, Err}
 use Rattle.wire_io.specs.Wire.{Wires, with_front, with_end, NothingLeft}
 use Rattle.wire_io.specs.declared.whole.TheConstants.{READ_BLOCK}
-use Rattle.rmi_cli.specs.Answer.{IsOutsideEnd}
+use Rattle.rmi_cli.specs.Answer.{IsOutsideStatus}
 use Rattle.rmi_cli.specs.Replay.{Outlines, IsBadLine, IsTurnRefused, Replays}
 use Rattle.rmi_cli.specs.Told.{Reported, TellsExactly, TellsEnd}
 use Rattle.rmi_cli.specs.declared.journal_input.TheConstants.{JOURNAL_BYTES}
@@ -59,5 +59,5 @@ output_of (Err fault) = []
 -- the outline was written, and the end is told; if it is past the limit, nothing was written, and that is told. Unless the outside failed.
 pub record ReplaysExactly (old new : Wires) (told : Reported) : Type 0 where
   pub within : (input : List ℕ) (answer : Result (List ℕ) ReplayFault) → old.left ≡ Some input → length input ≤ JOURNAL_BYTES → Replays input answer → answer ≢ Err faults.OutOfMemory
-      → (TellsExactly told (end_of answer) × (new.left ≡ Some []) × (new.held ≡ with_end old.held (output_of answer))) ⊎ IsOutsideEnd told.status
-  pub past : (input : List ℕ) → old.left ≡ Some input → JOURNAL_BYTES < length input → (TellsExactly told (TooLarge JOURNAL_BYTES) × (new.held ≡ old.held)) ⊎ IsOutsideEnd told.status
+      → (TellsExactly told (end_of answer) × (new.left ≡ Some []) × (new.held ≡ with_end old.held (output_of answer))) ⊎ IsOutsideStatus told.status
+  pub past : (input : List ℕ) → old.left ≡ Some input → JOURNAL_BYTES < length input → (TellsExactly told (TooLarge JOURNAL_BYTES) × (new.held ≡ old.held)) ⊎ IsOutsideStatus told.status

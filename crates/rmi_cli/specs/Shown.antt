@@ -16,7 +16,7 @@ use Rattle.ser_read.specs.declared.fault.StreamKind.TheVariants as kinds
 use Rattle.ser_read.specs.Here.{Fails}
 use Rattle.ser_read.specs.Whole.{stream_at, going_on, BreaksWhole}
 use Rattle.graph_text.specs.GraphText.{graph_text}
-use Rattle.rmi_cli.specs.Answer.{IsOutsideEnd}
+use Rattle.rmi_cli.specs.Answer.{IsOutsideStatus}
 use Rattle.rmi_cli.specs.Line.{status_of_run}
 use Rattle.rmi_cli.specs.Told.{Reported, TellsExactly, TellsEnd}
 use Rattle.rmi_cli.specs.declared.end.RunEnd.{RunEnd}
@@ -93,12 +93,12 @@ told_fault after (too_deep at) = faults.TooLarge Depth at
 -- failed, by the status. `Ends` says that the run ended so.
 pub record ExactlyShown (Ends : RunEnd → Type 0) (status : ℕ) (old new : Wires) : Type 0 where
   pub stream : (nodes : List Node) (items : List Item) (input : List ℕ) → old.left ≡ Some input → length input ≤ MESSAGE_BYTES → IsStream nodes items input
-      → (Ends Done × (new.left ≡ Some []) × (new.held ≡ with_end old.held (graph_text nodes items))) ⊎ IsOutsideEnd status
+      → (Ends Done × (new.left ≡ Some []) × (new.held ≡ with_end old.held (graph_text nodes items))) ⊎ IsOutsideStatus status
   pub within : (input : List ℕ) (fault : Fault) → old.left ≡ Some input → length input ≤ MESSAGE_BYTES → stream_of input ≡ Err fault
-      → (Ends (NotShown (told_fault (faults.Truncated (length input)) fault)) × (new.held ≡ old.held)) ⊎ IsOutsideEnd status
+      → (Ends (NotShown (told_fault (faults.Truncated (length input)) fault)) × (new.held ≡ old.held)) ⊎ IsOutsideStatus status
   pub past : (input : List ℕ) (fault : Fault) → old.left ≡ Some input → MESSAGE_BYTES < length input
       → going_on (stream_at MESSAGE_BYTES (take MESSAGE_BYTES input)) ≡ Err fault
-      → (Ends (NotShown (told_fault (faults.TooLarge Bytes MESSAGE_BYTES) fault)) × (new.held ≡ old.held)) ⊎ IsOutsideEnd status
+      → (Ends (NotShown (told_fault (faults.TooLarge Bytes MESSAGE_BYTES) fault)) × (new.held ≡ old.held)) ⊎ IsOutsideStatus status
 
 -- The end is this one.
 abbrev pub EndsExactly : Wires → Wires → RunEnd → Type 0

@@ -100,13 +100,13 @@ Adds before object number outcome after =
     ⊎ ((FitsSigned w64 sum → ⊥) × (outcome ≡ overflow) × (after ≡ before))
 
 -- How what is asked of an object changes the numbers, and what it gives of them.
-abbrev pub CountsUp : States → ObjId → Option SampleCall → Outcome → States → Type 0
-CountsUp before object (Some (Add number)) outcome after = Adds before object number outcome after
-CountsUp before object (Some Get) outcome after = (outcome ≡ Prim (values.J (count_of before object))) × (after ≡ before)
-CountsUp before object _ outcome after = after ≡ before
+abbrev pub ChangesNumbers : States → ObjId → Option SampleCall → Outcome → States → Type 0
+ChangesNumbers before object (Some (Add number)) outcome after = Adds before object number outcome after
+ChangesNumbers before object (Some Get) outcome after = (outcome ≡ Prim (values.J (count_of before object))) × (after ≡ before)
+ChangesNumbers before object _ outcome after = after ≡ before
 
 -- How a call of the worker changes the numbers: an invocation for which there was no memory leaves them, and what is no longer exported has none.
 abbrev pub Moves : States → Call → States → Type 0
 Moves before (invokes call OutOfMemory) after = after ≡ before
-Moves before (invokes call outcome) after = CountsUp before call.object (call_of call) outcome after
+Moves before (invokes call outcome) after = ChangesNumbers before call.object (call_of call) outcome after
 Moves before (unreferenced object) after = after ≡ without before object

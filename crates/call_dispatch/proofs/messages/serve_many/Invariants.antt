@@ -1,4 +1,5 @@
 use Rattle.std.proofs.Common.{◌≡◌, ◌+◌, ◌*◌, ◌-◌, ◌^◌, ◌≤◌, List, [], length}
+use Rattle.ser_values.specs.declared.limits.TheConstants.{MESSAGE_BYTES}
 use Rattle.jrmp_frames.specs.declared.header.Protocol.TheVariants.{Stream}
 use Rattle.space.specs.Balance.{Balanced}
 use Rattle.call_dispatch.specs.Terms.{terms_of}
@@ -21,7 +22,7 @@ invariant-loop-after g l = ((start : Spot) (opening : Opening) → protocol_of o
     × StandsWhole g.W.Worker.may g.W.Worker.moves (terms_of l.initial.connection.book.now l.initial.connection.setup.now) start
     (spot_of g.S.Source.left g.K.Sink.held g.C.Clock.given g.P.Port.asked g.W.Worker.calls g.W.Worker.seen g.W.Worker.state l.connection) l.connection.pull.at l.sent (opened opening exchanges))
     × (l.served ≤ MAX_MESSAGES)
-    × (l.connection.pull.at ≤ l.initial.connection.pull.at + 2 ^ 24 * l.served)
+    × (l.connection.pull.at ≤ l.initial.connection.pull.at + MESSAGE_BYTES * l.served)
     × (l.sent ≤ l.before + RETURN_BYTES * l.served)
     × IsLent l.initial.connection l.connection
     × Grew (counts_of g.S.Source.faults g.K.Sink.faults l.initial.connection) (counts_of g.S.Source.faults g.K.Sink.faults l.connection)
