@@ -1,5 +1,5 @@
 -- An acknowledgement in its dialogue.
-use Rattle.std.proofs.Common.{ℕ, ◌+◌, ◌^◌, ◌<◌, ◌≤◌, inl, inr, List, [], ◌∷◌, ◌++◌, length, Option, Result, Ok, Err, IfOk, refl, ap, sym, subst, ◌∙◌, arith, add-zero}
+use Rattle.std.proofs.Common.{ℕ, ◌+◌, ◌<◌, ◌≤◌, inl, inr, List, [], ◌∷◌, ◌++◌, length, Option, Result, Ok, Err, IfOk, refl, ap, sym, subst, ◌∙◌, arith, add-zero}
 use Rattle.wire_io.specs.Wire.{Rose, with_end-nothing}
 use Rattle.wire_io.specs.Pulled.{PullState, Takes}
 use Rattle.wire_io.specs.declared.pull.PullEnd.TheVariants as pulled
