@@ -6,6 +6,7 @@ mod drill_output;
 mod end;
 mod host;
 mod journal_input;
+mod limits;
 mod numbers;
 mod opening;
 mod outlines;
@@ -16,34 +17,11 @@ mod terms;
 mod words;
 
 pub use answer_input::setup_of;
-use conn_server::plan::MAX_LINKS;
 pub use end::RunEnd;
-use history::limits::{
-    END_OF_TIME, MAX_AWAITING, MAX_CLIENTS, MAX_DURATION, MAX_EXPORTS, MAX_NAME_UNITS, MAX_NAMES,
-    MAX_PAIRS, MAX_UNITS,
-};
 pub use host::Host;
 pub use journal_input::JOURNAL_BYTES;
-use object_ids::MAX_ADDRESS_BYTES;
 pub use outlines::{ReplayFault, replay};
 pub use program::run;
-use ser_values::limits::{LEVELS, NODES, PARTS};
 pub use stream_input::STREAM_BYTES;
 pub use terms::{ServeWords, Terms};
-use wire_io::MAX_HOST_BYTES;
 pub use words::{Command, DrillText, Words};
-
-// The limits are what the README and the formats' documents say.
-const _: () = prove!(JOURNAL_BYTES == 268_435_456);
-
-const _: () = prove!(MAX_LINKS == 65_535);
-
-const _: () = prove!(MAX_EXPORTS == 65_536 && MAX_AWAITING == 65_536 && MAX_CLIENTS == 65_536);
-
-const _: () = prove!(MAX_PAIRS == 262_144 && MAX_NAMES == 4_096 && MAX_UNITS == 4_194_304);
-
-const _: () = prove!(MAX_DURATION == 1 << 40 && END_OF_TIME == 1 << 62);
-
-const _: () = prove!(MAX_NAME_UNITS == 255 && MAX_ADDRESS_BYTES == 255 && MAX_HOST_BYTES == 255);
-
-const _: () = prove!(NODES == 65_536 && PARTS == 1 << 20 && LEVELS == 200);
