@@ -9,7 +9,7 @@ use history::limits::END_OF_TIME;
 use history::plain::table::places;
 use history::plain::turns::answers;
 use history::{Ask, Event, Limits, Place, Refused, SpaceConfig, Turn};
-use mod_utf::list::Same;
+use mod_utf::list::{ByteList, Same};
 use space::{Space, outline};
 use std::alloc::{AllocError, Global};
 
@@ -104,16 +104,13 @@ fn first_difference(
     Ok(None)
 }
 
-/// Whether the outline of a space is that of these places.
+/// Whether a space has this outline.
 pub(crate) fn is_outlined(
     alloc: Global,
     space: &Space,
-    config: &SpaceConfig,
-    places: &[Place],
+    defined: &ByteList,
 ) -> Result<bool, AllocError> {
-    let text = outline(alloc, space)?;
-    let defined = defined_outline(alloc, config, places)?;
-    Ok(text.is_same(&defined))
+    Ok(outline(alloc, space)?.is_same(defined))
 }
 
 /// Makes the turns of some events in a space without events, and compares each answer and the outline that they leave with those of the
@@ -132,10 +129,11 @@ fn judge_space(
     if let Some(place) = first_difference(alloc, &mut space, events, answers)? {
         return Ok(Verdict::Answer(place));
     }
-    if !are_answered(alloc, config, events, places, answers)? {
+    let defined = defined_outline(alloc, config, places)?;
+    if !are_answered(alloc, config, events, answers, &defined)? {
         return Ok(Verdict::List);
     }
-    Ok(if is_outlined(alloc, &space, config, places)? {
+    Ok(if is_outlined(alloc, &space, &defined)? {
         Verdict::Agree
     } else {
         Verdict::Outline

@@ -4,8 +4,8 @@ ghost use Rattle.std.specs.List.{AllByRecursion};
 ghost use Rattle.history.specs.declared.limits.TheConstants.{END_OF_TIME, MAX_DURATION};
 
 use crate::judge::{are_same, is_early, is_outlined};
-use history::{Event, Place, Refused, SpaceConfig, Turn};
-use mod_utf::list::Same;
+use history::{Event, Refused, SpaceConfig, Turn};
+use mod_utf::list::{ByteList, Same};
 use space::Space;
 use std::alloc::{AllocError, Global};
 
@@ -43,13 +43,13 @@ fn are_turns(turns: &[Turn], answers: &[Result<Turn, Refused>]) -> bool {
     true
 }
 
-/// Whether a new space takes a list so, and has the outline of these places then.
+/// Whether a new space takes a list so, and has this outline then.
 fn takes(
     alloc: Global,
     config: &SpaceConfig,
     events: &[Event],
-    places: &[Place],
     answers: &[Result<Turn, Refused>],
+    defined: &ByteList,
 ) -> Result<bool, AllocError>
     requires lease { (1 ≤ config.now.lease_ms) × (config.now.lease_ms ≤ MAX_DURATION) }
     requires ack { (1 ≤ config.now.ack_ms) × (config.now.ack_ms ≤ MAX_DURATION) }
@@ -65,16 +65,16 @@ fn takes(
         (Some(Err(answer)), Some(refused)) => *answer == refused,
         _ => false,
     };
-    Ok(is_end && are_turns(turns, answers) && is_outlined(alloc, &space, config, places)?)
+    Ok(is_end && are_turns(turns, answers) && is_outlined(alloc, &space, defined)?)
 }
 
-/// Whether a new space answers a list so, and has the outline of these places then.
+/// Whether a new space answers a list so, and has this outline then.
 fn answers_all(
     alloc: Global,
     config: &SpaceConfig,
     events: &[Event],
-    places: &[Place],
     answers: &[Result<Turn, Refused>],
+    defined: &ByteList,
 ) -> Result<bool, AllocError>
     requires lease { (1 ≤ config.now.lease_ms) × (config.now.lease_ms ≤ MAX_DURATION) }
     requires ack { (1 ≤ config.now.ack_ms) × (config.now.ack_ms ≤ MAX_DURATION) }
@@ -94,22 +94,22 @@ fn answers_all(
             None => return Ok(false),
         }
     }
-    Ok(given.len() == answers.len() && is_outlined(alloc, &space, config, places)?)
+    Ok(given.len() == answers.len() && is_outlined(alloc, &space, defined)?)
 }
 
-/// Whether new spaces answer some events so where they are handed in as one list, by `turns` and by `answers`, and have the outline of these places then.
+/// Whether new spaces answer some events so where they are handed in as one list, by `turns` and by `answers`, and have this outline then.
 pub(crate) fn are_answered(
     alloc: Global,
     config: &SpaceConfig,
     events: &[Event],
-    places: &[Place],
     answers: &[Result<Turn, Refused>],
+    defined: &ByteList,
 ) -> Result<bool, AllocError>
     requires lease { (1 ≤ config.now.lease_ms) × (config.now.lease_ms ≤ MAX_DURATION) }
     requires ack { (1 ≤ config.now.ack_ms) × (config.now.ack_ms ≤ MAX_DURATION) }
 {
     Ok(
-        takes(alloc, config, events, places, answers)?
-            && answers_all(alloc, config, events, places, answers)?,
+        takes(alloc, config, events, answers, defined)?
+            && answers_all(alloc, config, events, answers, defined)?,
     )
 }
