@@ -1,17 +1,25 @@
 -- The laws of locks.
-use Rattle.std.proofs.Common.{ℕ, ap, ◌∙◌}
+use Rattle.std.proofs.Common.{◌≡◌, ℕ, List, ◌++◌, Result, Ok, Err, ap, subst, ◌∙◌}
+use Rattle.std.specs.Prelude.{IfOk}
 use Rattle.history.specs.declared.asks.SpaceConfig.{SpaceConfig}
 use Rattle.history.specs.declared.asks.Ask.{Ask}
 use Rattle.history.specs.Collector.{Collects}
 use Rattle.history.specs.Steps.{turn_of}
 use Rattle.space.specs.Acts.{event_of}
-use Rattle.space.specs.Ports.{GoesBy}
+use Rattle.history.specs.declared.replies.Refused.{Refused}
+use Rattle.history.specs.declared.replies.Turn.{Turn}
+use Rattle.space.specs.Balance.{WentAmong}
+use Rattle.space.specs.Ports.{GoesBy, entries_of}
+use Rattle.space.specs.declared.asked.Asked.{Asked}
 use Rattle.space.specs.declared.asked.AskedEnd.{AskedEnd}
 use Rattle.space.specs.declared.asked.AskedEnd.TheVariants.{Turned, Abandoned, Refused as Denied}
 use Rattle.space.proofs.CollectLaws.{taken-collects}
 use Rattle.turn_lock.specs.declared.view.View.{View}
 use Rattle.turn_lock.specs.Rule.{Events}
-use Rattle.turn_lock.specs.Orders.{RuleOrders, EntriesCollect, IsTaken}
+use Rattle.turn_lock.specs.declared.handles.Pass.{Pass}
+use Rattle.turn_lock.specs.Handles.{view_of}
+use Rattle.turn_lock.specs.Ports.{PassWent}
+use Rattle.turn_lock.specs.Orders.{RuleOrders, EntriesCollect, TurnCollects, IsTaken}
 use Rattle.turn_lock.proofs.Views.{same_at}
 
 pub rule-orders : RuleOrders
@@ -32,3 +40,13 @@ goes-collect config by h next m a (Denied refused) g t = absurd t
 
 pub entries-collect : EntriesCollect
 entries-collect config by h next entry g t = goes-collect config by h next entry.moment entry.ask entry.end g t
+
+-- WHAT A PASS'S TURN DOES, where it is answered.
+pub turn_collects : (p q : Pass) (m : ℕ) (a : Ask) (answer : Result Turn Refused) (entries : List Asked) → PassWent p q entries → entries ≡ entries_of m a answer →
+    IfOk answer (λ _. TurnCollects (view_of p) m a (view_of q))
+turn_collects p q m a (Ok turn) entries went are =
+    let v = view_of p in
+    let P : List Asked → Type 0 = λ l. WentAmong v.config v.number v.seen l (view_of q).seen in
+    let x = subst P are went.views.went in
+    (x.0, x.1, x.4.0, goes-collect v.config v.number (v.seen ++ x.0) x.1 m a (Turned turn) x.3 tt, x.4.2)
+turn_collects p q m a (Err refused) entries went are = tt

@@ -1,11 +1,12 @@
 //! The root's own pass.
-ghost use Rattle.std.specs.Prelude.{◌≡◌, ◌+◌, ◌<◌, ◌≤◌, []};
+ghost use Rattle.std.specs.Prelude.{◌≡◌, ◌+◌, ◌<◌, ◌≤◌, [], IfOk};
 ghost use Rattle.std.specs.Borrow.{sem};
 ghost use Rattle.history.specs.declared.limits.TheConstants.{END_OF_TIME};
 ghost use Rattle.space.specs.Ties.{IsTied};
 ghost use Rattle.space.specs.Ports.{entries_of};
 ghost use Rattle.turn_lock.specs.Handles.{IsPassOf, IsRootOf, opening_of, seen_space, view_of};
 ghost use Rattle.turn_lock.specs.Lending.{LendsPass};
+ghost use Rattle.turn_lock.specs.Orders.{TurnCollects};
 ghost use Rattle.turn_lock.specs.Ports.{PassWent};
 ghost use Rattle.turn_lock.specs.Rule.{InOrder};
 
@@ -59,12 +60,16 @@ impl Root {
         ensures asked { result.1 ≡ entries_of moment ask result.0 }
         ensures room { self.old.pass.room ≤ self.new.pass.room + 1 }
         ensures ordered { InOrder (opening_of lock.now) (view_of self.new.pass) }
+
+        // The history's table keeps what there is a reason to keep at the turn's place, and the rest is withdrawn.
+        ensures collector { IfOk result.0 (λ _. TurnCollects (view_of self.old.pass) moment ask (view_of self.new.pass)) }
     {
         turned(rt, alloc, lock, self.own(), moment, ask)
     }
 }
 
 /// One turn of a pass, and its entries.
+#[tactic(auto, using(crate::proofs::OrderLaws::turn_collects))]
 fn turned<R: Wait>(
     rt: &R,
     alloc: Global,
@@ -80,6 +85,7 @@ fn turned<R: Wait>(
     ensures went { PassWent pass.old pass.new result.1 }
     ensures asked { result.1 ≡ entries_of moment ask result.0 }
     ensures room { pass.old.room ≤ pass.new.room + 1 }
+    ensures collector { IfOk result.0 (λ _. TurnCollects (view_of pass.old) moment ask (view_of pass.new)) }
 {
     let mut port = SeatPort::new(rt, alloc, lock, pass);
     let answer = port.turn(moment, ask);

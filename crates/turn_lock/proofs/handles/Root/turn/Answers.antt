@@ -1,5 +1,8 @@
 use Rattle.std.proofs.Common.{◌≤◌, ◌+◌, refl, subst}
+use Rattle.std.specs.Prelude.{IfOk}
 use Rattle.turn_lock.specs.declared.handles.Pass.{Pass}
+use Rattle.turn_lock.specs.Handles.{view_of}
+use Rattle.turn_lock.specs.Orders.{TurnCollects}
 use Rattle.turn_lock.specs.Ports.{PassWent}
 use Rattle.turn_lock.specs.PortLaws.{root_after}
 use Rattle.turn_lock.proofs.handles.Root.turn.Goals as goal
@@ -15,4 +18,5 @@ returns g c =
       asked = t.asked;
       room = subst (λ (p : Pass). p.room ≤ c.turned.new.pass.room + 1) c.own.ensures.value t.room;
       ordered = t.own.ordered;
+      collector = subst (λ (p : Pass). IfOk c.turned.result.0 (λ _. TurnCollects (view_of p) c.args.moment c.args.ask (view_of c.turned.new.pass))) c.own.ensures.value t.collector;
     }
