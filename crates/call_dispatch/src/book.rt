@@ -12,7 +12,7 @@ use crate::system::{SystemMethod, hash_by, is_registry};
 use class_desc::TypeCode;
 use jrmp_frames::CallHead;
 use method_hash::{CollectorMethod, Method, MethodList, RegistryMethod, hash};
-use mod_utf::list::{I64List, Sequence, Units};
+use sequence::{I64List, Sequence, Units};
 use std::alloc::{AllocError, AllocFailed, Global};
 use std::marker::Model;
 

@@ -14,8 +14,8 @@ use java_shapes::{
 };
 use jrmp_frames::{Arg, Arguments};
 use method_hash::{CollectorMethod, RegistryMethod};
-use mod_utf::list::{ByteList, Units};
 use object_ids::{ObjId, ObjIds, Uid, Vmid};
+use sequence::{ByteList, Units};
 use ser_values::Value;
 use std::alloc::{AllocError, Global};
 

@@ -15,9 +15,9 @@ ghost use Rattle.call_dispatch.specs.Terms.{terms_of};
 
 use crate::setup::Setup;
 use java_shapes::NOTE_ROOM;
-use mod_utf::list::{ByteList, Units};
 use mod_utf::utf::encode;
 use object_ids::{ObjId, Uid, Vmid, objid_bytes, uid_bytes};
+use sequence::{ByteList, Units};
 use ser_write::write_blocks_onto;
 use std::alloc::{AllocError, Global};
 

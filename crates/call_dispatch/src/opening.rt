@@ -16,7 +16,7 @@ use crate::end::{ConnEnd, end_of};
 use crate::setup::Setup;
 use crate::worker::Worker;
 use jrmp_frames::{FrameFault, Protocol, ack_bytes, read_header, skip_endpoint};
-use mod_utf::list::ByteList;
+use sequence::ByteList;
 use space::Port;
 use std::alloc::{AllocError, Global};
 use wire_io::{Clock, Sink, Source};

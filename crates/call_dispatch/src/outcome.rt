@@ -2,8 +2,8 @@
 ghost use Rattle.std.specs.Prelude.{◌≡◌, IfOk};
 
 use jrmp_frames::Arguments;
-use mod_utf::list::{Sequence, TryCopy, Units};
 use object_ids::ObjId;
+use sequence::{Sequence, TryCopy, Units};
 use ser_values::{Graph, Value};
 use std::alloc::{AllocError, Global};
 

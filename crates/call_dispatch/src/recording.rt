@@ -5,8 +5,8 @@ ghost use Rattle.call_dispatch.specs.Recording.{call_of, head_or};
 
 use crate::outcome::{Invocation, Outcome, OutcomeList};
 use crate::worker::Worker;
-use mod_utf::list::TryCopy;
 use object_ids::ObjId;
+use sequence::TryCopy;
 use std::alloc::Global;
 
 /// A call of a worker, as it is kept.

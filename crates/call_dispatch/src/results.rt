@@ -11,8 +11,8 @@ use crate::setup::Setup;
 use class_desc::{TypeCode, is_primitive};
 use java_shapes::with_result_flag;
 use jrmp_frames::{Body, return_bytes};
-use mod_utf::list::{ByteList, Kinds, Units};
 use object_ids::{ObjId, ObjIds, Uid};
+use sequence::{ByteList, Kinds, Units};
 use ser_values::Graph;
 use std::alloc::{AllocError, Global};
 

@@ -19,8 +19,9 @@ use crate::setup::Setup;
 use class_desc::{Item, TypeCode, is_primitive};
 use java_shapes::{fault_graph, local_refs};
 use jrmp_frames::{Body, return_bytes};
-use mod_utf::list::{ByteList, Kinds, Units};
+use mod_utf::utf::units_of_ascii;
 use object_ids::{FullKind, ObjId, ObjIds, Uid};
+use sequence::{ByteList, Kinds, Units};
 use ser_values::{Graph, Value};
 use std::alloc::{AllocError, Global};
 
@@ -75,7 +76,7 @@ pub fn exceptional_ascii(alloc: Global, uid: Uid, message: &[u8]) -> Result<Byte
     ensures written { IfOk result (λ bytes. bytes ≡ fault_return uid message.now) }
     ensures short { IfOk result (λ bytes. length bytes ≤ RETURN_BYTES) }
 {
-    let message = Units::from_ascii(alloc, message)?;
+    let message = units_of_ascii(alloc, message)?;
     let bytes = exceptional(alloc, uid, &message)?;
     if bytes.len() > RETURN_BYTES {
         return Err(AllocError);

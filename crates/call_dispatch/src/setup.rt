@@ -1,6 +1,6 @@
 //! What a connection is told beforehand.
-use mod_utf::list::Units;
 use object_ids::UidDraw;
+use sequence::Units;
 
 /// The identifiers that a connection draws begin at a moment below this one, in milliseconds: so the drawing doesn't end.
 pub const DRAWS_BEGIN_BELOW: u64 = 1 << 61;

@@ -20,8 +20,9 @@ use crate::setup::Setup;
 use history::{Name, Refused, Reply, Turn};
 use java_shapes::texts_graph;
 use jrmp_frames::{Body, return_bytes};
-use mod_utf::list::{ByteList, NameList, Units};
+use mod_utf::utf::units_of_ascii;
 use object_ids::{ObjId, Uid};
+use sequence::{ByteList, NameList};
 use std::alloc::{AllocError, Global};
 
 // ---- exceptional Returns
@@ -30,7 +31,7 @@ use std::alloc::{AllocError, Global};
 fn named_fault(alloc: Global, uid: Uid, front: &[u8], name: &Name) -> Result<ByteList, AllocError>
     ensures { IfOk result (λ bytes. bytes ≡ named_fault uid front.now name.now) }
 {
-    let mut message = Units::from_ascii(alloc, front)?;
+    let mut message = units_of_ascii(alloc, front)?;
     message.append(name.units().as_slice())?;
     exceptional(alloc, uid, &message)
 }

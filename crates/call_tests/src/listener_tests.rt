@@ -5,8 +5,8 @@ ghost use Rattle.mod_utf.specs.Utf.{utf};
 ghost use Rattle.wire_io.specs.Links.{IsNew};
 
 use crate::texts::{listed, must, units_of};
-use mod_utf::list::{Kinds, MomentList, Units};
 use mod_utf::utf::encoded_len;
+use sequence::{Kinds, MomentList, Units};
 use std::alloc::Global;
 use std::process::Abort;
 use wire_io::link::Link;

@@ -4,9 +4,8 @@ use jrmp_frames::{
     Body, CallHead, FrameFault, call_bytes, read_arguments, read_head, read_uid, return_bytes,
 };
 use method_hash::Method;
-use mod_utf::Kinds;
-use mod_utf::list::ByteList;
 use object_ids::Uid;
+use sequence::{ByteList, Kinds};
 use ser_values::{Graph, Value};
 use std::alloc::Global;
 use std::process::Abort;

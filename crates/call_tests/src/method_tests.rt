@@ -2,7 +2,7 @@
 use crate::texts::{cut, listed, must, number_of, put};
 use class_desc::TypeCode;
 use method_hash::{Method, MethodFault, fold_hash, hash};
-use mod_utf::list::ByteList;
+use sequence::ByteList;
 use std::alloc::Global;
 use std::process::Abort;
 

@@ -2,8 +2,8 @@
 use crate::texts::{cut, listed, put};
 use call_dispatch::Recorded;
 use history::Refused;
-use mod_utf::list::Kinds;
 use object_ids::{FullKind, ObjId, ObjIds};
+use sequence::Kinds;
 use space::{Ask, Asked, AskedEnd, Space, journal};
 use std::alloc::Global;
 use std::process::Abort;

@@ -11,9 +11,9 @@ use call_dispatch::{
     Book, ConnEnd, Kind, KindList, Outcome, OutcomeList, RecordingWorker, Setup, serve_connection,
 };
 use method_hash::{Method, MethodList};
-use mod_utf::list::{ByteList, Kinds, Units};
 use mod_utf::utf::encoded_len;
 use object_ids::UidDraw;
+use sequence::{ByteList, Kinds, Units};
 use ser_read::read_to_end;
 use ser_values::{Graph, Value};
 use space::{DirectPort, Space};

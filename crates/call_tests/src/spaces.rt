@@ -1,8 +1,8 @@
 //! Spaces before a connection: of one object, and at their limits.
 use crate::texts::{must, number_of};
 use history::Name;
-use mod_utf::list::{ByteList, Kinds, Units};
 use object_ids::{ObjId, ObjIds, Uid, Vmid};
+use sequence::{ByteList, Kinds, Units};
 use space::{Ask, Space, SpaceConfig};
 use std::alloc::Global;
 use std::process::Abort;

@@ -1,6 +1,7 @@
 //! Bytes and lists from text. A test stops where there is no memory: no helper answers an error, and none has an early end.
 use class_desc::{Item, Items, Slot};
-use mod_utf::list::{ByteList, MomentList, Units};
+use mod_utf::utf::units_of_ascii;
+use sequence::{ByteList, MomentList, Units};
 use ser_values::{Builder, Graph};
 use std::alloc::Global;
 use std::process::Abort;
@@ -24,7 +25,7 @@ pub(crate) fn listed(rt: &impl Abort, alloc: Global, piece: &[u8]) -> ByteList {
 
 /// The units of a text of ASCII.
 pub(crate) fn units_of(rt: &impl Abort, alloc: Global, text: &str) -> Units {
-    Units::from_ascii(alloc, text.as_bytes()).expect(rt, "memory")
+    units_of_ascii(alloc, text.as_bytes()).expect(rt, "memory")
 }
 
 /// What stands before the separator, and what after it.

@@ -8,7 +8,7 @@ ghost use Rattle.class_desc.specs.ClassDesc.{has_flag, lacks_flag, fit_flags, co
 use crate::desc::{BLOCK_DATA, ClassDesc, ENUM, EXTERNALIZABLE, SERIALIZABLE, WRITE_METHOD};
 use crate::field::{FieldDesc, TypeCode, is_primitive};
 use crate::type_text::fits_text;
-use mod_utf::list::Units;
+use sequence::Units;
 use std::cmp::Ordering;
 use thiserror::Error;
 

@@ -3,7 +3,7 @@
 use crate::desc::{ClassDesc, ProxyDesc};
 use crate::field::FieldDesc;
 use crate::slot::{Item, Slot};
-use mod_utf::list::TryCopy;
+use sequence::TryCopy;
 use std::alloc::{AllocError, Global};
 
 impl TryCopy for Slot {

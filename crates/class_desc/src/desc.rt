@@ -2,7 +2,7 @@
 
 use crate::field::FieldList;
 use crate::slot::{Items, Slot};
-use mod_utf::list::{NameList, Units};
+use sequence::{NameList, Units};
 
 /// The flag of a class with a `writeObject` method of its own (`SC_WRITE_METHOD`, section 6.4.2).
 pub const WRITE_METHOD: u8 = 1;

@@ -3,7 +3,7 @@
 use crate::desc::{ClassDesc, ProxyDesc};
 use crate::field::{FieldDesc, TypeCode};
 use crate::slot::{Item, Slot};
-use mod_utf::list::Same;
+use sequence::Same;
 
 impl Same for Slot {
     fn is_same(&self, other: &Slot) -> bool {

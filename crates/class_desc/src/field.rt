@@ -3,7 +3,7 @@ ghost use Rattle.std.specs.Prelude.{◌≡◌};
 ghost use Rattle.class_desc.specs.TypeCode.{is_primitive};
 
 use crate::slot::Slot;
-use mod_utf::list::{Sequence, Units};
+use sequence::{Sequence, Units};
 
 /// The type of a field or of an array's elements (`prim_typecode` and `obj_typecode`, section 6.4.2).
 #[derive(Clone, Copy, Debug, PartialEq, Eq)]

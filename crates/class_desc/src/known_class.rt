@@ -4,7 +4,8 @@ ghost use Rattle.class_desc.specs.KnownClass.{parts_of, plain, typed};
 
 use crate::desc::{SERIALIZABLE, WRITE_METHOD};
 use crate::field::TypeCode;
-use mod_utf::list::{Sequence, Units};
+use mod_utf::utf::units_of_ascii;
+use sequence::{Sequence, Units};
 use std::alloc::{AllocError, Global};
 
 /// A class that the runtime itself sends.
@@ -71,7 +72,7 @@ pub struct ClassParts {
 fn units_of(alloc: Global, text: &str) -> Result<Units, AllocError>
     ensures { IfOk result (λ units. units ≡ text.now) }
 {
-    Units::from_ascii(alloc, text.as_bytes())
+    units_of_ascii(alloc, text.as_bytes())
 }
 
 /// Appends a field.

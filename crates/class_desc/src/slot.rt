@@ -1,6 +1,6 @@
 //! References between the nodes of a graph, and the contents of annotations.
 
-use mod_utf::list::{ByteList, Sequence};
+use sequence::{ByteList, Sequence};
 
 /// A reference: null, or the number of a node.
 #[derive(Clone, Copy, Debug, PartialEq, Eq)]

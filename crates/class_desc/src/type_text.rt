@@ -5,7 +5,7 @@ ghost use Rattle.class_desc.specs.TypeText.{ends_class, is_class_text, is_letter
 ghost use Rattle.class_desc.specs.declared.field.TypeCode.{TypeCode};
 
 use crate::field::TypeCode;
-use mod_utf::list::Units;
+use sequence::Units;
 
 /// Whether a text ends in a semicolon.
 #[tactic(auto, unfolding(crate::specs::TypeText::ends_class), using(crate::proofs::TypeTexts::ends_last))]

@@ -9,8 +9,8 @@ use history::plain::turns::is_abandon;
 use history::{
     Ask, Event, EventList, Exported, ExportedList, Place, Refused, Reply, SpaceConfig, Turn,
 };
-use mod_utf::list::NameList;
 use object_ids::{ObjId, ObjIds};
+use sequence::NameList;
 use std::alloc::{AllocError, Global};
 
 /// A history, and what the definitions say of it.

@@ -13,8 +13,8 @@ use journal::ObjectRow;
 use journal::outline::{
     put_events_line, put_lease_line, put_name_line, put_object_line, put_withdrawal_line,
 };
-use mod_utf::list::{ByteList, Same};
 use object_ids::{ObjId, Vmid};
+use sequence::{ByteList, Same};
 use std::alloc::{AllocError, Global};
 
 /// The outline of these places.

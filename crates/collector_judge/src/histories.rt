@@ -8,8 +8,8 @@ use crate::course::Course;
 use crate::draws::Draws;
 use history::plain::running::running;
 use history::{Ask, Event, Exported, Name, SpaceConfig};
-use mod_utf::list::{ByteList, Kinds, Units};
 use object_ids::{ObjId, ObjIds, Uid, Vmid};
+use sequence::{ByteList, Kinds, Units};
 use std::alloc::{AllocError, Global};
 
 /// How many connections there are.

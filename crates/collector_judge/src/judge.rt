@@ -9,7 +9,7 @@ use history::limits::END_OF_TIME;
 use history::plain::table::places;
 use history::plain::turns::answers;
 use history::{Ask, Event, Limits, Place, Refused, SpaceConfig, Turn};
-use mod_utf::list::{ByteList, Same};
+use sequence::{ByteList, Same};
 use space::{Space, outline};
 use std::alloc::{AllocError, Global};
 

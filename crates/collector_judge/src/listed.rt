@@ -5,7 +5,7 @@ ghost use Rattle.history.specs.declared.limits.TheConstants.{END_OF_TIME, MAX_DU
 
 use crate::judge::{are_same, is_early, is_outlined};
 use history::{Event, Refused, SpaceConfig, Turn};
-use mod_utf::list::{ByteList, Same};
+use sequence::{ByteList, Same};
 use space::Space;
 use std::alloc::{AllocError, Global};
 

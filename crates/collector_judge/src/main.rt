@@ -19,7 +19,7 @@ use crate::judge::{Verdict, judge_course, judge_plainly};
 use history::plain::places::next;
 use history::{Event, SpaceConfig};
 use journal::{put_event_line, put_first_line};
-use mod_utf::list::ByteList;
+use sequence::ByteList;
 use std::alloc::{AllocError, Global};
 use std::io;
 use std::io::Write;

@@ -3,8 +3,8 @@ use history::{Refused, Reply, Turn};
 use journal::Word;
 use journal::outline::put_line;
 use journal::put::put_units;
-use mod_utf::list::{ByteList, NameList};
 use object_ids::{FullKind, ObjIds, Uid};
+use sequence::{ByteList, NameList};
 use std::alloc::AllocError;
 
 /// Appends the lines of an answer, in the journal of the space of this identifier: `> REPLY` or `> REFUSAL`, and `> gone OBJECTS` where

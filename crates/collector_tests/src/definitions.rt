@@ -7,8 +7,8 @@ use history::plain::table::{lease_calls, places};
 use history::plain::turns::answers;
 use history::{EventList, Limits, Refused, SpaceConfig, Turn};
 use journal::read_event;
-use mod_utf::list::ByteList;
 use object_ids::{ObjId, Uid};
+use sequence::ByteList;
 use std::alloc::{AllocError, Global};
 use std::process::Abort;
 

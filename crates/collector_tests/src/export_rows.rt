@@ -5,8 +5,8 @@ ghost use Rattle.history.specs.declared.limits.TheConstants.{END_OF_TIME};
 use crate::scripts::{MEMORY, must};
 use dgc_server::Leases;
 use export_table::{ExportFault, Exports};
-use mod_utf::list::ByteList;
 use object_ids::{ObjId, ObjIds, Uid, Vmid};
+use sequence::ByteList;
 use std::alloc::{AllocError, Global};
 use std::process::Abort;
 

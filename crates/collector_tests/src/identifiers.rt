@@ -1,7 +1,7 @@
 //! Identifiers: bytes that Java wrote, drawing, and copies.
 use crate::scripts::{MEMORY, must};
-use mod_utf::list::{ByteList, Same};
 use object_ids::{ObjId, ObjIds, Uid, UidDraw, Vmid, objid_bytes, objid_of, uid_bytes, uid_of};
+use sequence::{ByteList, Same};
 use std::alloc::Global;
 use std::process::Abort;
 

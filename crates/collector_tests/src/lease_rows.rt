@@ -10,8 +10,8 @@ use dgc_server::Leases;
 use history::Ask;
 use journal::Word;
 use journal::outline::{put_lease_line, put_line};
-use mod_utf::list::ByteList;
 use object_ids::{ObjId, Uid};
+use sequence::ByteList;
 use std::alloc::{AllocError, Global};
 use std::process::Abort;
 

@@ -5,9 +5,9 @@ use history::{Ask, Name};
 use journal::outline::put_line;
 use journal::put::put_object;
 use journal::{Word, read_event};
-use mod_utf::list::{ByteList, Units};
 use object_ids::{ObjId, Uid};
 use rmi_registry::{NameFault, Names};
+use sequence::{ByteList, Units};
 use std::alloc::{AllocError, Global};
 use std::process::Abort;
 

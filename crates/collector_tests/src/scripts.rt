@@ -5,7 +5,7 @@ ghost use Rattle.history.specs.declared.limits.TheConstants.{MAX_DURATION};
 use history::SpaceConfig;
 use history::limits::MAX_DURATION;
 use journal::read_first_line;
-use mod_utf::list::ByteList;
+use sequence::ByteList;
 use std::alloc::AllocError;
 use std::process::Abort;
 

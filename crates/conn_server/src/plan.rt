@@ -8,8 +8,8 @@ ghost use Rattle.call_dispatch.specs.declared.setup.TheConstants.{DRAWS_BEGIN_BE
 ghost use Rattle.conn_server.specs.Plans.{low_signed, link_terms};
 
 use call_dispatch::{DRAWS_BEGIN_BELOW, Setup};
-use mod_utf::list::Units;
 use object_ids::UidDraw;
+use sequence::Units;
 use std::alloc::{AllocError, Global};
 use wire_io::Link;
 

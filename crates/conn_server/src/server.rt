@@ -22,7 +22,7 @@ use crate::ended::EndedLinks;
 use crate::jobs::LinkReport;
 use crate::plan::ServePlan;
 use call_dispatch::Book;
-use mod_utf::list::Sequence;
+use sequence::Sequence;
 use space::{Asked, AskedList, Space};
 use std::alloc::Global;
 use std::sync::Wait;

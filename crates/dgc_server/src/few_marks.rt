@@ -9,8 +9,8 @@ ghost use Rattle.dgc_server.specs.Index.{is_named};
 use crate::holders::{self, Counts};
 use crate::numbers::Numbers;
 use crate::packed::Packed;
-use mod_utf::list::Same;
 use object_ids::ObjId;
+use sequence::Same;
 
 /// An object that a client named, with its numbers.
 pub type Mark = (ObjId, Packed);

@@ -7,8 +7,8 @@ ghost use Rattle.drill.specs.Rounds.{uid_at, object_at, drill_config, opening, c
 
 use crate::generator::{Choice, Draws, draws_after};
 use history::{Ask, Event, SpaceConfig};
-use mod_utf::list::{ByteList, Kinds};
 use object_ids::{ObjId, ObjIds, Uid, Vmid};
+use sequence::{ByteList, Kinds};
 use std::alloc::{AllocError, Global};
 use std::marker::Model;
 

@@ -2,8 +2,8 @@
 ghost use Rattle.std.specs.Prelude.{◌≡◌, ◌<◌, ◌≤◌, ◌+◌, ◌++◌, ◌∷◌, [], length, slice_get, Some, IfSome, IsTrue, OnOk, vec_capacity};
 
 use history::Name;
-use mod_utf::list::Same;
 use object_ids::Vmid;
+use sequence::Same;
 use std::alloc::{AllocError, Global};
 
 /// What a slot without a number holds. No value gets this number.

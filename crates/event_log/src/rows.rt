@@ -8,8 +8,8 @@ ghost use Rattle.event_log.specs.Views.{viewed};
 use crate::numbered::{Clients, Names};
 use crate::view::EventView;
 use history::{Ask, Event, Name};
-use mod_utf::list::{Kinds, Same};
 use object_ids::{ObjId, ObjIds, Uid, Vmid};
+use sequence::{Kinds, Same};
 use std::alloc::{AllocError, Global};
 
 /// What a row says beside its connection and its moment.

@@ -5,8 +5,8 @@ ghost use Rattle.mod_utf.specs.Utf.{utf};
 ghost use Rattle.wire_io.specs.Links.{IsNew};
 ghost use Rattle.wire_io.specs.declared.limits.TheConstants.{MAX_HOST_BYTES};
 
-use mod_utf::list::{ByteList, Kinds, MomentList, Units};
-use mod_utf::utf::encoded_len;
+use mod_utf::utf::{encoded_len, units_of_ascii};
+use sequence::{ByteList, Kinds, MomentList, Units};
 use std::alloc::Global;
 use wire_io::{Link, MAX_HOST_BYTES, MemClock, MemLinks, MemSink, MemSource};
 
@@ -63,7 +63,7 @@ pub const ASKING: [&[u8]; 5] = [OPENING, CALL, REGISTRY, LOOKUP, b"t\x00\x06clos
 pub fn this_host(alloc: Global) -> Option<Units>
     ensures { IfSome result (λ host. length (utf host) ≤ MAX_HOST_BYTES) }
 {
-    let host = Units::from_ascii(alloc, b"127.0.0.1").ok()?;
+    let host = units_of_ascii(alloc, b"127.0.0.1").ok()?;
     if encoded_len(&host) > MAX_HOST_BYTES {
         return None;
     }

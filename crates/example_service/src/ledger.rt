@@ -8,8 +8,7 @@ use call_dispatch::{Book, Invocation, Kind, KindList, Outcome, Worker};
 use conn_server::Crew;
 use jrmp_frames::Arg;
 use method_hash::{Method, MethodList};
-use mod_utf::list::Units;
-use mod_utf::utf::encoded_len;
+use mod_utf::utf::{encoded_len, units_of_ascii};
 use object_ids::ObjId;
 use ser_values::Value;
 use std::alloc::{AllocError, Global};
@@ -35,7 +34,7 @@ fn ledger_kind(alloc: Global) -> Option<Kind>
     ensures methods { IfSome result (λ kind. length kind.methods < 2 ^ 32) }
     ensures interface { IfSome result (λ kind. length (utf kind.interface) ≤ 65535) }
 {
-    let interface = Units::from_ascii(alloc, b"example.Ledger").ok()?;
+    let interface = units_of_ascii(alloc, b"example.Ledger").ok()?;
     if encoded_len(&interface) > 65_535 {
         return None;
     }
@@ -74,7 +73,7 @@ fn amount_of(call: &Invocation) -> i64
 fn overflow(alloc: Global) -> Outcome
     ensures { (result ≡ overflow) ⊎ (result ≡ OutOfMemory) }
 {
-    match Units::from_ascii(alloc, b"java.lang.ArithmeticException: overflow") {
+    match units_of_ascii(alloc, b"java.lang.ArithmeticException: overflow") {
         Ok(message) => Outcome::Fault(message),
         Err(_refused) => Outcome::OutOfMemory,
     }

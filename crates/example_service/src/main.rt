@@ -17,7 +17,7 @@ use crate::ledger::{LedgerCrew, LedgerHand, ledger_book};
 use call_dispatch::Book;
 use conn_server::{LinkReport, Report, ServePlan, serve};
 use history::{Ask, Name, SpaceConfig};
-use mod_utf::list::Units;
+use mod_utf::utf::units_of_ascii;
 use object_ids::{ObjId, Uid};
 use space::{Space, outline};
 use std::alloc::Global;
@@ -57,7 +57,7 @@ type LedgerReport<'t, R> = Report<MemSource, MemSink, MemClock, LedgerHand<'t, R
 fn furnish(alloc: Global, space: &mut Space) -> Option<()> {
     let (pinned, object) = (true, LEDGER);
     space.turn(0, 0, Ask::Open { kind: 0, pinned }).ok()?;
-    let name = Name::new(Units::from_ascii(alloc, b"ledger").ok()?).ok()?;
+    let name = Name::new(units_of_ascii(alloc, b"ledger").ok()?).ok()?;
     space.turn(0, 0, Ask::Bind { name, object }).ok()?;
     Some(())
 }

@@ -7,8 +7,8 @@ ghost use Rattle.export_table.specs.Waits.{waiting};
 use crate::row_table::RowTable;
 use crate::wait_list::WaitList;
 use dgc_server::Leases;
-use mod_utf::list::{Same, Sequence};
 use object_ids::ObjId;
+use sequence::{Same, Sequence};
 
 /// An exported object, with what keeps it.
 #[derive(Clone, Copy)]

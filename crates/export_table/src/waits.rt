@@ -6,8 +6,8 @@ ghost use Rattle.export_table.specs.Waits.{is_wait_of, goes_on, waiting, over, e
 ghost use Rattle.export_table.specs.Index.{stays, EndsNoEarlier, EndsRise};
 ghost use Rattle.dgc_server.specs.Index.{one_if};
 
-use mod_utf::list::Same;
 use object_ids::{ObjId, Uid};
+use sequence::Same;
 use std::alloc::{AllocError, Global};
 
 /// A reference to an object that was returned, and awaits its acknowledgement (Java RMI Specification,

@@ -8,7 +8,7 @@ ghost use Rattle.graph_bench.specs.Sample.{fixed_nodes, node_class, array_class,
 
 use crate::sizes::Sizes;
 use class_desc::{ClassDesc, FieldDesc, FieldList, Item, Items, SERIALIZABLE, Slot, TypeCode};
-use mod_utf::list::{ByteList, Units};
+use sequence::{ByteList, Units};
 use ser_values::{BuildFault, Builder, Part, PartList, Value, ValueList, Values};
 use std::alloc::{AllocError, Global};
 

@@ -5,7 +5,7 @@ ghost use Rattle.graph_text.specs.GraphText.{part_text, tail_text, suid_text, cl
 use crate::words::{Shown, put_listed, put_node_name};
 use class_desc::{ClassDesc, Item, ProxyDesc, Slot};
 use journal::put::{put_decimal, put_hex};
-use mod_utf::list::ByteList;
+use sequence::ByteList;
 use ser_values::{Graph, Node, Part, Values};
 use std::alloc::{AllocError, Global};
 

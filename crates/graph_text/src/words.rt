@@ -6,7 +6,7 @@ ghost use Rattle.graph_text.specs.GraphText.{listed, hex, node_name, slot_text, 
 
 use class_desc::{FieldDesc, Item, Slot, is_primitive};
 use journal::put::{put_decimal, put_hex, put_signed, put_units};
-use mod_utf::list::{ByteList, Units};
+use sequence::{ByteList, Units};
 use ser_values::{Value, Values};
 use std::alloc::AllocError;
 

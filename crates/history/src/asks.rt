@@ -3,8 +3,8 @@ ghost use Rattle.std.specs.Prelude.{◌≡◌, ◌↔◌, false, IfOk, IsTrue};
 ghost use Rattle.history.specs.Asks.{has_lists};
 
 use crate::names::Name;
-use mod_utf::list::{Kinds, Same, Sequence, TryCopy};
 use object_ids::{ObjId, ObjIds, Uid, Vmid};
+use sequence::{Kinds, Same, Sequence, TryCopy};
 use std::alloc::{AllocError, Global};
 
 /// What a space keeps to from its first event on.

@@ -1,8 +1,8 @@
 //! Lease calls: what clients send to the collector.
 ghost use Rattle.std.specs.Prelude.{◌≡◌, IfOk};
 
-use mod_utf::list::{Same, Sequence, TryCopy};
 use object_ids::{ObjId, ObjIds, Vmid};
+use sequence::{Same, Sequence, TryCopy};
 use std::alloc::{AllocError, Global};
 
 /// The kinds of lease calls (Java RMI Specification, chapter 9: `DGC.dirty` and `DGC.clean`).

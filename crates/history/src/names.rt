@@ -3,7 +3,7 @@ ghost use Rattle.std.specs.Prelude.{◌≡◌, ◌≤◌, ◌↔◌, length, IfO
 ghost use Rattle.history.specs.declared.limits.TheConstants.{MAX_NAME_UNITS};
 
 use crate::limits::MAX_NAME_UNITS;
-use mod_utf::list::{Same, TryCopy, Units};
+use sequence::{Same, TryCopy, Units};
 use std::alloc::{AllocError, Global};
 use std::marker::Model;
 

@@ -1,8 +1,8 @@
 //! What is said of the places of a history.
 
 use crate::asks::Event;
-use mod_utf::list::{Same, Sequence, TryCopy};
 use object_ids::{ObjId, ObjIds, Uid};
+use sequence::{Same, Sequence, TryCopy};
 use std::alloc::{AllocError, Global};
 
 /// An object of a space, as it was exported.

@@ -1,8 +1,8 @@
 //! What a space answers.
 ghost use Rattle.std.specs.Prelude.{◌≡◌, IfOk};
 
-use mod_utf::list::{NameList, Same, TryCopy};
 use object_ids::{FullKind, ObjId, ObjIds};
+use sequence::{NameList, Same, TryCopy};
 use std::alloc::{AllocError, AllocFailed, Global};
 
 /// What an event is answered.

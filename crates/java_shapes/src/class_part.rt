@@ -4,7 +4,7 @@ ghost use Rattle.class_desc.specs.declared.field.TypeCode.TheVariants as types;
 ghost use Rattle.java_shapes.specs.Objects.{same_text, is_field, value_of, node_at, text_in, named_in, parent_in, held_within, held_in, own_in, own_at, as_slot, as_short, as_int, as_long, array_in, array_at, as_bytes, as_refs};
 
 use class_desc::{ClassDesc, FieldDesc, Slot, SlotList, TypeCode};
-use mod_utf::list::{ByteList, Units};
+use sequence::{ByteList, Units};
 use ser_values::{Node, Part, Value, Values};
 use std::alloc::{AllocError, Global};
 

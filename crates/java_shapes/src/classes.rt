@@ -12,7 +12,7 @@ use class_desc::{
     ClassDesc, FieldDesc, FieldList, Item, Items, KnownClass, PartField, Slot, SlotList,
     is_primitive, known,
 };
-use mod_utf::list::Units;
+use sequence::Units;
 use ser_values::{BuildFault, Builder, PartList, Values};
 use std::alloc::{AllocError, Global};
 

@@ -9,8 +9,8 @@ use crate::class_part::copy_text;
 use crate::classes::desc_of;
 use crate::faults::fault_parts;
 use class_desc::{Item, Items, KnownClass, Slot};
-use mod_utf::list::Units;
-use mod_utf::utf::encoded_len;
+use mod_utf::utf::{encoded_len, units_of_ascii};
+use sequence::Units;
 use ser_values::{Graph, Node, NodeList};
 use std::alloc::{AllocError, Global};
 
@@ -49,7 +49,7 @@ fn add_classes(alloc: Global, nodes: &mut NodeList) -> Result<(), AllocError>
         &[Slot::Node(1)],
         Slot::Node(2),
     )?;
-    add_text(nodes, Units::from_ascii(alloc, b"Ljava/lang/Throwable;")?)?;
+    add_text(nodes, units_of_ascii(alloc, b"Ljava/lang/Throwable;")?)?;
     add_class(alloc, nodes, KnownClass::IoException, &[], Slot::Node(3))?;
     add_class(alloc, nodes, KnownClass::Exception, &[], Slot::Node(4))?;
     add_class(
@@ -59,7 +59,7 @@ fn add_classes(alloc: Global, nodes: &mut NodeList) -> Result<(), AllocError>
         &[Slot::Node(5)],
         Slot::Null,
     )?;
-    add_text(nodes, Units::from_ascii(alloc, b"Ljava/lang/String;")?)
+    add_text(nodes, units_of_ascii(alloc, b"Ljava/lang/String;")?)
 }
 
 /// Looks at the units of a text: each is in its type's range.

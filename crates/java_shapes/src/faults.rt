@@ -6,7 +6,7 @@ ghost use Rattle.java_shapes.specs.Throwable.{fault_text_at};
 
 use crate::classes::{put_class, put_object, put_text};
 use class_desc::{Items, KnownClass, Slot};
-use mod_utf::list::Units;
+use sequence::Units;
 use ser_values::{BuildFault, Builder, Part, PartList, Value, ValueList};
 use std::alloc::{AllocError, Global};
 

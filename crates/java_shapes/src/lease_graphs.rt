@@ -7,8 +7,9 @@ ghost use Rattle.java_shapes.specs.LeaseGraph.{lease_first, vmid_class, vmid_par
 use crate::fault_graphs::{add_class, add_text};
 use crate::leases::{lease_parts, one_part, uid_parts};
 use class_desc::{Item, Items, KnownClass, Slot};
-use mod_utf::list::{ByteList, Units};
+use mod_utf::utf::units_of_ascii;
 use object_ids::{Uid, Vmid};
+use sequence::ByteList;
 use ser_values::{Graph, Node, NodeList, PartList, Value, Values};
 use std::alloc::{AllocError, Global};
 
@@ -27,7 +28,7 @@ fn add_lease(alloc: Global, nodes: &mut NodeList, value: &i64) -> Result<(), All
         &[Slot::Null, Slot::Node(1)],
         Slot::Null,
     )?;
-    add_text(nodes, Units::from_ascii(alloc, b"Ljava/rmi/dgc/VMID;")?)?;
+    add_text(nodes, units_of_ascii(alloc, b"Ljava/rmi/dgc/VMID;")?)?;
     let parts = lease_parts(alloc, value, Slot::Node(6))?;
     nodes.push(Node::Object { class: 0, parts })
 }
@@ -43,7 +44,7 @@ fn add_vmid_class(alloc: Global, nodes: &mut NodeList) -> Result<(), AllocError>
         &[Slot::Node(4), Slot::Node(5)],
         Slot::Null,
     )?;
-    add_text(nodes, Units::from_ascii(alloc, b"[B")?)
+    add_text(nodes, units_of_ascii(alloc, b"[B")?)
 }
 
 /// The part of a client whose address is node 8 and whose identifier is node 10.
@@ -60,7 +61,7 @@ fn vmid_parts(alloc: Global) -> Result<PartList, AllocError>
 fn add_vmid(alloc: Global, nodes: &mut NodeList) -> Result<(), AllocError>
     ensures { OnOk result (nodes.new ≡ nodes.old ++ vmid_next) }
 {
-    add_text(nodes, Units::from_ascii(alloc, b"Ljava/rmi/server/UID;")?)?;
+    add_text(nodes, units_of_ascii(alloc, b"Ljava/rmi/server/UID;")?)?;
     let parts = vmid_parts(alloc)?;
     nodes.push(Node::Object { class: 3, parts })
 }

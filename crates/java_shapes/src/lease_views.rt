@@ -9,8 +9,8 @@ use crate::class_part::{ClassPart, bytes_at, node_at, own_at};
 use crate::fault::ShapeFault;
 use crate::id_views::uid_at;
 use class_desc::{Slot, TypeCode};
-use mod_utf::list::ByteList;
 use object_ids::{MAX_ADDRESS_BYTES, Uid, Vmid};
+use sequence::ByteList;
 use ser_values::{Graph, Node, Value};
 use std::alloc::Global;
 

@@ -8,8 +8,8 @@ ghost use Rattle.java_shapes.specs.Shapes.{BytesAt, LeaseAt, UidAt, VmidAt, one_
 
 use crate::classes::{put_array, put_class, put_object};
 use class_desc::{Items, KnownClass, Slot};
-use mod_utf::list::ByteList;
 use object_ids::{Uid, Vmid};
+use sequence::ByteList;
 use ser_values::{BuildFault, Builder, Part, PartList, Value, ValueList, Values};
 use std::alloc::{AllocError, Global};
 

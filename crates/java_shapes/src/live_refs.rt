@@ -16,9 +16,9 @@ use crate::classes::{no_codebase, put_class, put_object};
 use crate::faults::{empty_part, reference};
 use crate::ref_views::LiveRef;
 use class_desc::{Item, Items, KnownClass, ProxyDesc, Slot};
-use mod_utf::list::{ByteList, NameList, Units};
-use mod_utf::utf::encode;
+use mod_utf::utf::{encode, units_of_ascii};
 use object_ids::objid_bytes;
+use sequence::{ByteList, NameList, Units};
 use ser_values::{BuildFault, Builder, Part, PartList, ValueList};
 use std::alloc::{AllocError, Global};
 
@@ -99,7 +99,7 @@ fn interfaces(alloc: Global, interface: &Units) -> Result<NameList, AllocError>
         names.push(copy_text(alloc, interface)?)?;
         return Ok(names);
     }
-    names.push(Units::from_ascii(alloc, b"java.rmi.Remote")?)?;
+    names.push(units_of_ascii(alloc, b"java.rmi.Remote")?)?;
     names.push(copy_text(alloc, interface)?)?;
     Ok(names)
 }

@@ -9,8 +9,8 @@ use crate::fault::ShapeFault;
 use crate::ref_views::{LiveRef, live_ref_in};
 use class_desc::Slot;
 use indexmap::IndexSet;
-use mod_utf::list::{Same, Units};
 use object_ids::{ObjId, ObjIds};
+use sequence::{Same, Units};
 use ser_values::{Graph, Node};
 use std::alloc::{AllocError, Global};
 

@@ -7,7 +7,7 @@ ghost use Rattle.java_shapes.specs.Shapes.{AreTexts, TextsAt};
 
 use crate::classes::{put_array, put_class, put_text};
 use class_desc::{KnownClass, Slot, SlotList};
-use mod_utf::list::{NameList, Units};
+use sequence::{NameList, Units};
 use ser_values::{BuildFault, Builder, Values};
 use std::alloc::Global;
 

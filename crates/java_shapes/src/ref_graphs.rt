@@ -10,8 +10,8 @@ use crate::lease_graphs::look_at_bytes;
 use crate::live_refs::{handler_parts, proxy_parts, proxy_with, ref_note};
 use crate::ref_views::LiveRef;
 use class_desc::{Item, Items, KnownClass, Slot};
-use mod_utf::list::{ByteList, Units};
-use mod_utf::utf::encoded_len;
+use mod_utf::utf::{encoded_len, units_of_ascii};
+use sequence::{ByteList, Units};
 use ser_values::{Graph, Node, NodeList};
 use std::alloc::{AllocError, Global};
 
@@ -34,7 +34,7 @@ fn add_proxy(alloc: Global, nodes: &mut NodeList, interface: &Units) -> Result<(
     )?;
     add_text(
         nodes,
-        Units::from_ascii(alloc, b"Ljava/lang/reflect/InvocationHandler;")?,
+        units_of_ascii(alloc, b"Ljava/lang/reflect/InvocationHandler;")?,
     )?;
     let parts = proxy_parts(alloc, Slot::Node(6))?;
     nodes.push(Node::Object { class: 0, parts })

@@ -8,8 +8,8 @@ use crate::class_part::{held_in, node_at, own_at};
 use crate::fault::ShapeFault;
 use class_desc::{Item, Slot, TypeCode};
 use mod_utf::decode::{UtfFault, decode};
-use mod_utf::list::{ByteList, Units};
 use object_ids::{ObjId, objid_of};
+use sequence::{ByteList, Units};
 use ser_values::{Graph, Node};
 use std::alloc::Global;
 

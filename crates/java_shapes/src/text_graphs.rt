@@ -7,7 +7,7 @@ ghost use Rattle.java_shapes.specs.TextsGraph.{CanBeText, array_first, slots_fro
 use crate::class_part::copy_text;
 use crate::fault_graphs::{add_class, add_text, look};
 use class_desc::{Item, Items, KnownClass, Slot, SlotList};
-use mod_utf::list::{NameList, Units};
+use sequence::{NameList, Units};
 use ser_values::limits::NODES;
 use ser_values::{Graph, Node, NodeList, Values};
 use std::alloc::{AllocError, Global};

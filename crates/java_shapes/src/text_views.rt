@@ -6,7 +6,7 @@ ghost use Rattle.java_shapes.specs.Views.{Views};
 use crate::class_part::{copy_text, node_at, refs_at, text_in};
 use crate::fault::ShapeFault;
 use class_desc::Slot;
-use mod_utf::list::{NameList, Units};
+use sequence::{NameList, Units};
 use ser_values::{Graph, Node};
 use std::alloc::Global;
 

@@ -6,7 +6,7 @@ ghost use Rattle.java_shapes.specs.Views.{Views};
 use crate::class_part::{ClassPart, held_in, node_at, text_in};
 use crate::fault::ShapeFault;
 use class_desc::{Slot, TypeCode};
-use mod_utf::list::Units;
+use sequence::Units;
 use ser_values::{Graph, Node};
 use std::alloc::{AllocError, Global};
 

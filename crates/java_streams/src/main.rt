@@ -3,7 +3,7 @@
 #![tactic(auto)]
 
 use graph_text::graph_text;
-use mod_utf::list::{ByteList, Kinds};
+use sequence::{ByteList, Kinds};
 use ser_read::{StreamFault, read_to_end};
 use ser_values::{Graph, same_graph};
 use ser_write::write_stream;

@@ -9,8 +9,8 @@ use crate::fields::{Field, four, none, one, two};
 use crate::parts::Parts;
 use crate::unread::Unread;
 use history::{Ask, Name};
-use mod_utf::list::Kinds;
 use object_ids::{ObjId, ObjIds, Uid, Vmid};
+use sequence::Kinds;
 use std::alloc::Global;
 
 /// The word that says what is asked.

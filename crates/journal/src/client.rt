@@ -5,8 +5,8 @@ use crate::fields::{Field, two};
 use crate::hex::read_bytes;
 use crate::parts::{Parts, is_dash};
 use crate::unread::Unread;
-use mod_utf::list::ByteList;
 use object_ids::{Uid, Vmid};
+use sequence::ByteList;
 use std::alloc::Global;
 
 /// The most hexadecimal digits of an address, of which each byte has two.

@@ -3,7 +3,7 @@ ghost use Rattle.journal.specs.Reading.{Finds, Reads};
 ghost use Rattle.journal.specs.Hex.{IsHexDigit, BeginsWithByte, SpellsBytes};
 
 use crate::unread::Unread;
-use mod_utf::list::ByteList;
+use sequence::ByteList;
 use std::alloc::Global;
 
 /// The value of a hexadecimal digit, from 0 to 15.

@@ -7,8 +7,8 @@ ghost use Rattle.journal.specs.Grammar.{SpellsList, SpellsKinds, SpellsObjects};
 use crate::fields::Field;
 use crate::parts::{Parts, is_dash};
 use crate::unread::Unread;
-use mod_utf::list::{Kinds, Sequence};
 use object_ids::{ObjId, ObjIds, Uid};
+use sequence::{Kinds, Sequence};
 use std::alloc::Global;
 
 /// The items that a word spells, joined by commas.

@@ -4,8 +4,8 @@ ghost use Rattle.journal.specs.Putting.{AppendsFront};
 ghost use Rattle.journal.specs.Written.{list_text, objects_text, further_kind, further_object, IsObject, AreKinds, AreObjects};
 
 use crate::put::{put_decimal, put_object};
-use mod_utf::list::ByteList;
 use object_ids::{ObjId, Uid};
+use sequence::ByteList;
 use std::alloc::AllocError;
 
 /// What stands between the items of a list.

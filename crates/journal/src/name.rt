@@ -10,8 +10,8 @@ use crate::hex::first_byte;
 use crate::unread::Unread;
 use history::Name;
 use history::limits::MAX_NAME_UNITS;
-use mod_utf::list::Units;
 use object_ids::Uid;
+use sequence::Units;
 use std::alloc::Global;
 
 /// How many bytes the escape of a unit has.

@@ -11,8 +11,8 @@ ghost use Rattle.journal.specs.Rows.{word_text, further_text, events_text, named
 use crate::listed::{put_kinds, put_objects};
 use crate::put::{put_client, put_decimal, put_name, put_object, put_signed, put_uid};
 use history::{Name, SpaceConfig};
-use mod_utf::list::{ByteList, Kinds};
 use object_ids::{ObjId, ObjIds, Uid, Vmid};
+use sequence::{ByteList, Kinds};
 use std::alloc::AllocError;
 use std::marker::Model;
 

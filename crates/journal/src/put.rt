@@ -9,8 +9,8 @@ ghost use Rattle.journal.specs.Written.{IsObject};
 
 use crate::name::is_plain;
 use history::Name;
-use mod_utf::list::{ByteList, Same};
 use object_ids::{ObjId, Uid, Vmid};
+use sequence::{ByteList, Same};
 use std::alloc::AllocError;
 
 /// Appends a number in decimal digits.

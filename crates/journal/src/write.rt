@@ -12,8 +12,8 @@ ghost use Rattle.journal.specs.Written.{list_text, objects_text, pinned_text, st
 use crate::outline::{Word, put_line, put_words};
 use crate::put::put_decimal;
 use history::{Ask, Event, Name, SpaceConfig};
-use mod_utf::list::{ByteList, Kinds};
 use object_ids::{ObjId, ObjIds, Uid, Vmid};
+use sequence::{ByteList, Kinds};
 use std::alloc::AllocError;
 
 /// Appends a journal's first line, with its LF: the durations of a configuration, and its identifier without the count. Where

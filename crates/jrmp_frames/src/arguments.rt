@@ -12,7 +12,7 @@ use crate::fault::FrameFault;
 use crate::head::HEAD_BYTES;
 use class_desc::{Slot, TypeCode};
 use method_hash::Method;
-use mod_utf::list::Sequence;
+use sequence::Sequence;
 use ser_read::{Reader, StreamFault, Want};
 use ser_values::{Graph, Value};
 use std::alloc::Global;

@@ -6,8 +6,8 @@ ghost use Rattle.jrmp_frames.specs.Frames.{protocol_ack};
 ghost use Rattle.jrmp_frames.specs.Gives.{GivesEndpoint, GivesSkipped};
 
 use crate::fault::FrameFault;
-use mod_utf::list::{ByteList, Units};
 use mod_utf::utf::encode;
+use sequence::{ByteList, Units};
 use std::alloc::{AllocError, Global};
 use wire_io::pull::{Pull, PullEnd};
 use wire_io::source::Source;

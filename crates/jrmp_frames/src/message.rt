@@ -9,8 +9,8 @@ ghost use Rattle.ser_read.specs.Asked.{Fits};
 ghost use Rattle.jrmp_frames.specs.Messages.{wants_of, args_of, items_of, nodes_of, return_front, call_message, return_message, CallBytes, ReturnBytes};
 
 use crate::head::CallHead;
-use mod_utf::list::ByteList;
 use object_ids::{Uid, uid_bytes};
+use sequence::ByteList;
 use ser_values::{Graph, Value};
 use ser_write::{put_primitive, write_blocks_onto, write_items_after};
 use std::alloc::{AllocError, Global};

@@ -1,5 +1,5 @@
 //! What a space's journal tells of its passes.
-use mod_utf::list::ByteList;
+use sequence::ByteList;
 use space::{Space, journal};
 use std::alloc::Global;
 use std::str;

@@ -5,8 +5,8 @@ ghost use Rattle.turn_lock.specs.Rule.{most_turns};
 
 use crate::crews::{FIRST, crew, fresh, ticked};
 use crate::journals::are_counted;
-use mod_utf::list::Kinds;
 use object_ids::ObjIds;
+use sequence::Kinds;
 use space::{Ask, Space};
 use std::alloc::Global;
 use std::process::Abort;

@@ -10,7 +10,7 @@ ghost use Rattle.method_hash.specs.declared.method.TheConstants.{METHOD_BYTES};
 
 use crate::place::TextPlace;
 use class_desc::TypeCode;
-use mod_utf::list::{ByteList, Sequence};
+use sequence::{ByteList, Sequence};
 use std::alloc::{AllocError, Global};
 use thiserror::Error;
 

@@ -3,7 +3,7 @@ ghost use Rattle.std.specs.Prelude.{◌≡◌, ◌++◌, ◌<◌, ◌≤◌, len
 ghost use Rattle.mod_utf.specs.Utf.{Utf};
 ghost use Rattle.mod_utf.specs.Decoding.{front, two, three, decoded, IsUnread, GivesUnits, GivesMore};
 
-use crate::list::Units;
+use sequence::Units;
 use std::alloc::Global;
 
 /// Why bytes are not read as a text.

@@ -1,8 +1,8 @@
 //! Units as bytes: modified UTF (Java Object Serialization Specification, 6.2).
-ghost use Rattle.std.specs.Prelude.{◌≡◌, ◌++◌, length, List, ℕ, OnOk, OnErr, IfOk};
-ghost use Rattle.mod_utf.specs.Utf.{SpellsUnit, Utf, unit_bytes, utf};
+ghost use Rattle.std.specs.Prelude.{◌≡◌, ◌++◌, length, List, ℕ, All, OnOk, OnErr, IfOk};
+ghost use Rattle.mod_utf.specs.Utf.{SpellsItself, SpellsUnit, Utf, unit_bytes, utf};
 
-use crate::list::{ByteList, Units};
+use sequence::{ByteList, Units};
 use std::alloc::{AllocError, Global};
 
 /// The bytes that spell a text. It is refused only for want of memory.
@@ -15,6 +15,16 @@ pub fn encode(alloc: Global, units: &Units) -> Result<ByteList, AllocError>
         push_unit(&mut out, *unit)?;
     }
     Ok(out)
+}
+
+/// The text of these ASCII characters, one unit each: a unit's number is its byte's. Where none is 0 or above 7F, the
+/// bytes are also the text's modified UTF. It is refused only for want of memory.
+#[tactic(auto, using(crate::proofs::Spelling::ascii_spelled))]
+pub fn units_of_ascii(alloc: Global, bytes: &[u8]) -> Result<Units, AllocError>
+    ensures value { IfOk result (λ units. units ≡ bytes.now) }
+    ensures spelled { IfOk result (λ units. All SpellsItself bytes.now → Utf units bytes.now) }
+{
+    Ok(Units::from_vec(bytes.iter().map(|byte| u16::from(*byte)).collect(alloc)?))
 }
 
 /// The number of the bytes that spell a text.

@@ -4,7 +4,7 @@ ghost use Rattle.object_ids.specs.Client.{Client, client_cmp};
 ghost use Rattle.object_ids.specs.declared.limits.TheConstants.{MAX_ADDRESS_BYTES};
 
 use crate::limits::MAX_ADDRESS_BYTES;
-use mod_utf::list::{ByteList, Same, Sequence, TryCopy};
+use sequence::{ByteList, Same, Sequence, TryCopy};
 use std::alloc::{AllocError, Global};
 use std::cmp::Ordering;
 use std::marker::Model;

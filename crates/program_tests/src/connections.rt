@@ -8,9 +8,9 @@ use call_dispatch::{
     Book, ConnEnd, Kind, KindList, OutcomeList, Recorded, RecordingWorker, serve_connection,
 };
 use method_hash::{Method, MethodList};
-use mod_utf::list::Units;
 use mod_utf::utf::encoded_len;
 use object_ids::Uid;
+use sequence::Units;
 use space::{Ask, Asked, AskedEnd, DirectPort, Space, SpaceConfig};
 use std::alloc::Global;
 use std::process::Abort;

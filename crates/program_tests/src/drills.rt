@@ -2,7 +2,7 @@
 use crate::hosts::{Outside, Runs, check_words, copied, cut_by, host_of, must, run_line};
 use crate::texts::cut;
 use journal::split_line;
-use mod_utf::list::ByteList;
+use sequence::ByteList;
 use std::alloc::Global;
 
 /// Words, what they print, the status and the line, and the indices of the writes that fail.

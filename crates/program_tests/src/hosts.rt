@@ -1,8 +1,8 @@
 //! What the tests run the program on. A test stops where there is no memory: no helper answers an error, and none has an early end.
 use crate::texts::{bytes_of, cut, moments_of, number_of, numbers_of};
-use mod_utf::list::{ByteList, Kinds};
 use rmi_cli::{Host, Words, run};
 use sample_server::SampleHand;
+use sequence::{ByteList, Kinds};
 use std::alloc::Global;
 use std::process::Abort;
 use std::sync::Wait;

@@ -5,8 +5,8 @@ use journal::outline::{
     put_events_line, put_lease_line, put_name_line, put_object_line, put_withdrawal_line,
 };
 use journal::{ObjectRow, put_event_line, put_first_line, read_event, read_first_line};
-use mod_utf::list::{ByteList, Units};
 use object_ids::{ObjId, Uid, Vmid};
+use sequence::{ByteList, Units};
 use std::alloc::{AllocError, Global};
 use std::process::Abort;
 

@@ -3,8 +3,8 @@ ghost use Rattle.std.specs.Prelude.{None};
 
 use crate::hosts::{Runs, host_over, must, words_of};
 use crate::texts::{bytes_of, cut, put_words};
-use mod_utf::list::{ByteList, Kinds};
 use rmi_cli::run;
+use sequence::{ByteList, Kinds};
 use std::alloc::Global;
 use std::cell::Cell;
 use std::process::Abort;

@@ -1,7 +1,7 @@
 //! Calls of the sample's objects, from their bytes to those that answer them.
 use crate::hosts::{Runs, check, check_fronts, check_table, cut_by, put};
 use crate::texts::{bytes_of, cut, number_of, push};
-use mod_utf::list::ByteList;
+use sequence::ByteList;
 use std::alloc::Global;
 use std::process::Abort;
 

@@ -4,8 +4,8 @@ ghost use Rattle.mod_utf.specs.Utf.{utf};
 
 use crate::hosts::{MemHost, Runs, cut_by, host_of, is_line, must, put, run_line, sink_of};
 use crate::texts::{bytes_of, cut, number_of};
-use mod_utf::list::{ByteList, Kinds, MomentList, Units};
-use mod_utf::utf::encoded_len;
+use mod_utf::utf::{encoded_len, units_of_ascii};
+use sequence::{ByteList, Kinds, MomentList, Units};
 use std::alloc::Global;
 use std::marker::Model;
 use std::process::Abort;
@@ -92,7 +92,7 @@ impl Network {
 
     /// Adds a connection that sends these bytes.
     fn add(&mut self, rt: &impl Abort, alloc: Global, words: &str) {
-        let Ok(host) = Units::from_ascii(alloc, b"127.0.0.1") else {
+        let Ok(host) = units_of_ascii(alloc, b"127.0.0.1") else {
             return must(rt, false, "memory");
         };
         if !is_short(&host) {

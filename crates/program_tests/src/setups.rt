@@ -4,9 +4,9 @@ ghost use Rattle.mod_utf.specs.Utf.{utf};
 
 use crate::hosts::{Outside, sink_of, source_of};
 use call_dispatch::Setup;
-use mod_utf::list::{MomentList, Units};
-use mod_utf::utf::encoded_len;
+use mod_utf::utf::{encoded_len, units_of_ascii};
 use object_ids::UidDraw;
+use sequence::{MomentList, Units};
 use std::alloc::Global;
 use std::process::Abort;
 use wire_io::mem::{MemClock, MemSink, MemSource};
@@ -32,7 +32,7 @@ pub(crate) fn wires_of(rt: &impl Abort, alloc: Global, input: &[u8], outside: Ou
 fn this_host(rt: &impl Abort, alloc: Global) -> Units
     ensures { length (utf result) ≤ 255 }
 {
-    let host = Units::from_ascii(alloc, b"127.0.0.1").expect(rt, "memory");
+    let host = units_of_ascii(alloc, b"127.0.0.1").expect(rt, "memory");
     assert!(rt; encoded_len(&host) <= 255, "a short host");
     host
 }

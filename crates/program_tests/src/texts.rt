@@ -3,7 +3,7 @@
 //! A line is a case, in fields between `|`. Bytes are words between blanks: hexadecimal digits; a name, which stands for digits; or `=` and
 //! a text, in which `_` is a blank and `~` a line feed. With a number and `*` before it a word stands so many times.
 use crate::hosts::{must, put};
-use mod_utf::list::{ByteList, Kinds, MomentList};
+use sequence::{ByteList, Kinds, MomentList};
 use std::alloc::Global;
 use std::process::Abort;
 

@@ -4,7 +4,7 @@ ghost use Rattle.std.specs.Prelude.{None};
 
 use crate::hosts::{copied, must, sink_of};
 use crate::texts::{bytes_of, cut, number_of, numbers_of, push};
-use mod_utf::list::{ByteList, MomentList};
+use sequence::{ByteList, MomentList};
 use std::alloc::Global;
 use std::cell::Cell;
 use std::io::{Error, ErrorKind, Read, Write};

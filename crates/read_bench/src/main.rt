@@ -2,7 +2,7 @@
 //! items it has, or its fault; standard error how many microseconds reading took.
 #![tactic(auto)]
 
-use mod_utf::list::Kinds;
+use sequence::Kinds;
 use ser_read::read_to_end;
 use std::io;
 use std::process::ExitCode;

@@ -4,9 +4,9 @@
 use journal::Word;
 use journal::outline::put_line;
 use journal::put::put_decimal;
-use mod_utf::list::{ByteList, Kinds, MomentList};
 use object_ids::{Uid, Vmid};
 use rmi_cli::{Host, Words, run};
+use sequence::{ByteList, Kinds, MomentList};
 use std::alloc::{AllocError, Global};
 use std::io;
 use std::io::Write;

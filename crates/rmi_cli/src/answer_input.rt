@@ -12,9 +12,10 @@ use crate::opening::opened_space;
 use crate::terms::Terms;
 use call_dispatch::{Book, ConnEnd, Setup, serve_connection};
 use conn_server::plan::{low_half, moment_of};
-use mod_utf::list::Units;
+use mod_utf::utf::units_of_ascii;
 use object_ids::UidDraw;
 use sample_app::{SampleWorker, sample_book};
+use sequence::Units;
 use space::{DirectPort, Space};
 use std::alloc::{AllocError, Global};
 use wire_io::{Clock, Sink, Source};
@@ -98,5 +99,5 @@ pub fn setup_of(alloc: Global, seed: &[u64; 4], binding: bool) -> Result<Setup, 
 fn this_host(alloc: Global) -> Result<Units, AllocError>
     ensures { IfOk result (λ host. host ≡ codes "127.0.0.1") }
 {
-    Units::from_ascii(alloc, b"127.0.0.1")
+    units_of_ascii(alloc, b"127.0.0.1")
 }

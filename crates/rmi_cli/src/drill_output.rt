@@ -10,7 +10,7 @@ use crate::end::RunEnd;
 use crate::words::DrillText;
 use drill::drill;
 use history::Refused;
-use mod_utf::list::ByteList;
+use sequence::ByteList;
 use space::{Space, journal, summary};
 use std::alloc::{AllocError, Global};
 use wire_io::put::put_all;

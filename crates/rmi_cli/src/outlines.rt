@@ -6,7 +6,7 @@ ghost use Rattle.rmi_cli.specs.Taking.{TakesLine, WasBad, IsTakenTo, Halts, Take
 
 use history::{Event, Refused, SpaceConfig};
 use journal::lines::{read_event, read_first_line, split_line};
-use mod_utf::list::ByteList;
+use sequence::ByteList;
 use space::{Space, outline};
 use std::alloc::{AllocError, Global};
 

@@ -17,7 +17,7 @@ use crate::opening::opened_space;
 use crate::terms::ServeWords;
 use call_dispatch::Book;
 use conn_server::{Report, ServePlan, Stop, serve};
-use mod_utf::list::Units;
+use mod_utf::utf::units_of_ascii;
 use sample_app::sample_book;
 use sample_server::{SampleCrew, SampleHand};
 use space::{Space, outline};
@@ -210,7 +210,7 @@ fn plan_of(alloc: Global, seed: &[u64; 4], words: &ServeWords) -> Result<ServePl
 {
     Ok(ServePlan {
         count: u32::from(words.count),
-        host: Units::from_ascii(alloc, b"127.0.0.1")?,
+        host: units_of_ascii(alloc, b"127.0.0.1")?,
         port: i32::from(words.port),
         binding: words.terms.binding,
         seed: *seed,

@@ -1,8 +1,8 @@
 //! One binding.
 
 use history::Name;
-use mod_utf::list::Sequence;
 use object_ids::ObjId;
+use sequence::Sequence;
 
 /// A name and the object for which it stands.
 #[derive(Debug, Drop)]

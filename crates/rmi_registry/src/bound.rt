@@ -12,8 +12,8 @@ use crate::binding::{Binding, BindingList};
 use history::Name;
 use history::plain::same::equal_ids;
 use indexmap::IndexMap;
-use mod_utf::list::{NameList, Units};
 use object_ids::ObjId;
+use sequence::{NameList, Units};
 use std::alloc::{AllocError, Global};
 use std::mem;
 

@@ -9,8 +9,8 @@ use crate::binding::BindingList;
 use crate::bound::{self, Bound};
 use history::Name;
 use history::limits::MAX_NAMES;
-use mod_utf::list::NameList;
 use object_ids::{FullKind, ObjId};
+use sequence::NameList;
 use std::alloc::{AllocError, Global};
 use std::marker::Model;
 

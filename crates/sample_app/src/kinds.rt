@@ -6,7 +6,8 @@ ghost use Rattle.sample_app.specs.Kinds.{method_of, echo, counter, maker, sample
 use call_dispatch::{Book, BookFault, Kind, KindList};
 use class_desc::TypeCode;
 use method_hash::{CodeList, Method, MethodList};
-use mod_utf::list::{ByteList, Units};
+use mod_utf::utf::units_of_ascii;
+use sequence::ByteList;
 use std::alloc::{AllocError, Global};
 
 /// The book of the sample kinds, each at its place:
@@ -52,7 +53,7 @@ fn echo(alloc: Global) -> Result<Kind, AllocError>
         TypeCode::Object,
     )?)?;
     Ok(Kind {
-        interface: Units::from_ascii(alloc, b"sample.Echo")?,
+        interface: units_of_ascii(alloc, b"sample.Echo")?,
         methods,
     })
 }
@@ -65,7 +66,7 @@ fn counter(alloc: Global) -> Result<Kind, AllocError>
     methods.push(method(alloc, b"add(J)J", b"add", &[TypeCode::J], TypeCode::J)?)?;
     methods.push(method(alloc, b"get()J", b"get", &[], TypeCode::J)?)?;
     Ok(Kind {
-        interface: Units::from_ascii(alloc, b"sample.Counter")?,
+        interface: units_of_ascii(alloc, b"sample.Counter")?,
         methods,
     })
 }
@@ -83,7 +84,7 @@ fn maker(alloc: Global) -> Result<Kind, AllocError>
         TypeCode::Object,
     )?)?;
     Ok(Kind {
-        interface: Units::from_ascii(alloc, b"sample.Maker")?,
+        interface: units_of_ascii(alloc, b"sample.Maker")?,
         methods,
     })
 }

@@ -7,7 +7,7 @@ ghost use Rattle.history.specs.declared.limits.TheConstants.{MAX_DURATION, MAX_N
 ghost use Rattle.sample_app.specs.Opened.{opened, bound, sample_events};
 
 use history::{Ask, Name, Refused, SpaceConfig};
-use mod_utf::list::Units;
+use mod_utf::utf::units_of_ascii;
 use object_ids::ObjId;
 use space::Space;
 use std::alloc::{AllocError, Global};
@@ -69,7 +69,7 @@ fn name_of(alloc: Global, name: &[u8]) -> Result<Name, AllocError>
     requires { length name.now ≤ MAX_NAME_UNITS }
     ensures { IfOk result (λ named. named ≡ name.now) }
 {
-    match Name::new(Units::from_ascii(alloc, name)?) {
+    match Name::new(units_of_ascii(alloc, name)?) {
         Ok(named) => Ok(named),
         Err(_too_long) => unreachable!(),
     }

@@ -7,7 +7,7 @@ ghost use Rattle.sample_app.specs.Does.{Adds, May, Moves, overflow};
 use crate::counters::Counters;
 use crate::sample_call::{SampleCall, sample_call};
 use call_dispatch::{Invocation, Outcome, Worker};
-use mod_utf::list::Units;
+use mod_utf::utf::units_of_ascii;
 use object_ids::ObjId;
 use ser_values::{Graph, Value};
 use std::alloc::Global;
@@ -75,7 +75,7 @@ impl SampleWorker {
 fn overflow(alloc: Global) -> Outcome
     ensures { (result ≡ OutOfMemory) ⊎ (result ≡ overflow) }
 {
-    match Units::from_ascii(alloc, b"java.lang.ArithmeticException: overflow") {
+    match units_of_ascii(alloc, b"java.lang.ArithmeticException: overflow") {
         Ok(message) => Outcome::Fault(message),
         Err(_refused) => Outcome::OutOfMemory,
     }

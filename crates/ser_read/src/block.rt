@@ -7,7 +7,7 @@ ghost use Rattle.ser_read.specs.Wants.{StopsWant, WantTaken, fault_at, no_block,
 use crate::fault::{StreamFault, StreamKind};
 use crate::pieces::bad;
 use crate::pulled::{add_piece, byte, count, fill, take};
-use mod_utf::list::ByteList;
+use sequence::ByteList;
 use std::alloc::Global;
 use wire_io::pull::Pull;
 use wire_io::source::Source;

@@ -12,7 +12,7 @@ ghost use Rattle.ser_read.specs.NumberRuns.{byte_of, truth_of, number_of, signed
 use crate::fault::StreamFault;
 use crate::pulled::{byte, eight, four, piece, take, two};
 use class_desc::TypeCode;
-use mod_utf::list::{ByteList, Sequence};
+use sequence::{ByteList, Sequence};
 use ser_values::{Value, Values};
 use std::alloc::{AllocError, Global};
 use wire_io::pull::Pull;

@@ -14,7 +14,7 @@ use crate::fault::{StreamFault, StreamKind};
 use crate::pulled::{four, short_text};
 use crate::table::Table;
 use class_desc::{ClassDesc, FieldList, Item, Items, Slot};
-use mod_utf::list::{ByteList, NameList, Units};
+use sequence::{ByteList, NameList, Units};
 use ser_values::{FIRST_HANDLE, Node, SlotPlace};
 use std::alloc::{AllocError, Global};
 use wire_io::pull::Pull;

@@ -10,7 +10,7 @@ ghost use Rattle.ser_read.specs.declared.pulled.TheConstants.{FEW};
 use crate::fault::{StreamFault, StreamKind};
 use crate::spelled::spelled;
 use mod_utf::decode::UtfFault;
-use mod_utf::list::{ByteList, Units};
+use sequence::{ByteList, Units};
 use std::alloc::{AllocError, Global};
 use wire_io::pull::Pull;
 use wire_io::source::Source;

@@ -17,7 +17,7 @@ use crate::reading::coded;
 use crate::serving::{Want, serve_all};
 use crate::table::Table;
 use class_desc::{Item, Items, Slot};
-use mod_utf::list::ByteList;
+use sequence::ByteList;
 use ser_values::limits::LEVELS;
 use ser_values::{Graph, Node, SlotPlace};
 use std::alloc::Global;

@@ -3,7 +3,7 @@ ghost use Rattle.std.specs.Prelude.{◌≡◌, ◌≤◌, ◌∷◌, [], ◌++�
 ghost use Rattle.ser_read.specs.Codes.{codes_of};
 
 use class_desc::{FieldDesc, TypeCode};
-use mod_utf::list::Sequence;
+use sequence::Sequence;
 use std::alloc::{AllocError, Global};
 use std::marker::Model;
 use std::slice;

@@ -4,7 +4,7 @@ ghost use Rattle.mod_utf.specs.Utf.{SpellsItself};
 ghost use Rattle.mod_utf.specs.Decoding.{decoded, IsUnread, GivesUnits};
 
 use mod_utf::decode::{UtfFault, decode_onto};
-use mod_utf::list::Units;
+use sequence::Units;
 use std::alloc::Global;
 
 /// The text that these bytes spell, as `decode` of `mod_utf` reads it.

@@ -14,7 +14,7 @@ use crate::ranges::Ranged;
 use crate::renumber::{places, renumber_all};
 use crate::value::{Part, PartList, Value, ValueList, Values};
 use class_desc::{ClassDesc, Items, ProxyDesc, Slot, SlotList};
-use mod_utf::list::Units;
+use sequence::Units;
 use std::alloc::Global;
 use std::marker::Model;
 use std::mem;

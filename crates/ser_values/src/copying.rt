@@ -2,7 +2,7 @@
 
 use crate::node::Node;
 use crate::value::{Part, Value, Values};
-use mod_utf::list::TryCopy;
+use sequence::TryCopy;
 use std::alloc::{AllocError, Global};
 
 impl TryCopy for Value {

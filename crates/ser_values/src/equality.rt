@@ -2,7 +2,7 @@
 
 use crate::node::Node;
 use crate::value::{Part, Value, Values};
-use mod_utf::list::Same;
+use sequence::Same;
 
 impl Same for Value {
     fn is_same(&self, other: &Value) -> bool {

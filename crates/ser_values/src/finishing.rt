@@ -13,7 +13,7 @@ use crate::renumber::Renumber;
 use crate::shape::{is_joined, parts_of};
 use crate::walking::walk;
 use class_desc::Item;
-use mod_utf::list::{TryCopy, Units};
+use sequence::{TryCopy, Units};
 use std::alloc::{AllocError, Global};
 use std::mem;
 

@@ -8,7 +8,7 @@ ghost use Rattle.ser_values.specs.Spelled.{put_block};
 use crate::graph::Graph;
 use crate::ranges::look_at_each;
 use class_desc::{Item, Items, Slot};
-use mod_utf::list::ByteList;
+use sequence::ByteList;
 use std::alloc::{AllocError, Global};
 use std::mem;
 

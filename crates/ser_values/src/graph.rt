@@ -9,7 +9,7 @@ use crate::finishing::{copy_nodes, order_of};
 use crate::node::{Node, NodeList};
 use crate::renumber::{places, renumber_all};
 use class_desc::{Item, Items, Slot};
-use mod_utf::list::Same;
+use sequence::Same;
 use std::alloc::{AllocError, Global};
 
 /// The nodes of a stream in the order of their handles, and its items. Every node is reached from the items.

@@ -2,7 +2,7 @@
 
 use crate::value::{PartList, Values};
 use class_desc::{ClassDesc, ProxyDesc};
-use mod_utf::list::{Sequence, Units};
+use sequence::{Sequence, Units};
 
 /// What has a handle in a stream. It names other nodes by their numbers.
 #[derive(Debug)]

@@ -7,7 +7,7 @@ use crate::graph::Graph;
 use crate::node::{Node, NodeList};
 use crate::value::{Part, PartList};
 use class_desc::{Item, Items};
-use mod_utf::list::ByteList;
+use sequence::ByteList;
 use std::alloc::Global;
 use std::mem;
 

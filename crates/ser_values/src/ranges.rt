@@ -7,7 +7,7 @@ ghost use Rattle.ser_values.specs.Ranges.{ValueFits, ElementsFit, ItemFits, Part
 use crate::node::Node;
 use crate::value::{Part, Value, Values};
 use class_desc::{ClassDesc, FieldDesc, Item};
-use mod_utf::list::Sequence;
+use sequence::Sequence;
 
 /// What has numbers.
 pub(crate) trait Ranged {

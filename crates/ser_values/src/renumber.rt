@@ -5,7 +5,7 @@ ghost use Rattle.ser_values.specs.Renumber.{AllBelow, HasPlaces, place_at, slot_
 use crate::node::Node;
 use crate::value::{Part, Value, Values};
 use class_desc::{ClassDesc, FieldDesc, Item, ProxyDesc, Slot, is_primitive};
-use mod_utf::list::Sequence;
+use sequence::Sequence;
 use std::alloc::{AllocError, Global};
 use std::mem;
 

@@ -12,8 +12,8 @@ use class_desc::{
     BLOCK_DATA, ENUM, EXTERNALIZABLE, FieldDesc, Item, SERIALIZABLE, Slot, TypeCode, WRITE_METHOD,
     check_desc, check_type_text, has_flag, is_primitive, lacks_flag,
 };
-use mod_utf::list::Units;
 use mod_utf::utf::encoded_len;
+use sequence::Units;
 
 /// Whether a node is a description, of a class or of a proxy class.
 #[tactic(auto, unfolding(crate::specs::Node::is_desc))]

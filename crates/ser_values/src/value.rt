@@ -3,7 +3,7 @@ ghost use Rattle.std.specs.Prelude.{◌≡◌, ◌↔◌, IsTrue};
 ghost use Rattle.ser_values.specs.Shape.{count_of};
 
 use class_desc::{Items, Slot, SlotList};
-use mod_utf::list::{
+use sequence::{
     BoolList, ByteList, I16List, I32List, I64List, Sequence, U16List, U32List, U64List,
 };
 

@@ -6,7 +6,7 @@ ghost use Rattle.ser_write.specs.Nodes.{class_of, element_bytes, behind_handle, 
 use crate::numbers::{put_32, put_byte};
 use crate::pieces::{code_of, put_counts, put_interfaces, put_primitives, put_text, put_title};
 use class_desc::Slot;
-use mod_utf::list::ByteList;
+use sequence::ByteList;
 use ser_values::{Node, Values};
 use std::alloc::AllocError;
 

@@ -5,8 +5,8 @@ ghost use Rattle.std.specs.List.{flat_map};
 ghost use Rattle.mod_utf.specs.Utf.{unit_bytes, utf};
 ghost use Rattle.ser_write.specs.Canonical.{Begins};
 
-use mod_utf::list::{ByteList, Units};
 use mod_utf::utf::encoded_len;
+use sequence::{ByteList, Units};
 use std::alloc::AllocError;
 
 /// Appends a byte.

@@ -7,8 +7,8 @@ ghost use Rattle.ser_write.specs.Canonical.{Begins, block_of, blocks, code_of, f
 
 use crate::numbers::{Spelled, put_16, put_32, put_byte, put_each, put_long_text, put_short_text};
 use class_desc::{ClassDesc, EXTERNALIZABLE, FieldDesc, Slot, WRITE_METHOD, has_flag};
-use mod_utf::list::{ByteList, Units};
 use mod_utf::utf::encoded_len;
+use sequence::{ByteList, Units};
 use ser_values::{FIRST_HANDLE, Node, Value, Values};
 use std::alloc::{AllocError, Global};
 

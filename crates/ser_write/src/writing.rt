@@ -10,7 +10,7 @@ use crate::pieces::{
     is_external_class, node_at, put_blocks, put_field, put_handle, put_primitive, writers_of,
 };
 use class_desc::{FieldDesc, Item, Slot, is_primitive};
-use mod_utf::list::ByteList;
+use sequence::ByteList;
 use ser_values::limits::LEVELS;
 use ser_values::{Graph, Node, Part, Value};
 use std::alloc::{AllocError, Global};

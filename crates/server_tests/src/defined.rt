@@ -12,8 +12,8 @@ use history::plain::running::{is_running, running};
 use history::plain::table::{call_with, exports, lists, places, stands, table};
 use history::plain::turns::{is_abandon, withdrawals};
 use history::{Ask, Call, Event, Exported, ExportedList, Place, Reply, Returned, Turn, Withdrawal};
-use mod_utf::list::{NameList, Same};
 use object_ids::{ObjId, ObjIds};
+use sequence::{NameList, Same};
 use std::alloc::{AllocError, Global};
 
 /// What the definitions say of a history.

@@ -1,7 +1,7 @@
 //! Links in memory that wait for one another.
 ghost use Rattle.std.specs.Prelude.{◌≡◌, IfSome};
 
-use mod_utf::list::Kinds;
+use sequence::Kinds;
 use std::alloc::Global;
 use std::sync::Arc;
 use std::sync::atomic::{AtomicU64, Ordering};

@@ -6,7 +6,7 @@ use crate::texts::must;
 use history::plain::turns::answers;
 use history::{Ask, Event, Limits, Refused, Turn};
 use journal::{put_event_line, read_event};
-use mod_utf::list::{ByteList, Same};
+use sequence::{ByteList, Same};
 use space::{Asked, AskedEnd, PortEntries, Space, outline};
 use std::alloc::{AllocError, Global};
 use std::process::Abort;

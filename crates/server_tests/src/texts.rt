@@ -1,5 +1,6 @@
 //! Bytes from text. A test stops where there is no memory: no helper answers an error, and none has an early end.
-use mod_utf::list::{ByteList, MomentList, Units};
+use mod_utf::utf::units_of_ascii;
+use sequence::{ByteList, MomentList, Units};
 use std::alloc::Global;
 use std::process::Abort;
 
@@ -129,5 +130,5 @@ pub(crate) fn moments_of(rt: &impl Abort, alloc: Global, words: &str) -> MomentL
 
 /// The text `127.0.0.1`.
 pub(crate) fn this_host(rt: &impl Abort, alloc: Global) -> Units {
-    Units::from_ascii(alloc, b"127.0.0.1").expect(rt, "memory")
+    units_of_ascii(alloc, b"127.0.0.1").expect(rt, "memory")
 }

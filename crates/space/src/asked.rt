@@ -1,6 +1,6 @@
 //! Entries of turns.
 use history::{Ask, Refused, Turn};
-use mod_utf::list::{Sequence, TryCopy};
+use sequence::{Sequence, TryCopy};
 use std::alloc::{AllocError, Global};
 
 /// How a turn ended.

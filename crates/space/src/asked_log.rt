@@ -7,7 +7,7 @@ ghost use Rattle.space.specs.AskedViews.{viewed};
 use crate::asked::{Asked, AskedList};
 use crate::asked_rows::{AskedRow, is_plain, plain_row, view_of, whole_row};
 use crate::asked_view::AskedView;
-use mod_utf::list::TryCopy;
+use sequence::TryCopy;
 use std::alloc::{AllocError, Global};
 use std::fmt;
 use std::marker::Model;

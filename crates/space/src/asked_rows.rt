@@ -11,8 +11,8 @@ ghost use Rattle.space.specs.AskedViews.{viewed};
 use crate::asked::{Asked, AskedEnd};
 use crate::asked_view::AskedView;
 use history::{Ask, Reply, Turn};
-use mod_utf::list::Kinds;
 use object_ids::{ObjId, ObjIds, Uid};
+use sequence::Kinds;
 use std::alloc::Global;
 
 /// What a row says beside its moment: an ask, its answer, and the place of its event. Nothing is told as gone.

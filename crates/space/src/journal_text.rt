@@ -13,8 +13,8 @@ use event_log::EventLog;
 use journal::Word;
 use journal::outline::{put_events_line, put_line};
 use journal::write::{put_event_line, put_first_line};
-use mod_utf::list::ByteList;
 use object_ids::Uid;
+use sequence::ByteList;
 use std::alloc::{AllocError, Global};
 
 /// The journal of a space: a line of its configuration, then a line for each event that it took, in order. It spells these events and

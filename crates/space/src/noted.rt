@@ -18,9 +18,9 @@ use crate::acts::filled;
 use crate::asked::{Asked, AskedEnd};
 use crate::turns::Space;
 use history::{Ask, Refused, Reply, Turn};
-use mod_utf::list::NameList;
 use object_ids::{ObjId, ObjIds};
 use rmi_registry::Names;
+use sequence::NameList;
 use std::alloc::{AllocError, Global};
 
 impl Space {

@@ -16,8 +16,8 @@ use history::limits::MAX_AWAITING;
 use history::plain::places::id_at;
 use history::{Ask, Refused};
 use indexmap::IndexSet;
-use mod_utf::list::Same;
 use object_ids::{FullKind, ObjId, ObjIds, Uid};
+use sequence::Same;
 use std::alloc::{AllocError, Global};
 
 /// So many objects are counted without memory.

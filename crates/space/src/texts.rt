@@ -15,8 +15,8 @@ use journal::ObjectRow;
 use journal::outline::{
     put_events_line, put_lease_line, put_name_line, put_object_line, put_withdrawal_line,
 };
-use mod_utf::list::ByteList;
 use rmi_registry::{Binding, Names};
+use sequence::ByteList;
 use std::alloc::{AllocError, Global};
 
 /// The outline of a space: how many events it took, their units and its present moment; each exported object;

@@ -3,8 +3,8 @@ ghost use Rattle.std.specs.Prelude.{◌<◌};
 ghost use Rattle.history.specs.declared.limits.TheConstants.{END_OF_TIME};
 
 use history::{Ask, Refused, SpaceConfig};
-use mod_utf::list::ByteList;
 use object_ids::{ObjId, ObjIds, Uid, Vmid};
+use sequence::ByteList;
 use space::{Space, outline};
 use std::alloc::Global;
 use std::cmp::Ordering;

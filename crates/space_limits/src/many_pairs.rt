@@ -1,7 +1,7 @@
 //! Many pairs: four clients hold 65,536 objects each, while time passes a thousand times.
 use history::{Ask, Refused, SpaceConfig};
-use mod_utf::list::{ByteList, Kinds};
 use object_ids::{ObjId, ObjIds, Uid, Vmid};
+use sequence::{ByteList, Kinds};
 use space::{Space, outline};
 use std::alloc::Global;
 use std::io::Write;

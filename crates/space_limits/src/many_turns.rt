@@ -4,8 +4,8 @@ ghost use Rattle.history.specs.declared.limits.TheConstants.{END_OF_TIME};
 
 use crate::{first_objects, numbered, object, open};
 use history::{Ask, Refused};
-use mod_utf::list::{ByteList, Kinds};
 use object_ids::{ObjIds, Vmid};
+use sequence::{ByteList, Kinds};
 use space::{Space, outline};
 use std::alloc::{AllocError, Global};
 use std::io::Write;

@@ -1,7 +1,7 @@
 //! Names to their limit, and references that await by lookups of a name.
 use crate::{numbered, object, open, show, turn};
 use history::{Ask, Name, Refused};
-use mod_utf::list::Units;
+use sequence::Units;
 use space::Space;
 use std::alloc::Global;
 use std::io;

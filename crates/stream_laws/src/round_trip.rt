@@ -4,7 +4,7 @@ ghost use Rattle.wire_io.specs.declared.limits.TheConstants.{LAST_POSITION};
 ghost use Rattle.ser_write.specs.Canonical.{canonical};
 ghost use Rattle.ser_read.specs.Whole.{AnswersGraph};
 
-use mod_utf::list::Kinds;
+use sequence::Kinds;
 use ser_read::{StreamFault, read_to_end};
 use ser_values::Graph;
 use ser_write::write_stream;

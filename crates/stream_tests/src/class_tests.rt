@@ -5,7 +5,7 @@ use class_desc::{
     ClassParts, DescFault, KnownClass, PartField, TypeCode, check_desc, check_type_text,
     element_code, known,
 };
-use mod_utf::{Same, TryCopy};
+use sequence::{Same, TryCopy};
 
 /// The known classes, in the order of their lines.
 const CLASSES: [KnownClass; 14] = [

@@ -1,6 +1,6 @@
 //! Streams that are read want by want and whole, from sources that give all at once or single bytes.
 use crate::text::{MEMORY, bytes_of, cut, decimal, must, repeated};
-use mod_utf::Kinds;
+use sequence::Kinds;
 use ser_read::{Reader, StreamFault, Want, read_to_end, read_wants};
 use std::alloc::Global;
 use std::process::Abort;

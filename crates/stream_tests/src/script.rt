@@ -3,7 +3,7 @@ use crate::text::{MEMORY, ascii, bytes_of, cut, decimal, must, number_of, repeat
 use class_desc::{
     ClassDesc, FieldDesc, FieldList, Item, Items, ProxyDesc, Slot, SlotList, TypeCode,
 };
-use mod_utf::{NameList, Sequence};
+use sequence::{NameList, Sequence};
 use ser_values::{BuildFault, Builder, Graph, Part, PartList, Value, ValueList, Values};
 use std::alloc::{AllocError, Global};
 use std::process::Abort;

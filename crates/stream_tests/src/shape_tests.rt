@@ -7,8 +7,8 @@ use java_shapes::{
     LeaseView, LiveRef, as_fault_text, as_lease, as_live_ref, as_objids, as_text, as_texts,
     as_vmid, fault_graph, lease_graph, put_fault, put_lease, put_objids, put_texts, put_vmid,
 };
-use mod_utf::{ByteList, Kinds};
 use object_ids::{ObjIds, Uid, Vmid};
+use sequence::{ByteList, Kinds};
 use ser_read::read_to_end;
 use ser_values::{Builder, Graph};
 use ser_write::write_stream;

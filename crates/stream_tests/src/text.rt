@@ -1,6 +1,7 @@
 //! What the tests' lines are read with.
 use class_desc::Slot;
-use mod_utf::{ByteList, Sequence, Units};
+use mod_utf::utf::units_of_ascii;
+use sequence::{ByteList, Sequence, Units};
 use std::alloc::{AllocError, Global};
 use std::process::Abort;
 
@@ -102,7 +103,7 @@ pub fn units_of(alloc: Global, words: &str) -> Result<Units, AllocError> {
 
 /// The text of these ASCII characters.
 pub fn ascii(alloc: Global, text: &str) -> Result<Units, AllocError> {
-    Units::from_ascii(alloc, text.as_bytes())
+    units_of_ascii(alloc, text.as_bytes())
 }
 
 /// Whether a text has these ASCII characters.

@@ -1,7 +1,8 @@
 //! Lists of items, and texts as modified UTF.
 use crate::text::{MEMORY, bytes_of, cut, decimal, must, units_of};
 use mod_utf::decode::decode;
-use mod_utf::{BoolList, NameList, Same, Units, UtfFault, decode_onto, encode, encoded_len};
+use mod_utf::{UtfFault, decode_onto, encode, encoded_len};
+use sequence::{BoolList, NameList, Same, Units};
 use std::alloc::Global;
 use std::process::Abort;
 

@@ -3,7 +3,7 @@ ghost use Rattle.std.specs.Prelude.{◌≤◌, length};
 ghost use Rattle.mod_utf.specs.Utf.{utf};
 ghost use Rattle.wire_io.specs.declared.limits.TheConstants.{MAX_HOST_BYTES};
 
-use mod_utf::list::Units;
+use sequence::Units;
 
 /// A connection with a peer: its two halves, the clock of its turns, and the peer's host and port. The host takes at most [`MAX_HOST_BYTES`](crate::limits::MAX_HOST_BYTES)
 /// bytes as modified UTF.

@@ -8,7 +8,7 @@ use crate::link::Link;
 use crate::mem::{MemClock, MemSink, MemSource};
 use crate::sink::Sink;
 use crate::source::{Failed, Source};
-use mod_utf::list::{Sequence, U16List};
+use sequence::{Sequence, U16List};
 use std::alloc::Global;
 use std::marker::Model;
 use std::snapshot::Snapshot;

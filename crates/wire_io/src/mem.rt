@@ -8,7 +8,7 @@ use crate::clock::Clock;
 use crate::limits::LAST_MOMENT;
 use crate::sink::Sink;
 use crate::source::{Failed, Source};
-use mod_utf::list::{ByteList, Kinds, MomentList};
+use sequence::{ByteList, Kinds, MomentList};
 use std::alloc::Global;
 use std::marker::Model;
 

@@ -5,7 +5,7 @@ ghost use Rattle.wire_io.specs.declared.pull.TheConstants.{AHEAD};
 
 use crate::limits::LAST_POSITION;
 use crate::source::Source;
-use mod_utf::list::ByteList;
+use sequence::ByteList;
 use std::alloc::{AllocError, Global};
 
 /// The most bytes that `take` makes room for ahead of what it read.

@@ -12,8 +12,8 @@ use crate::link::Link;
 use crate::listener::Listener;
 use crate::sink::Sink;
 use crate::source::{Failed, Source};
-use mod_utf::list::Units;
-use mod_utf::utf::encoded_len;
+use mod_utf::utf::{encoded_len, units_of_ascii};
+use sequence::Units;
 use std::alloc::{AllocError, Global};
 use std::io::{Read, Write};
 use std::marker::Model;
@@ -252,7 +252,7 @@ fn host_of(alloc: Global, peer: SocketAddr) -> io::Result<Units>
     ensures { IfOk result (λ host. length (utf host) ≤ MAX_HOST_BYTES) }
 {
     let text = peer.ip().to_string(alloc)?;
-    let host = Units::from_ascii(alloc, text.as_bytes())?;
+    let host = units_of_ascii(alloc, text.as_bytes())?;
     if encoded_len(&host) > MAX_HOST_BYTES {
         return Err(io::Error::from(io::ErrorKind::InvalidInput));
     }

@@ -4,7 +4,7 @@ ghost use Rattle.wire_io.specs.Wire.{with_front, NothingLeft, Rose};
 ghost use Rattle.wire_io.specs.declared.whole.TheConstants.{READ_BLOCK};
 
 use crate::source::Source;
-use mod_utf::list::ByteList;
+use sequence::ByteList;
 use std::alloc::Global;
 
 /// How many bytes are asked for at once.

@@ -1,5 +1,5 @@
 //! One connection: what either end writes, the other one reads, and each direction is shut by itself.
-use mod_utf::list::Units;
+use sequence::Units;
 use std::alloc::Global;
 use std::io::{Read, Write};
 use std::net::{Net, Shutdown, SocketAddr, TcpListener, TcpStream};

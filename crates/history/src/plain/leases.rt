@@ -7,8 +7,8 @@ ghost use Rattle.history.specs.Leases as words;
 
 use crate::calls::{Call, CallKind, Pair};
 use crate::plain::same::{equal_clients, equal_ids};
-use mod_utf::list::TryCopy;
 use object_ids::{ObjId, Vmid};
+use sequence::TryCopy;
 use std::alloc::{AllocError, Global};
 use std::cmp::Ordering;
 

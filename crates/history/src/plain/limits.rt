@@ -22,8 +22,8 @@ use crate::plain::places::{ids, now};
 use crate::plain::same::{equal_clients, equal_ids, equal_units};
 use crate::plain::table::{call_with, is_effective, lease_calls, place_of, table};
 use crate::replies::Refused;
-use mod_utf::list::Units;
 use object_ids::{FullKind, Vmid};
+use sequence::Units;
 use std::alloc::{AllocError, Global};
 
 // ---- units

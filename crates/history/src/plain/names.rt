@@ -7,8 +7,8 @@ use crate::asks::Ask;
 use crate::names::Name;
 use crate::places::Place;
 use crate::plain::same::{equal_ids, equal_units};
-use mod_utf::list::Units;
 use object_ids::ObjId;
+use sequence::Units;
 use std::alloc::{AllocError, Global};
 
 /// The name in an ask.

@@ -14,8 +14,8 @@ use crate::plain::leases::is_held;
 use crate::plain::names::{is_named, name_in, stands_for};
 use crate::plain::places::{added, exported_from, has, ids, known, next, now};
 use crate::plain::running::{is_running, running};
-use mod_utf::list::Sequence;
 use object_ids::{ObjId, ObjIds};
+use sequence::Sequence;
 use std::alloc::{AllocError, Global};
 
 // ---- lease calls

@@ -15,8 +15,8 @@ use crate::plain::names::names;
 use crate::plain::places::{has, id_at, ids, kind_of, next};
 use crate::plain::table::{place_of, places, stands, table, withdrawn};
 use crate::replies::{Refused, Reply, Turn};
-use mod_utf::list::NameList;
 use object_ids::{ObjId, ObjIds};
+use sequence::NameList;
 use std::alloc::{AllocError, Global};
 
 // ---- replies

@@ -12,7 +12,7 @@ use crate::pulled::count;
 use crate::reading::{class, slot};
 use crate::table::Table;
 use class_desc::{Slot, SlotList, TypeCode, is_primitive};
-use mod_utf::list::ByteList;
+use sequence::ByteList;
 use ser_values::{Node, SlotPlace, Values};
 use std::alloc::Global;
 use wire_io::pull::Pull;

@@ -16,7 +16,7 @@ use crate::table::Table;
 use class_desc::{
     ClassDesc, FieldDesc, FieldList, Items, ProxyDesc, Slot, TypeCode, check_desc, is_primitive,
 };
-use mod_utf::list::Units;
+use sequence::Units;
 use ser_values::{Node, SlotPlace};
 use std::alloc::Global;
 use wire_io::pull::Pull;

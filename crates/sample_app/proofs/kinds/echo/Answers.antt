@@ -8,6 +8,6 @@ method-requires c = echo_is
 pub returns : goal.returns
 unfolding echo
 returns c = λ k. record {
-  interface = c.in_ok-from_ascii.ensures.value k;
+  interface = c.in_ok-units_of_ascii.ensures.value k;
   methods = (c.in_ok-push.ensures.ok ∙ (λ i. c.new-methods.ensures i ++ c.in_ok-method.ensures echo_is i ∷ [])) k;
 }

@@ -1,5 +1,5 @@
 use Rattle.std.proofs.Common.{◌≡◌, length, take}
-use Rattle.mod_utf.proofs.list.are_same.Given as goal
+use Rattle.sequence.proofs.list.are_same.Given as goal
 
 abbrev pub invariant-loop-i : goal.invariant-loop-i
 invariant-loop-i g l = (length l.a ≡ length l.b) × (take l.i l.a ≡ take l.i l.b)

@@ -1,12 +1,11 @@
 //! Lists over `Vec`, which contracts see as lists.
-ghost use Rattle.std.specs.Prelude.{◌≡◌, [], ◌∷◌, ◌++◌, ◌-◌, ◌^◌, ◌<◌, length, take, All, slice_get, slice_index_or, OnOk, OnErr, IfOk, IsTrue, ◌↔◌};
+ghost use Rattle.std.specs.Prelude.{◌≡◌, [], ◌∷◌, ◌++◌, ◌-◌, ◌^◌, ◌<◌, length, take, slice_get, slice_index_or, OnOk, OnErr, IfOk, IsTrue, ◌↔◌};
 ghost use Rattle.std.specs.Iterator.Adapters.{IterYieldsInOrder, IterYieldsInReverse};
 ghost use Rattle.std.specs.Iterator.Runs.{EveryRun, ItemsAre, ItemsMapTo};
 ghost use Rattle.std.specs.Option.{option_copied};
 ghost use Rattle.std.specs.Slice.{IsItemAt, IsGetResult};
 ghost use Rattle.std.specs.Slice.Iter.{iter_rest, iter_steps};
 ghost use Rattle.std.specs.Vec.Iter.{into_iter_items, into_iter_len, into_iter_steps};
-ghost use Rattle.mod_utf.specs.Utf.{SpellsItself, Utf};
 
 use std::alloc::{AllocError, Global};
 use std::marker::Model;
@@ -207,20 +206,6 @@ impl<T: Copy> Sequence<T> {
     {
         self.items.extend_from_slice(items)?;
         Ok(())
-    }
-}
-
-impl Units {
-    /// The text of these ASCII characters, one unit each: a unit's number is its byte's. Where none is 0 or above 7F, the
-    /// bytes are also the text's modified UTF. It is refused only for want of memory.
-    #[tactic(auto, using(crate::proofs::Spelling::ascii_spelled))]
-    pub fn from_ascii(alloc: Global, bytes: &[u8]) -> Result<Units, AllocError>
-        ensures value { IfOk result (λ units. units ≡ bytes.now) }
-        ensures spelled { IfOk result (λ units. All SpellsItself bytes.now → Utf units bytes.now) }
-    {
-        Ok(Sequence {
-            items: bytes.iter().map(|byte| u16::from(*byte)).collect(alloc)?,
-        })
     }
 }
 

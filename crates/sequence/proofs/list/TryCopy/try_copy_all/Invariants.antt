@@ -1,5 +1,5 @@
 use Rattle.std.proofs.Common.{◌≡◌, take}
-use Rattle.mod_utf.proofs.list.TryCopy.try_copy_all.Given as goal
+use Rattle.sequence.proofs.list.TryCopy.try_copy_all.Given as goal
 
 abbrev pub invariant-loop-item : goal.invariant-loop-item
 invariant-loop-item g l = l.copies.items ≡ take l.item-index l.items
